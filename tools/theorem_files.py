@@ -25,16 +25,16 @@ script.Parameter.{Parameter}; size.Rise.{Rise}; script.Parameter.TheVariants as 
 script.Pointer.TheVariants.{Held, Field}; script.Number.TheVariants.{Constant, Variable}; script.Writable.TheVariants.{OwnBuffer, InCell};
 script.Readable.TheVariants.{Of, ViewOf, Quoted}; script.Condition.TheVariants.{IsNull, NotNull, Equal, Less};
 script.Argument.TheVariants.{Passed, Given}; script.Refusal.TheVariants.{GivesNull, Leaves}; script.Statement.{Statement};
-script.Numbered.{Numbered}; script.Statement.TheOpen.{Statement-F}; script.Statement.TheViews.{out-Statement, roll-Statement}
+script.StatementAt.{StatementAt}; script.Statement.TheOpen.{Statement-F}; script.Statement.TheViews.{out-Statement, roll-Statement}
 """
 
 # The files of specs/ whose definitions a run computes through, and what it computes through beside these.
 COMPUTED_IN = ("Attempts", "Meaning", "Operands", "Reading", "Run", "State", "Statements")
 COMPUTED_THROUGH = """out-Statement denote.Hole.Carrier.out roll-Statement denote.Hole.Carrier.roll
-denote.Hole.Carrier.shown denote.Hole.Carrier.hidden {declared}.script.Statement.TheBlock.shown-the_row-Numbered-0 digits"""
+denote.Hole.Carrier.shown denote.Hole.Carrier.hidden {declared}.script.Statement.TheBlock.shown-the_row-StatementAt-0 digits"""
 
 SHORTHANDS = """
-abbrev pub on : ℕ → Statement-F Statement Numbered → Numbered
+abbrev pub on : ℕ → Statement-F Statement StatementAt → StatementAt
 on line layer = record { line = line; statement = roll-Statement layer }
 
 abbrev pub script : List Class → List Procedure → List Operation → List (List ℕ) → ℕ → Script
@@ -50,7 +50,7 @@ procedure line parameters body = record { line = line; parameters = parameters; 
 abbrev pub operation : ℕ → Body → Operation
 operation line body = record { line = line; body = body }
 
-abbrev pub body : List Local → List Numbered → Body
+abbrev pub body : List Local → List StatementAt → Body
 body locals statements = record { locals = locals; statements = statements }
 
 abbrev pub result : Outcome → List Attempt → List (List ℕ) → List Note → ℕ → RunResult

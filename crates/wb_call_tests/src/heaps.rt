@@ -3,7 +3,7 @@
 ghost use Rattle.std.specs.Prelude.{◌≡◌};
 
 use crate::calls;
-use crate::lines::{show, tell_gave, tell_heap};
+use crate::lines::{show, write_gave, write_heap};
 use crate::stop::Stop;
 use std::alloc::Global;
 use wb_debug::DebugHeap;
@@ -131,20 +131,20 @@ impl Marked {
     /// An attempt to get a raw cell.
     fn alloc(&mut self, rt: &HostRuntime, bytes: u32) -> Result<(), Stop> {
         let gave = calls::alloc(&mut self.heap, bytes, Kind::Raw)?;
-        tell_gave(rt, "alloc", bytes, gave, &self.heap)
+        write_gave(rt, "alloc", bytes, gave, &self.heap)
     }
 
     /// An attempt to give a cell another length.
     fn realloc(&mut self, rt: &HostRuntime, ptr: Ptr, bytes: u32) -> Result<(), Stop> {
         let gave = calls::realloc(&mut self.heap, ptr, bytes)?;
-        tell_gave(rt, "realloc", bytes, gave, &self.heap)
+        write_gave(rt, "realloc", bytes, gave, &self.heap)
     }
 
     /// A call that takes no memory.
     fn make_plain(&mut self, rt: &HostRuntime, call: Call) -> Result<(), Stop> {
         let is_done = self.do_plain(call);
         print!(rt; "{}: {is_done}", name_of(call))?;
-        tell_heap(rt, &self.heap)
+        write_heap(rt, &self.heap)
     }
 
     /// Makes such a call. Whether it wasn't refused; of `Compress`, whether it gave up anything.

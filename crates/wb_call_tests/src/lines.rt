@@ -7,7 +7,7 @@ use wb_model::heap::{Attempt, Gave, Ptr};
 use wb_model::run::{Leak, Note};
 
 /// Tells what an attempt gave: the number and the place of the cell, or who refused.
-pub(crate) fn tell_gave(
+pub(crate) fn write_gave(
     rt: &HostRuntime,
     call: &str,
     asked: u32,
@@ -22,11 +22,11 @@ pub(crate) fn tell_gave(
         Gave::Ceiling => print!(rt; "{call} {asked}: past the ceiling"),
     };
     told?;
-    tell_heap(rt, heap)
+    write_heap(rt, heap)
 }
 
 /// Ends a line: how many attempts were counted, how many lines the trace has, how many cells are live, and the lengths.
-pub(crate) fn tell_heap(rt: &HostRuntime, heap: &DebugHeap) -> Result<(), Stop> {
+pub(crate) fn write_heap(rt: &HostRuntime, heap: &DebugHeap) -> Result<(), Stop> {
     let (live, bytes, committed) = match heap.note_heap() {
         Note::Heap(live, bytes, committed) => (live, bytes, committed),
         _ => (0, 0, 0),
@@ -42,7 +42,7 @@ pub(crate) fn tell_heap(rt: &HostRuntime, heap: &DebugHeap) -> Result<(), Stop> 
 /// Tells all that a heap shows: its trace, and its live cells with what they hold.
 pub(crate) fn show(rt: &HostRuntime, name: &str, heap: &DebugHeap) -> Result<(), Stop> {
     print!(rt; "{name}")?;
-    tell_heap(rt, heap)?;
+    write_heap(rt, heap)?;
     show_free(rt, heap)?;
     show_trace(rt, heap.trace().as_slice())?;
     let cells = calls::live(heap)?;

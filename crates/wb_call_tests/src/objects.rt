@@ -5,7 +5,7 @@ ghost use Rattle.wb_model.specs.Bodies.{class_at};
 ghost use Rattle.wb_model.specs.Statements.{payload_of_object};
 
 use crate::heaps::SHAPE;
-use crate::lines::{show, tell_gave};
+use crate::lines::{show, write_gave};
 use crate::stop::Stop;
 use wb_debug::DebugHeap;
 use wb_model::heap::{Gave, Rule};
@@ -31,7 +31,7 @@ pub(crate) fn make_objects(rt: &HostRuntime, script: &Script) -> Result<(), Stop
 fn make_and_show(rt: &HostRuntime, heap: &mut DebugHeap, script: &Script) -> Result<(), Stop> {
     for class in MADE {
         let gave = make_again(heap, script, class)?;
-        tell_gave(rt, "object of class", u32::from(class), gave, heap)?;
+        write_gave(rt, "object of class", u32::from(class), gave, heap)?;
     }
     show(rt, "after all objects", heap)
 }

@@ -99,7 +99,7 @@ fn alloc(rt: &HostRuntime, heap: &mut DebugHeap, bytes: u32) -> Result<(), Stop>
         Ok(gave) => (gave, true),
         Err(_) => (attempt(heap, bytes)?, false),
     };
-    tell(rt, heap, "alloc", bytes, gave, before, found)
+    write_attempt(rt, heap, "alloc", bytes, gave, before, found)
 }
 
 /// An attempt to give a cell another length, made once more where it found no memory.
@@ -112,11 +112,11 @@ fn realloc(rt: &HostRuntime, heap: &mut DebugHeap, ptr: Ptr, bytes: u32) -> Resu
         Ok(gave) => (gave, true),
         Err(_) => (reattempt(heap, ptr, bytes)?, false),
     };
-    tell(rt, heap, "realloc", bytes, gave, before, found)
+    write_attempt(rt, heap, "realloc", bytes, gave, before, found)
 }
 
 /// Tells what an attempt gave. One that found no memory at first and isn't a rise is told as that.
-fn tell(
+fn write_attempt(
     rt: &HostRuntime,
     heap: &DebugHeap,
     call: &str,

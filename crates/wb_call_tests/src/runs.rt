@@ -55,13 +55,13 @@ fn take_turns(rt: &HostRuntime, lead: &mut Machine) -> Result<(), Stop> {
     let mut spare = None;
     for _ in 0..MOST_TURNS {
         if lead.will_attempt() {
-            tell_end(rt, lead, &mut spare)?;
+            write_end(rt, lead, &mut spare)?;
         }
         if take_turn(rt, lead)? == Turn::Ended {
             break;
         }
     }
-    tell_end(rt, lead, &mut spare)
+    write_end(rt, lead, &mut spare)
 }
 
 /// Takes a turn while a copy waits, and tells both.
@@ -76,8 +76,8 @@ fn take_turn_beside<'a>(
     waiting: &Machine<'a>,
 ) -> Result<Turn, Stop> {
     let turn = step(lead, waiting)?;
-    tell(rt, "run", lead)?;
-    tell(rt, "copy", waiting)?;
+    write_turn(rt, "run", lead)?;
+    write_turn(rt, "copy", waiting)?;
     Ok(turn)
 }
 
@@ -102,7 +102,7 @@ fn copy<'a>(machine: &Machine<'a>) -> Result<Machine<'a>, NoMemory> {
 }
 
 /// Tells where a run stands.
-fn tell(rt: &HostRuntime, name: &str, machine: &Machine) -> Result<(), Stop> {
+fn write_turn(rt: &HostRuntime, name: &str, machine: &Machine) -> Result<(), Stop> {
     println!(rt;
         "{name}: line {}, attempts {}, asks for one {}",
         machine.line(),
@@ -113,9 +113,9 @@ fn tell(rt: &HostRuntime, name: &str, machine: &Machine) -> Result<(), Stop> {
 }
 
 /// Tells what a copy comes to that goes on to the end of the run.
-fn tell_end(rt: &HostRuntime, lead: &Machine, spare: &mut Option<Heap>) -> Result<(), Stop> {
+fn write_end(rt: &HostRuntime, lead: &Machine, spare: &mut Option<Heap>) -> Result<(), Stop> {
     let told = end(lead, spare)?;
-    tell_result(rt, &told)
+    write_result(rt, &told)
 }
 
 /// What the run comes to, by a copy, and by another one where memory ran out.
@@ -134,7 +134,7 @@ fn end_of_copy(lead: &Machine, spare: &mut Option<Heap>) -> Result<RunResult, No
 }
 
 /// Tells how a run ended, and how much it told.
-fn tell_result(rt: &HostRuntime, told: &RunResult) -> Result<(), Stop> {
+fn write_result(rt: &HostRuntime, told: &RunResult) -> Result<(), Stop> {
     let written = match &told.outcome {
         Outcome::Ended { left, leaks } => print!(rt; "ended: {left:?}, {} leaks", leaks.len()),
         Outcome::Panicked(panic) => print!(rt; "ended: {panic:?}"),

@@ -80,7 +80,7 @@ static FAULTY: [&[u8]; 6] = [
 /// Reads the scripts, and goes on with the one that has no fault.
 pub(crate) fn read_scripts(rt: &HostRuntime) -> Result<(), Stop> {
     for bytes in &FAULTY {
-        tell_fault(rt, bytes)?;
+        write_fault(rt, bytes)?;
     }
     match read_again(rt.alloc(), SCRIPT) {
         Ok(script) => use_script(rt, &script),
@@ -89,7 +89,7 @@ pub(crate) fn read_scripts(rt: &HostRuntime) -> Result<(), Stop> {
 }
 
 /// Reads a script with a fault, and tells which it is.
-fn tell_fault(rt: &HostRuntime, bytes: &[u8]) -> Result<(), Stop> {
+fn write_fault(rt: &HostRuntime, bytes: &[u8]) -> Result<(), Stop> {
     match read_again(rt.alloc(), bytes) {
         Err(ScriptFault::NoMemory) => Err(Stop::NoMemory),
         Err(fault) => {

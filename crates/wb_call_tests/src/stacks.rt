@@ -6,7 +6,7 @@ ghost use Rattle.wb_model.specs.Debug.{IsSoundDebug};
 
 use crate::calls;
 use crate::heaps::SHAPE;
-use crate::lines::{show, tell_gave, tell_heap};
+use crate::lines::{show, write_gave, write_heap};
 use crate::stop::Stop;
 use std::alloc::Global;
 use std::marker::Model;
@@ -48,7 +48,7 @@ pub(crate) fn push_items(rt: &HostRuntime) -> Result<(), Stop> {
 fn push_and_take(rt: &HostRuntime, stacked: &mut Stacked) -> Result<(), Stop> {
     stacked.push_some(rt, 0, FIRST)?;
     let gave = stacked.alloc(16)?;
-    tell_gave(rt, "alloc", 16, gave, &stacked.heap)?;
+    write_gave(rt, "alloc", 16, gave, &stacked.heap)?;
     stacked.push_some(rt, FIRST, LATER)?;
     show(rt, "after all pushes", &stacked.heap)?;
     stacked.take_all(rt)
@@ -83,7 +83,7 @@ impl Stacked {
         for i in from..from.saturating_add(n) {
             let pushed = self.push(item(i))?;
             print!(rt; "push {i}: {pushed:?}, {} items", self.stack.used())?;
-            tell_heap(rt, &self.heap)?;
+            write_heap(rt, &self.heap)?;
         }
         Ok(())
     }

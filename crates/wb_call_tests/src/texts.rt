@@ -5,7 +5,7 @@ ghost use Rattle.wb_model.specs.TextCells.{IsGrantedText, IsRemadeText, IsTextAt
 
 use crate::calls;
 use crate::heaps::SHAPE;
-use crate::lines::{show, tell_gave};
+use crate::lines::{show, write_gave};
 use crate::stop::Stop;
 use wb_debug::DebugHeap;
 use wb_hbuf::{length, make, max_len, remake, set_length};
@@ -38,7 +38,7 @@ fn make_hole(rt: &HostRuntime, heap: &mut DebugHeap) -> Result<(), Stop> {
 /// A raw cell.
 fn alloc(rt: &HostRuntime, heap: &mut DebugHeap, bytes: u32) -> Result<Ptr, Stop> {
     let gave = calls::alloc(heap, bytes, Kind::Raw)?;
-    tell_gave(rt, "alloc", bytes, gave, heap)?;
+    write_gave(rt, "alloc", bytes, gave, heap)?;
     match gave {
         Gave::Granted(ptr) => Ok(ptr),
         Gave::Denied | Gave::Ceiling => Err(Stop::NoMemory),
@@ -49,11 +49,11 @@ fn alloc(rt: &HostRuntime, heap: &mut DebugHeap, bytes: u32) -> Result<Ptr, Stop
 fn grow_text(rt: &HostRuntime, heap: &mut DebugHeap) -> Result<(), Stop> {
     let text = new_text(rt, heap, 4)?;
     let _ = set_length(heap, text, 3);
-    let text = remade(rt, heap, text, 20)?;
-    let text = remade(rt, heap, text, 90)?;
+    let text = remake_text(rt, heap, text, 20)?;
+    let text = remake_text(rt, heap, text, 90)?;
     heap.fail_next(1);
-    let text = remade(rt, heap, text, 200)?;
-    let text = remade(rt, heap, text, 3)?;
+    let text = remake_text(rt, heap, text, 200)?;
+    let text = remake_text(rt, heap, text, 3)?;
     let (units, most) = (length(heap, text), max_len(heap, text));
     println!(rt; "text of {units} units, at most {most}")?;
     Ok(())
@@ -65,7 +65,7 @@ fn new_text(rt: &HostRuntime, heap: &mut DebugHeap, n: u32) -> Result<Ptr, Stop>
     ensures { IfOk result (λ ptr. IsTextAt ptr heap.new) }
 {
     let gave = make_again(heap, n)?;
-    tell_gave(rt, "make", n, gave, heap)?;
+    write_gave(rt, "make", n, gave, heap)?;
     match gave {
         Gave::Granted(ptr) => Ok(ptr),
         Gave::Denied | Gave::Ceiling => Err(Stop::NoMemory),
@@ -87,13 +87,13 @@ fn make_again(heap: &mut DebugHeap, n: u32) -> Result<Gave, NoMemory>
 }
 
 /// The pointer to a text that was to get another maximum: the old one where that was denied.
-fn remade(rt: &HostRuntime, heap: &mut DebugHeap, ptr: Ptr, n: u32) -> Result<Ptr, Stop>
+fn remake_text(rt: &HostRuntime, heap: &mut DebugHeap, ptr: Ptr, n: u32) -> Result<Ptr, Stop>
     requires text { IsTextAt ptr heap.old }
     requires most { n ≤ MOST_UNITS }
     ensures { IfOk result (λ p. IsTextAt p heap.new) }
 {
     let gave = remake_again(heap, ptr, n)?;
-    tell_gave(rt, "remake", n, gave, heap)?;
+    write_gave(rt, "remake", n, gave, heap)?;
     match gave {
         Gave::Granted(moved) => Ok(moved),
         Gave::Denied | Gave::Ceiling => Ok(ptr),

@@ -38,10 +38,10 @@ hole_in xs place bytes top merged tops room = go room.back refl room.begins
     low : List Header
     low = headers (row_from 0 room.front)
 
-    behind : ℕ
-    behind = total room.front + (16 + 4 * length room.body)
+    following : ℕ
+    following = total room.front + (16 + 4 * length room.body)
 
-    rows : row_from 0 xs ≡ row_from 0 room.front ++ row_from behind room.back
+    rows : row_from 0 xs ≡ row_from 0 room.front ++ row_from following room.back
     rows =
         ap (row_from 0) room.is ∙ row_from-append room.front (free room.body ∷ room.back) 0
         ∙ ap (λ n. row_from 0 room.front ++ row_from (n + (16 + 4 * length room.body)) room.back) (zero-add (total room.front))

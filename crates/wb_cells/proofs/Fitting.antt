@@ -4,14 +4,14 @@ use Rattle.std.specs.Prelude.{nat_eq, nat_le}
 use Rattle.std.proofs.lemmas.Bool.{eq-eqb, ne_eqb, leb-true, leb-false, cases_eq, cases_lt}
 use Rattle.wb_model.specs.declared.heap.Header.{Header}
 use Rattle.wb_model.specs.declared.heap.Ptr.{Ptr}
-use Rattle.wb_model.specs.CellRow.{room_behind}
+use Rattle.wb_model.specs.CellRow.{room_after}
 use Rattle.wb_model.specs.Row.{IsSpacedFrom, end_of, is_at, place_from, top_from}
 use Rattle.wb_model.specs.Space.{free_runs, longest}
 use Rattle.wb_model.proofs.Places.{top_from-above}
 use Rattle.wb_cells.specs.Maxima.{IsFirstLong, IsThere}
 use Rattle.wb_cells.specs.RowGaps.{gap_from, found_or}
 use Rattle.wb_cells.proofs.RowGaps.{one_here, one_off, gap-below}
-use Rattle.wb_cells.proofs.Behind.{found_from}
+use Rattle.wb_cells.proofs.NamedCells.{found_from}
 
 -- the first free cell that is long enough is where first fit goes
 pub place_from-gaps : (hs : List Header) (at bytes : ℕ) → IsSpacedFrom at hs → at % 16 ≡ 0 → 0 < bytes → (found : Option ℕ) →
@@ -80,20 +80,20 @@ longest-gaps hs lengths greatest s is most some =
 abbrev pub room_at : ℕ → ℕ → ℕ → Option ℕ
 room_at end top length = cond (nat_eq end top) None (Some length)
 
-pub room_behind-gaps : (p : Ptr) (hs : List Header) (at k : ℕ) (h : Header) → IsSpacedFrom at hs → find (is_at p) hs ≡ Some h → 16 * k ≡ end_of h →
-    room_behind p hs ≡ room_at (end_of h) (top_from at hs) (gap_from at hs k)
-room_behind-gaps p [] at k h s found e = absurd cc
-room_behind-gaps p (g ∷ []) at k h s found e = go (is_at p g) found
+pub room_after-gaps : (p : Ptr) (hs : List Header) (at k : ℕ) (h : Header) → IsSpacedFrom at hs → find (is_at p) hs ≡ Some h → 16 * k ≡ end_of h →
+    room_after p hs ≡ room_at (end_of h) (top_from at hs) (gap_from at hs k)
+room_after-gaps p [] at k h s found e = absurd cc
+room_after-gaps p (g ∷ []) at k h s found e = go (is_at p g) found
   where
     go : (b : Bool) → cond b (Some g) None ≡ Some h → None ≡ room_at (end_of h) (end_of g) (gap_from at (g ∷ []) k)
     go true f = let same : g ≡ h = cc in rw (eq-eqb (end_of h) (end_of g) (sym (ap end_of same))) refl
     go false f = absurd cc
-room_behind-gaps p (g ∷ n ∷ hs) at k h s found e = go (is_at p g) found (room_behind-gaps p (n ∷ hs) (end_of g) k h s.5) (found_from p (n ∷ hs) (end_of g) h s.5)
+room_after-gaps p (g ∷ n ∷ hs) at k h s found e = go (is_at p g) found (room_after-gaps p (n ∷ hs) (end_of g) k h s.5) (found_from p (n ∷ hs) (end_of g) h s.5)
   where
     go : (b : Bool) → cond b (Some g) (find (is_at p) (n ∷ hs)) ≡ Some h →
-        (find (is_at p) (n ∷ hs) ≡ Some h → 16 * k ≡ end_of h → room_behind p (n ∷ hs) ≡ room_at (end_of h) (top_from (end_of g) (n ∷ hs)) (gap_from (end_of g) (n ∷ hs) k)) →
+        (find (is_at p) (n ∷ hs) ≡ Some h → 16 * k ≡ end_of h → room_after p (n ∷ hs) ≡ room_at (end_of h) (top_from (end_of g) (n ∷ hs)) (gap_from (end_of g) (n ∷ hs) k)) →
         (find (is_at p) (n ∷ hs) ≡ Some h → (end_of g ≤ h.place) × (16 ≤ h.length)) →
-        cond b (Some (n.place - end_of g)) (room_behind p (n ∷ hs)) ≡ room_at (end_of h) (top_from (end_of g) (n ∷ hs)) (gap_from at (g ∷ n ∷ hs) k)
+        cond b (Some (n.place - end_of g)) (room_after p (n ∷ hs)) ≡ room_at (end_of h) (top_from (end_of g) (n ∷ hs)) (gap_from at (g ∷ n ∷ hs) k)
     go true f rest above =
         let same : g ≡ h = cc in
         let q : 16 * k ≡ end_of g = e ∙ sym (ap end_of same) in

@@ -20,7 +20,7 @@ pub mod Sound
 pub mod Packing
 pub mod LastBits
 pub mod Gaps
-pub mod Behind
+pub mod NamedCells
 pub mod Lengths
 pub mod Levels
 pub mod Resizing

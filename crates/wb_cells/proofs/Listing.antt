@@ -6,7 +6,7 @@ use Rattle.std.proofs.lemmas.List.{length-set}
 use Rattle.wb_model.specs.declared.heap.Header.{Header}
 use Rattle.wb_model.specs.declared.heap.Ptr.{Ptr}
 use Rattle.wb_model.specs.Row.{Cell, IsSpacedFrom, headers, end_of, inserted, without, place_of, top_from, top_of}
-use Rattle.wb_model.specs.CellRow.{IsGap, room_behind, with_length}
+use Rattle.wb_model.specs.CellRow.{IsGap, room_after, with_length}
 use Rattle.wb_model.specs.Space.{free_runs, longest}
 use Rattle.wb_model.specs.Spelling.{spelled}
 use Rattle.wb_cells.specs.declared.free_list.Hole.{Hole}
@@ -17,8 +17,8 @@ use Rattle.wb_cells.specs.Maxima.{IsFirstLong, IsGreatest}
 use Rattle.wb_cells.specs.RowGaps.{one_at, gap_from, gap_of, AreSet, AreListed, AreGapsOf, opened_lengths, closed_lengths, found_or}
 use Rattle.wb_cells.specs.Segments.{Segment, live, free, cell_from, row_from, AreWhole, AreMerged}
 use Rattle.wb_cells.proofs.Laying.{spelled-laid, top_from-row}
-use Rattle.wb_cells.proofs.Behind.{length_word, found_cell}
-use Rattle.wb_cells.proofs.Fitting.{place_from-gaps, longest-gaps, room_at, room_behind-gaps}
+use Rattle.wb_cells.proofs.NamedCells.{length_word, found_cell}
+use Rattle.wb_cells.proofs.Fitting.{place_from-gaps, longest-gaps, room_at, room_after-gaps}
 use Rattle.wb_cells.proofs.Spans.{all_most}
 use Rattle.wb_cells.proofs.Changing.{IsCell}
 use Rattle.wb_cells.proofs.Rounds.{AreNeighbours}
@@ -339,19 +339,19 @@ module _ (words : List ℕ) (starts : List Bool) (top first : ℕ) (laid : IsLai
   -- the room behind a cell
   module _ (p : Ptr) (cell : IsCell p words laid.segments laid.spare) (row : List (Cell (List ℕ))) (is : spelled words top ≡ row) (end : ℕ)
       (ends : end ≡ p.place + slice_index words (p.place / 16 * 4)) where
-    room_is : room_behind p (headers row) ≡ room_at end top (slice_index gaps (end / 16))
+    room_is : room_after p (headers row) ≡ room_at end top (slice_index gaps (end / 16))
     room_is =
         let head = (cell_from p.place cell.kind cell.level p.number cell.body).head in
         let same : end_of head ≡ end = sym (ends ∙ ap (λ n. p.place + n) (length_word p words laid.segments laid.spare cell)) in
         let at : 16 * (end / 16) ≡ end_of head = omega (arith, same, cell.here, cell.rounded, cell.whole) in
-        ap (λ r. room_behind p (headers r)) (sym is)
-        ∙ room_behind-gaps p all 0 (end / 16) head spaced_all (found_cell words starts top first laid p cell) at
+        ap (λ r. room_after p (headers r)) (sym is)
+        ∙ room_after-gaps p all 0 (end / 16) head spaced_all (found_cell words starts top first laid p cell) at
         ∙ ap (λ n. room_at n (top_from 0 all) (gap_from 0 all (end / 16))) same
         ∙ ap (λ n. room_at end n (gap_from 0 all (end / 16))) top_is
         ∙ ap (room_at end top) (sym (are (end / 16)))
 
-    pub room_last : end ≡ top → room_behind p (headers row) ≡ None
+    pub room_last : end ≡ top → room_after p (headers row) ≡ None
     room_last last = room_is ∙ rw (eq-eqb end top last) refl
 
-    pub room_inner : end ≢ top → room_behind p (headers row) ≡ Some (slice_index gaps (end / 16))
+    pub room_inner : end ≢ top → room_after p (headers row) ≡ Some (slice_index gaps (end / 16))
     room_inner low = room_is ∙ rw (ne_eqb end top low) refl

@@ -21,7 +21,7 @@ use Rattle.wb_cells.proofs.Rooms.{merged_both}
 use Rattle.wb_cells.proofs.Merging.{IsUp, last_free-live}
 use Rattle.wb_cells.proofs.Giving.{IsHollow, rounds_of, is_up, hole_start}
 use Rattle.wb_cells.proofs.Closing.{IsClosed, closed_hole, closed_above}
-use Rattle.wb_cells.proofs.Behind.{length_word}
+use Rattle.wb_cells.proofs.NamedCells.{length_word}
 use Rattle.wb_cells.proofs.Lengths.{apart-length, length-resized, with_length-split, parted_room, fits_past, fits_below, length-replace_range}
 
 module _ (words : List ℕ) (starts : List Bool) (top first : ℕ) (laid : IsLaid words starts top first) (p : Ptr) (cell : IsCell p words laid.segments laid.spare)
@@ -66,8 +66,8 @@ module _ (words : List ℕ) (starts : List Bool) (top first : ℕ) (laid : IsLai
   lengthened =
       replace_range (slice_set words (p.place / 16 * 4) to) ((p.place + size) / 16 * 4) ((p.place + size) / 16 * 4 + (to - size) / 16 * 4) (replicate ((to - size) / 16 * 4) 0)
 
-  pub behind : IsUp end cell.back last link
-  behind = is_up words starts top first laid p cell prior under above round
+  pub following : IsUp end cell.back last link
+  following = is_up words starts top first laid p cell prior under above round
 
   whole_all : AreWhole (cell.front ++ own ∷ cell.back)
   whole_all = subst (λ z. AreWhole z) cell.is laid.whole
@@ -93,8 +93,8 @@ module _ (words : List ℕ) (starts : List Bool) (top first : ℕ) (laid : IsLai
   at_end : total cell.front + size ≡ end
   at_end = omega (arith, cell.here)
 
-  past_own : past laid.spare cell.front cell.kind cell.level p.number cell.body cell.back ≡ behind.more ++ (words_of last behind.rest NO_PLACE ++ laid.spare)
-  past_own = rw (at_end, behind.spelled) (append_assoc behind.more (words_of last behind.rest NO_PLACE) laid.spare)
+  past_own : past laid.spare cell.front cell.kind cell.level p.number cell.body cell.back ≡ following.more ++ (words_of last following.rest NO_PLACE ++ laid.spare)
+  past_own = rw (at_end, following.spelled) (append_assoc following.more (words_of last following.rest NO_PLACE) laid.spare)
 
   low_words : (ws : List ℕ) → words_of 0 low link_now ++ ws ≡ words_of 0 cell.front link_now ++ (to ∷ state_of cell.kind ∷ cell.level ∷ p.number ∷ (body' ++ ws))
   low_words ws =
@@ -157,18 +157,18 @@ module _ (words : List ℕ) (starts : List Bool) (top first : ℕ) (laid : IsLai
       ∙ ap (λ bs. starts_of cell.front ++ (true ∷ bs)) run
       ∙ sym (marked_low (replicate k false ++ rest))
 
-  row_now : with_length p to (row_from 0 laid.segments) ≡ row_from 0 low ++ row_from last behind.rest
+  row_now : with_length p to (row_from 0 laid.segments) ≡ row_from 0 low ++ row_from last following.rest
   row_now =
       ap (λ z. with_length p to (row_from 0 z)) cell.is
       ∙ with_length-split p to cell.front cell.kind cell.level cell.body cell.back 0 (cell.here ∙ sym (zero-add _)) size'
       ∙ ap (λ q. row_from 0 low ++ row_from q cell.back) (ap (λ q. q + size) (zero-add (total cell.front)) ∙ at_end)
-      ∙ ap (λ r. row_from 0 low ++ r) behind.row
+      ∙ ap (λ r. row_from 0 low ++ r) following.row
 
   -- words and bits round what is left behind it
   hollow_from : (high : List Segment) (spare junk : List ℕ) (unset stop link' top' : ℕ) → p.place + to + 4 * length junk ≡ stop → length junk % 4 ≡ 0 →
       lengthened ≡ words_of 0 low link_now ++ (junk ++ (words_of stop high NO_PLACE ++ spare)) → link' ≡ first_free stop high NO_PLACE → top' ≡ stop + total high →
       starts ≡ starts_of low ++ (replicate (length junk / 4) false ++ (starts_of high ++ replicate unset false)) →
-      AreWhole high → AreMerged high → (high ≡ []) ⊎ BeginsLive high → row_from last behind.rest ≡ row_from stop high →
+      AreWhole high → AreMerged high → (high ≡ []) ⊎ BeginsLive high → row_from last following.rest ≡ row_from stop high →
       IsHollow lengthened starts top' first (with_length p to (row_from 0 laid.segments)) (p.place + to) stop under link'
   hollow_from high spare junk unset stop link' top' long four spelled link_is ends marked whole merged begins row = record {
     low = low;
@@ -200,41 +200,41 @@ module _ (words : List ℕ) (starts : List Bool) (top first : ℕ) (laid : IsLai
   }
 
   -- a live cell follows
-  module _ (begins : BeginsLive behind.rest) where
+  module _ (begins : BeginsLive following.rest) where
     fits_low : p.place + to ≤ last
     fits_low =
         let f = subst (λ z. FitsInPlace p to (headers (row_from 0 z))) (cell.is ∙ sym (append_assoc cell.front (own ∷ []) cell.back)) fits in
         let g = fits_past p to (cell.front ++ own ∷ []) cell.back 0 f in
         let here : 0 + total (cell.front ++ own ∷ []) ≡ end = omega (arith, cell.here, total-append cell.front (own ∷ [])) in
-        let h = subst (λ r. FitsInPlace p to (headers r)) (ap (λ q. row_from q cell.back) here ∙ behind.row) g in
-        fits_below p to last behind.rest begins (omega (arith, behind.long)) h
+        let h = subst (λ r. FitsInPlace p to (headers r)) (ap (λ q. row_from q cell.back) here ∙ following.row) g in
+        fits_below p to last following.rest begins (omega (arith, following.long)) h
 
     abbrev junk : List ℕ
-    junk = left behind.more
+    junk = left following.more
 
     count : p.place + to + 4 * length junk ≡ last
-    count = omega (arith, length-append (drop m cell.body) (drop n behind.more), length-drop m cell.body, length-drop n behind.more, behind.long, fits_low, size', length-resized to cell.body)
+    count = omega (arith, length-append (drop m cell.body) (drop n following.more), length-drop m cell.body, length-drop n following.more, following.long, fits_low, size', length-resized to cell.body)
 
     quarter : length junk % 4 ≡ 0
-    quarter = omega (arith, length-append (drop m cell.body) (drop n behind.more), length-drop m cell.body, length-drop n behind.more, behind.rounded, whole_own.0, rounded, least)
+    quarter = omega (arith, length-append (drop m cell.body) (drop n following.more), length-drop m cell.body, length-drop n following.more, following.rounded, whole_own.0, rounded, least)
 
-    pub hollow_behind : IsHollow lengthened starts top first (with_length p to (row_from 0 laid.segments)) (p.place + to) last under link
-    hollow_behind =
-        hollow_from behind.rest laid.spare junk laid.unset last link top count quarter
-        (lengthened_is behind.more (words_of last behind.rest NO_PLACE ++ laid.spare) past_own (omega (arith, behind.long, fits_low, size', length-resized to cell.body)))
-        behind.link (laid.ends ∙ total_all ∙ behind.ends)
-        (marked_from (length behind.more / 4) (length junk / 4) (starts_of behind.rest ++ replicate laid.unset false)
-        (omega (arith, count, behind.long, size', whole_own.0, behind.rounded, quarter, rounded))
-        (ap (λ bs. bs ++ replicate laid.unset false) behind.marked ∙ append_assoc (replicate (length behind.more / 4) false) (starts_of behind.rest) (replicate laid.unset false)))
-        behind.whole behind.merged (inr begins) refl
+    pub hollow_after : IsHollow lengthened starts top first (with_length p to (row_from 0 laid.segments)) (p.place + to) last under link
+    hollow_after =
+        hollow_from following.rest laid.spare junk laid.unset last link top count quarter
+        (lengthened_is following.more (words_of last following.rest NO_PLACE ++ laid.spare) past_own (omega (arith, following.long, fits_low, size', length-resized to cell.body)))
+        following.link (laid.ends ∙ total_all ∙ following.ends)
+        (marked_from (length following.more / 4) (length junk / 4) (starts_of following.rest ++ replicate laid.unset false)
+        (omega (arith, count, following.long, size', whole_own.0, following.rounded, quarter, rounded))
+        (ap (λ bs. bs ++ replicate laid.unset false) following.marked ∙ append_assoc (replicate (length following.more / 4) false) (starts_of following.rest) (replicate laid.unset false)))
+        following.whole following.merged (inr begins) refl
 
   -- it is the last
-  module _ (none : behind.rest ≡ []) where
+  module _ (none : following.rest ≡ []) where
     abbrev room : List ℕ
-    room = behind.more ++ laid.spare
+    room = following.more ++ laid.spare
 
     bare : past laid.spare cell.front cell.kind cell.level p.number cell.body cell.back ≡ room ++ []
-    bare = past_own ∙ ap (λ z. behind.more ++ (words_of last z NO_PLACE ++ laid.spare)) none ∙ sym (append-nil room)
+    bare = past_own ∙ ap (λ z. following.more ++ (words_of last z NO_PLACE ++ laid.spare)) none ∙ sym (append-nil room)
 
     inside : n ≤ length room
     inside =
@@ -255,13 +255,13 @@ module _ (words : List ℕ) (starts : List Bool) (top first : ℕ) (laid : IsLai
         )
 
     abbrev unset : ℕ
-    unset = length cell.body / 4 + (length behind.more / 4 + laid.unset) - length body' / 4
+    unset = length cell.body / 4 + (length following.more / 4 + laid.unset) - length body' / 4
 
-    enough : length body' / 4 ≤ length cell.body / 4 + (length behind.more / 4 + laid.unset)
+    enough : length body' / 4 ≤ length cell.body / 4 + (length following.more / 4 + laid.unset)
     enough =
         let off = starts_of cell.back ++ replicate laid.unset false in
-        let back : length (starts_of cell.back) ≡ length behind.more / 4 =
-        ap length (behind.marked ∙ ap (λ z. replicate (length behind.more / 4) false ++ starts_of z) none ∙ append-nil _) ∙ length-replicate _ _ in
+        let back : length (starts_of cell.back) ≡ length following.more / 4 =
+        ap length (following.marked ∙ ap (λ z. replicate (length following.more / 4) false ++ starts_of z) none ∙ append-nil _) ∙ length-replicate _ _ in
         omega (
           arith,
           ap length marked_own,
@@ -284,14 +284,14 @@ module _ (words : List ℕ) (starts : List Bool) (top first : ℕ) (laid : IsLai
         hollow_from [] (left room) [] unset (p.place + to) NO_PLACE (p.place + to) (omega arith) refl
         (lengthened_is room [] bare inside ∙ ap (λ ws. words_of 0 low link_now ++ ws) (append-nil (left room)))
         refl (omega arith)
-        (marked_from (length behind.more / 4 + laid.unset) unset [] (omega (arith, enough))
-        (ap (λ bs. bs ++ replicate laid.unset false) (behind.marked ∙ ap (λ z. replicate (length behind.more / 4) false ++ starts_of z) none ∙ append-nil _)
-        ∙ replicate-append-replicate (length behind.more / 4) laid.unset false ∙ sym (append-nil _))
+        (marked_from (length following.more / 4 + laid.unset) unset [] (omega (arith, enough))
+        (ap (λ bs. bs ++ replicate laid.unset false) (following.marked ∙ ap (λ z. replicate (length following.more / 4) false ++ starts_of z) none ∙ append-nil _)
+        ∙ replicate-append-replicate (length following.more / 4) laid.unset false ∙ sym (append-nil _))
         ∙ ap (λ bs. starts_of low ++ bs) (append-nil _))
         tt tt (inl refl) (ap (row_from last) none)
 
-  lowered : behind.rest ≡ [] → last ≡ top
-  lowered none = sym (laid.ends ∙ total_all ∙ behind.ends ∙ ap (λ z. last + total z) none ∙ add-zero last)
+  lowered : following.rest ≡ [] → last ≡ top
+  lowered none = sym (laid.ends ∙ total_all ∙ following.ends ∙ ap (λ z. last + total z) none ∙ add-zero last)
 
   -- the hole as the code finds it, from the new end on
   abbrev hole_now : Hole → Hole
@@ -312,25 +312,25 @@ module _ (words : List ℕ) (starts : List Bool) (top first : ℕ) (laid : IsLai
 
   pub shut : (q : Hole) → q ≡ hole_past words p.place (record { prior = prior; before = under; after = above }) → (total : ℕ) → Shuts q total
   unfolding hollow_above hollow_from
-  shut q is total = subst (λ r. Shuts r total) (sym (is_found q is)) (go behind.begins)
+  shut q is total = subst (λ r. Shuts r total) (sym (is_found q is)) (go following.begins)
     where
-      go : (behind.rest ≡ []) ⊎ BeginsLive behind.rest → Shuts found total
+      go : (following.rest ≡ []) ⊎ BeginsLive following.rest → Shuts found total
       go (inl none) = closed_above lengthened starts top first (with_length p to (row_from 0 laid.segments)) total (hole_now found) (hollow_above none) refl (lowered none)
-      go (inr begins) = closed_hole lengthened starts top first (with_length p to (row_from 0 laid.segments)) total (hole_now found) (hollow_behind begins)
+      go (inr begins) = closed_hole lengthened starts top first (with_length p to (row_from 0 laid.segments)) total (hole_now found) (hollow_after begins)
 
   -- its bounds, where a live cell follows
   pub shut_start : (q : Hole) → q ≡ hole_past words p.place (record { prior = prior; before = under; after = above }) → q.end ≢ top → p.place + to ≢ q.end →
       (p.place + to) / 16 * 4 + 4 ≤ length lengthened
-  shut_start q is = let e = is_found q is in subst (λ r. r.end ≢ top → p.place + to ≢ r.end → (p.place + to) / 16 * 4 + 4 ≤ length lengthened) (sym e) (go behind.begins)
+  shut_start q is = let e = is_found q is in subst (λ r. r.end ≢ top → p.place + to ≢ r.end → (p.place + to) / 16 * 4 + 4 ≤ length lengthened) (sym e) (go following.begins)
     where
-      go : (behind.rest ≡ []) ⊎ BeginsLive behind.rest → last ≢ top → p.place + to ≢ last → (p.place + to) / 16 * 4 + 4 ≤ length lengthened
+      go : (following.rest ≡ []) ⊎ BeginsLive following.rest → last ≢ top → p.place + to ≢ last → (p.place + to) / 16 * 4 + 4 ≤ length lengthened
       go (inl none) high = absurd (high (lowered none))
-      go (inr begins) high = hole_start _ _ _ _ _ _ _ _ _ (hollow_behind begins)
+      go (inr begins) high = hole_start _ _ _ _ _ _ _ _ _ (hollow_after begins)
 
   pub shut_order : (q : Hole) → q ≡ hole_past words p.place (record { prior = prior; before = under; after = above }) → q.end ≢ top → p.place + to ≤ q.end
-  shut_order q is = let e = is_found q is in subst (λ r. r.end ≢ top → p.place + to ≤ r.end) (sym e) (go behind.begins)
+  shut_order q is = let e = is_found q is in subst (λ r. r.end ≢ top → p.place + to ≤ r.end) (sym e) (go following.begins)
     where
-      go : (behind.rest ≡ []) ⊎ BeginsLive behind.rest → last ≢ top → p.place + to ≤ last
+      go : (following.rest ≡ []) ⊎ BeginsLive following.rest → last ≢ top → p.place + to ≤ last
       go (inl none) high = absurd (high (lowered none))
       go (inr begins) high = fits_low begins
 

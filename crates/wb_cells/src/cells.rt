@@ -3,7 +3,7 @@
 
 ghost use Rattle.std.specs.Prelude.{◌≡◌, ◌≢◌, ◌+◌, ◌*◌, ◌%◌, ◌<◌, ◌≤◌, [], ◌++◌, max, length, take, drop, slice_index, slice_set, All, IfOk, OnOk, OnErr, option_map, IsOk, IsSome};
 ghost use Rattle.wb_chunk.specs.Halves.{half_of, with_half};
-ghost use Rattle.wb_model.specs.CellRow.{CellRow, FitsInPlace, IsGap, IsSoundCells, payload_of, room_behind, with_length, with_level, with_payload};
+ghost use Rattle.wb_model.specs.CellRow.{CellRow, FitsInPlace, IsGap, IsSoundCells, payload_of, room_after, with_length, with_level, with_payload};
 ghost use Rattle.wb_model.specs.LimitedHeap.{next_live_of, zero_words};
 ghost use Rattle.wb_model.specs.Space.{free_runs, longest};
 ghost use Rattle.wb_model.specs.Row.{IsLeastPlace, cell_at, headers, inserted, place_of, top_of, without};
@@ -186,7 +186,7 @@ impl Cells {
         ensures sound { IsSoundCells self.new }
     {
         let end = ptr.place + free_list::length_at(&self.words, ptr.place);
-        let around = free_list::around(&self.words, &self.gaps, self.ends.first, ptr.place);
+        let around = free_list::neighbours_of(&self.words, &self.gaps, self.ends.first, ptr.place);
         let hole = free_list::hole_left(&self.words, ptr.place, around);
         self.gaps.close(self.ends.top, end, hole);
         let ends = free_list::close(&mut self.words, self.ends, hole);
@@ -207,8 +207,8 @@ impl Cells {
         ensures sound { IsSoundCells self.new }
     {
         let old = free_list::length_at(&self.words, ptr.place);
-        let around = free_list::around(&self.words, &self.gaps, self.ends.first, ptr.place);
-        let mut hole = free_list::hole_behind(&self.words, ptr.place, around);
+        let around = free_list::neighbours_of(&self.words, &self.gaps, self.ends.first, ptr.place);
+        let mut hole = free_list::hole_after(&self.words, ptr.place, around);
         hole.start = ptr.place + length;
         self.gaps.close(self.ends.top, ptr.place + old, hole);
         self.words.set_word(layout::words_in(ptr.place), length);
@@ -254,7 +254,7 @@ impl Cells {
     /// The free bytes between the cell that the pointer names and the next live one, or `None` where it is the last.
     pub fn room_after(&self, ptr: Ptr) -> Option<u32>
         requires { IsSome (cell_at ptr self.now.row) }
-        ensures room { result ≡ room_behind ptr (headers self.now.row) }
+        ensures room { result ≡ room_after ptr (headers self.now.row) }
         ensures sound { IsSoundCells self.now }
     {
         let end = ptr.place + free_list::length_at(&self.words, ptr.place);

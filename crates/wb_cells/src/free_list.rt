@@ -39,7 +39,7 @@ pub fn link_at(words: &Chunk, place: u32) -> u32
 }
 
 /// The free cells round a place.
-pub fn around(words: &Chunk, gaps: &GapIndex, first: u32, place: u32) -> Neighbours
+pub fn neighbours_of(words: &Chunk, gaps: &GapIndex, first: u32, place: u32) -> Neighbours
     requires below { place < NO_PLACE }
     requires rounded { place % 16 ≡ 0 }
     requires linked { (cells : List Gap) × Links words.now first cells }
@@ -141,7 +141,7 @@ pub fn open(words: &mut Chunk, gaps: &GapIndex, ends: Ends, place: u32, bytes: u
             first: ends.first,
         };
     }
-    let around = around(words, gaps, ends.first, place);
+    let around = neighbours_of(words, gaps, ends.first, place);
     let next = split(words, place, bytes);
     Ends {
         top: ends.top,
@@ -161,7 +161,7 @@ pub struct Hole {
 }
 
 /// The free bytes behind a live cell, up to the next live one.
-pub fn hole_behind(words: &Chunk, place: u32, around: Neighbours) -> Hole
+pub fn hole_after(words: &Chunk, place: u32, around: Neighbours) -> Hole
     requires cell { IsWithin words.now place }
     requires above { around.after ≡ place + slice_index words.now (place / 16 * 4) → IsWithin words.now around.after }
     ensures { result ≡ hole_past words.now place around }
@@ -190,7 +190,7 @@ pub fn hole_left(words: &Chunk, place: u32, around: Neighbours) -> Hole
     requires above { around.after ≡ place + slice_index words.now (place / 16 * 4) → IsWithin words.now around.after }
     ensures { result ≡ hole_of words.now place around }
 {
-    let mut hole = hole_behind(words, place, around);
+    let mut hole = hole_after(words, place, around);
     hole.start = place;
     if around.before != NONE && around.before + length_at(words, around.before) == place {
         hole.start = around.before;

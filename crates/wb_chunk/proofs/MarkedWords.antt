@@ -234,9 +234,9 @@ block-put source ws ys marks others block last done are lt long ends le is =
         ∙ get_or-take (last - block * 1024) (drop (block * 1024) source) (k - block * 1024) 0 (omega (arith, less, e))
         ∙ get_or-drop (block * 1024) source (k - block * 1024) 0 ∙ ap (λ j. get_or source j 0) here
     inside k e (inr past) =
-        let behind : length source ≤ k = omega (arith, ends, past, e) in
+        let following : length source ≤ k = omega (arith, ends, past, e) in
         words-out ws ys (block * 1024) (last - block * 1024) k (omega (arith, long, ends, le)) count (inr (omega (arith, past)))
-        ∙ get_or_past ws k 0 (omega (arith, behind, long)) ∙ sym (get_or_past source k 0 behind)
+        ∙ get_or_past ws k 0 (omega (arith, following, long)) ∙ sym (get_or_past source k 0 following)
 
     outside : (k : ℕ) → k / 1024 ≢ block → (k < block * 1024) ⊎ (block * 1024 ≤ k) → get_or new k 0 ≡ get_or ws k 0
     outside k ne (inl less) = words-out ws ys (block * 1024) (last - block * 1024) k (omega (arith, long, ends, le)) count (inl less)

@@ -342,7 +342,7 @@ shift-written old moved ys s t m next same fits long fit is inside outside shift
     pairs-shifted old (take t moved ++ (ys ++ drop m (drop t moved))) s t m (length-written moved ys t m (omega (arith, same)) long ∙ same) fits fit
     (λ j lt. words-in moved ys (drop m (drop t moved)) t j (omega (arith, same)) (omega (arith, long)) ∙ shifted j (omega (arith, part))
     ∙ ap (λ w. high_and_low w (get_or (take m (drop t moved) ++ next ∷ []) (j + 1) 0)) (here j lt)
-    ∙ ap (λ w. high_and_low (get_or old (s + j) 0) w) (behind j lt (cases_lt (j + 1) m)))
+    ∙ ap (λ w. high_and_low (get_or old (s + j) 0) w) (following j lt (cases_lt (j + 1) m)))
     (λ j away. words-out moved ys t m j (omega (arith, same)) long away ∙ outside j away)
   where
     part : length (take m (drop t moved)) ≡ m
@@ -351,10 +351,10 @@ shift-written old moved ys s t m next same fits long fit is inside outside shift
     here : (j : ℕ) → j < m → get_or (take m (drop t moved)) j 0 ≡ get_or old (s + j) 0
     here j lt = get_or-take m (drop t moved) j 0 lt ∙ get_or-drop t moved j 0 ∙ inside j lt
 
-    behind : (j : ℕ) → j < m → (j + 1 < m) ⊎ (m ≤ j + 1) → get_or (take m (drop t moved) ++ next ∷ []) (j + 1) 0 ≡ get_or old (s + j + 1) 0
-    behind j lt (inl more) =
+    following : (j : ℕ) → j < m → (j + 1 < m) ⊎ (m ≤ j + 1) → get_or (take m (drop t moved) ++ next ∷ []) (j + 1) 0 ≡ get_or old (s + j + 1) 0
+    following j lt (inl more) =
         let e : s + (j + 1) ≡ s + j + 1 = omega arith in
         get_or_append_left (take m (drop t moved)) (next ∷ []) 0 (j + 1) (omega (arith, part)) ∙ here (j + 1) more ∙ ap (λ n. get_or old n 0) e
-    behind j lt (inr last) =
+    following j lt (inr last) =
         let e : s + m ≡ s + j + 1 = omega arith in
         get_or_push (take m (drop t moved)) next 0 (j + 1) (omega (arith, part)) ∙ is ∙ ap (λ n. get_or old n 0) e

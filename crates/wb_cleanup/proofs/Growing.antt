@@ -26,7 +26,7 @@ use Rattle.wb_model.proofs.Reallocations.{found-all, found-head, length-resized}
 use Rattle.wb_cleanup.specs.declared.cleanup.Cleanup.{Cleanup}
 use Rattle.wb_cleanup.specs.Pushes.{cell_by, growth, remade, slots_by}
 use Rattle.wb_cleanup.specs.Stacks.{IsStack, cell_of, slots_of, count_of, items_of}
-use Rattle.wb_cleanup.proofs.Standing.{Stands, stands}
+use Rattle.wb_cleanup.proofs.StackInHeap.{Stands, stands}
 
 -- a new cell is found, and ends below the ceiling
 record IsGranted (p : Ptr) (c : Cell (List ℕ)) (d : Debug) : Type 0 where

@@ -1,5 +1,5 @@
 mod SlotWords
 mod Rewriting
-pub mod Standing
+pub mod StackInHeap
 mod Growing
-pub mod Beside
+pub mod HeapBesideStack

@@ -109,10 +109,10 @@ pub words-put : (items : List Item) (item : Item) (ws : List ℕ) → 4 * (lengt
 words-put items item ws fits e =
     let n = 4 * length items in
     let new = slot_words item in
-    let behind = drop (n + length new) ws in
+    let following = drop (n + length new) ws in
     let front : length (take n ws) ≡ n = length-take-le n ws (omega (arith, fits)) in
     let counted : length (take n ws ++ new) ≡ 4 * (length items + 1) = omega (arith, length-append (take n ws) new, front, length-slot_words item) in
-    take_at (take n ws ++ new) behind (4 * (length items + 1)) counted
+    take_at (take n ws ++ new) following (4 * (length items + 1)) counted
     ∙ ap (λ vs. vs ++ new) e ∙ sym (words-more items item)
 
 pub length-with_words : (at : ℕ) (new ws : List ℕ) → at + length new ≤ length ws → length (with_words at new ws) ≡ length ws

@@ -126,9 +126,9 @@ json-alone : Spell (codes "check" ∷ codes "--json" ∷ []) (record (command_wi
 unfolding walked walk_passes walk_fault defaults_fault
 json-alone = record { taken = refl; faultless = refl; one_rule = refl; in_order = refl; meaning = refl }
 
-json-behind-a-file : Spell (codes "run" ∷ codes "--limit=5" ∷ codes "a.oom" ∷ codes "--json" ∷ []) (record (run_with (Limit 5) 4096 4096 (Some (codes "a.oom"))) { json = true })
+json-following-a-file : Spell (codes "run" ∷ codes "--limit=5" ∷ codes "a.oom" ∷ codes "--json" ∷ []) (record (run_with (Limit 5) 4096 4096 (Some (codes "a.oom"))) { json = true })
 unfolding walked walk_passes walk_fault defaults_fault
-json-behind-a-file = record { taken = refl; faultless = refl; one_rule = refl; in_order = refl; meaning = refl }
+json-following-a-file = record { taken = refl; faultless = refl; one_rule = refl; in_order = refl; meaning = refl }
 
 json-as-a-file : Spell (codes "size" ∷ codes "--" ∷ codes "--json" ∷ []) (command_with Size 10000 4096 4096 (Some (codes "--json")))
 unfolding walked walk_passes walk_fault defaults_fault

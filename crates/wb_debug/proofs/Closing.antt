@@ -12,7 +12,7 @@ use Rattle.wb_model.specs.Row.{Cell, headers}
 use Rattle.wb_debug.specs.declared.debug_heap.DebugHeap.TheInside.{Inside}
 use Rattle.wb_debug.specs.Debug.{IsKept}
 use Rattle.wb_debug.specs.Tally.{Tally, IsTally}
-use Rattle.wb_debug.proofs.Kept.{row-kept, set-kept}
+use Rattle.wb_debug.proofs.DebugFields.{row-kept, set-kept}
 
 -- below the outermost level it refuses what a check does
 pub mark_end-checks : (d e : Debug) (n : ℕ) (panic : Panic) → d ≡ e → d.heap.level ≢ 0 → check_refusal d n ≡ Some panic → mark_end_refusal e.heap n ≡ Some panic

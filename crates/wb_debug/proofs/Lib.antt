@@ -1,6 +1,6 @@
 pub mod Closing
 pub mod Counting
-pub mod Kept
+pub mod DebugFields
 pub mod Leaks
 pub mod LevelCounts
 pub mod Longer

@@ -27,7 +27,7 @@ use Rattle.wb_debug.specs.declared.setting.Setting.{Setting}
 use Rattle.wb_debug.specs.Debug.{debug_of, IsKept}
 use Rattle.wb_debug.specs.Log.{Log, logged}
 use Rattle.wb_debug.specs.Setting.{setting_of}
-use Rattle.wb_debug.proofs.Kept.{row-kept, counted-kept}
+use Rattle.wb_debug.proofs.DebugFields.{row-kept, counted-kept}
 use Rattle.wb_rheap.proofs.Growing.{Names, cell-of, whole-cell, own-pointer}
 use Rattle.wb_rheap.specs.declared.fault.HeapFault.{HeapFault}
 use Rattle.wb_rheap.specs.declared.fault.HeapFault.TheVariants as faults

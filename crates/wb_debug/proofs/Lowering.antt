@@ -62,13 +62,13 @@ put h to row = with_level (pointer_to h) to row
 put-here : (to : ℕ) (c : Cell (List ℕ)) (cs : List (Cell (List ℕ))) → put c.head to (c ∷ cs) ≡ record c { head = record c.head { level = to } } ∷ cs
 put-here to c cs = ap (λ b. cond b (record c { head = record c.head { level = to } } ∷ cs) (c ∷ put c.head to cs)) (itself c.head)
 
-put-behind : (h : Header) (to : ℕ) (c : Cell (List ℕ)) (cs : List (Cell (List ℕ))) → h.place ≢ c.head.place → put h to (c ∷ cs) ≡ c ∷ put h to cs
-put-behind h to c cs apart = ap (λ b. cond b (record c { head = record c.head { level = to } } ∷ cs) (c ∷ put h to cs)) (elsewhere h c.head apart)
+put-following : (h : Header) (to : ℕ) (c : Cell (List ℕ)) (cs : List (Cell (List ℕ))) → h.place ≢ c.head.place → put h to (c ∷ cs) ≡ c ∷ put h to cs
+put-following h to c cs apart = ap (λ b. cond b (record c { head = record c.head { level = to } } ∷ cs) (c ∷ put h to cs)) (elsewhere h c.head apart)
 
 -- behind a cell the row may as well begin at its end
-lowered_on-behind : (from level : ℕ) (h : Header) (row : List (Cell (List ℕ))) → IsSpacedFrom (end_of h) (headers row) → from ≤ end_of h →
+lowered_on-following : (from level : ℕ) (h : Header) (row : List (Cell (List ℕ))) → IsSpacedFrom (end_of h) (headers row) → from ≤ end_of h →
     lowered_on (end_of h) level row ≡ lowered_on from level row
-lowered_on-behind from level h row s le = lowered_on-all (end_of h) level (end_of h) row s (omega arith) ∙ sym (lowered_on-all from level (end_of h) row s le)
+lowered_on-following from level h row s le = lowered_on-all (end_of h) level (end_of h) row s (omega arith) ∙ sym (lowered_on-all from level (end_of h) row s le)
 
 -- the next cell, which is of the level
 pub lowered_on-next : (from level at : ℕ) (h : Header) (row : List (Cell (List ℕ))) → IsSpacedFrom at (headers row) → next_live_of from (headers row) ≡ Some h →
@@ -90,12 +90,12 @@ lowered_on-next from level at h (c ∷ cs) s e counts =
         ap (λ b. record c { head = cond b (record c.head { level = level - 1 }) c.head }) (subst (λ x. is_counted (One level) x ≡ true) (sym same) counts) in
         subst (λ x. lowered_on (end_of x) level (put x (level - 1) (c ∷ cs)) ≡ lowered_on from level (c ∷ cs)) same
         (ap (lowered_on (end_of c.head) level) (put-here (level - 1) c cs) ∙ underneath (end_of c.head) level below cs (omega (arith, s.3))
-        ∙ ap (λ r. below ∷ r) (lowered_on-behind from level c.head cs s.5 (omega (arith, le)))
+        ∙ ap (λ r. below ∷ r) (lowered_on-following from level c.head cs s.5 (omega (arith, le)))
         ∙ ap (λ d. d ∷ lowered_on from level cs) (sym lowers) ∙ sym (at_or_above from level c cs le))
     by false t e rest =
         let lt : c.head.place < from = leb-false _ _ t in
         let above : from ≤ h.place = (onward_next from (end_of c.head) h (headers cs) s.5 e).above in
-        ap (lowered_on (end_of h) level) (put-behind h (level - 1) c cs (λ same. absurd (omega (arith, lt, above, same))))
+        ap (lowered_on (end_of h) level) (put-following h (level - 1) c cs (λ same. absurd (omega (arith, lt, above, same))))
         ∙ underneath (end_of h) level c (put h (level - 1) cs) (omega (arith, lt, above)) ∙ ap (λ r. c ∷ r) (rest e) ∙ sym (underneath from level c cs lt)
 
 -- one that isn't
@@ -114,7 +114,7 @@ lowered_on-past from level at h (c ∷ cs) s e counts =
         let stays : put_below level c ≡ c =
         ap (λ b. record c { head = cond b (record c.head { level = level - 1 }) c.head }) (subst (λ x. is_counted (One level) x ≡ false) (sym same) counts) in
         subst (λ x. lowered_on (end_of x) level (c ∷ cs) ≡ lowered_on from level (c ∷ cs)) same
-        (underneath (end_of c.head) level c cs (omega (arith, s.3)) ∙ ap (λ r. c ∷ r) (lowered_on-behind from level c.head cs s.5 (omega (arith, le)))
+        (underneath (end_of c.head) level c cs (omega (arith, s.3)) ∙ ap (λ r. c ∷ r) (lowered_on-following from level c.head cs s.5 (omega (arith, le)))
         ∙ ap (λ d. d ∷ lowered_on from level cs) (sym stays) ∙ sym (at_or_above from level c cs le))
     by false t e rest =
         let lt : c.head.place < from = leb-false _ _ t in

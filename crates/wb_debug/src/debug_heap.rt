@@ -234,7 +234,7 @@ impl DebugHeap {
             Answer::Granted => {
                 let heap = &mut self.heap;
                 let granted = heap.alloc_at(place, length, kind, line.number, self.level);
-                let gave = granted_or_undone(granted, &mut self.log, added)?;
+                let gave = answer_or_undo(granted, &mut self.log, added)?;
                 self.tally.grant(Header {
                     place,
                     length,
@@ -246,7 +246,7 @@ impl DebugHeap {
             }
             Answer::Simulated | Answer::Refused => Gave::Denied,
         };
-        self.setting = self.setting.counted();
+        self.setting = self.setting.after_attempt();
         self.attempts = line.number;
         Ok(gave)
     }
@@ -286,13 +286,13 @@ impl DebugHeap {
         let gave = match line.answer {
             Answer::Granted => {
                 let granted = self.heap.lengthen(cell, place, length, line.number);
-                let gave = granted_or_undone(granted, &mut self.log, added)?;
+                let gave = answer_or_undo(granted, &mut self.log, added)?;
                 self.tally.put_at(cell, place);
                 gave
             }
             Answer::Simulated | Answer::Refused => Gave::Denied,
         };
-        self.setting = self.setting.counted();
+        self.setting = self.setting.after_attempt();
         self.attempts = line.number;
         Ok(gave)
     }
@@ -306,7 +306,7 @@ impl DebugHeap {
         ensures line { IfSome result (λ line. line ≡ trace_line (number_of_next self.now) (request_at self.now.heap place len) line.answer) }
     {
         let number = self.attempts + 1;
-        let answer = answer(self.setting.due(), self.rule, number, place + len)?;
+        let answer = answer(self.setting.is_due(), self.rule, number, place + len)?;
         Some(Attempt {
             number,
             length: len,
@@ -341,7 +341,7 @@ impl DebugHeap {
 
 /// What an attempt gives that the heap was asked to grant. Where the workbench's own memory ran out, it is no attempt:
 /// what it added is taken back.
-fn granted_or_undone(
+fn answer_or_undo(
     granted: Result<Ptr, HeapFault>,
     log: &mut Log,
     added: bool,

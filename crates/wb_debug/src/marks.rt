@@ -46,7 +46,7 @@ fn is_counted(levels: Levels, cell: Header) -> bool
 
 /// How many cells are counted, and a place that none of them is below. It goes over the cells only where the tally doesn't know
 /// the level.
-fn known(heap: &Heap, tally: &Tally, levels: Levels) -> (u32, u32)
+fn count_and_lowest(heap: &Heap, tally: &Tally, levels: Levels) -> (u32, u32)
     requires { IsTally tally.now (headers heap.now.row) }
     ensures number { result.0 ≡ number (is_counted levels) (headers heap.now.row) }
     ensures lowest { number (is_below (is_counted levels) result.1) (headers heap.now.row) ≡ 0 }
@@ -99,7 +99,7 @@ pub fn expect(heap: &Heap, tally: &Tally, levels: Levels, n: u32) -> Result<u32,
     ensures number { OnOk result (n ≡ number (is_counted levels) (headers heap.now.row)) }
     ensures lowest { IfOk result (λ place. number (is_below (is_counted levels) place) (headers heap.now.row) ≡ 0) }
 {
-    let (found, from) = known(heap, tally, levels);
+    let (found, from) = count_and_lowest(heap, tally, levels);
     if found == n {
         return Ok(from);
     }

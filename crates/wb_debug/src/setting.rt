@@ -18,7 +18,7 @@ pub enum Setting {
 
 impl Setting {
     /// Whether the attempt at hand is to fail.
-    pub fn due(self) -> bool
+    pub fn is_due(self) -> bool
         ensures { result ≡ is_due (setting_of self) }
     {
         match self {
@@ -28,7 +28,7 @@ impl Setting {
     }
 
     /// The setting once an attempt was counted.
-    pub fn counted(self) -> Setting
+    pub fn after_attempt(self) -> Setting
         ensures { setting_of result ≡ after_attempt (setting_of self) }
     {
         match self {

@@ -80,6 +80,6 @@ fn is_fork_as_run(
     requires lines { lead.now.keeps_rises ≡ false }
 {
     let rule = failures.at(number).rule();
-    let told = result_under(lead, rule, spare)?;
-    is_result(alloc, script, rule, &told)
+    let run_result = result_under(lead, rule, spare)?;
+    is_result(alloc, script, rule, &run_result)
 }

@@ -124,6 +124,6 @@ fn is_pair_as_run(
     requires lines { fork.now.keeps_rises ≡ false }
 {
     let rule = Rule::Pair(first, second);
-    let told = result_under(fork, rule, spare)?;
-    is_result(alloc, script, rule, &told)
+    let run_result = result_under(fork, rule, spare)?;
+    is_result(alloc, script, rule, &run_result)
 }

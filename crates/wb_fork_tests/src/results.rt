@@ -28,8 +28,8 @@ pub(crate) fn comes_to_run(
 ) -> Result<bool, RunFault>
     requires { IsTrue (is_script script.now) }
 {
-    let told = machine.run_to_end()?;
-    is_result(alloc, script, rule, &told)
+    let run_result = machine.run_to_end()?;
+    is_result(alloc, script, rule, &run_result)
 }
 
 /// Whether the whole run of a script under this rule comes to this result.
@@ -37,12 +37,12 @@ pub(crate) fn is_result(
     alloc: Global,
     script: &Script,
     rule: Rule,
-    told: &RunResult,
+    run_result: &RunResult,
 ) -> Result<bool, RunFault>
     requires { IsTrue (is_script script.now) }
 {
     let whole = run(alloc, script, rule, BUDGET, SHAPE)?;
-    Ok(is_same(&whole, told))
+    Ok(is_same(&whole, run_result))
 }
 
 /// Whether two runs tell the same in all that they tell.

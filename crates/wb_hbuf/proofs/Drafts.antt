@@ -10,11 +10,11 @@ use Rattle.wb_model.specs.Texts.{AreUnits, exactly}
 use Rattle.wb_model.specs.Debug.{Debug, IsSoundDebug, debug_changed, with_row}
 use Rattle.wb_model.specs.Space.{limit_under}
 use Rattle.wb_model.proofs.LimitedHeaps.{limit_under-ceiling}
-use Rattle.wb_model.specs.TextCells.{joined, room_in, units_behind, text_in, text_at, IsTextAt}
+use Rattle.wb_model.specs.TextCells.{joined, room_in, units_after, text_in, text_at, IsTextAt}
 use Rattle.wb_model.proofs.TextCells.{IsUnit, zeros, joined-halves, halves-joined, length-halves, length-joined, room-even, text-read, IsUnit-exactly, IsUnit-shorter}
 use Rattle.wb_model.proofs.TextCellsHeap.{IsTextNow, text-changed, found-changed, changed-twice, changed-same}
 use Rattle.wb_hbuf.specs.Drafts.{HasUnits, IsDraft, put}
-use Rattle.wb_hbuf.proofs.Units.{set-behind, put-behind, length-put, units-put}
+use Rattle.wb_hbuf.proofs.Units.{set-following, put-following, length-put, units-put}
 
 -- a pointer with words names a cell
 pub record IsFound (p : Ptr) (row : List (Cell (List ℕ))) : Type 0 where
@@ -43,13 +43,13 @@ found-of p row some = by (cell_at p row) refl some
     by None is none = absurd (omega (arith, none))
     by (Some c) is _ = record { cell = c; found = is }
 
-whole : (ws : List ℕ) → 1 ≤ length ws → slice_index ws 0 ∷ joined (units_behind ws) ≡ ws
+whole : (ws : List ℕ) → 1 ≤ length ws → slice_index ws 0 ∷ joined (units_after ws) ≡ ws
 whole [] some = absurd (omega (arith, some))
 whole (w ∷ ws) some = ap (λ vs. w ∷ vs) (joined-halves ws)
 
-pub behind-room : (ws : List ℕ) → length (units_behind ws) ≡ room_in (length ws)
-behind-room [] = omega arith
-behind-room (w ∷ ws) = omega (arith, length-halves ws)
+pub following-room : (ws : List ℕ) → length (units_after ws) ≡ room_in (length ws)
+following-room [] = omega arith
+following-room (w ∷ ws) = omega (arith, length-halves ws)
 
 pub units-zeros : (n : ℕ) → AreUnits (zeros n)
 units-zeros n = All-replicate IsUnit n 0 (omega arith)
@@ -58,10 +58,10 @@ pub is_live : (p : Ptr) (row : List (Cell (List ℕ))) → 1 ≤ length (payload
 is_live p row some = let named = found-of p row some in ap (λ o. is_some o) named.found
 
 -- before the first write
-pub draft-none : (p : Ptr) (d : Debug) → HasUnits p d → IsDraft p d d (slice_index (payload_of p d.heap.row) 0) (units_behind (payload_of p d.heap.row))
+pub draft-none : (p : Ptr) (d : Debug) → HasUnits p d → IsDraft p d d (slice_index (payload_of p d.heap.row) 0) (units_after (payload_of p d.heap.row))
 draft-none p d has = record {
   changed = sym (ap (λ ws. debug_changed d p ws) (whole (payload_of p d.heap.row) has.some) ∙ ap (λ r. with_row d r) (changed-same p d.heap.row));
-  room = behind-room (payload_of p d.heap.row);
+  room = following-room (payload_of p d.heap.row);
   units = has.units;
 }
 
@@ -80,14 +80,14 @@ module _ (p : Ptr) (d e : Debug) (len : ℕ) (us : List ℕ) (has : HasUnits p d
   pub draft-length : slice_index (payload_of p e.heap.row) 0 ≡ len
   draft-length = ap (λ ws. slice_index ws 0) draft-payload
 
-  pub draft-behind : units_behind (payload_of p e.heap.row) ≡ us
-  draft-behind = ap units_behind draft-payload ∙ halves-joined us draft-even draft.units
+  pub draft-following : units_after (payload_of p e.heap.row) ≡ us
+  draft-following = ap units_after draft-payload ∙ halves-joined us draft-even draft.units
 
   pub draft-has : len ≤ room_in (length (payload_of p d.heap.row)) → HasUnits p e
   draft-has le = record {
     some = omega (arith, draft-words, has.some);
     within = omega (arith, draft-length, ap room_in draft-words, le);
-    units = subst AreUnits (sym draft-behind) draft.units;
+    units = subst AreUnits (sym draft-following) draft.units;
   }
 
   -- one edit after another
@@ -111,7 +111,7 @@ module _ (p : Ptr) (d e : Debug) (len : ℕ) (us : List ℕ) (has : HasUnits p d
       IsDraft p d f len (set us i v)
   draft-set f i k v here lt unit made = record {
     changed = rewritten f (with_half (payload_of p e.heap.row) k v) len (set us i v) made
-        (ap (λ ws. with_half ws k v) draft-payload ∙ set-behind len us i k v (omega (arith, here)) draft-even draft.units lt);
+        (ap (λ ws. with_half ws k v) draft-payload ∙ set-following len us i k v (omega (arith, here)) draft-even draft.units lt);
     room = length-set us i v ∙ draft.room;
     units = All-set IsUnit us i v unit draft.units;
   }
@@ -121,7 +121,7 @@ module _ (p : Ptr) (d e : Debug) (len : ℕ) (us : List ℕ) (has : HasUnits p d
       f ≡ debug_changed e p (with_halves (payload_of p e.heap.row) k vs) → IsDraft p d f len (put at vs us)
   draft-put f at k vs here fits new made = record {
     changed = rewritten f (with_halves (payload_of p e.heap.row) k vs) len (put at vs us) made
-        (ap (λ ws. with_halves ws k vs) draft-payload ∙ put-behind len us at k vs (omega (arith, here)) draft-even draft.units new fits);
+        (ap (λ ws. with_halves ws k vs) draft-payload ∙ put-following len us at k vs (omega (arith, here)) draft-even draft.units new fits);
     room = length-put at vs us fits ∙ draft.room;
     units = units-put at vs us new draft.units;
   }
@@ -138,7 +138,7 @@ module _ (p : Ptr) (d e : Debug) (len : ℕ) (us : List ℕ) (has : HasUnits p d
 pub record IsTextWords (ws : List ℕ) : Type 0 where
   pub some : 1 ≤ length ws
   pub length-is : slice_index ws 0 ≡ length (text_in ws)
-  pub behind : units_behind ws ≡ exactly (room_in (length ws)) (text_in ws)
+  pub following : units_after ws ≡ exactly (room_in (length ws)) (text_in ws)
   pub fits : length (text_in ws) ≤ room_in (length ws)
   pub units : AreUnits (text_in ws)
 
@@ -149,7 +149,7 @@ text-words p d is =
     let known : IsTextWords is.cell.content = record {
       some = read.some;
       length-is = read.length-is;
-      behind = read.behind;
+      following = read.following;
       fits = is.text.fits;
       units = is.text.units;
     } in
@@ -161,7 +161,7 @@ text-has p d is =
     record {
       some = known.some;
       within = omega (arith, known.length-is, known.fits);
-      units = subst AreUnits (sym known.behind) (IsUnit-exactly (room_in (length (payload_of p d.heap.row))) (text_at p d) known.units);
+      units = subst AreUnits (sym known.following) (IsUnit-exactly (room_in (length (payload_of p d.heap.row))) (text_at p d) known.units);
     }
 
 -- an edit is done: the words are those of the new text

@@ -8,15 +8,15 @@ use Rattle.wb_model.specs.declared.heap.Panic.{Panic}
 use Rattle.wb_model.specs.CellRow.{content_or_nil, payload_of}
 use Rattle.wb_model.specs.Texts.{Edited, exactly, units_of_part, answer_of, at_most, insert_text, delete_text, set_length_text}
 use Rattle.wb_model.specs.Debug.{Debug, IsSoundDebug, debug_changed}
-use Rattle.wb_model.specs.TextCells.{joined, room_in, units_behind, text_in, text_at, IsTextAt, debug_edited}
+use Rattle.wb_model.specs.TextCells.{joined, room_in, units_after, text_in, text_at, IsTextAt, debug_edited}
 use Rattle.wb_model.proofs.TextCells.{length-exactly}
 use Rattle.wb_model.proofs.TextCellsHeap.{IsTextNow, found-other}
 use Rattle.wb_hbuf.specs.declared.sources.Source.{Source}
 use Rattle.wb_hbuf.specs.declared.sources.Source.TheVariants.{Literal, Buffer, Cell, Own}
 use Rattle.wb_hbuf.specs.Sources.{IsApart, IsForeign, source_units}
 use Rattle.wb_hbuf.specs.Drafts.{IsDraft, IsEdited, put}
-use Rattle.wb_hbuf.proofs.Units.{settled, get_or-put_behind, get_or-exactly, get_or-filled}
-use Rattle.wb_hbuf.proofs.Drafts.{text-words, text-has, draft-none, draft-length, draft-behind, draft-then, draft-text}
+use Rattle.wb_hbuf.proofs.Units.{settled, get_or-put_after, get_or-exactly, get_or-filled}
+use Rattle.wb_hbuf.proofs.Drafts.{text-words, text-has, draft-none, draft-length, draft-following, draft-then, draft-text}
 
 abbrev gives : List ℕ → Edited
 gives t = Ok t
@@ -56,7 +56,7 @@ module _ (p : Ptr) (d : Debug) (is : IsTextAt p d) where
   len = slice_index (payload_of p d.heap.row) 0
 
   abbrev pub all : List ℕ
-  all = units_behind (payload_of p d.heap.row)
+  all = units_after (payload_of p d.heap.row)
 
   abbrev pub text : List ℕ
   text = text_at p d
@@ -68,7 +68,7 @@ module _ (p : Ptr) (d : Debug) (is : IsTextAt p d) where
   text-len = (text-words p d is).length-is
 
   pub all-is : all ≡ exactly room text
-  all-is = (text-words p d is).behind
+  all-is = (text-words p d is).following
 
   pub all-long : length all ≡ room
   all-long = ap length all-is ∙ length-exactly room text
@@ -77,26 +77,26 @@ module _ (p : Ptr) (d : Debug) (is : IsTextAt p d) where
   text-fits = (text-words p d is).fits
 
   -- past the text there are zeros
-  pub zeros-behind : (k : ℕ) → len ≤ k → get_or all k 0 ≡ 0
-  zeros-behind k past = ap (λ us. get_or us k 0) all-is ∙ get_or-filled room text k (omega (arith, text-len, past))
+  pub zeros-following : (k : ℕ) → len ≤ k → get_or all k 0 ≡ 0
+  zeros-following k past = ap (λ us. get_or us k 0) all-is ∙ get_or-filled room text k (omega (arith, text-len, past))
 
   -- the units were put, and the length was settled
   pub edited-by : (e f : Debug) (n : ℕ) (us t : List ℕ) → IsDraft p d e len us →
-      IsDraft p e f n (put n (replicate (slice_index (payload_of p e.heap.row) 0 - n) 0) (units_behind (payload_of p e.heap.row))) →
+      IsDraft p e f n (put n (replicate (slice_index (payload_of p e.heap.row) 0 - n) 0) (units_after (payload_of p e.heap.row))) →
       length t ≡ n → n ≤ room → take n us ≡ t → ((k : ℕ) → n + (len - n) ≤ k → get_or us k 0 ≡ 0) → IsTextNow p d f t
-  edited-by e f n us t draft last long fits front behind =
+  edited-by e f n us t draft last long fits front following =
       let has = text-has p d is in
       let then' : IsDraft p e f n (put n (replicate (len - n) 0) us) =
-      subst (λ vs. IsDraft p e f n (put n (replicate (len - n) 0) vs)) (draft-behind p d e len us has draft)
-      (subst (λ m. IsDraft p e f n (put n (replicate (m - n) 0) (units_behind (payload_of p e.heap.row)))) (draft-length p d e len us has draft) last) in
+      subst (λ vs. IsDraft p e f n (put n (replicate (len - n) 0) vs)) (draft-following p d e len us has draft)
+      (subst (λ m. IsDraft p e f n (put n (replicate (m - n) 0) (units_after (payload_of p e.heap.row)))) (draft-length p d e len us has draft) last) in
       let filled : put n (replicate (len - n) 0) us ≡ exactly room t =
-      settled n len t us long (omega (arith, draft.room, fits)) (omega (arith, draft.room, text-len, text-fits)) front behind
+      settled n len t us long (omega (arith, draft.room, fits)) (omega (arith, draft.room, text-len, text-fits)) front following
       ∙ ap (λ m. exactly m t) draft.room in
       draft-text p d f n (put n (replicate (len - n) 0) us) t is (draft-then p d e len us has draft f n (put n (replicate (len - n) 0) us) then') (sym long) filled (omega (arith, long, fits))
 
   -- units in place of the text from a position on
   pub overwritten : (e f : Debug) (at n : ℕ) (us : List ℕ) → IsDraft p d e len (put at us all) →
-      IsDraft p e f n (put n (replicate (slice_index (payload_of p e.heap.row) 0 - n) 0) (units_behind (payload_of p e.heap.row))) →
+      IsDraft p e f n (put n (replicate (slice_index (payload_of p e.heap.row) 0 - n) 0) (units_after (payload_of p e.heap.row))) →
       at + length us ≡ n → n ≤ room → at ≤ len → IsTextNow p d f (take at text ++ us)
   overwritten e f at n us draft last long fits within =
       let front-is : take at all ≡ take at text = sym (take-take at len all within) in
@@ -104,25 +104,25 @@ module _ (p : Ptr) (d : Debug) (is : IsTextAt p d) where
       omega (arith, length-append (take at text) us, length-take-le at text (omega (arith, text-len, within)), long) in
       edited-by e f n (put at us all) (take at text ++ us) draft last whole fits
       (ap (λ vs. take n (vs ++ us ++ drop (at + length us) all)) front-is ∙ take_at (take at text ++ us) (drop (at + length us) all) n whole)
-      (λ k past. get_or-put_behind at us all k (omega (arith, all-long, text-len, text-fits, within)) (omega (arith, long, past)) ∙ zeros-behind k (omega (arith, past)))
+      (λ k past. get_or-put_after at us all k (omega (arith, all-long, text-len, text-fits, within)) (omega (arith, long, past)) ∙ zeros-following k (omega (arith, past)))
 
   -- the units of another text are put into a gap
   pub gap-filled : (e f : Debug) (at : ℕ) (us : List ℕ) (s : Source) → IsDraft p d e len us →
-      IsDraft p e f (slice_index (payload_of p e.heap.row) 0) (put at (source_units e (text_at p e) s) (units_behind (payload_of p e.heap.row))) →
+      IsDraft p e f (slice_index (payload_of p e.heap.row) 0) (put at (source_units e (text_at p e) s) (units_after (payload_of p e.heap.row))) →
       IsApart p s → IsForeign s → IsDraft p d f len (put at (source_units d text s) us)
   gap-filled e f at us s draft next apart foreign =
       let has = text-has p d is in
       draft-then p d e len us has draft f len (put at (source_units d text s) us)
       (subst (λ vs. IsDraft p e f len (put at vs us)) (source-same p (len ∷ joined us) d e text (text_at p e) s draft.changed apart foreign)
-      (subst (λ vs. IsDraft p e f len (put at (source_units e (text_at p e) s) vs)) (draft-behind p d e len us has draft)
-      (subst (λ m. IsDraft p e f m (put at (source_units e (text_at p e) s) (units_behind (payload_of p e.heap.row)))) (draft-length p d e len us has draft) next)))
+      (subst (λ vs. IsDraft p e f len (put at (source_units e (text_at p e) s) vs)) (draft-following p d e len us has draft)
+      (subst (λ m. IsDraft p e f m (put at (source_units e (text_at p e) s) (units_after (payload_of p e.heap.row)))) (draft-length p d e len us has draft) next)))
 
   -- the tail moved up, and units put into the gap
   pub inserted : (e f : Debug) (at n : ℕ) (us : List ℕ) → IsDraft p d e len (put at us (put (at + length us) (drop at text) all)) →
-      IsDraft p e f n (put n (replicate (slice_index (payload_of p e.heap.row) 0 - n) 0) (units_behind (payload_of p e.heap.row))) →
+      IsDraft p e f n (put n (replicate (slice_index (payload_of p e.heap.row) 0 - n) 0) (units_after (payload_of p e.heap.row))) →
       len + length us ≡ n → n ≤ room → at ≤ len → IsTextNow p d f (take at text ++ us ++ drop at text)
   inserted e f at n us draft last long fits within =
-      edited-by e f n (put at us moved) (take at text ++ us ++ tail) draft last whole fits front behind
+      edited-by e f n (put at us moved) (take at text ++ us ++ tail) draft last whole fits front following
     where
       gap : ℕ
       gap = at + length us
@@ -169,15 +169,15 @@ module _ (p : Ptr) (d : Debug) (is : IsTextAt p d) where
       moved-long : at ≤ length (put (at + length us) (drop at text) all)
       moved-long = omega (arith, ap length parted, length-append (take (at + length us) all) (drop at text ++ drop (at + length us + length (drop at text)) all), opened)
 
-      behind : (k : ℕ) → n + (len - n) ≤ k → get_or (put at us (put (at + length us) (drop at text) all)) k 0 ≡ 0
-      behind k past =
-          get_or-put_behind at us (put (at + length us) (drop at text) all) k moved-long (omega (arith, long, past, within))
-          ∙ get_or-put_behind (at + length us) (drop at text) all k (omega (arith, all-long, long, fits, within)) (omega (arith, long, past, within, tail-long))
-          ∙ zeros-behind k (omega (arith, long, past))
+      following : (k : ℕ) → n + (len - n) ≤ k → get_or (put at us (put (at + length us) (drop at text) all)) k 0 ≡ 0
+      following k past =
+          get_or-put_after at us (put (at + length us) (drop at text) all) k moved-long (omega (arith, long, past, within))
+          ∙ get_or-put_after (at + length us) (drop at text) all k (omega (arith, all-long, long, fits, within)) (omega (arith, long, past, within, tail-long))
+          ∙ zeros-following k (omega (arith, long, past))
 
   -- the tail moved down over what was taken out
   pub deleted : (e f : Debug) (at count n : ℕ) (us : List ℕ) → us ≡ units_of_part text (at + count) (len - (at + count)) → IsDraft p d e len (put at us all) →
-      IsDraft p e f n (put n (replicate (slice_index (payload_of p e.heap.row) 0 - n) 0) (units_behind (payload_of p e.heap.row))) →
+      IsDraft p e f n (put n (replicate (slice_index (payload_of p e.heap.row) 0 - n) 0) (units_after (payload_of p e.heap.row))) →
       len ≡ n + count → at + count ≤ len → IsTextNow p d f (take at text ++ drop (at + count) text)
   deleted e f at count n us part draft last long within =
       let tail-long : length (drop (at + count) text) ≡ len - (at + count) = omega (arith, length-drop (at + count) text, text-len) in
@@ -190,7 +190,7 @@ module _ (p : Ptr) (d : Debug) (is : IsTextAt p d) where
       edited-by e f n (put at us all) (take at text ++ drop (at + count) text) draft last whole (omega (arith, long, text-len, text-fits))
       (ap (λ vs. take n (vs ++ us ++ drop (at + length us) all)) front-is ∙ ap (λ vs. take n (take at text ++ vs ++ drop (at + length us) all)) tail
       ∙ take_at (take at text ++ drop (at + count) text) (drop (at + length us) all) n whole)
-      (λ k past. get_or-put_behind at us all k (omega (arith, all-long, text-len, text-fits, within)) (omega (arith, us-long, long, past, within)) ∙ zeros-behind k (omega (arith, past)))
+      (λ k past. get_or-put_after at us all k (omega (arith, all-long, text-len, text-fits, within)) (omega (arith, us-long, long, past, within)) ∙ zeros-following k (omega (arith, past)))
     where
       exactly-all : (t : List ℕ) → exactly (length t) t ≡ t
       exactly-all t =
@@ -203,7 +203,7 @@ module _ (p : Ptr) (d : Debug) (is : IsTextAt p d) where
   settled-at f n last fits =
       edited-by d f n all (exactly n text) (draft-none p d (text-has p d is)) last (length-exactly n text) fits
       (ext_get_or 0 (take n all) (exactly n text) (omega (arith, length-take-le n all (omega (arith, all-long, fits)), length-exactly n text)) each)
-      (λ k past. zeros-behind k (omega (arith, past)))
+      (λ k past. zeros-following k (omega (arith, past)))
     where
       each : (k : ℕ) → k < length (take n all) → get_or (take n all) k 0 ≡ get_or (exactly n text) k 0
       each k less =

@@ -5,7 +5,7 @@ use Rattle.std.proofs.lemmas.Bool.{eq-eqb, ne_eqb}
 use Rattle.std.proofs.lemmas.List.{get_or-take, get_or-drop}
 use Rattle.wb_model.specs.declared.heap.Ptr.{Ptr}
 use Rattle.wb_model.specs.Debug.{Debug, debug_changed}
-use Rattle.wb_model.specs.TextCells.{units_behind, text_in}
+use Rattle.wb_model.specs.TextCells.{units_after, text_in}
 use Rattle.wb_model.proofs.TextCellsHeap.{text-other}
 use Rattle.wb_hbuf.specs.declared.sources.Source.{Source}
 use Rattle.wb_hbuf.specs.declared.sources.Source.TheVariants.{Literal, Buffer, Cell, Own}
@@ -17,13 +17,13 @@ module _ (ws : List ℕ) (at w : ℕ) (within : at < slice_index ws 0) (is : w �
   abbrev side : ℕ
   side = cond (nat_eq (at % 2) 0) (w % 2 ^ 16) (w / 2 ^ 16)
 
-  behind : w ≡ slice_index (drop 1 ws) (at / 2)
-  behind = let e : at / 2 + 1 ≡ 1 + at / 2 = omega arith in is ∙ ap (λ k. slice_index ws k) e ∙ sym (get_or-drop 1 ws (at / 2) 0)
+  following : w ≡ slice_index (drop 1 ws) (at / 2)
+  following = let e : at / 2 + 1 ≡ 1 + at / 2 = omega arith in is ∙ ap (λ k. slice_index ws k) e ∙ sym (get_or-drop 1 ws (at / 2) 0)
 
   side-is : side ≡ slice_index (text_in ws) at
   side-is =
-      ap (λ v. cond (nat_eq (at % 2) 0) (v % 2 ^ 16) (v / 2 ^ 16)) behind
-      ∙ half-is (drop 1 ws) at ∙ sym (get_or-take (slice_index ws 0) (units_behind ws) at 0 within)
+      ap (λ v. cond (nat_eq (at % 2) 0) (v % 2 ^ 16) (v / 2 ^ 16)) following
+      ∙ half-is (drop 1 ws) at ∙ sym (get_or-take (slice_index ws 0) (units_after ws) at 0 within)
 
   pub low-unit : at % 2 ≡ 0 → w % 2 ^ 16 ≡ slice_index (text_in ws) at
   low-unit e = sym (ap (λ b. cond b (w % 2 ^ 16) (w / 2 ^ 16)) (eq-eqb (at % 2) 0 e)) ∙ side-is

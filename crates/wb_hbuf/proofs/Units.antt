@@ -12,8 +12,8 @@ use Rattle.wb_model.specs.TextCells.{joined}
 use Rattle.wb_model.proofs.TextCells.{IsUnit, length-exactly}
 use Rattle.wb_hbuf.specs.Drafts.{put}
 
-behind-two : (i : ℕ) → suc (suc i) / 2 ≡ suc (i / 2)
-behind-two i = omega arith
+following-two : (i : ℕ) → suc (suc i) / 2 ≡ suc (i / 2)
+following-two i = omega arith
 
 same-side : (i : ℕ) → suc (suc i) % 2 ≡ i % 2
 same-side i = omega arith
@@ -27,14 +27,14 @@ half-is [] i = by (nat_eq (i % 2) 0)
     by false = refl
 half-is (w ∷ ws) zero = refl
 half-is (w ∷ ws) (suc zero) = refl
-half-is (w ∷ ws) (suc (suc i)) = rw (behind-two i, same-side i) (half-is ws i)
+half-is (w ∷ ws) (suc (suc i)) = rw (following-two i, same-side i) (half-is ws i)
 
 -- a half behind the length word
-pub half-behind : (w : ℕ) (ws : List ℕ) (i k : ℕ) → k ≡ suc (suc i) → half_of (w ∷ ws) k ≡ get_or (halves ws) i 0
-half-behind w ws i k e = ap (half_of (w ∷ ws)) e ∙ half-is (w ∷ ws) (suc (suc i))
+pub half-following : (w : ℕ) (ws : List ℕ) (i k : ℕ) → k ≡ suc (suc i) → half_of (w ∷ ws) k ≡ get_or (halves ws) i 0
+half-following w ws i k e = ap (half_of (w ∷ ws)) e ∙ half-is (w ∷ ws) (suc (suc i))
 
-with_half-behind : (w : ℕ) (ws : List ℕ) (i v : ℕ) → with_half (w ∷ ws) (suc (suc i)) v ≡ w ∷ with_half ws i v
-with_half-behind w ws i v = rw (behind-two i, same-side i)
+with_half-following : (w : ℕ) (ws : List ℕ) (i v : ℕ) → with_half (w ∷ ws) (suc (suc i)) v ≡ w ∷ with_half ws i v
+with_half-following w ws i v = rw (following-two i, same-side i)
 
 with_half-is : (us : List ℕ) (i v : ℕ) → length us % 2 ≡ 0 → AreUnits us → i < length us → with_half (joined us) i v ≡ joined (set us i v)
 with_half-is [] i v even all lt = absurd (omega (arith, lt))
@@ -48,14 +48,14 @@ with_half-is (a ∷ b ∷ us) (suc zero) v even all lt =
     let e : v * 2 ^ 16 + (a + b * 2 ^ 16) % 2 ^ 16 ≡ a + v * 2 ^ 16 = omega arith in
     ap (λ w. w ∷ joined us) e
 with_half-is (a ∷ b ∷ us) (suc (suc i)) v even all lt =
-    with_half-behind (a + b * 2 ^ 16) (joined us) i v
+    with_half-following (a + b * 2 ^ 16) (joined us) i v
     ∙ ap (λ ws. (a + b * 2 ^ 16) ∷ ws) (with_half-is us i v (omega (arith, even)) (λ k d less. all (suc (suc k)) d (omega (arith, less))) (omega (arith, lt)))
 
 -- a unit is set behind the length word
-pub set-behind : (w : ℕ) (us : List ℕ) (i k v : ℕ) → k ≡ suc (suc i) → length us % 2 ≡ 0 → AreUnits us → i < length us →
+pub set-following : (w : ℕ) (us : List ℕ) (i k v : ℕ) → k ≡ suc (suc i) → length us % 2 ≡ 0 → AreUnits us → i < length us →
     with_half (w ∷ joined us) k v ≡ w ∷ joined (set us i v)
-set-behind w us i k v e even all lt =
-    ap (λ j. with_half (w ∷ joined us) j v) e ∙ with_half-behind w (joined us) i v ∙ ap (λ ws. w ∷ ws) (with_half-is us i v even all lt)
+set-following w us i k v e even all lt =
+    ap (λ j. with_half (w ∷ joined us) j v) e ∙ with_half-following w (joined us) i v ∙ ap (λ ws. w ∷ ws) (with_half-is us i v even all lt)
 
 -- units that are put somewhere
 pub put-none : (at : ℕ) (all : List ℕ) → put at [] all ≡ all
@@ -74,11 +74,11 @@ put-put at k us vs all here fits =
     let front : length (take at all ++ us) ≡ k = omega (arith, length-append (take at all) us, length-take-le at all (omega (arith, fits)), here) in
     let rest = drop (at + length us) all in
     let ends : at + length us + length vs ≡ at + length (us ++ vs) = omega (arith, length-append us vs) in
-    let behind : drop (k + length vs) (put at us all) ≡ drop (at + length (us ++ vs)) all =
+    let following : drop (k + length vs) (put at us all) ≡ drop (at + length (us ++ vs)) all =
     sym (drop-drop (length vs) k (put at us all)) ∙ ap (drop (length vs)) (drop_at (take at all ++ us) rest k front)
     ∙ drop-drop (length vs) (at + length us) all ∙ ap (λ n. drop n all) ends in
     ap (λ ts. ts ++ vs ++ drop (k + length vs) (put at us all)) (take_at (take at all ++ us) rest k front)
-    ∙ ap (λ ts. take at all ++ us ++ vs ++ ts) behind
+    ∙ ap (λ ts. take at all ++ us ++ vs ++ ts) following
     ∙ ap (λ ts. ts ++ drop (at + length (us ++ vs)) all) (append_assoc (take at all) us vs)
 
 -- one before them
@@ -96,23 +96,23 @@ put-before at v vs us fits =
     ∙ ap (λ n. take at us ++ v ∷ vs ++ drop n us) ends
 
 -- a run of units is written behind the length word
-pub put-behind : (w : ℕ) (us : List ℕ) (at k : ℕ) (vs : List ℕ) → k ≡ suc (suc at) → length us % 2 ≡ 0 → AreUnits us → AreUnits vs → at + length vs ≤ length us →
+pub put-following : (w : ℕ) (us : List ℕ) (at k : ℕ) (vs : List ℕ) → k ≡ suc (suc at) → length us % 2 ≡ 0 → AreUnits us → AreUnits vs → at + length vs ≤ length us →
     with_halves (w ∷ joined us) k vs ≡ w ∷ joined (put at vs us)
-put-behind w us at k [] here even all new fits = ap (λ vs. w ∷ joined vs) (sym (put-none at us))
-put-behind w us at k (v ∷ vs) here even all new fits =
+put-following w us at k [] here even all new fits = ap (λ vs. w ∷ joined vs) (sym (put-none at us))
+put-following w us at k (v ∷ vs) here even all new fits =
     let rest : AreUnits vs = λ j d lt. new (suc j) d (omega (arith, lt)) in
     let long : length (put (suc at) vs us) ≡ length us = length-put (suc at) vs us (omega (arith, fits)) in
-    ap (λ ws. with_half ws k v) (put-behind w us (suc at) (suc k) vs (omega (arith, here)) even all rest (omega (arith, fits)))
-    ∙ set-behind w (put (suc at) vs us) at k v here (ap (λ n. n % 2) long ∙ even) (units-put (suc at) vs us rest all) (omega (arith, long, fits))
+    ap (λ ws. with_half ws k v) (put-following w us (suc at) (suc k) vs (omega (arith, here)) even all rest (omega (arith, fits)))
+    ∙ set-following w (put (suc at) vs us) at k v here (ap (λ n. n % 2) long ∙ even) (units-put (suc at) vs us rest all) (omega (arith, long, fits))
     ∙ ap (λ ts. w ∷ joined ts) (put-before at v vs us fits)
 
 -- and one that is read there
 half-there : (ws : List ℕ) (i k : ℕ) → k ≡ suc (suc i) → half_of ws k ≡ get_or (halves (drop 1 ws)) i 0
 half-there [] i k e = half-is [] k
-half-there (w ∷ ws) i k e = half-behind w ws i k e
+half-there (w ∷ ws) i k e = half-following w ws i k e
 
-pub run-behind : (ws : List ℕ) (i k n : ℕ) → k ≡ suc (suc i) → i + n ≤ length (halves (drop 1 ws)) → halves_from ws k n ≡ take n (drop i (halves (drop 1 ws)))
-run-behind ws i k n here fits = ext_get_or 0 _ _ (length-halves_from ws k n ∙ sym short) each
+pub run-following : (ws : List ℕ) (i k n : ℕ) → k ≡ suc (suc i) → i + n ≤ length (halves (drop 1 ws)) → halves_from ws k n ≡ take n (drop i (halves (drop 1 ws)))
+run-following ws i k n here fits = ext_get_or 0 _ _ (length-halves_from ws k n ∙ sym short) each
   where
     short : length (take n (drop i (halves (drop 1 ws)))) ≡ n
     short = length-take-le n (drop i (halves (drop 1 ws))) (omega (arith, length-drop i (halves (drop 1 ws)), fits))
@@ -147,8 +147,8 @@ get_or-put_before at us all k le lt =
     ap (λ ws. get_or ws k 0) (append_assoc (take at all) us (drop (at + length us) all))
     ∙ get_or_append_left (take at all) (us ++ drop (at + length us) all) 0 k (omega (arith, front)) ∙ get_or-take at all k 0 lt
 
-pub get_or-put_behind : (at : ℕ) (us all : List ℕ) (k : ℕ) → at ≤ length all → at + length us ≤ k → get_or (put at us all) k 0 ≡ get_or all k 0
-get_or-put_behind at us all k le ge =
+pub get_or-put_after : (at : ℕ) (us all : List ℕ) (k : ℕ) → at ≤ length all → at + length us ≤ k → get_or (put at us all) k 0 ≡ get_or all k 0
+get_or-put_after at us all k le ge =
     let front : length (take at all ++ us) ≡ at + length us = omega (arith, length-append (take at all) us, length-take-le at all le) in
     let same : at + length us + (k - (at + length us)) ≡ k = omega arith in
     get_or-append_right (take at all ++ us) (drop (at + length us) all) (at + length us) k 0 front ge
@@ -206,7 +206,7 @@ part-within all len start there fits =
 -- the units once a text was cut or grew to a number of them: what stands past it is zero
 pub settled : (n len : ℕ) (t all : List ℕ) → length t ≡ n → n ≤ length all → len ≤ length all → take n all ≡ t →
     ((k : ℕ) → n + (len - n) ≤ k → get_or all k 0 ≡ 0) → put n (replicate (len - n) 0) all ≡ exactly (length all) t
-settled n len t all same fits within front behind =
+settled n len t all same fits within front following =
     ext_get_or 0 _ _ (length-put n (replicate (len - n) 0) all (omega (arith, filled, fits, within)) ∙ sym (length-exactly (length all) t)) each
   where
     filled : length (replicate {A = ℕ} (len - n) 0) ≡ len - n
@@ -222,7 +222,7 @@ settled n len t all same fits within front behind =
         get_or-put_within n (replicate (len - n) 0) all k fits ge (omega (arith, filled, lt)) ∙ get_or-replicate (len - n) (k - n) 0 0 (omega (arith, lt, ge))
         ∙ sym (get_or-filled (length all) t k (omega (arith, same, ge)))
     by k less (inr ge) (inr past) =
-        get_or-put_behind n (replicate (len - n) 0) all k fits (omega (arith, filled, past)) ∙ behind k past
+        get_or-put_after n (replicate (len - n) 0) all k fits (omega (arith, filled, past)) ∙ following k past
         ∙ sym (get_or-filled (length all) t k (omega (arith, same, ge)))
 
     each : (k : ℕ) → k < length (put n (replicate (len - n) 0) all) → get_or (put n (replicate (len - n) 0) all) k 0 ≡ get_or (exactly (length all) t) k 0

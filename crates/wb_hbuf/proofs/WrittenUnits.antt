@@ -4,23 +4,23 @@ use Rattle.std.proofs.lemmas.List.{length-take-le}
 use Rattle.wb_model.specs.declared.heap.Ptr.{Ptr}
 use Rattle.wb_model.specs.CellRow.{payload_of}
 use Rattle.wb_model.specs.Debug.{Debug}
-use Rattle.wb_model.specs.TextCells.{room_in, units_behind, text_at}
+use Rattle.wb_model.specs.TextCells.{room_in, units_after, text_at}
 use Rattle.wb_model.proofs.TextCells.{length-exactly}
 use Rattle.wb_hbuf.specs.declared.sources.Source.{Source}
 use Rattle.wb_hbuf.specs.Sources.{base_units, count_of, from_of, source_units}
 use Rattle.wb_hbuf.specs.Drafts.{HasUnits, IsDraft, put}
 use Rattle.wb_hbuf.proofs.Units.{put-none}
-use Rattle.wb_hbuf.proofs.Drafts.{draft-none, behind-room}
+use Rattle.wb_hbuf.proofs.Drafts.{draft-none, following-room}
 
 module _ (p : Ptr) (d : Debug) (has : HasUnits p d) where
   abbrev pub len : ℕ
   len = slice_index (payload_of p d.heap.row) 0
 
   abbrev pub all : List ℕ
-  all = units_behind (payload_of p d.heap.row)
+  all = units_after (payload_of p d.heap.row)
 
   pub all-room : length all ≡ room_in (length (payload_of p d.heap.row))
-  all-room = behind-room (payload_of p d.heap.row)
+  all-room = following-room (payload_of p d.heap.row)
 
   pub text-length : length (text_at p d) ≡ len
   text-length = length-take-le len all (omega (arith, all-room, has.within))

@@ -5,7 +5,7 @@ use Rattle.wb_model.specs.CellRow.{payload_of}
 use Rattle.wb_model.specs.declared.heap.Panic.{Panic}
 use Rattle.wb_model.specs.Texts.{AreUnits, Edited, answer_of}
 use Rattle.wb_model.specs.Debug.{Debug, IsSoundDebug, debug_changed}
-use Rattle.wb_model.specs.TextCells.{joined, room_in, units_behind, text_at, max_at, IsTextAt, debug_edited}
+use Rattle.wb_model.specs.TextCells.{joined, room_in, units_after, text_at, max_at, IsTextAt, debug_edited}
 
 -- units in place of as many others, from a place on
 abbrev pub put : ℕ → List ℕ → List ℕ → List ℕ
@@ -15,7 +15,7 @@ put at us all = take at all ++ us ++ drop (at + length us) all
 pub record HasUnits (p : Ptr) (d : Debug) : Type 0 where
   pub some : 1 ≤ length (payload_of p d.heap.row)
   pub within : slice_index (payload_of p d.heap.row) 0 ≤ room_in (length (payload_of p d.heap.row))
-  pub units : AreUnits (units_behind (payload_of p d.heap.row))
+  pub units : AreUnits (units_after (payload_of p d.heap.row))
 
 -- the length and the maximum of the text in a cell, and what is known before an edit
 pub record IsMeasured (p : Ptr) (d : Debug) (len most : ℕ) : Type 0 where
@@ -36,7 +36,7 @@ pub record IsDraft (p : Ptr) (old new : Debug) (len : ℕ) (us : List ℕ) : Typ
 abbrev pub IsPut : Ptr → Debug → Debug → ℕ → List ℕ → Type 0
 IsPut p old new at us =
     let words = payload_of p old.heap.row in
-    IsDraft p old new (slice_index words 0) (put at us (units_behind words))
+    IsDraft p old new (slice_index words 0) (put at us (units_after words))
 
 -- what an edit leaves and answers
 pub record IsEdited (p : Ptr) (old new : Debug) (outcome : Result (Unit {0}) Panic) (e : Edited) : Type 0 where

@@ -186,12 +186,12 @@ pub fn delete(heap: &mut DebugHeap, ptr: Ptr, position: u32, count: u32) -> Resu
         return Err(Panic::POSITION_OUT_OF_BOUNDS);
     }
     let count = count.min(text.length - position);
-    let behind = position + count;
+    let following = position + count;
     write_units(
         heap,
         ptr,
         position,
-        Source::Own(behind, text.length - behind),
+        Source::Own(following, text.length - following),
     );
     settle(heap, ptr, text.length - count);
     Ok(())

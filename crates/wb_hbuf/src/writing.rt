@@ -6,7 +6,7 @@ ghost use Rattle.wb_hbuf.specs.Drafts.{HasUnits, IsDraft, IsPut, put};
 ghost use Rattle.wb_hbuf.specs.Sources.{IsApart, IsSource, count_of, source_units};
 ghost use Rattle.wb_model.specs.CellRow.{payload_of};
 ghost use Rattle.wb_model.specs.Debug.{IsSoundDebug};
-ghost use Rattle.wb_model.specs.TextCells.{room_in, text_at, units_behind};
+ghost use Rattle.wb_model.specs.TextCells.{room_in, text_at, units_after};
 ghost use Rattle.wb_model.specs.Texts.{units_of_part};
 
 use crate::reading::foreign_unit;
@@ -96,7 +96,7 @@ pub fn settle(heap: &mut DebugHeap, ptr: Ptr, n: u32)
     requires most { 2 * length (payload_of ptr heap.old.heap.row) < 2 ^ 32 }
     requires room { n ≤ room_in (length (payload_of ptr heap.old.heap.row)) }
     ensures draft { let words = payload_of ptr heap.old.heap.row in
-        IsDraft ptr heap.old heap.new n (put n (replicate (slice_index words 0 - n) 0) (units_behind words)) }
+        IsDraft ptr heap.old heap.new n (put n (replicate (slice_index words 0 - n) 0) (units_after words)) }
     ensures sound { IsSoundDebug heap.new }
 {
     let len = heap.payload(ptr, 0);

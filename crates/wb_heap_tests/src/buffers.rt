@@ -56,7 +56,7 @@ fn change_by<U: Units>(buf: &mut Buf, change: Change, source: &U) -> Result<(), 
 }
 
 /// The units that a change takes in.
-fn taken(change: Change) -> &'static [u8] {
+fn units_of_change(change: Change) -> &'static [u8] {
     match change {
         Change::Copy(units) | Change::Append(units) | Change::Insert(_, units) => units,
         Change::Delete(_, _) | Change::SetLength(_) => b"",
@@ -68,7 +68,7 @@ fn is_so(alloc: Global, worked: &WorkedBuffer) -> Result<bool, AllocError> {
     let mut by_literals = Buf::new(u32::from(worked.max));
     let mut by_buffers = Buf::new(u32::from(worked.max));
     for (change, panic, units) in worked.changes {
-        let letters = taken(*change);
+        let letters = units_of_change(*change);
         if letters.len() > 256 {
             return Ok(false);
         }

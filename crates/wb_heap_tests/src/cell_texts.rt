@@ -4,7 +4,7 @@ ghost use Rattle.std.specs.Prelude.{◌≤◌, IfOk};
 ghost use Rattle.wb_model.specs.TextCells.{IsTextAt};
 
 use crate::literals::literal;
-use crate::texts::{Change, Taken, Target, WorkedTexts, first_other, granted, printed};
+use crate::texts::{Change, Taken, Target, WorkedTexts, first_other, grant_text, printed_line};
 use std::test::Fail;
 use wb_debug::DebugHeap;
 use wb_hbuf::{Edit, Source, edit, length, max_len, remake};
@@ -324,7 +324,7 @@ fn worked_texts(rt: HostRuntime) -> Result<(), Fail> {
 }
 
 /// The pointer to a text once its cell was reallocated for `n` units, and the old one where that was refused.
-fn remade(heap: &mut DebugHeap, ptr: Ptr, n: u32) -> Result<Ptr, NoMemory>
+fn remake_text(heap: &mut DebugHeap, ptr: Ptr, n: u32) -> Result<Ptr, NoMemory>
     requires text { IsTextAt ptr heap.old }
     requires most { n ≤ MOST_UNITS }
     ensures { IfOk result (λ p. IsTextAt p heap.new) }
@@ -344,14 +344,14 @@ fn a_text_grows_with_its_cell(rt: HostRuntime) -> Result<(), Fail> {
     let mut heap = DebugHeap::new(rt.alloc(), Rule::Unlimited, shape)?;
     let letters = literal(rt.alloc(), b"abc")?;
     heap.fail_next(2);
-    let mut ptr = granted(&mut heap, 4)?;
+    let mut ptr = grant_text(&mut heap, 4)?;
     assert_eq!(rt; (length(&heap, ptr), max_len(&heap, ptr)), (0, 6));
     assert!(rt; edit(&mut heap, ptr, Edit::Copy, Source::Literal(&letters, 0, 3)).is_ok());
     // the first growth is denied
     for (units, most) in [(20, 6), (20, 22), (3, 6)] {
-        ptr = remade(&mut heap, ptr, units)?;
+        ptr = remake_text(&mut heap, ptr, units)?;
         assert_eq!(rt; max_len(&heap, ptr), most);
-        assert_eq!(rt; printed(&heap, ptr).as_slice(), b"abc".as_slice());
+        assert_eq!(rt; printed_line(&heap, ptr).as_slice(), b"abc".as_slice());
     }
     Ok(())
 }

@@ -94,7 +94,7 @@ fn the_named_words_become_zero(rt: HostRuntime) -> Result<(), Fail> {
 }
 
 // Whether six words hold these once some of them are copied.
-fn copies_so(
+fn copies_to(
     alloc: Global,
     from: u32,
     to: u32,
@@ -111,9 +111,9 @@ fn copies_so(
 
 #[test]
 fn a_copy_reads_its_source_first(rt: HostRuntime) -> Result<(), Fail> {
-    assert!(rt; copies_so(rt.alloc(), 0, 1, 4, &[1, 1, 2, 3, 4, 6])?);
-    assert!(rt; copies_so(rt.alloc(), 2, 1, 4, &[1, 3, 4, 5, 6, 6])?);
-    assert!(rt; copies_so(rt.alloc(), 4, 0, 2, &[5, 6, 3, 4, 5, 6])?);
+    assert!(rt; copies_to(rt.alloc(), 0, 1, 4, &[1, 1, 2, 3, 4, 6])?);
+    assert!(rt; copies_to(rt.alloc(), 2, 1, 4, &[1, 3, 4, 5, 6, 6])?);
+    assert!(rt; copies_to(rt.alloc(), 4, 0, 2, &[5, 6, 3, 4, 5, 6])?);
     Ok(())
 }
 

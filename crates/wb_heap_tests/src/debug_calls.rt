@@ -144,10 +144,10 @@ impl Marked {
     /// Whether a call gives its answer.
     fn answers(&mut self, call: Call) -> bool {
         match call {
-            Call::Alloc(bytes, cell) => self.alloc(bytes) == Some(granted(cell)),
+            Call::Alloc(bytes, cell) => self.alloc(bytes) == Some(grant_of(cell)),
             Call::NoAlloc(bytes) => self.alloc(bytes) == Some(Gave::Denied),
             Call::AllocPastCeiling(bytes) => self.alloc(bytes) == Some(Gave::Ceiling),
-            Call::Realloc(cell, bytes, moved) => self.realloc(cell, bytes) == Some(granted(moved)),
+            Call::Realloc(cell, bytes, moved) => self.realloc(cell, bytes) == Some(grant_of(moved)),
             Call::NoRealloc(cell, bytes) => self.realloc(cell, bytes) == Some(Gave::Denied),
             Call::ReallocPastCeiling(cell, bytes) => {
                 self.realloc(cell, bytes) == Some(Gave::Ceiling)
@@ -352,7 +352,7 @@ impl Marked {
 }
 
 /// The answer that grants a cell.
-fn granted(cell: Cell) -> Gave {
+fn grant_of(cell: Cell) -> Gave {
     Gave::Granted(pointer(cell))
 }
 

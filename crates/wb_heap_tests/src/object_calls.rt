@@ -107,10 +107,10 @@ fn class(alloc: Global, extra: u32, fields: &[Option<u16>]) -> Result<Class, NoM
 fn answers(heap: &mut DebugHeap, script: &Script, call: Call) -> bool {
     match call {
         Call::Make(class, cell) => {
-            made(heap, script, class) == Some(Gave::Granted(pointer(cell)))
+            make_object(heap, script, class) == Some(Gave::Granted(pointer(cell)))
         }
-        Call::NoMake(class) => made(heap, script, class) == Some(Gave::Denied),
-        Call::MakePastCeiling(class) => made(heap, script, class) == Some(Gave::Ceiling),
+        Call::NoMake(class) => make_object(heap, script, class) == Some(Gave::Denied),
+        Call::MakePastCeiling(class) => make_object(heap, script, class) == Some(Gave::Ceiling),
         Call::SetField(cell, class, i, to, answer) => {
             let ptr = pointer(cell);
             has_room(heap, ptr, i) && set_field(heap, ptr, class, i, pointer(to)) == answer
@@ -146,7 +146,7 @@ fn tells(heap: &DebugHeap, call: Call) -> bool {
 }
 
 /// An attempt to get an object, or `None` where it can't be made.
-fn made(heap: &mut DebugHeap, script: &Script, class: u16) -> Option<Gave> {
+fn make_object(heap: &mut DebugHeap, script: &Script, class: u16) -> Option<Gave> {
     if heap.attempts() == u32::MAX || !has_class(script, class) {
         return None;
     }

@@ -33,14 +33,14 @@ impl Model for Stacked {
 
 /// The index of the first step that gives another answer.
 fn first_other(alloc: Global, worked: &WorkedStack) -> Result<Option<usize>, DebugFault> {
-    let Some(mut stacked) = begun(alloc, worked.rule)? else {
+    let Some(mut stacked) = start_stack(alloc, worked.rule)? else {
         return Err(DebugFault::NoMemory);
     };
     Ok(stacked.first_other(worked.steps))
 }
 
 /// The stack that begins under a rule, or `None` where it is refused.
-fn begun(alloc: Global, rule: Rule) -> Result<Option<Stacked>, DebugFault> {
+fn start_stack(alloc: Global, rule: Rule) -> Result<Option<Stacked>, DebugFault> {
     let mut heap = DebugHeap::new(alloc, rule, SHAPE)?;
     match Cleanup::start(&mut heap)? {
         Some(stack) => Ok(Some(Stacked {
@@ -220,7 +220,7 @@ static FIRST_CELLS: &[(Rule, bool)] = &[
 ];
 
 fn has_begun(alloc: Global, rule: Rule) -> Result<bool, DebugFault> {
-    Ok(begun(alloc, rule)?.is_some())
+    Ok(start_stack(alloc, rule)?.is_some())
 }
 
 #[test]

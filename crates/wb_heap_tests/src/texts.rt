@@ -61,8 +61,8 @@ pub(crate) fn first_other(alloc: Global, worked: &WorkedTexts) -> Result<Option<
         return Err(NoMemory);
     };
     let letters = literal(alloc, b"abcdefgXY")?;
-    let first = granted(&mut heap, u32::from(worked.first))?;
-    let second = granted_beside(&mut heap, first, u32::from(worked.second))?;
+    let first = grant_text(&mut heap, u32::from(worked.first))?;
+    let second = grant_text_beside(&mut heap, first, u32::from(worked.second))?;
     let mut buffer = Buf::new(8);
     for (index, (target, change, panic, text)) in worked.changes.iter().enumerate() {
         let letters = &letters;
@@ -113,14 +113,14 @@ fn line_of(heap: &DebugHeap, first: Ptr, second: Ptr, buffer: &Buf, target: Targ
     requires second { IsTextAt second heap.now }
 {
     match target {
-        Target::First => printed(heap, first),
-        Target::Second => printed(heap, second),
+        Target::First => printed_line(heap, first),
+        Target::Second => printed_line(heap, second),
         Target::Buffer => print_units(heap, Source::Buffer(buffer, 0, buffer.length())),
     }
 }
 
 /// What the text in a cell prints.
-pub(crate) fn printed(heap: &DebugHeap, ptr: Ptr) -> Line
+pub(crate) fn printed_line(heap: &DebugHeap, ptr: Ptr) -> Line
     requires { IsTextAt ptr heap.now }
 {
     print_units(heap, Source::Cell(ptr, 0, length(heap, ptr)))
@@ -240,7 +240,7 @@ fn set_length_beside(heap: &mut DebugHeap, ptr: Ptr, other: Ptr, n: u32) -> Resu
 }
 
 /// An empty text that may have `n` units.
-pub(crate) fn granted(heap: &mut DebugHeap, n: u32) -> Result<Ptr, NoMemory>
+pub(crate) fn grant_text(heap: &mut DebugHeap, n: u32) -> Result<Ptr, NoMemory>
     requires { n ≤ MOST_UNITS }
     ensures text { IfOk result (λ ptr. IsTextAt ptr heap.new) }
     ensures sound { IfOk result (λ _. IsSoundDebug heap.new) }
@@ -255,7 +255,7 @@ pub(crate) fn granted(heap: &mut DebugHeap, n: u32) -> Result<Ptr, NoMemory>
 }
 
 /// An empty text in a cell beside that of another text, which stays.
-fn granted_beside(heap: &mut DebugHeap, other: Ptr, n: u32) -> Result<Ptr, NoMemory>
+fn grant_text_beside(heap: &mut DebugHeap, other: Ptr, n: u32) -> Result<Ptr, NoMemory>
     requires sound { IsSoundDebug heap.old }
     requires other { IsTextAt other heap.old }
     requires most { n ≤ MOST_UNITS }

@@ -1,8 +1,8 @@
 pub mod Cuts
 pub mod Digits
 pub mod FirstBytes
-pub mod FirstPieces
+pub mod FirstSegments
 pub mod Foreign
-pub mod Lent
-pub mod Letters
+pub mod BytesOf
+pub mod OperandPlaces
 pub mod TypedLemmas

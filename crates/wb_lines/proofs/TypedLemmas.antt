@@ -1,4 +1,4 @@
--- The form of a line has operands of the letters of its key.
+-- The form of a line has operands of the operand places of its line kind.
 use Rattle.std.proofs.Common.{◌≡◌, ◌∙◌, refl, sym, ap, subst, ℕ, ℤ, zero, suc, pos, neg_ℤ, ◌+◌, ◌-◌, ◌^◌, ◌<◌, ◌≤◌, List, [], ◌∷◌, Bool, true, false, ◌&&◌, ◌||◌, nat_eq, nat_lt, nat_le, length, drop, Option, Some, None, fold, arith, length-drop}
 use Rattle.std.specs.Prelude.{if◌then◌else◌}
 use Rattle.std.specs.Option.{option_map}
@@ -7,21 +7,21 @@ use Rattle.std.specs.Str.{bytes_eq}
 use Rattle.std.proofs.lemmas.Bool.{le-leb}
 use Rattle.std.proofs.lemmas.Bool.Decides.{nat_tests}
 use Rattle.std.proofs.lemmas.List.{length-take}
-use Rattle.wb_model.specs.declared.script_lines.Key.{Key}
-use Rattle.wb_model.specs.declared.script_lines.Letter.{Letter}
-use Rattle.wb_model.specs.declared.script_lines.Taken.{Taken}
-use Rattle.wb_model.specs.declared.script_lines.Taken.TheVariants as taken
+use Rattle.wb_model.specs.declared.script_lines.LineKind.{LineKind}
+use Rattle.wb_model.specs.declared.script_lines.OperandPlace.{OperandPlace}
+use Rattle.wb_model.specs.declared.script_lines.ParameterType.{ParameterType}
+use Rattle.wb_model.specs.declared.script_lines.ParameterType.TheVariants as parameter_type
 use Rattle.wb_model.specs.declared.script_lines.WordKind.{WordKind}
 use Rattle.wb_model.specs.declared.script_lines.WordKind.TheVariants as word
 use Rattle.wb_model.specs.declared.script_lines.Operand.{Operand}
 use Rattle.wb_model.specs.declared.script_lines.Operand.TheVariants.{Name, Field, Number, Size, Literal, Parameter, Keyword}
 use Rattle.wb_model.specs.declared.script_lines.Form.{Form}
 use Rattle.wb_model.specs.Forms.{operand_as, operand_among, operand_of, operands_of, onto, operands_if, line_or, form_in, form_of, skipped_or, begins_comment, forms_of, either, size_of, parameter_of, field_of}
-use Rattle.wb_model.specs.Keys.{keys, letters_for, text_of, word_kinds}
+use Rattle.wb_model.specs.LineKinds.{line_kinds, operand_places_for, text_of, word_kinds}
 use Rattle.wb_model.specs.Lines.{words_of}
 use Rattle.wb_model.specs.Names.{Text}
 use Rattle.wb_model.specs.Sound.{is_quotable, is_literal_text}
-use Rattle.wb_model.specs.Words.{is_digit, with_digit, digits_of, number_spelled, declared_name, used_name, literal_spelled, is_literal, inside, base_name, field_name, parameter_name, parameter_taken, text_of_keyword}
+use Rattle.wb_model.specs.Words.{is_digit, with_digit, digits_of, number_spelled, declared_name, used_name, literal_spelled, is_literal, inside, base_name, field_name, parameter_name, parameter_type_of_word, text_of_keyword}
 use Rattle.wb_lines.specs.Typed.{is_short, is_word_of, is_operand, are_operands, is_typed, AreTyped}
 use Rattle.wb_lines.proofs.Cuts.{AreWithin, words_within}
 use Rattle.wb_lines.proofs.Digits.{digit_at_most_nine, one_more_digit, nine_digits}
@@ -102,7 +102,7 @@ size_typed : (number : Option ℤ) (operand : Operand Text) → size_of number �
 size_typed (Some (pos n)) operand is = let same : Size n ≡ operand = cc in subst (λ o. is_word_of o word.Size ≡ true) same refl
 size_typed _ operand is = let clash : ⊥ = cc in absurd clash
 
-parameter_typed : (name : Option Text) (kind : Option (Taken Text)) (operand : Operand Text) → parameter_of name kind ≡ Some operand → is_word_of operand word.Parameter ≡ true
+parameter_typed : (name : Option Text) (kind : Option (ParameterType Text)) (operand : Operand Text) → parameter_of name kind ≡ Some operand → is_word_of operand word.Parameter ≡ true
 parameter_typed (Some name) (Some kind) operand is = let same : Parameter name kind ≡ operand = cc in subst (λ o. is_word_of o word.Parameter ≡ true) same refl
 parameter_typed (Some name) None operand is = let clash : ⊥ = cc in absurd clash
 parameter_typed None kind operand is = let clash : ⊥ = cc in absurd clash
@@ -119,8 +119,8 @@ kind_typed word.Field text operand short is = field_typed (base_name text) (fiel
 kind_typed word.Number text operand short is = mapped (λ o. is_word_of o word.Number ≡ true) Number (number_spelled text) operand (λ z e. number_bounded text z e) is
 kind_typed word.Size text operand short is = size_typed (number_spelled text) operand is
 kind_typed word.Literal text operand short is = mapped (λ o. is_word_of o word.Literal ≡ true) Literal (literal_spelled text) operand (λ t e. literal_sound text t short e) is
-kind_typed word.Parameter text operand short is = parameter_typed (parameter_name text) (parameter_taken text) operand is
-kind_typed word.NewPointer text operand short is = mapped (λ o. is_word_of o word.NewPointer ≡ true) (λ n. Parameter n taken.Pointer) (declared_name text) operand (λ n e. refl) is
+kind_typed word.Parameter text operand short is = parameter_typed (parameter_name text) (parameter_type_of_word text) operand is
+kind_typed word.NewPointer text operand short is = mapped (λ o. is_word_of o word.NewPointer ≡ true) (λ n. Parameter n parameter_type.Pointer) (declared_name text) operand (λ n e. refl) is
 kind_typed (word.Keyword k) text operand short is = subst (λ o. is_word_of o (word.Keyword k) ≡ true) (given (bytes_eq text (text_of_keyword k)) Keyword operand is).1 refl
 
 -- a word of one of some kinds
@@ -136,58 +136,58 @@ among_typed (kind ∷ kinds) text operand short is = go (operand_as kind text) (
     go (Some o) one others e = rw (one operand e) refl
     go None one others e = later (is_word_of operand kind) (others e)
 
-operand_typed : (letter : Letter) (text : Text) (operand : Operand Text) → length text ≤ 65536 → operand_of letter text ≡ Some operand → is_operand letter operand ≡ true
-operand_typed letter text operand short is = among_typed (word_kinds letter) text operand short is
+operand_typed : (operand_place : OperandPlace) (text : Text) (operand : Operand Text) → length text ≤ 65536 → operand_of operand_place text ≡ Some operand → is_operand operand_place operand ≡ true
+operand_typed operand_place text operand short is = among_typed (word_kinds operand_place) text operand short is
 
-operands_typed : (letters : List Letter) (words : List Text) (operands : List (Operand Text)) → AreWithin 65536 words → operands_of letters words ≡ Some operands → are_operands letters operands ≡ true
+operands_typed : (operand_places : List OperandPlace) (words : List Text) (operands : List (Operand Text)) → AreWithin 65536 words → operands_of operand_places words ≡ Some operands → are_operands operand_places operands ≡ true
 operands_typed [] [] operands short is = let same : [] ≡ operands = cc in subst (λ o. are_operands [] o ≡ true) same refl
 operands_typed [] (word ∷ words) operands short is = let clash : ⊥ = cc in absurd clash
-operands_typed (letter ∷ letters) [] operands short is = let clash : ⊥ = cc in absurd clash
-operands_typed (letter ∷ letters) (word ∷ words) operands (here, rest) is = go (operand_of letter word) (operands_of letters words) (λ p. operand_typed letter word p here) (λ ps. operands_typed letters words ps rest) is
+operands_typed (operand_place ∷ operand_places) [] operands short is = let clash : ⊥ = cc in absurd clash
+operands_typed (operand_place ∷ operand_places) (word ∷ words) operands (here, rest) is = go (operand_of operand_place word) (operands_of operand_places words) (λ p. operand_typed operand_place word p here) (λ ps. operands_typed operand_places words ps rest) is
   where
-    go : (o : Option (Operand Text)) (rest : Option (List (Operand Text))) → ((p : Operand Text) → o ≡ Some p → is_operand letter p ≡ true) → ((ps : List (Operand Text)) → rest ≡ Some ps → are_operands letters ps ≡ true) → onto o rest ≡ Some operands → are_operands (letter ∷ letters) operands ≡ true
+    go : (o : Option (Operand Text)) (rest : Option (List (Operand Text))) → ((p : Operand Text) → o ≡ Some p → is_operand operand_place p ≡ true) → ((ps : List (Operand Text)) → rest ≡ Some ps → are_operands operand_places ps ≡ true) → onto o rest ≡ Some operands → are_operands (operand_place ∷ operand_places) operands ≡ true
     go None rest one more e = let clash : ⊥ = cc in absurd clash
     go (Some p) None one more e = let clash : ⊥ = cc in absurd clash
     go (Some p) (Some ps) one more e =
         let same : p ∷ ps ≡ operands = cc in
-        subst (λ o. are_operands (letter ∷ letters) o ≡ true) same (rw (one p refl) (more ps refl))
+        subst (λ o. are_operands (operand_place ∷ operand_places) o ≡ true) same (rw (one p refl) (more ps refl))
 
 -- as many operands as words
-operands_many : (letters : List Letter) (words : List Text) (operands : List (Operand Text)) → operands_of letters words ≡ Some operands → length operands ≡ length words
+operands_many : (operand_places : List OperandPlace) (words : List Text) (operands : List (Operand Text)) → operands_of operand_places words ≡ Some operands → length operands ≡ length words
 operands_many [] [] operands is = let same : [] ≡ operands = cc in ap length (sym same)
 operands_many [] (word ∷ words) operands is = let clash : ⊥ = cc in absurd clash
-operands_many (letter ∷ letters) [] operands is = let clash : ⊥ = cc in absurd clash
-operands_many (letter ∷ letters) (word ∷ words) operands is = go (operand_of letter word) (operands_of letters words) (operands_many letters words) is
+operands_many (operand_place ∷ operand_places) [] operands is = let clash : ⊥ = cc in absurd clash
+operands_many (operand_place ∷ operand_places) (word ∷ words) operands is = go (operand_of operand_place word) (operands_of operand_places words) (operands_many operand_places words) is
   where
     go : (o : Option (Operand Text)) (rest : Option (List (Operand Text))) → ((ps : List (Operand Text)) → rest ≡ Some ps → length ps ≡ length words) → onto o rest ≡ Some operands → length operands ≡ suc (length words)
     go None rest more e = let clash : ⊥ = cc in absurd clash
     go (Some p) None more e = let clash : ⊥ = cc in absurd clash
     go (Some p) (Some ps) more e = let same : p ∷ ps ≡ operands = cc in ap length (sym same) ∙ ap suc (more ps refl)
 
-chosen_typed : (key : Key) (o : Option (List (Operand Text))) (other : Form Text) → ((ps : List (Operand Text)) → o ≡ Some ps → are_operands (letters_for key (length ps)) ps ≡ true) → is_typed other ≡ true → is_typed (line_or key o other) ≡ true
-chosen_typed key (Some ps) other typed rest = typed ps refl
-chosen_typed key None other typed rest = rest
+chosen_typed : (line_kind : LineKind) (o : Option (List (Operand Text))) (other : Form Text) → ((ps : List (Operand Text)) → o ≡ Some ps → are_operands (operand_places_for line_kind (length ps)) ps ≡ true) → is_typed other ≡ true → is_typed (line_or line_kind o other) ≡ true
+chosen_typed line_kind (Some ps) other typed rest = typed ps refl
+chosen_typed line_kind None other typed rest = rest
 
--- none of a key whose text differs
-if_typed : (b : Bool) (key : Key) (words : List Text) (ps : List (Operand Text)) → AreWithin 65536 words → operands_if b key words ≡ Some ps → are_operands (letters_for key (length ps)) ps ≡ true
-if_typed true key words ps short is =
-    ap (λ n. are_operands (letters_for key n) ps) (operands_many (letters_for key (length words)) words ps is)
-    ∙ operands_typed (letters_for key (length words)) words ps short is
-if_typed false key words ps short is = let clash : ⊥ = cc in absurd clash
+-- none of a line kind whose text differs
+if_typed : (b : Bool) (line_kind : LineKind) (words : List Text) (ps : List (Operand Text)) → AreWithin 65536 words → operands_if b line_kind words ≡ Some ps → are_operands (operand_places_for line_kind (length ps)) ps ≡ true
+if_typed true line_kind words ps short is =
+    ap (λ n. are_operands (operand_places_for line_kind n) ps) (operands_many (operand_places_for line_kind (length words)) words ps is)
+    ∙ operands_typed (operand_places_for line_kind (length words)) words ps short is
+if_typed false line_kind words ps short is = let clash : ⊥ = cc in absurd clash
 
-form_typed : (ks : List Key) (first : Text) (words : List Text) → AreWithin 65536 words → is_typed (form_in ks first words) ≡ true
+form_typed : (ks : List LineKind) (first : Text) (words : List Text) → AreWithin 65536 words → is_typed (form_in ks first words) ≡ true
 form_typed [] first words short = refl
-form_typed (key ∷ ks) first words short =
-    let same = bytes_eq (text_of key) first in
-    chosen_typed key (operands_if same key words) (form_in ks first words) (λ ps. if_typed same key words ps short) (form_typed ks first words short)
+form_typed (line_kind ∷ ks) first words short =
+    let same = bytes_eq (text_of line_kind) first in
+    chosen_typed line_kind (operands_if same line_kind words) (form_in ks first words) (λ ps. if_typed same line_kind words ps short) (form_typed ks first words short)
 
 words_typed : (words : List Text) → AreWithin 65536 words → is_typed (form_of words) ≡ true
 words_typed [] short = refl
 words_typed (first ∷ words) (here, rest) = go (begins_comment first)
   where
-    go : (b : Bool) → is_typed (skipped_or b (form_in keys first words)) ≡ true
+    go : (b : Bool) → is_typed (skipped_or b (form_in line_kinds first words)) ≡ true
     go true = refl
-    go false = form_typed keys first words rest
+    go false = form_typed line_kinds first words rest
 
 pub lines_typed : (lines : List Text) → AreWithin 65536 lines → AreTyped (forms_of lines)
 lines_typed [] short = refl

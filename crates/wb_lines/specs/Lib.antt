@@ -1,4 +1,4 @@
 pub mod FirstBytes
-pub mod Lent
-pub mod Pieces
+pub mod BytesOf
+pub mod Segments
 pub mod Typed

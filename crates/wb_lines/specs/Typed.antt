@@ -1,16 +1,16 @@
--- Forms whose operands are of the letters of their keys, as each line's is that is no longer than a script.
+-- Forms whose operands are of the operand places of their line kinds, as each line's is that is no longer than a script.
 use Rattle.std.specs.Prelude.{ℤ, pos, negsuc, nat_le, nat_lt, List, [], ◌∷◌, Bool, true, false, ◌&&◌, IsTrue, length}
 use Rattle.std.specs.List.{list_all, list_any}
 use Rattle.wb_model.specs.declared.limits.TheConstants.{NINE_DIGITS}
-use Rattle.wb_model.specs.declared.script_lines.Letter.{Letter}
-use Rattle.wb_model.specs.declared.script_lines.Taken.TheVariants as taken
+use Rattle.wb_model.specs.declared.script_lines.OperandPlace.{OperandPlace}
+use Rattle.wb_model.specs.declared.script_lines.ParameterType.TheVariants as parameter_type
 use Rattle.wb_model.specs.declared.script_lines.Operand.{Operand}
 use Rattle.wb_model.specs.declared.script_lines.Operand.TheVariants.{Name, Field, Number, Size, Literal, Parameter, Keyword}
 use Rattle.wb_model.specs.declared.script_lines.Form.{Form}
 use Rattle.wb_model.specs.declared.script_lines.Form.TheVariants.{Line}
 use Rattle.wb_model.specs.declared.script_lines.WordKind.{WordKind}
 use Rattle.wb_model.specs.declared.script_lines.WordKind.TheVariants as word
-use Rattle.wb_model.specs.Keys.{letters_for, word_kinds}
+use Rattle.wb_model.specs.LineKinds.{operand_places_for, word_kinds}
 use Rattle.wb_model.specs.Names.{Text}
 use Rattle.wb_model.specs.Sound.{is_literal_text}
 
@@ -28,20 +28,20 @@ is_word_of (Number z) word.Number = is_short z
 is_word_of (Size n) word.Size = true
 is_word_of (Literal text) word.Literal = is_literal_text text
 is_word_of (Parameter name kind) word.Parameter = true
-is_word_of (Parameter name taken.Pointer) word.NewPointer = true
+is_word_of (Parameter name parameter_type.Pointer) word.NewPointer = true
 is_word_of Keyword (word.Keyword k) = true
 is_word_of _ _ = false
 
-abbrev pub is_operand : Letter → Operand Text → Bool
-is_operand letter operand = list_any (is_word_of operand) (word_kinds letter)
+abbrev pub is_operand : OperandPlace → Operand Text → Bool
+is_operand operand_place operand = list_any (is_word_of operand) (word_kinds operand_place)
 
-abbrev pub are_operands : List Letter → List (Operand Text) → Bool
+abbrev pub are_operands : List OperandPlace → List (Operand Text) → Bool
 are_operands [] [] = true
-are_operands (letter ∷ letters) (operand ∷ operands) = is_operand letter operand && are_operands letters operands
+are_operands (operand_place ∷ operand_places) (operand ∷ operands) = is_operand operand_place operand && are_operands operand_places operands
 are_operands _ _ = false
 
 abbrev pub is_typed : Form Text → Bool
-is_typed (Line key operands) = are_operands (letters_for key (length operands)) operands
+is_typed (Line line_kind operands) = are_operands (operand_places_for line_kind (length operands)) operands
 is_typed _ = true
 
 abbrev pub AreTyped : List (Form Text) → Type 0

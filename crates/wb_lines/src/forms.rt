@@ -1,30 +1,32 @@
-//! What a line says: the first key whose text and letters fit its words, and its operands.
+//! What a line says: the first line kind whose text and operand places fit its words, and its operands.
 
 ghost use Rattle.std.specs.Prelude.{◌≡◌, ◌<◌, ℕ, [], ◌∷◌, ◌++◌, length, slice_get, IfOk, IfErr, OnOk};
 ghost use Rattle.std.specs.Option.{option_and_then, option_map};
 ghost use Rattle.std.specs.Str.{bytes_eq};
 ghost use Rattle.wb_model.specs.declared.script_lines.Operand.TheVariants.{Name, Number, Literal};
-ghost use Rattle.wb_model.specs.Forms.{renamed_taken, size_of, field_of, parameter_of, operand_as, operand_among, operand_of, operands_of, operands_if, form_in, form_of, forms_of, line_form, begins_comment, role_of_form};
+ghost use Rattle.wb_model.specs.Forms.{renamed_parameter_type, size_of, field_of, parameter_of, operand_as, operand_among, operand_of, operands_of, operands_if, form_in, form_of, forms_of, line_form, begins_comment, role_of_form};
 ghost use Rattle.wb_model.specs.declared.script_lines.WordKind.TheVariants as kind;
-ghost use Rattle.wb_model.specs.Keys.{keys, letters_with, letters_for, text_of};
-ghost use Rattle.wb_lines.specs.Lent.{lent_text, lent_texts, lent_operand, lent_operands, lent_form, lent_forms};
+ghost use Rattle.wb_model.specs.LineKinds.{line_kinds, operand_places_with, operand_places_for, text_of};
+ghost use Rattle.wb_lines.specs.BytesOf.{bytes_of_text, bytes_of_texts, bytes_of_operand, bytes_of_operands, bytes_of_form, bytes_of_forms};
 
-use crate::first_bytes::keys_with_first;
-use crate::keys::{Letters, role_of, text_of, word_kinds};
+use crate::first_bytes::line_kinds_with_first;
+use crate::line_kinds::{OperandPlaces, role_of, text_of, word_kinds};
 use crate::lists::add;
-use crate::pieces::add_words;
 use crate::same::are_same;
+use crate::segments::add_words;
 use crate::words::{
     base_name, declared_name, field_name, is_keyword, literal_of, number_of, parameter_name,
-    parameter_taken, used_name,
+    parameter_type_of_word, used_name,
 };
 use std::alloc::{AllocError, Global};
 use wb_model::items::Items;
-use wb_model::script_lines::{Form, Key, Keyword, Letter, Operand, Role, Taken, WordKind};
+use wb_model::script_lines::{
+    Form, Keyword, LineKind, Operand, OperandPlace, ParameterType, Role, WordKind,
+};
 
 /// A name, where there is one.
 fn name_operand<'a>(name: Option<&'a [u8]>) -> Option<Operand<&'a [u8]>>
-    ensures { option_map lent_operand result ≡ option_map Name (option_map lent_text name.entry) }
+    ensures { option_map bytes_of_operand result ≡ option_map Name (option_map bytes_of_text name.entry) }
 {
     match name {
         Some(name) => Some(Operand::Name(name)),
@@ -34,7 +36,7 @@ fn name_operand<'a>(name: Option<&'a [u8]>) -> Option<Operand<&'a [u8]>>
 
 /// A field, where there is what holds a pointer and the field's own name.
 fn field_operand<'a>(base: Option<&'a [u8]>, field: Option<&'a [u8]>) -> Option<Operand<&'a [u8]>>
-    ensures { option_map lent_operand result ≡ field_of (option_map lent_text base.entry) (option_map lent_text field.entry) }
+    ensures { option_map bytes_of_operand result ≡ field_of (option_map bytes_of_text base.entry) (option_map bytes_of_text field.entry) }
 {
     match (base, field) {
         (Some(base), Some(field)) => Some(Operand::Field(base, field)),
@@ -44,7 +46,7 @@ fn field_operand<'a>(base: Option<&'a [u8]>, field: Option<&'a [u8]>) -> Option<
 
 /// A number, where there is one.
 fn number_operand<'a>(number: Option<i32>) -> Option<Operand<&'a [u8]>>
-    ensures { option_map lent_operand result ≡ option_map Number number }
+    ensures { option_map bytes_of_operand result ≡ option_map Number number }
 {
     match number {
         Some(number) => Some(Operand::Number(number)),
@@ -54,7 +56,7 @@ fn number_operand<'a>(number: Option<i32>) -> Option<Operand<&'a [u8]>>
 
 /// A size, where there is a number that isn't negative.
 fn size_operand<'a>(number: Option<i32>) -> Option<Operand<&'a [u8]>>
-    ensures { option_map lent_operand result ≡ size_of number }
+    ensures { option_map bytes_of_operand result ≡ size_of number }
 {
     match number {
         Some(number) if number >= 0 => Some(Operand::Size(number as u32)),
@@ -64,7 +66,7 @@ fn size_operand<'a>(number: Option<i32>) -> Option<Operand<&'a [u8]>>
 
 /// A literal, where there is its text.
 fn literal_operand<'a>(text: Option<&'a [u8]>) -> Option<Operand<&'a [u8]>>
-    ensures { option_map lent_operand result ≡ option_map Literal (option_map lent_text text.entry) }
+    ensures { option_map bytes_of_operand result ≡ option_map Literal (option_map bytes_of_text text.entry) }
 {
     match text {
         Some(text) => Some(Operand::Literal(text)),
@@ -75,19 +77,19 @@ fn literal_operand<'a>(text: Option<&'a [u8]>) -> Option<Operand<&'a [u8]>>
 /// A parameter, where there is a name and what it takes.
 fn parameter_operand<'a>(
     name: Option<&'a [u8]>,
-    taken: Option<Taken<&'a [u8]>>,
+    parameter_type: Option<ParameterType<&'a [u8]>>,
 ) -> Option<Operand<&'a [u8]>>
-    ensures { option_map lent_operand result ≡ parameter_of (option_map lent_text name.entry) (option_map (renamed_taken lent_text) taken.entry) }
+    ensures { option_map bytes_of_operand result ≡ parameter_of (option_map bytes_of_text name.entry) (option_map (renamed_parameter_type bytes_of_text) parameter_type.entry) }
 {
-    match (name, taken) {
-        (Some(name), Some(taken)) => Some(Operand::Parameter(name, taken)),
+    match (name, parameter_type) {
+        (Some(name), Some(parameter_type)) => Some(Operand::Parameter(name, parameter_type)),
         _ => None,
     }
 }
 
 /// A word of the line's own.
 fn keyword_as<'a>(keyword: Keyword, word: &[u8]) -> Option<Operand<&'a [u8]>>
-    ensures { option_map lent_operand result ≡ operand_as (kind.Keyword keyword) word.now }
+    ensures { option_map bytes_of_operand result ≡ operand_as (kind.Keyword keyword) word.now }
 {
     if is_keyword(keyword, word) {
         Some(Operand::Keyword)
@@ -98,7 +100,7 @@ fn keyword_as<'a>(keyword: Keyword, word: &[u8]) -> Option<Operand<&'a [u8]>>
 
 /// The operand that a word of a kind is.
 fn operand_as<'a>(kind: WordKind, word: &'a [u8]) -> Option<Operand<&'a [u8]>>
-    ensures { option_map lent_operand result ≡ operand_as kind word.now }
+    ensures { option_map bytes_of_operand result ≡ operand_as kind word.now }
 {
     match kind {
         WordKind::NewName => name_operand(declared_name(word)),
@@ -107,15 +109,21 @@ fn operand_as<'a>(kind: WordKind, word: &'a [u8]) -> Option<Operand<&'a [u8]>>
         WordKind::Number => number_operand(number_of(word)),
         WordKind::Size => size_operand(number_of(word)),
         WordKind::Literal => literal_operand(literal_of(word)),
-        WordKind::Parameter => parameter_operand(parameter_name(word), parameter_taken(word)),
-        WordKind::NewPointer => parameter_operand(declared_name(word), Some(Taken::Pointer)),
+        WordKind::Parameter => parameter_operand(
+            parameter_name(word),
+            parameter_type_of_word(word),
+        ),
+        WordKind::NewPointer => parameter_operand(
+            declared_name(word),
+            Some(ParameterType::Pointer),
+        ),
         WordKind::Keyword(keyword) => keyword_as(keyword, word),
     }
 }
 
 /// The operand by the first of the kinds that the word is of.
 fn operand_among<'a>(kinds: &[WordKind], word: &'a [u8]) -> Option<Operand<&'a [u8]>>
-    ensures { option_map lent_operand result ≡ operand_among kinds.now word.now }
+    ensures { option_map bytes_of_operand result ≡ operand_among kinds.now word.now }
 {
     for kind in kinds {
         match operand_as(*kind, word) {
@@ -126,39 +134,43 @@ fn operand_among<'a>(kinds: &[WordKind], word: &'a [u8]) -> Option<Operand<&'a [
     None
 }
 
-/// What a word is where a letter stands.
-pub fn operand_of<'a>(letter: Letter, word: &'a [u8]) -> Option<Operand<&'a [u8]>>
-    ensures { option_map lent_operand result ≡ operand_of letter word.now }
+/// What a word is in a place of a line.
+pub fn operand_of<'a>(operand_place: OperandPlace, word: &'a [u8]) -> Option<Operand<&'a [u8]>>
+    ensures { option_map bytes_of_operand result ≡ operand_of operand_place word.now }
 {
-    operand_among(word_kinds(letter), word)
+    operand_among(word_kinds(operand_place), word)
 }
 
-/// What a word is by its index behind a key; none where no such word stands there.
-fn operand_at<'a>(letters: Letters, index: usize, word: &'a [u8]) -> Option<Operand<&'a [u8]>>
-    ensures { (count : ℕ) → index < count → option_and_then (λ letter. operand_of letter word.now) (slice_get (letters_with letters.fixed.now letters.rest count) index) ≡ option_map lent_operand result }
+/// What a word is by its index behind a line kind; none where no such word stands there.
+fn operand_at<'a>(
+    operand_places: OperandPlaces,
+    index: usize,
+    word: &'a [u8],
+) -> Option<Operand<&'a [u8]>>
+    ensures { (count : ℕ) → index < count → option_and_then (λ operand_place. operand_of operand_place word.now) (slice_get (operand_places_with operand_places.fixed.now operand_places.rest count) index) ≡ option_map bytes_of_operand result }
 {
-    match letters.at(index) {
-        Some(letter) => operand_of(letter, word),
+    match operand_places.at(index) {
+        Some(operand_place) => operand_of(operand_place, word),
         None => None,
     }
 }
 
-/// What the words behind a key are; none where they do not fit. Memory is asked for only where there may be so many words.
+/// What the words behind a line kind are; none where they do not fit. Memory is asked for only where there may be so many words.
 fn operands_of<'a>(
     alloc: Global,
-    letters: Letters,
+    operand_places: OperandPlaces,
     words: &[&'a [u8]],
 ) -> Result<Option<Vec<Operand<&'a [u8]>>>, AllocError>
     ensures operands { IfOk result (λ found.
-        option_map (λ o. lent_operands o.items) found ≡ operands_of (letters_with letters.fixed.now letters.rest (length words.now)) (lent_texts words.now)) }
-    ensures memory { IfErr result (λ _. length (letters_with letters.fixed.now letters.rest (length words.now)) ≡ length words.now) }
+        option_map (λ o. bytes_of_operands o.items) found ≡ operands_of (operand_places_with operand_places.fixed.now operand_places.rest (length words.now)) (bytes_of_texts words.now)) }
+    ensures memory { IfErr result (λ _. length (operand_places_with operand_places.fixed.now operand_places.rest (length words.now)) ≡ length words.now) }
 {
-    if !letters.admit(words.len()) {
+    if !operand_places.admit(words.len()) {
         return Ok(None);
     }
     let mut found = Vec::with_capacity(alloc, words.len())?;
     for (index, word) in words.iter().enumerate() {
-        match operand_at(letters, index, word) {
+        match operand_at(operand_places, index, word) {
             None => return Ok(None),
             Some(operand) => add(&mut found, operand)?,
         }
@@ -166,51 +178,51 @@ fn operands_of<'a>(
     Ok(Some(found))
 }
 
-/// The operands of a key whose text the first word is; none where a word does not fit.
+/// The operands of a line kind whose text the first word is; none where a word does not fit.
 fn operands_if<'a>(
     alloc: Global,
-    key: Key,
+    line_kind: LineKind,
     first: &[u8],
     words: &[&'a [u8]],
 ) -> Result<Option<Vec<Operand<&'a [u8]>>>, AllocError>
     ensures { IfOk result (λ found.
-        option_map (λ o. lent_operands o.items) found ≡ operands_if (bytes_eq (text_of key) first.now) key (lent_texts words.now)) }
+        option_map (λ o. bytes_of_operands o.items) found ≡ operands_if (bytes_eq (text_of line_kind) first.now) line_kind (bytes_of_texts words.now)) }
 {
-    if are_same(text_of(key), first) {
-        operands_of(alloc, Letters::of(key), words)
+    if are_same(text_of(line_kind), first) {
+        operands_of(alloc, OperandPlaces::of(line_kind), words)
     } else {
         Ok(None)
     }
 }
 
-/// The line of the first of the keys that fits a first word and the words behind it.
+/// The line of the first of the line kinds that fits a first word and the words behind it.
 fn form_in<'a>(
     alloc: Global,
-    keys: &[Key],
+    line_kinds: &[LineKind],
     first: &[u8],
     words: &[&'a [u8]],
 ) -> Result<Form<&'a [u8]>, AllocError>
-    ensures { IfOk result (λ form. lent_form form ≡ form_in keys.now first.now (lent_texts words.now)) }
+    ensures { IfOk result (λ form. bytes_of_form form ≡ form_in line_kinds.now first.now (bytes_of_texts words.now)) }
 {
-    for key in keys {
-        match operands_if(alloc, *key, first, words)? {
-            Some(operands) => return Ok(Form::Line(*key, Items::from_vec(operands))),
+    for line_kind in line_kinds {
+        match operands_if(alloc, *line_kind, first, words)? {
+            Some(operands) => return Ok(Form::Line(*line_kind, Items::from_vec(operands))),
             None => {}
         }
     }
     Ok(Form::Unknown)
 }
 
-/// The form of words that are no comment, by the tables: of the keys whose words begin as the first word does.
-fn keyed_form<'a>(
+/// The form of words that are no comment, by the tables: of the line kinds whose words begin as the first word does.
+fn form_by_tables<'a>(
     alloc: Global,
     first: &[u8],
     words: &[&'a [u8]],
 ) -> Result<Form<&'a [u8]>, AllocError>
-    ensures { IfOk result (λ form. lent_form form ≡ form_in keys first.now (lent_texts words.now)) }
+    ensures { IfOk result (λ form. bytes_of_form form ≡ form_in line_kinds first.now (bytes_of_texts words.now)) }
 {
     match first {
-        [byte, ..] => form_in(alloc, keys_with_first(*byte), first, words),
+        [byte, ..] => form_in(alloc, line_kinds_with_first(*byte), first, words),
         [] => Ok(Form::Unknown),
     }
 }
@@ -224,7 +236,7 @@ pub fn begins_comment(word: &[u8]) -> bool
 
 /// The form of the words of a line.
 pub fn form_of<'a>(alloc: Global, words: &[&'a [u8]]) -> Result<Form<&'a [u8]>, AllocError>
-    ensures { IfOk result (λ form. lent_form form ≡ form_of (lent_texts words.now)) }
+    ensures { IfOk result (λ form. bytes_of_form form ≡ form_of (bytes_of_texts words.now)) }
 {
     match words {
         [] => Ok(Form::Skip),
@@ -232,7 +244,7 @@ pub fn form_of<'a>(alloc: Global, words: &[&'a [u8]]) -> Result<Form<&'a [u8]>, 
             if begins_comment(first) {
                 return Ok(Form::Skip);
             }
-            keyed_form(alloc, first, rest)
+            form_by_tables(alloc, first, rest)
         }
     }
 }
@@ -243,7 +255,7 @@ fn line_form<'a>(
     words: &mut Vec<&'a [u8]>,
     line: &'a [u8],
 ) -> Result<Form<&'a [u8]>, AllocError>
-    ensures { IfOk result (λ form. lent_form form ≡ line_form line.now) }
+    ensures { IfOk result (λ form. bytes_of_form form ≡ line_form line.now) }
 {
     words.clear();
     add_words(words, line)?;
@@ -256,7 +268,7 @@ fn add_form<'a>(
     words: &mut Vec<&'a [u8]>,
     line: &'a [u8],
 ) -> Result<(), AllocError>
-    ensures { OnOk result (lent_forms forms.new.items ≡ lent_forms forms.old.items ++ line_form line.now ∷ []) }
+    ensures { OnOk result (bytes_of_forms forms.new.items ≡ bytes_of_forms forms.old.items ++ line_form line.now ∷ []) }
 {
     add(forms, line_form(alloc, words, line)?)
 }
@@ -264,7 +276,7 @@ fn add_form<'a>(
 /// The forms of lines, one for each. It is never inlined: what is at hand for each line is the most that registers hold.
 #[inline(never)]
 pub fn forms<'a>(alloc: Global, lines: &[&'a [u8]]) -> Result<Vec<Form<&'a [u8]>>, AllocError>
-    ensures { IfOk result (λ found. lent_forms found.items ≡ forms_of (lent_texts lines.now)) }
+    ensures { IfOk result (λ found. bytes_of_forms found.items ≡ forms_of (bytes_of_texts lines.now)) }
 {
     let mut found = Vec::with_capacity(alloc, lines.len())?;
     let mut words = Vec::new(alloc);
@@ -281,6 +293,6 @@ pub fn role<N>(form: &Form<N>) -> Role
     match form {
         Form::Skip => Role::Skip,
         Form::Unknown => Role::Unknown,
-        Form::Line(key, _) => role_of(*key),
+        Form::Line(line_kind, _) => role_of(*line_kind),
     }
 }

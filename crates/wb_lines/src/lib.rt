@@ -5,9 +5,9 @@
 pub mod bytes;
 mod first_bytes;
 pub mod forms;
-pub mod keys;
+pub mod line_kinds;
 pub mod lists;
-pub mod pieces;
+pub mod operand_kinds;
 pub mod same;
-pub mod sorts;
+pub mod segments;
 pub mod words;

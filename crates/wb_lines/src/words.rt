@@ -1,15 +1,15 @@
-//! What a word behind a key is: a name, a field, a number, a literal, a parameter, a word of the line's own.
+//! What a word behind a line kind is: a name, a field, a number, a literal, a parameter, a word of the line's own.
 
 ghost use Rattle.std.specs.Prelude.{◌≡◌, ◌<◌, ◌≤◌, ◌^◌, IfSome, length};
 ghost use Rattle.std.specs.List.{list_all, list_any};
 ghost use Rattle.std.specs.Option.{option_copied, option_map};
 ghost use Rattle.std.specs.Str.{bytes_eq};
 ghost use Rattle.wb_model.specs.Sound.{is_quotable};
-ghost use Rattle.wb_model.specs.Words.{is_letter, is_digit, is_name_byte, is_name, is_reserved, declared_name, used_name, length_before, before_first, behind_first, digits_of, number_spelled, literal_spelled, base_name, field_name, taken_spelled, parameter_name, parameter_taken, text_of_keyword};
-ghost use Rattle.wb_model.specs.Forms.{renamed_taken};
-ghost use Rattle.wb_lines.specs.Lent.{lent_text};
+ghost use Rattle.wb_model.specs.Words.{is_letter, is_digit, is_name_byte, is_name, is_reserved, declared_name, used_name, length_before, before_first, after_first_of, digits_of, number_spelled, literal_spelled, base_name, field_name, parameter_type_after_colon, parameter_name, parameter_type_of_word, text_of_keyword};
+ghost use Rattle.wb_model.specs.Forms.{renamed_parameter_type};
+ghost use Rattle.wb_lines.specs.BytesOf.{bytes_of_text};
 
-use wb_model::script_lines::{Keyword, Taken};
+use wb_model::script_lines::{Keyword, ParameterType};
 
 /// The names that nothing may be declared with.
 const RESERVED: [&[u8]; 7] = [b"self", b"ptr", b"int", b"null", b"some", b"eq", b"less"];
@@ -107,8 +107,8 @@ pub fn before_first<'a>(byte: u8, word: &'a [u8]) -> &'a [u8]
 }
 
 /// What stands behind the first of a byte: nothing where there is none.
-pub fn behind_first<'a>(byte: u8, word: &'a [u8]) -> &'a [u8]
-    ensures { result.now ≡ behind_first byte word.now }
+pub fn after_first_of<'a>(byte: u8, word: &'a [u8]) -> &'a [u8]
+    ensures { result.now ≡ after_first_of byte word.now }
 {
     let before = length_before(byte, word);
     if before < word.len() {
@@ -179,20 +179,20 @@ pub fn base_name<'a>(word: &'a [u8]) -> Option<&'a [u8]>
 pub fn field_name<'a>(word: &'a [u8]) -> Option<&'a [u8]>
     ensures { option_copied result ≡ field_name word.now }
 {
-    used_name(behind_first(b'.', word))
+    used_name(after_first_of(b'.', word))
 }
 
 /// What a parameter takes by the word behind its colon. Any name but `ptr` and `int` is that of a class.
-fn taken_spelled<'a>(word: &'a [u8]) -> Option<Taken<&'a [u8]>>
-    ensures { option_map (renamed_taken lent_text) result ≡ taken_spelled word.now }
+fn parameter_type_after_colon<'a>(word: &'a [u8]) -> Option<ParameterType<&'a [u8]>>
+    ensures { option_map (renamed_parameter_type bytes_of_text) result ≡ parameter_type_after_colon word.now }
 {
     if word == b"ptr".as_slice() {
-        Some(Taken::Pointer)
+        Some(ParameterType::Pointer)
     } else if word == b"int".as_slice() {
-        Some(Taken::Number)
+        Some(ParameterType::Number)
     } else {
         match used_name(word) {
-            Some(class) => Some(Taken::OfClass(class)),
+            Some(class) => Some(ParameterType::OfClass(class)),
             None => None,
         }
     }
@@ -206,10 +206,10 @@ pub fn parameter_name<'a>(word: &'a [u8]) -> Option<&'a [u8]>
 }
 
 /// What the parameter takes that the word declares.
-pub fn parameter_taken<'a>(word: &'a [u8]) -> Option<Taken<&'a [u8]>>
-    ensures { option_map (renamed_taken lent_text) result ≡ parameter_taken word.now }
+pub fn parameter_type_of_word<'a>(word: &'a [u8]) -> Option<ParameterType<&'a [u8]>>
+    ensures { option_map (renamed_parameter_type bytes_of_text) result ≡ parameter_type_of_word word.now }
 {
-    taken_spelled(behind_first(b':', word))
+    parameter_type_after_colon(after_first_of(b':', word))
 }
 
 /// The word that a keyword is.

@@ -20,21 +20,21 @@ use Rattle.wb_model.specs.Spelling.{read_as}
 use Rattle.wb_model.specs.State.{Content, units, State, Process, with_some, require}
 use Rattle.wb_model.specs.Operands.{within, number_of, units_of, with_cell, with_pointer}
 use Rattle.wb_model.specs.Attempts.{after_growth, attempt, allocate, grow_if, push, reallocate, reallocate_longer}
-use Rattle.wb_model.specs.Statements.{Layer, Where, is_null, is_raw, alloc_raw, realloc_of, realloc_raw, realloc_text, new_object, given_to, statement}
+use Rattle.wb_model.specs.Statements.{Layer, Context, is_null, is_raw, alloc_raw, realloc_of, realloc_raw, realloc_text, new_object, given_to, statement}
 use Rattle.wb_model.specs.declared.heap.Header.{Header}
 use Rattle.wb_model.specs.Debug.{Debug}
 use Rattle.wb_model.specs.TextCells.{IsTextAt, text_in}
 use Rattle.wb_machine.specs.TextInvariant.{AreTexts}
 use Rattle.wb_machine.proofs.TextInvariant.{is_text_at}
 use Rattle.wb_model.specs.Meaning.{meaning_of}
-use Rattle.wb_machine.specs.declared.pieces.Piece.TheVariants.{Object}
+use Rattle.wb_machine.specs.declared.pieces.PendingPiece.TheVariants.{Object}
 use Rattle.wb_machine.specs.RunState.{RunState, field_count, read_cell, state_of}
-use Rattle.wb_machine.specs.Carried.{pointer_read, number_read}
+use Rattle.wb_machine.specs.Effects.{pointer_read, number_read}
 use Rattle.wb_machine.specs.TextOperands.{is_text, text_refusal}
-use Rattle.wb_machine.specs.Asks.{asks_at, is_some, is_longer, cell_asks, realloc_asks, text_asks, realloc_text_asks, growth_asks, push_asks, carried_asks, statement_asks}
-use Rattle.wb_machine.specs.PointerOperands.{operands_refused}
+use Rattle.wb_machine.specs.Asks.{asks_at, is_some, is_longer, cell_asks, realloc_asks, text_asks, realloc_text_asks, growth_asks, push_asks, effect_asks, statement_asks}
+use Rattle.wb_machine.specs.PointerOperands.{operands_refusal}
 use Rattle.wb_machine.proofs.Refused.{statement_refused}
-use Rattle.wb_machine.proofs.Kept.{number_is, pointer_is, fine_first, fine_rest}
+use Rattle.wb_machine.proofs.StatementEffects.{number_is, pointer_is, fine_first, fine_rest}
 use Rattle.wb_machine.proofs.Later.{later_asks}
 use Rattle.wb_machine.proofs.NothingAsked.{nothing_asked}
 use Rattle.wb_machine.proofs.Rows.{read_cell_at}
@@ -176,44 +176,44 @@ module _ (script : Script) (h : RunState) where
       by false = refl
 
   -- where no operand is refused
-  carried_asked : (budget : ℕ) (at : Where) (layer : Layer) → h.steps ≤ budget → operands_refused h layer ≡ None →
-      asked (statement script (meaning_of script budget) at layer st) ≡ carried_asks script h layer
+  effect_asked : (budget : ℕ) (at : Context) (layer : Layer) → h.steps ≤ budget → operands_refusal h layer ≡ None →
+      asked (statement script (meaning_of script budget) at layer st) ≡ effect_asks script h layer
   unfolding statement new_object allocate attempt
-  carried_asked budget at (Statement-F.Alloc p v x) within_budget ok =
+  effect_asked budget at (Statement-F.Alloc p v x) within_budget ok =
       ap asked (pointer_is script h p (λ _. with_some (within LARGEST_REQUEST (number_of st v)) NUMBER_OUT_OF_RANGE st (λ n. alloc_raw p x n st)) (fine_first h p [] ok))
       ∙ ap (λ z. asked (with_some (within LARGEST_REQUEST z) NUMBER_OUT_OF_RANGE st (λ n. alloc_raw p x n st))) (number_is script h v)
       ∙ alloc_asked p x (within LARGEST_REQUEST (number_read h v))
-  carried_asked budget at (Statement-F.Realloc p q v x) within_budget ok =
+  effect_asked budget at (Statement-F.Realloc p q v x) within_budget ok =
       ap asked (pointer_is script h p (λ _. with_pointer st q (λ old. realloc_of (is_null old) p x old (number_of st v) st)) (fine_first h p (q ∷ []) ok)
       ∙ pointer_is script h q (λ old. realloc_of (is_null old) p x old (number_of st v) st) (fine_first h q [] (fine_rest h p (q ∷ []) ok)))
       ∙ ap (λ z. asked (realloc_of (is_null (pointer_read script h q)) p x (pointer_read script h q) z st)) (number_is script h v)
       ∙ realloc_asked p x (pointer_read script h q) (number_read h v)
-  carried_asked budget at (Statement-F.NewText p v x) within_budget ok =
+  effect_asked budget at (Statement-F.NewText p v x) within_budget ok =
       ap asked (pointer_is script h p (λ _. with_some (within MOST_UNITS (number_of st v)) NUMBER_OUT_OF_RANGE st (λ n. allocate (4 + 2 * n) Text (units []) st (given_to p x))) (fine_first h p [] ok))
       ∙ ap (λ z. asked (with_some (within MOST_UNITS z) NUMBER_OUT_OF_RANGE st (λ n. allocate (4 + 2 * n) Text (units []) st (given_to p x)))) (number_is script h v)
       ∙ new_text_asked p x (within MOST_UNITS (number_read h v))
-  carried_asked budget at (Statement-F.ReallocText p q v) within_budget ok =
+  effect_asked budget at (Statement-F.ReallocText p q v) within_budget ok =
       let from : Ptr → ℤ → Process = λ old z. with_cell st old (λ c. with_some (units_of c.head.kind c.content) WRONG_KIND st (λ us. with_some (within MOST_UNITS z) NUMBER_OUT_OF_RANGE st (λ n. realloc_text p c us n st))) in
       ap asked (pointer_is script h p (λ _. with_pointer st q (λ old. from old (number_of st v))) (fine_first h p (q ∷ []) ok)
       ∙ pointer_is script h q (λ old. from old (number_of st v)) (fine_first h q [] (fine_rest h p (q ∷ []) ok)))
       ∙ ap (λ z. asked (from (pointer_read script h q) z)) (number_is script h v)
       ∙ realloc_text_asked p (pointer_read script h q) (within MOST_UNITS (number_read h v))
-  carried_asked budget at (Statement-F.New p class x) within_budget ok =
+  effect_asked budget at (Statement-F.New p class x) within_budget ok =
       ap asked (pointer_is script h p (λ _. new_object script p class x st) (fine_first h p [] ok)) ∙ eq-eqb h.steps h.steps refl
-  carried_asked budget at (Statement-F.Push p) within_budget ok =
+  effect_asked budget at (Statement-F.Push p) within_budget ok =
       ap asked (pointer_is script h p (λ q. push (I.Free q) st) (fine_first h p [] ok)) ∙ push_asked (I.Free (pointer_read script h p))
-  carried_asked budget at (Statement-F.PushObject p) within_budget ok =
+  effect_asked budget at (Statement-F.PushObject p) within_budget ok =
       ap asked (pointer_is script h p (λ q. push (I.Delete q) st) (fine_first h p [] ok)) ∙ push_asked (I.Delete (pointer_read script h p))
-  carried_asked budget at (Statement-F.PushOperation p operation) within_budget ok =
+  effect_asked budget at (Statement-F.PushOperation p operation) within_budget ok =
       ap asked (pointer_is script h p (λ q. push (I.Call q operation) st) (fine_first h p [] ok)) ∙ push_asked (I.Call (pointer_read script h p) operation)
-  carried_asked budget at layer within_budget ok =
+  effect_asked budget at layer within_budget ok =
       later_asks h.steps (statement script (meaning_of script budget) at layer st) (nothing_asked script budget at layer st within_budget refl)
 
   -- one that is refused for an operand asks for nothing
-  pub statement_asked : (budget : ℕ) (at : Where) (layer : Layer) → h.steps ≤ budget →
+  pub statement_asked : (budget : ℕ) (at : Context) (layer : Layer) → h.steps ≤ budget →
       asked (statement script (meaning_of script budget) at layer st) ≡ statement_asks script h layer
-  statement_asked budget at layer within_budget = by (operands_refused h layer) refl
+  statement_asked budget at layer within_budget = by (operands_refusal h layer) refl
     where
-      by : (o : Option Panic) → operands_refused h layer ≡ o → asked (statement script (meaning_of script budget) at layer st) ≡ (not (is_some o) && carried_asks script h layer)
+      by : (o : Option Panic) → operands_refusal h layer ≡ o → asked (statement script (meaning_of script budget) at layer st) ≡ (not (is_some o) && effect_asks script h layer)
       by (Some panic) e = ap asked (statement_refused script h (meaning_of script budget) at layer panic e)
-      by None e = carried_asked budget at layer within_budget e
+      by None e = effect_asked budget at layer within_budget e

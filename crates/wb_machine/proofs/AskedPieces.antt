@@ -4,7 +4,7 @@ use Rattle.std.specs.Prelude.{nat_lt, slice_get}
 use Rattle.std.proofs.lemmas.Bool.{lt-ltb, le-ltb}
 use Rattle.wb_model.specs.declared.heap.Kind.TheVariants.{Object}
 use Rattle.wb_model.specs.declared.heap.Ptr.{Ptr}
-use Rattle.wb_model.specs.declared.script.Numbered.{Numbered}
+use Rattle.wb_model.specs.declared.script.StatementAt.{StatementAt}
 use Rattle.wb_model.specs.declared.script.Script.{Script}
 use Rattle.wb_model.specs.declared.script.Statement.TheViews.{out-Statement}
 use Rattle.wb_model.specs.State.{State, goes_on, Process, and_then}
@@ -17,12 +17,12 @@ use Rattle.wb_model.proofs.MeaningLemmas.{anything}
 use Rattle.wb_model.proofs.ResumeLemmas.{resume-all, resume-turns}
 use Rattle.wb_machine.specs.declared.pieces.Ending.{Ending}
 use Rattle.wb_machine.specs.declared.pieces.Ending.TheVariants.{GoesOn, Returns, Leaves, Panics, Cut, NoCleanup}
-use Rattle.wb_machine.specs.declared.pieces.Piece.{Piece}
-use Rattle.wb_machine.specs.declared.pieces.Piece.TheVariants.{Code, Turns, Items, Object, Trap, Caught, MainTrap, MainCaught, Call}
-use Rattle.wb_machine.specs.declared.pieces.Standing.{Standing}
-use Rattle.wb_machine.specs.Flow.{where_of, is_nothing, needs_step, pending_in, is_over, progress_by, first_statement, AreOwn, IsOwn, IsSoundPiece, AreSound, IsReady}
+use Rattle.wb_machine.specs.declared.pieces.PendingPiece.{PendingPiece}
+use Rattle.wb_machine.specs.declared.pieces.PendingPiece.TheVariants.{Code, Turns, Items, Object, Trap, Caught, MainTrap, MainCaught, Call}
+use Rattle.wb_machine.specs.declared.pieces.Context.{Context}
+use Rattle.wb_machine.specs.Flow.{context_of, is_nothing, needs_step, pending_in, is_over, progress_by, first_statement, AreOwn, IsOwn, IsSoundPiece, AreSound, IsReady}
 use Rattle.wb_machine.specs.RunState.{RunState, state_of}
-use Rattle.wb_machine.specs.Carried.{stepped}
+use Rattle.wb_machine.specs.Effects.{stepped}
 use Rattle.wb_machine.specs.Asks.{asks_at, asks_next, statement_asks}
 use Rattle.wb_machine.proofs.Destructions.{resume_items, resume_object}
 use Rattle.wb_machine.proofs.Later.{IsLater, Onward, later_asks, later_higher, later_then, onward_all, asked_then, resume_later}
@@ -43,7 +43,7 @@ module _ (script : Script) (budget : ℕ) where
   meant = meaning_of script budget
 
   -- what a machine holds asks at once
-  abbrev pub held_asks : Ending → List Piece → RunState → Bool
+  abbrev pub held_asks : Ending → List PendingPiece → RunState → Bool
   held_asks ending pieces h = asks_next script budget (progress_by ending (pending_in h.callers pieces) (state_of script h))
 
   begun_asks : (h : RunState) (go : State → Process) → h.steps < budget → asks_at (h.steps + 1) (begun budget (state_of script h) go) ≡ asks_at (h.steps + 1) (go (state_of script (stepped h)))
@@ -54,11 +54,11 @@ module _ (script : Script) (budget : ℕ) where
   unfolding begun begun_if
   cut_asks h go at = ap (λ b. asks_at (h.steps + 1) (begun_if b (state_of script h) go)) (le-ltb h.steps budget (omega (arith, at)))
 
-  pub code_asks : (pieces below : List Piece) (standing : Standing) (s : Numbered) (ss : List Numbered) (h : RunState) →
-      pending_in h.callers pieces ≡ doing (where_of standing) (all (s ∷ ss)) ∷ pending_in h.callers below → h.steps < budget → IsOwn script (out-Statement s.statement) →
+  pub code_asks : (pieces below : List PendingPiece) (context : Context) (s : StatementAt) (ss : List StatementAt) (h : RunState) →
+      pending_in h.callers pieces ≡ doing (context_of context) (all (s ∷ ss)) ∷ pending_in h.callers below → h.steps < budget → IsOwn script (out-Statement s.statement) →
       held_asks GoesOn pieces h ≡ statement_asks script h (out-Statement s.statement)
-  code_asks pieces below standing s ss h is less own =
-      let at = where_of standing in
+  code_asks pieces below context s ss h is less own =
+      let at = context_of context in
       let layer = out-Statement s.statement in
       let next : State = state_of script (stepped h) in
       let rest = resume script budget (doing at (all ss) ∷ pending_in h.callers below) in
@@ -71,10 +71,10 @@ module _ (script : Script) (budget : ℕ) where
       (λ w st least most. later_higher script budget (h.steps + 1) st.steps (rest w st) least (resume_later script budget (doing at (all ss) ∷ pending_in h.callers below) w st most))
       ∙ statement_asked script (stepped h) budget at layer (omega (arith, less))
 
-  pub turns_ask : (pieces below : List Piece) (standing : Standing) (n : ℕ) (body : List Numbered) (h : RunState) →
-      pending_in h.callers pieces ≡ doing (where_of standing) (turns (suc n) body) ∷ pending_in h.callers below → h.steps < budget → held_asks GoesOn pieces h ≡ false
-  turns_ask pieces below standing n body h is less =
-      let at = where_of standing in
+  pub turns_ask : (pieces below : List PendingPiece) (context : Context) (n : ℕ) (body : List StatementAt) (h : RunState) →
+      pending_in h.callers pieces ≡ doing (context_of context) (turns (suc n) body) ∷ pending_in h.callers below → h.steps < budget → held_asks GoesOn pieces h ≡ false
+  turns_ask pieces below context n body h is less =
+      let at = context_of context in
       let ps : List Pending = doing at (all body) ∷ doing at (turns n body) ∷ pending_in h.callers below in
       let next : State = state_of script (stepped h) in
       ap (λ (ps : List Pending). asks_at (h.steps + 1) (resume script budget ps goes_on (state_of script h))) is
@@ -83,26 +83,26 @@ module _ (script : Script) (budget : ℕ) where
       ∙ later_asks (h.steps + 1) (resume script budget ps goes_on next) (resume_later script budget ps goes_on next (omega (arith, less)))
 
   -- what follows a step that asks for nothing asks for nothing before a second one
-  then_ask : (h : RunState) (p : Process) (below : List Piece) → h.steps < budget → IsLater (h.steps + 1) p × Onward script budget (h.steps + 1) p →
+  then_ask : (h : RunState) (p : Process) (below : List PendingPiece) → h.steps < budget → IsLater (h.steps + 1) p × Onward script budget (h.steps + 1) p →
       asks_at (h.steps + 1) (and_then p (resume script budget (pending_in h.callers below))) ≡ false
   then_ask h p below less later =
       later_asks (h.steps + 1) (and_then p (resume script budget (pending_in h.callers below))) (later_then script budget (h.steps + 1) p (resume script budget (pending_in h.callers below)) later.0 later.1
       (λ w st least most. later_higher script budget (h.steps + 1) st.steps (resume script budget (pending_in h.callers below) w st) least (resume_later script budget (pending_in h.callers below) w st most)))
 
-  pub items_ask : (pieces below : List Piece) (standing : Standing) (n : ℕ) (h : RunState) →
-      pending_in h.callers pieces ≡ doing (where_of standing) (destroy_items (suc n)) ∷ pending_in h.callers below → h.steps < budget → held_asks GoesOn pieces h ≡ false
-  items_ask pieces below standing n h is less =
-      let at = where_of standing in
+  pub items_ask : (pieces below : List PendingPiece) (context : Context) (n : ℕ) (h : RunState) →
+      pending_in h.callers pieces ≡ doing (context_of context) (destroy_items (suc n)) ∷ pending_in h.callers below → h.steps < budget → held_asks GoesOn pieces h ≡ false
+  items_ask pieces below context n h is less =
+      let at = context_of context in
       let next : State = state_of script (stepped h) in
       ap (λ (ps : List Pending). asks_at (h.steps + 1) (resume script budget ps goes_on (state_of script h))) is
       ∙ ap (asks_at (h.steps + 1)) (resume_items script budget at n (pending_in h.callers below) (state_of script h) (omega (arith, less)))
       ∙ begun_asks h _ less
       ∙ then_ask h _ below less (items_later script budget at n next (omega (arith, less)))
 
-  pub object_asks : (pieces below : List Piece) (standing : Standing) (p : Ptr) (h : RunState) →
-      pending_in h.callers pieces ≡ doing (where_of standing) (destroy_object p) ∷ pending_in h.callers below → h.steps < budget → held_asks GoesOn pieces h ≡ false
-  object_asks pieces below standing p h is less =
-      let at = where_of standing in
+  pub object_asks : (pieces below : List PendingPiece) (context : Context) (p : Ptr) (h : RunState) →
+      pending_in h.callers pieces ≡ doing (context_of context) (destroy_object p) ∷ pending_in h.callers below → h.steps < budget → held_asks GoesOn pieces h ≡ false
+  object_asks pieces below context p h is less =
+      let at = context_of context in
       let next : State = state_of script (stepped h) in
       ap (λ (ps : List Pending). asks_at (h.steps + 1) (resume script budget ps goes_on (state_of script h))) is
       ∙ ap (asks_at (h.steps + 1)) (resume_object script budget at p (pending_in h.callers below) (state_of script h) (omega (arith, less)))
@@ -110,7 +110,7 @@ module _ (script : Script) (budget : ℕ) where
       ∙ then_ask h _ below less (object_later script budget at p next (omega (arith, less)))
 
   -- a run that is over
-  pub over_asks : (ending : Ending) (pieces : List Piece) (h : RunState) → is_over ending pieces ≡ true → held_asks ending pieces h ≡ false
+  pub over_asks : (ending : Ending) (pieces : List PendingPiece) (h : RunState) → is_over ending pieces ≡ true → held_asks ending pieces h ≡ false
   unfolding resume
   over_asks GoesOn [] h over = refl
   over_asks (Returns p) [] h over = refl
@@ -123,94 +123,94 @@ module _ (script : Script) (budget : ℕ) where
   over_asks NoCleanup pieces h over = refl
 
   -- at the budget
-  pub ready_cut : (pieces below : List Piece) (p : Piece) (h : RunState) → pieces ≡ below ++ p ∷ [] → needs_step p ≡ true → h.steps ≡ budget → held_asks GoesOn pieces h ≡ false
-  ready_cut pieces below (Code standing statements) h is needs at = by statements.now refl
+  pub ready_cut : (pieces below : List PendingPiece) (p : PendingPiece) (h : RunState) → pieces ≡ below ++ p ∷ [] → needs_step p ≡ true → h.steps ≡ budget → held_asks GoesOn pieces h ≡ false
+  ready_cut pieces below (Code context statements) h is needs at = by statements.now refl
     where
-      by : (ss : List Numbered) → statements.now ≡ ss → held_asks GoesOn pieces h ≡ false
+      by : (ss : List StatementAt) → statements.now ≡ ss → held_asks GoesOn pieces h ≡ false
       by [] e = let x = ap is_nothing e in cc
       by (s ∷ ss) e =
           ap (λ (ps : List Pending). asks_at (h.steps + 1) (resume script budget ps goes_on (state_of script h)))
-          (pending_pushed h.callers below pieces (Code standing statements) is ∙ ap (λ (ss : List Numbered). doing (where_of standing) (all ss) ∷ pending_in h.callers below) e)
-          ∙ ap (asks_at (h.steps + 1)) (resume-all script budget (where_of standing) s ss (pending_in h.callers below) (state_of script h) (omega (arith, at)))
+          (pending_pushed h.callers below pieces (Code context statements) is ∙ ap (λ (ss : List StatementAt). doing (context_of context) (all ss) ∷ pending_in h.callers below) e)
+          ∙ ap (asks_at (h.steps + 1)) (resume-all script budget (context_of context) s ss (pending_in h.callers below) (state_of script h) (omega (arith, at)))
           ∙ cut_asks h _ at
-  ready_cut pieces below (Turns standing left body) h is needs at = by left refl
+  ready_cut pieces below (Turns context left body) h is needs at = by left refl
     where
       by : (n : ℕ) → left ≡ n → held_asks GoesOn pieces h ≡ false
       by zero e = let x = ap (λ k. nat_lt 0 k) e in cc
       by (suc n) e =
           ap (λ (ps : List Pending). asks_at (h.steps + 1) (resume script budget ps goes_on (state_of script h)))
-          (pending_pushed h.callers below pieces (Turns standing left body) is ∙ ap (λ k. doing (where_of standing) (turns k body.now) ∷ pending_in h.callers below) e)
-          ∙ ap (asks_at (h.steps + 1)) (resume-turns script budget (where_of standing) n body.now (pending_in h.callers below) (state_of script h) (omega (arith, at)))
+          (pending_pushed h.callers below pieces (Turns context left body) is ∙ ap (λ k. doing (context_of context) (turns k body.now) ∷ pending_in h.callers below) e)
+          ∙ ap (asks_at (h.steps + 1)) (resume-turns script budget (context_of context) n body.now (pending_in h.callers below) (state_of script h) (omega (arith, at)))
           ∙ cut_asks h _ at
-  ready_cut pieces below (Items standing left) h is needs at = by left refl
+  ready_cut pieces below (Items context left) h is needs at = by left refl
     where
       by : (n : ℕ) → left ≡ n → held_asks GoesOn pieces h ≡ false
       by zero e = let x = ap (λ k. nat_lt 0 k) e in cc
       by (suc n) e =
           ap (λ (ps : List Pending). asks_at (h.steps + 1) (resume script budget ps goes_on (state_of script h)))
-          (pending_pushed h.callers below pieces (Items standing left) is ∙ ap (λ k. doing (where_of standing) (destroy_items k) ∷ pending_in h.callers below) e)
-          ∙ ap (asks_at (h.steps + 1)) (resume_items script budget (where_of standing) n (pending_in h.callers below) (state_of script h) (omega (arith, at)))
+          (pending_pushed h.callers below pieces (Items context left) is ∙ ap (λ k. doing (context_of context) (destroy_items k) ∷ pending_in h.callers below) e)
+          ∙ ap (asks_at (h.steps + 1)) (resume_items script budget (context_of context) n (pending_in h.callers below) (state_of script h) (omega (arith, at)))
           ∙ cut_asks h _ at
-  ready_cut pieces below (Object standing p) h is needs at =
-      ap (λ (ps : List Pending). asks_at (h.steps + 1) (resume script budget ps goes_on (state_of script h))) (pending_pushed h.callers below pieces (Object standing p) is)
-      ∙ ap (asks_at (h.steps + 1)) (resume_object script budget (where_of standing) p (pending_in h.callers below) (state_of script h) (omega (arith, at)))
+  ready_cut pieces below (Object context p) h is needs at =
+      ap (λ (ps : List Pending). asks_at (h.steps + 1) (resume script budget ps goes_on (state_of script h))) (pending_pushed h.callers below pieces (Object context p) is)
+      ∙ ap (asks_at (h.steps + 1)) (resume_object script budget (context_of context) p (pending_in h.callers below) (state_of script h) (omega (arith, at)))
       ∙ cut_asks h _ at
-  ready_cut pieces below (Trap standing x entry) h is needs at = cc
+  ready_cut pieces below (Trap context x entry) h is needs at = cc
   ready_cut pieces below (Caught x code) h is needs at = cc
   ready_cut pieces below MainTrap h is needs at = cc
   ready_cut pieces below (MainCaught code) h is needs at = cc
   ready_cut pieces below (Call base this after) h is needs at = cc
 
   -- what a statement asks that may not be there
-  abbrev pub asked_of : RunState → Option Numbered → Bool
+  abbrev pub asked_of : RunState → Option StatementAt → Bool
   asked_of h (Some s) = statement_asks script h (out-Statement s.statement)
   asked_of h None = false
 
   -- a step is to come: the piece on top asks as its first statement does
-  pub ready_asks : (pieces below : List Piece) (p : Piece) (h : RunState) → pieces ≡ below ++ p ∷ [] → needs_step p ≡ true → IsSoundPiece script p → h.steps < budget →
+  pub ready_asks : (pieces below : List PendingPiece) (p : PendingPiece) (h : RunState) → pieces ≡ below ++ p ∷ [] → needs_step p ≡ true → IsSoundPiece script p → h.steps < budget →
       held_asks GoesOn pieces h ≡ asked_of h (first_statement p)
-  ready_asks pieces below (Code standing statements) h is needs sound less = by statements.now refl
+  ready_asks pieces below (Code context statements) h is needs sound less = by statements.now refl
     where
-      by : (ss : List Numbered) → statements.now ≡ ss → held_asks GoesOn pieces h ≡ asked_of h (first_statement (Code standing statements))
+      by : (ss : List StatementAt) → statements.now ≡ ss → held_asks GoesOn pieces h ≡ asked_of h (first_statement (Code context statements))
       by [] e = let x = ap is_nothing e in cc
       by (s ∷ ss) e =
-          code_asks pieces below standing s ss h (pending_pushed h.callers below pieces (Code standing statements) is ∙ ap (λ (ss : List Numbered). doing (where_of standing) (all ss) ∷ pending_in h.callers below) e) less
+          code_asks pieces below context s ss h (pending_pushed h.callers below pieces (Code context statements) is ∙ ap (λ (ss : List StatementAt). doing (context_of context) (all ss) ∷ pending_in h.callers below) e) less
           (own_first script s ss (subst (AreOwn script) e sound))
-          ∙ sym (ap (λ (ss : List Numbered). asked_of h (slice_get ss 0)) e)
-  ready_asks pieces below (Turns standing left body) h is needs sound less = by left refl
+          ∙ sym (ap (λ (ss : List StatementAt). asked_of h (slice_get ss 0)) e)
+  ready_asks pieces below (Turns context left body) h is needs sound less = by left refl
     where
       by : (n : ℕ) → left ≡ n → held_asks GoesOn pieces h ≡ false
       by zero e = let x = ap (λ k. nat_lt 0 k) e in cc
       by (suc n) e =
-          turns_ask pieces below standing n body.now h
-          (pending_pushed h.callers below pieces (Turns standing left body) is ∙ ap (λ k. doing (where_of standing) (turns k body.now) ∷ pending_in h.callers below) e) less
-  ready_asks pieces below (Items standing left) h is needs sound less = by left refl
+          turns_ask pieces below context n body.now h
+          (pending_pushed h.callers below pieces (Turns context left body) is ∙ ap (λ k. doing (context_of context) (turns k body.now) ∷ pending_in h.callers below) e) less
+  ready_asks pieces below (Items context left) h is needs sound less = by left refl
     where
       by : (n : ℕ) → left ≡ n → held_asks GoesOn pieces h ≡ false
       by zero e = let x = ap (λ k. nat_lt 0 k) e in cc
       by (suc n) e =
-          items_ask pieces below standing n h
-          (pending_pushed h.callers below pieces (Items standing left) is ∙ ap (λ k. doing (where_of standing) (destroy_items k) ∷ pending_in h.callers below) e) less
-  ready_asks pieces below (Object standing p) h is needs sound less = object_asks pieces below standing p h (pending_pushed h.callers below pieces (Object standing p) is) less
-  ready_asks pieces below (Trap standing x entry) h is needs sound less = cc
+          items_ask pieces below context n h
+          (pending_pushed h.callers below pieces (Items context left) is ∙ ap (λ k. doing (context_of context) (destroy_items k) ∷ pending_in h.callers below) e) less
+  ready_asks pieces below (Object context p) h is needs sound less = object_asks pieces below context p h (pending_pushed h.callers below pieces (Object context p) is) less
+  ready_asks pieces below (Trap context x entry) h is needs sound less = cc
   ready_asks pieces below (Caught x code) h is needs sound less = cc
   ready_asks pieces below MainTrap h is needs sound less = cc
   ready_asks pieces below (MainCaught code) h is needs sound less = cc
   ready_asks pieces below (Call base this after) h is needs sound less = cc
 
   -- the same of whatever stands on top
-  pub settled_asks : (ending : Ending) (pieces : List Piece) (p : Piece) (h : RunState) → slice_get pieces (length pieces - 1) ≡ Some p →
+  pub settled_asks : (ending : Ending) (pieces : List PendingPiece) (p : PendingPiece) (h : RunState) → slice_get pieces (length pieces - 1) ≡ Some p →
       (is_over ending pieces ≡ true) ⊎ IsReady ending pieces → is_over ending pieces ≡ false → AreSound script pieces → h.steps < budget →
       held_asks ending pieces h ≡ asked_of h (first_statement p)
   settled_asks ending pieces p h top (inl over) going sound less = let x = sym over ∙ going in cc
   settled_asks ending pieces p h top (inr ready) going sound less =
       let q = ready.2 in
-      let same : Some q ≡ Some p = sym (last_of ready.1 q) ∙ sym (ap (λ (ps : List Piece). slice_get ps (length ps - 1)) ready.3) ∙ top in
+      let same : Some q ≡ Some p = sym (last_of ready.1 q) ∙ sym (ap (λ (ps : List PendingPiece). slice_get ps (length ps - 1)) ready.3) ∙ top in
       ap (λ e. held_asks e pieces h) ready.0
       ∙ ready_asks pieces ready.1 q h ready.3 ready.4 (sound_top script ready.1 pieces q ready.3 sound) less
-      ∙ ap (λ (o : Option Piece). elim o [ None ↦ false | Some x ↦ asked_of h (first_statement x) ]) same
+      ∙ ap (λ (o : Option PendingPiece). elim o [ None ↦ false | Some x ↦ asked_of h (first_statement x) ]) same
 
   -- a machine that a turn cuts asks for nothing
-  pub settled_cut : (ending : Ending) (pieces : List Piece) (h : RunState) → (is_over ending pieces ≡ true) ⊎ IsReady ending pieces → h.steps ≡ budget → held_asks ending pieces h ≡ false
+  pub settled_cut : (ending : Ending) (pieces : List PendingPiece) (h : RunState) → (is_over ending pieces ≡ true) ⊎ IsReady ending pieces → h.steps ≡ budget → held_asks ending pieces h ≡ false
   settled_cut ending pieces h (inl over) at = over_asks ending pieces h over
   settled_cut ending pieces h (inr ready) at = ap (λ e. held_asks e pieces h) ready.0 ∙ ready_cut pieces ready.1 ready.2 h ready.3 ready.4 at

@@ -51,20 +51,20 @@ first_of_frame low end (suc k) [] h = omega arith
 first_of_frame low end (suc k) (T.Small s ∷ xs) h = first_of_frame low end k xs h
 first_of_frame low end (suc k) (T.Buffer b ∷ xs) h = first_of_frame (suc b.at) end k xs h.1
 
-pub small_behind : (low end : ℕ) (xs : List Stored) (s : Slot) → AreAscending low end xs → AreAscending low end (xs ++ T.Small s ∷ [])
-small_behind low end [] s h = h
-small_behind low end (T.Small r ∷ xs) s h = small_behind low end xs s h
-small_behind low end (T.Buffer b ∷ xs) s h = (h.0, small_behind (suc b.at) end xs s h.1)
+pub small_after : (low end : ℕ) (xs : List Stored) (s : Slot) → AreAscending low end xs → AreAscending low end (xs ++ T.Small s ∷ [])
+small_after low end [] s h = h
+small_after low end (T.Small r ∷ xs) s h = small_after low end xs s h
+small_after low end (T.Buffer b ∷ xs) s h = (h.0, small_after (suc b.at) end xs s h.1)
 
-pub buffer_behind : (low end : ℕ) (xs : List Stored) → AreAscending low end xs → AreAscending low (suc end) (xs ++ T.Buffer (record { at = end }) ∷ [])
-buffer_behind low end [] h = (h, omega arith)
-buffer_behind low end (T.Small r ∷ xs) h = buffer_behind low end xs h
-buffer_behind low end (T.Buffer b ∷ xs) h = (h.0, buffer_behind (suc b.at) end xs h.1)
+pub buffer_after : (low end : ℕ) (xs : List Stored) → AreAscending low end xs → AreAscending low (suc end) (xs ++ T.Buffer (record { at = end }) ∷ [])
+buffer_after low end [] h = (h, omega arith)
+buffer_after low end (T.Small r ∷ xs) h = buffer_after low end xs h
+buffer_after low end (T.Buffer b ∷ xs) h = (h.0, buffer_after (suc b.at) end xs h.1)
 
 pub buffer_pushed : (xs ys : List Stored) (end at next : ℕ) → at ≡ end → next ≡ end + 1 → ys ≡ xs ++ T.Buffer (record { at = at }) ∷ [] → AreAscending 0 end xs → AreAscending 0 next ys
-buffer_pushed xs ys end at next here more behind h =
-    subst (λ (l : List Stored). AreAscending 0 next l) (sym behind)
-    (wider 0 0 (suc at) next (xs ++ T.Buffer (record { at = at }) ∷ []) (omega arith) (omega (arith, here, more)) (buffer_behind 0 at xs (wider 0 0 end at xs (omega arith) (omega (arith, here)) h)))
+buffer_pushed xs ys end at next here more following h =
+    subst (λ (l : List Stored). AreAscending 0 next l) (sym following)
+    (wider 0 0 (suc at) next (xs ++ T.Buffer (record { at = at }) ∷ []) (omega arith) (omega (arith, here, more)) (buffer_after 0 at xs (wider 0 0 end at xs (omega arith) (omega (arith, here)) h)))
 
 pub small_set : (low end k : ℕ) (xs : List Stored) (s : Slot) → AreAscending low end xs → AreAscending low end (set xs k (T.Small s))
 small_set low end k [] s h = h
@@ -104,8 +104,8 @@ not_past low end (suc k) (T.Buffer b ∷ xs) i h is = not_past (suc b.at) end k 
 -- a new buffer behind the others, for a new slot behind the others
 pub buffer_declared : (bs cs : List Buffer) (b : Buffer) (xs ys : List Stored) (end : ℕ) → end ≡ length bs → cs ≡ bs ++ b ∷ [] → ys ≡ xs ++ T.Buffer (record { at = end }) ∷ [] →
     AreAscending 0 end xs → values_stored cs ys ≡ values_stored bs xs ++ value_of_buffer b ∷ []
-buffer_declared bs cs b xs ys end long new behind h =
-    ap (values_stored cs) behind
+buffer_declared bs cs b xs ys end long new following h =
+    ap (values_stored cs) following
     ∙ map-append (value_stored cs) xs (T.Buffer (record { at = end }) ∷ [])
     ∙ ap (λ (vs : Values). vs ++ value_of_buffer (get_or cs end no_buffer) ∷ []) (same_values cs bs 0 end xs (λ i from to. ap (λ (l : List Buffer). get_or l i no_buffer) new ∙ get_or-append bs (b ∷ []) no_buffer i (omega (arith, to, long))) h)
     ∙ ap (λ (x : Buffer). values_stored bs xs ++ value_of_buffer x ∷ [])

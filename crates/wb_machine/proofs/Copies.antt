@@ -7,14 +7,14 @@ use Rattle.wb_model.specs.Run.{whole_run}
 use Rattle.wb_machine.specs.declared.control.Control.{Control}
 use Rattle.wb_machine.specs.declared.machine.Machine.TheInside.{Inside}
 use Rattle.wb_machine.specs.declared.pieces.Ending.{Ending}
-use Rattle.wb_machine.specs.declared.pieces.Piece.{Piece}
+use Rattle.wb_machine.specs.declared.pieces.PendingPiece.{PendingPiece}
 use Rattle.wb_machine.specs.BetweenTurns.{IsBetweenTurns}
 use Rattle.wb_machine.specs.Flow.{is_stop, is_over, rest_at}
-use Rattle.wb_machine.specs.Told.{leaks_at_end}
+use Rattle.wb_machine.specs.Results.{leaks_at_end}
 use Rattle.wb_machine.specs.Whole.{IsMachine}
 
 module _ (m : Inside) (x : Control) (items : x.pieces.items ≡ m.control.pieces.items) (ending : x.ending ≡ m.control.ending) where
-  moved : (P : Ending → List Piece → Type 0) → P m.control.ending m.control.pieces.items → P x.ending x.pieces.items
+  moved : (P : Ending → List PendingPiece → Type 0) → P m.control.ending m.control.pieces.items → P x.ending x.pieces.items
   moved P h = subst (λ e. P e x.pieces.items) (sym ending) (subst (P m.control.ending) (sym items) h)
 
   pub same_control : x.line ≡ m.control.line → IsMachine m → IsMachine (record m { control = x })

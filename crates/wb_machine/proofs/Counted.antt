@@ -14,11 +14,11 @@ use Rattle.wb_model.specs.Space.{Space, space_of}
 use Rattle.wb_model.specs.State.{Query, heap_note, available_note, compress_note, goes_on, is_cut, State, Process, ends, stops, asks, notes}
 use Rattle.wb_machine.specs.declared.pieces.Ending.{Ending}
 use Rattle.wb_machine.specs.declared.pieces.Ending.TheVariants.{GoesOn, Returns, Leaves, Panics, Cut, NoCleanup}
-use Rattle.wb_machine.specs.declared.pieces.Piece.{Piece}
+use Rattle.wb_machine.specs.declared.pieces.PendingPiece.{PendingPiece}
 use Rattle.wb_machine.specs.Asks.{asks_at, MakesAsked}
 use Rattle.wb_machine.specs.Flow.{pending_in, has_met_ceiling, is_over, AreSound, IsReady, rest_from}
 use Rattle.wb_machine.specs.RunState.{RunState, state_of, account_of}
-use Rattle.wb_machine.specs.Told.{leaks_at_end, outcome_by}
+use Rattle.wb_machine.specs.Results.{leaks_at_end, outcome_by}
 use Rattle.wb_machine.proofs.AskedPieces.{held_asks, ready_asks}
 use Rattle.wb_machine.proofs.Ends.{rest_over}
 use Rattle.wb_machine.proofs.Later.{IsLater, Onward, resume_later, resume_onward}
@@ -88,12 +88,12 @@ not_ceiling (Cut Ceiling) h whole is = cc
 not_ceiling NoCleanup h whole is = cc
 
 -- a run made so many attempts, and tells of the ceiling only where it met it
-record Tells (ceiling : Bool) (h : RunState) (told : WholeRun) : Type 0 where
-  attempts : told.attempts ≡ h.debug.attempts
-  whole : ceiling ≡ false → told.result.outcome ≡ outcomes.Cut Ceiling → ⊥
+record Tells (ceiling : Bool) (h : RunState) (run_result : WholeRun) : Type 0 where
+  attempts : run_result.attempts ≡ h.debug.attempts
+  whole : ceiling ≡ false → run_result.result.outcome ≡ outcomes.Cut Ceiling → ⊥
 
 -- at the budget, what is left adds nothing
-tells : (script : Script) (budget : ℕ) (r : Rule) (ending : Ending) (pieces : List Piece) (h : RunState) → (is_over ending pieces ≡ true) ⊎ IsReady ending pieces → h.steps ≡ budget →
+tells : (script : Script) (budget : ℕ) (r : Rule) (ending : Ending) (pieces : List PendingPiece) (h : RunState) → (is_over ending pieces ≡ true) ⊎ IsReady ending pieces → h.steps ≡ budget →
     Tells (has_met_ceiling ending) h (rest_from script budget r ending pieces h)
 tells script budget r ending pieces h (inl over) at =
     subst (Tells (has_met_ceiling ending) h) (rest_over script budget r ending pieces h over) (record { attempts = refl; whole = not_ceiling ending h })
@@ -102,7 +102,7 @@ tells script budget r ending pieces h (inr ready) at =
     (record { attempts = refl; whole = λ going is. cc })
 
 -- a step left this, where pieces that are done were taken off
-pub made_as_asked : (script : Script) (budget : ℕ) (r : Rule) (ending next : Ending) (pieces left : List Piece) (h g : RunState) →
+pub made_as_asked : (script : Script) (budget : ℕ) (r : Rule) (ending next : Ending) (pieces left : List PendingPiece) (h g : RunState) →
     IsReady ending pieces → AreSound script pieces → (is_over next left ≡ true) ⊎ IsReady next left → h.steps < budget → g.steps ≡ h.steps + 1 →
     g.debug.attempts ≤ h.debug.attempts + 1 → rest_from script (h.steps + 1) r next left g ≡ rest_from script (h.steps + 1) r ending pieces h →
     MakesAsked (held_asks script budget ending pieces h) (has_met_ceiling next) h.debug.attempts g.debug.attempts
@@ -116,13 +116,13 @@ made_as_asked script budget r ending next pieces left h g ready sound after less
     ready_asks script (h.steps + 1) pieces ready.1 ready.2 h ready.3 ready.4 own (omega arith)
     ∙ sym (ap (λ e. held_asks script budget e pieces h) ready.0 ∙ ready_asks script budget pieces ready.1 ready.2 h ready.3 ready.4 own less) in
     let is : rest_from script (h.steps + 1) r next left g ≡ whole_of (settled r space p a) = same ∙ ap (λ e. rest_from script (h.steps + 1) r e pieces h) ready.0 in
-    let told : Tells (has_met_ceiling next) g (whole_of (settled r space p a)) = subst (Tells (has_met_ceiling next) g) is (tells script (h.steps + 1) r next left g after steps) in
+    let run_result : Tells (has_met_ceiling next) g (whole_of (settled r space p a)) = subst (Tells (has_met_ceiling next) g) is (tells script (h.steps + 1) r next left g after steps) in
     let later = resume_later script (h.steps + 1) (pending_in h.callers pieces) goes_on (state_of script h) (omega arith) in
     let on = resume_onward script (h.steps + 1) (pending_in h.callers pieces) goes_on (state_of script h) (omega arith) in
     record {
-      unasked = λ silent. omega (arith, told.attempts, unasked r space script h.steps p a later on (asks_alike ∙ silent));
+      unasked = λ silent. omega (arith, run_result.attempts, unasked r space script h.steps p a later on (asks_alike ∙ silent));
       asked = λ at_once whole. elim (asked r space (h.steps + 1) p a (asks_alike ∙ at_once)) [
-        | inl ceiling ↦ absurd (told.whole whole (ap (λ e. outcome_of e (settled r space p a).state) ceiling))
-        | inr more ↦ omega (arith, most, told.attempts, more)
+        | inl ceiling ↦ absurd (run_result.whole whole (ap (λ e. outcome_of e (settled r space p a).state) ceiling))
+        | inr more ↦ omega (arith, most, run_result.attempts, more)
       ];
     }

@@ -11,7 +11,7 @@ use Rattle.wb_model.specs.declared.script.Script.{Script}
 use Rattle.wb_model.specs.Row.{Cell, cell_at}
 use Rattle.wb_model.specs.State.{State, goes_on, Process, stops, panics, and_then, on_plain_end, then_do, with_some}
 use Rattle.wb_model.specs.Operands.{with_cell}
-use Rattle.wb_model.specs.Statements.{destroy_items, destroy_object, Where, newest, drop_newest, destroyed_item, with_class, class_of, in_frame, plain, release}
+use Rattle.wb_model.specs.Statements.{destroy_items, destroy_object, Context, newest, drop_newest, destroyed_item, with_class, class_of, in_frame, plain, release}
 use Rattle.wb_model.specs.Bodies.{class_at, no_body}
 use Rattle.wb_model.specs.Meaning.{begun, piece, meaning_of}
 use Rattle.wb_model.specs.Rest.{Pending, doing, resumed, resume}
@@ -24,11 +24,11 @@ use Rattle.wb_machine.proofs.Rows.{read_cell_at}
 
 module _ (script : Script) (budget : ℕ) where
   -- an object's destruction, once its class is known
-  abbrev pub object_destroyed : Where → Ptr → State → ℕ → Process
+  abbrev pub object_destroyed : Context → Ptr → State → ℕ → Process
   object_destroyed at p st class = in_frame (meaning_of script budget) at p [] (unwrap_or (class_at script class).destroy no_body) st (plain (λ _ st. release p st))
 
   -- the turn that destroys the newest item
-  pub resume_items : (at : Where) (n : ℕ) (ps : List Pending) (st : State) → st.steps ≤ budget →
+  pub resume_items : (at : Context) (n : ℕ) (ps : List Pending) (st : State) → st.steps ≤ budget →
       resume script budget (doing at (destroy_items (suc n)) ∷ ps) goes_on st
       ≡ begun budget st (λ st. and_then (with_some (newest st.items) POP_BELOW_TRAP st (λ item. then_do (destroyed_item script (meaning_of script budget) at item (drop_newest 1 st)) (meaning_of script budget at (destroy_items n)))) (resume script budget ps))
   unfolding resume resumed on_plain_end piece
@@ -37,7 +37,7 @@ module _ (script : Script) (budget : ℕ) where
       ∙ begun-and_then budget st _ (resume script budget ps)
 
   -- the turn that begins the destruction of an object
-  pub resume_object : (at : Where) (p : Ptr) (ps : List Pending) (st : State) → st.steps ≤ budget →
+  pub resume_object : (at : Context) (p : Ptr) (ps : List Pending) (st : State) → st.steps ≤ budget →
       resume script budget (doing at (destroy_object p) ∷ ps) goes_on st
       ≡ begun budget st (λ st. and_then (with_class st p (object_destroyed at p st)) (resume script budget ps))
   unfolding resume resumed on_plain_end piece
@@ -46,7 +46,7 @@ module _ (script : Script) (budget : ℕ) where
       ∙ begun-and_then budget st _ (resume script budget ps)
 
   -- an item that is there is destroyed, and then the others
-  pub item_there : (at : Where) (n : ℕ) (item : Item) (o : Option Item) (ps : List Pending) (st : State) → o ≡ Some item →
+  pub item_there : (at : Context) (n : ℕ) (item : Item) (o : Option Item) (ps : List Pending) (st : State) → o ≡ Some item →
       and_then (with_some o POP_BELOW_TRAP st (λ item. then_do (destroyed_item script (meaning_of script budget) at item (drop_newest 1 st)) (meaning_of script budget at (destroy_items n)))) (resume script budget ps)
       ≡ and_then (destroyed_item script (meaning_of script budget) at item (drop_newest 1 st)) (resume script budget (doing at (destroy_items n) ∷ ps))
   unfolding with_some then_do resume resumed

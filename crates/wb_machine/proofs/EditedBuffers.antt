@@ -9,8 +9,8 @@ use Rattle.wb_model.specs.Reading.{max_in}
 use Rattle.wb_model.specs.Texts.{Buffer, Edited, answer_of, edited}
 use Rattle.wb_machine.specs.RunState.{RunState, value_in}
 use Rattle.wb_machine.specs.StateView.{run_state}
-use Rattle.wb_machine.specs.Carried.{stored}
-use Rattle.wb_machine.specs.CarriedTexts.{IsWritten, ending_by}
+use Rattle.wb_machine.specs.Effects.{stored}
+use Rattle.wb_machine.specs.TextEffects.{IsWritten, ending_by}
 use Rattle.wb_machine.specs.declared.pieces.Ending.{Ending}
 use Rattle.wb_machine.specs.declared.state.State.TheInside.{Inside}
 use Rattle.wb_machine.specs.declared.locals.BufferIndex.{BufferIndex}

@@ -6,7 +6,7 @@ use Rattle.wb_model.specs.declared.heap.Rule.{Rule}
 use Rattle.std.specs.Prelude.{List}
 use Rattle.wb_machine.specs.declared.pieces.Ending.{Ending}
 use Rattle.wb_machine.specs.declared.pieces.Ending.TheVariants.{GoesOn, Returns, Leaves, Panics, Cut, NoCleanup}
-use Rattle.wb_machine.specs.declared.pieces.Piece.{Piece}
+use Rattle.wb_machine.specs.declared.pieces.PendingPiece.{PendingPiece}
 use Rattle.wb_machine.specs.Flow.{is_stop, is_over}
 use Rattle.wb_model.specs.Rest.{Fits}
 use Rattle.wb_model.specs.Rules.{unless_refused, answer_to, Request}
@@ -45,7 +45,7 @@ fits-before r own ended later n m stays le (inr f) =
     )
 
 -- where more is to do, nothing has stopped the run
-pub going_on : (ending : Ending) (pieces : List Piece) → is_over ending pieces ≡ false → is_stop ending ≡ false
+pub going_on : (ending : Ending) (pieces : List PendingPiece) → is_over ending pieces ≡ false → is_stop ending ≡ false
 going_on GoesOn pieces e = refl
 going_on (Returns p) pieces e = refl
 going_on (Leaves code) pieces e = refl

@@ -8,7 +8,7 @@ use Rattle.wb_model.specs.declared.script.Script.{Script}
 use Rattle.wb_model.specs.declared.script.Statement.TheViews.{out-Statement}
 use Rattle.wb_model.specs.Row.{Cell, cell_at}
 use Rattle.wb_model.specs.State.{Content, State, Way, goes_on, returns, leaves, Process, ends, stops, asks, notes, and_then, on_plain_end, then_do, require}
-use Rattle.wb_model.specs.Statements.{Piece, all, turns, destroy_items, destroy_object, Where, Meaning, done, of_script, released, release, is_null, plain, trapped}
+use Rattle.wb_model.specs.Statements.{Todo, all, turns, destroy_items, destroy_object, Context, Meaning, done, of_script, released, release, is_null, plain, trapped}
 use Rattle.wb_model.specs.Meaning.{begun, begun_if, piece, meaning_of}
 use Rattle.wb_model.specs.Run.{main_trapped}
 use Rattle.wb_model.specs.Rest.{Pending, doing, catching, caught, calling, main_catching, main_caught, Afterwards, nothing_more, gives_to, releases, after_frame, resumed, resume}
@@ -60,7 +60,7 @@ module _ (script : Script) (budget : ℕ) where
           onward_later st.steps (go (record st { steps = st.steps + 1 })) (k (record st { steps = st.steps + 1 }) ((omega arith, omega (arith, le)), tt, tt))
       by false e = tt
 
-  piece_later : (at : Where) (p : Piece) (st : State) → IsLater st.steps (piece script budget meant at p st)
+  piece_later : (at : Context) (p : Todo) (st : State) → IsLater st.steps (piece script budget meant at p st)
   unfolding piece
   piece_later at (all []) st = tt
   piece_later at (all (s ∷ rest)) st =
@@ -85,7 +85,7 @@ module _ (script : Script) (budget : ℕ) where
       in_frame-alike L _ _ _ _ _ _ _ _ _ k g (λ ns w st g. plain-alike L _ _ w st g (λ _ st g. release-alike L _ _ g)))).1)
 
   -- whatever is to be done begins with a step
-  pub meaning_later : (at : Where) (p : Piece) (st : State) → st.steps ≤ budget → IsLater st.steps (meant at p st) × Onward st.steps (meant at p st)
+  pub meaning_later : (at : Context) (p : Todo) (st : State) → st.steps ≤ budget → IsLater st.steps (meant at p st) × Onward st.steps (meant at p st)
   meaning_later at p st within = (
     subst (IsLater st.steps) (sym (meaning_of-unfolds script budget at p st within)) (piece_later at p st),
     (onward_all st.steps [] at p st ((omega arith, within), tt, tt)).1,
@@ -139,7 +139,7 @@ module _ (script : Script) (budget : ℕ) where
   after_onward (releases object) p st within = release_onward object st.steps st (omega arith) within
 
   -- items are destroyed, and then it ends
-  pub destroyed_onward : (at : Where) (n : ℕ) (st : State) (go : State → Process) → st.steps ≤ budget → ((low : ℕ) (st : State) → IsLater low (go st)) →
+  pub destroyed_onward : (at : Context) (n : ℕ) (st : State) (go : State → Process) → st.steps ≤ budget → ((low : ℕ) (st : State) → IsLater low (go st)) →
       ((ns : List ℕ) (st' : State) → Fine (between (anything script) st.steps budget) ns st' → Alike (between (anything script) st.steps budget) ns (go st') (go st')) →
       IsLater st.steps (then_do (meant at (destroy_items n) st) go) × Onward st.steps (then_do (meant at (destroy_items n) st) go)
   unfolding then_do on_plain_end

@@ -25,7 +25,7 @@ use Rattle.wb_model.specs.Texts.{Edited, Part}
 use Rattle.wb_model.specs.State.{Content, Value, null, initial, pointer, number, set_local, State, Way, goes_on, returns, leaves, Process, on_plain_end, then_do, require, with_some, unless}
 use Rattle.wb_model.specs.Operands.{with_cell, with_fields, with_pointer}
 use Rattle.wb_model.specs.Reading.{Source, whole, part, with_writable, with_readable, with_base, with_units, with_room, with_text_cell, write, write_view}
-use Rattle.wb_model.specs.Statements.{with_words, all, Where, Layer, done, of_script, released, release, is_null, in_frame, plain, with_arguments, with_condition, leave_if, trapped, destroy_items, destroy_object, newest, drop_newest, with_class, destroyed_item, destroyed_object, statement}
+use Rattle.wb_model.specs.Statements.{with_words, all, Context, Layer, done, of_script, released, release, is_null, in_frame, plain, with_arguments, with_condition, leave_if, trapped, destroy_items, destroy_object, newest, drop_newest, with_class, destroyed_item, destroyed_object, statement}
 use Rattle.wb_model.specs.Bodies.{procedure_at, operation_at}
 use Rattle.wb_model.proofs.AlikeLemmas.{Fine, then_do-alike, with_some-alike, with_class-alike, release-alike}
 use Rattle.wb_model.proofs.AlikeStatements.{plain-alike, in_frame-alike, destroyed_item-alike}
@@ -156,11 +156,11 @@ module _ (script : Script) (budget : ℕ) where
   plain_later n go (returns p) st k = k p st
   plain_later n go (leaves code) st k = tt
 
-  frame_later : (at : Where) (this : Ptr) (given : List Value) (body : Body) (st : State) (go : Ptr → State → Process) → st.steps ≤ budget → ((p : Ptr) (st' : State) → IsLater st.steps (go p st')) →
+  frame_later : (at : Context) (this : Ptr) (given : List Value) (body : Body) (st : State) (go : Ptr → State → Process) → st.steps ≤ budget → ((p : Ptr) (st' : State) → IsLater st.steps (go p st')) →
       IsLater st.steps (in_frame (meant script budget) at this given body st (plain go))
   unfolding in_frame
   frame_later at this given body st go within k =
-      let below : Where = record at { depth = at.depth + 1 } in
+      let below : Context = record at { depth = at.depth + 1 } in
       let inner : State = record st { frame = record { this = this; locals = given ++ map initial body.locals } } in
       let m = meaning_later script budget below (all body.statements) inner within in
       require_later st.steps _ _ st _ (later_then script budget st.steps ((meant script budget) below (all body.statements) inner) (λ way after. plain go way (record after { frame = st.frame })) m.0 m.1
@@ -170,19 +170,19 @@ module _ (script : Script) (budget : ℕ) where
   unfolding with_class
   with_class_later st p go k = with_cell_later st.steps st p _ (λ c. with_some_later st.steps _ _ _ _ k)
 
-  deleted_later : (b : Bool) (at : Where) (p : Ptr) (st : State) → st.steps ≤ budget → IsLater st.steps (destroyed_object b (meant script budget) at p st)
+  deleted_later : (b : Bool) (at : Context) (p : Ptr) (st : State) → st.steps ≤ budget → IsLater st.steps (destroyed_object b (meant script budget) at p st)
   unfolding destroyed_object
   deleted_later true at p st within = tt
   deleted_later false at p st within = (meaning_later script budget at (destroy_object p) st within).0
 
-  item_later : (at : Where) (item : Item) (st : State) → st.steps ≤ budget → IsLater st.steps (destroyed_item script (meant script budget) at item st)
+  item_later : (at : Context) (item : Item) (st : State) → st.steps ≤ budget → IsLater st.steps (destroyed_item script (meant script budget) at item st)
   unfolding destroyed_item
   item_later at (I.Free p) st within = release_later st.steps p st
   item_later at (I.Delete p) st within = deleted_later (is_null p) at p st within
   item_later at (I.Call p operation) st within = frame_later at null (pointer p ∷ []) (operation_at script operation) st _ within (λ p st'. tt)
 
   -- the destruction of an item asks for nothing before a further step, nor do those that follow
-  pub items_later : (at : Where) (n : ℕ) (st : State) → st.steps ≤ budget →
+  pub items_later : (at : Context) (n : ℕ) (st : State) → st.steps ≤ budget →
       let p = with_some (newest st.items) POP_BELOW_TRAP st (λ item. then_do (destroyed_item script (meant script budget) at item (drop_newest 1 st)) (meant script budget at (destroy_items n))) in
       IsLater st.steps p × Onward script budget st.steps p
   unfolding then_do on_plain_end
@@ -203,7 +203,7 @@ module _ (script : Script) (budget : ℕ) where
       rest_later (leaves code) st' least most = tt
 
   -- nor does the destruction of an object
-  pub object_later : (at : Where) (p : Ptr) (st : State) → st.steps ≤ budget →
+  pub object_later : (at : Context) (p : Ptr) (st : State) → st.steps ≤ budget →
       IsLater st.steps (with_class st p (object_destroyed script budget at p st)) × Onward script budget st.steps (with_class st p (object_destroyed script budget at p st))
   object_later at p st within =
       let L = between (anything script) st.steps budget in
@@ -213,7 +213,7 @@ module _ (script : Script) (budget : ℕ) where
         (with_class-alike L _ _ _ _ fine (λ n. in_frame-alike L _ _ _ _ _ _ _ _ _ k fine (λ ns w st g. plain-alike L _ _ w st g (λ _ st g. release-alike L _ _ g)))).1,
       )
 
-  trap_later : (at : Where) (x entry : ℕ) (w : Way) (low : ℕ) (st : State) → low ≤ st.steps → st.steps ≤ budget → IsLater low (trapped (meant script budget) at x entry w st)
+  trap_later : (at : Context) (x entry : ℕ) (w : Way) (low : ℕ) (st : State) → low ≤ st.steps → st.steps ≤ budget → IsLater low (trapped (meant script budget) at x entry w st)
   unfolding trapped
   trap_later at x entry goes_on low st least most = require_later low _ _ st _ tt
   trap_later at x entry (returns p) low st least most = tt
@@ -222,7 +222,7 @@ module _ (script : Script) (budget : ℕ) where
       (destroyed_onward script budget at (length st.items - entry) st (λ st. done (set_local st x (number code))) most (λ low st. tt) (λ ns st g. (refl, g))).0
 
   -- one that doesn't asks for nothing before a further step is counted, nor does what stands inside it
-  pub nothing_asked : (at : Where) (layer : Layer) (st : State) → st.steps ≤ budget → may_ask layer ≡ false → IsLater st.steps (statement script (meant script budget) at layer st)
+  pub nothing_asked : (at : Context) (layer : Layer) (st : State) → st.steps ≤ budget → may_ask layer ≡ false → IsLater st.steps (statement script (meant script budget) at layer st)
   unfolding statement
   nothing_asked at (Statement-F.Alloc p v x) st within plain = cc
   nothing_asked at (Statement-F.Realloc p q v x) st within plain = cc

@@ -12,14 +12,14 @@ use Rattle.wb_model.specs.Debug.{Debug, IsSoundDebug, answer_in, made_by, number
 use Rattle.wb_model.proofs.Reallocations.{cell_at-inserted_other, not_at-number}
 use Rattle.wb_cleanup.specs.declared.cleanup.Cleanup.{Cleanup}
 use Rattle.wb_cleanup.specs.Stacks.{IsStack, cell_of}
-use Rattle.wb_cleanup.proofs.Beside.{old-number}
+use Rattle.wb_cleanup.proofs.HeapBesideStack.{old-number}
 use Rattle.wb_objects.specs.Objects.{new_words, object_made}
 use Rattle.wb_machine.specs.Owed as owed
 use Rattle.wb_machine.specs.RunState.{RunState, with_debug}
 use Rattle.wb_machine.specs.StackInvariant.{IsMemory, StandsIn}
 use Rattle.wb_machine.specs.TextInvariant.{AreTexts}
 use Rattle.wb_machine.proofs.StackBeside.{Stays, called_beside, same_cell}
-use Rattle.wb_machine.proofs.Stayed.{alloc_after, made_stays}
+use Rattle.wb_machine.proofs.UnchangedByAttempts.{alloc_after, made_stays}
 use Rattle.wb_machine.proofs.TextInvariant.{texts_inserted}
 
 module _ (d : Debug) (index : ℕ) (class : Class) where

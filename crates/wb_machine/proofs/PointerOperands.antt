@@ -21,8 +21,8 @@ use Rattle.wb_model.specs.Operands.{fields_of, set_row, with_cell, with_fields, 
 use Rattle.wb_objects.specs.Objects.{words_of_cell, words_found}
 use Rattle.wb_machine.specs.RunState.{RunState, field_count, read_cell, state_of}
 use Rattle.wb_machine.specs.Flow.{flow}
-use Rattle.wb_machine.specs.Carried.{pointer_stored}
-use Rattle.wb_machine.specs.PointerOperands.{held_in, field_among, pointer_read, refusal_in, pointer_refusal, or_else, first_refusal, of_arguments}
+use Rattle.wb_machine.specs.Effects.{pointer_stored}
+use Rattle.wb_machine.specs.PointerOperands.{holder_pointer_in, field_among, pointer_read, refusal_in, pointer_refusal, or_else, first_refusal, of_arguments}
 use Rattle.wb_machine.proofs.ObjectFields.{read_row_with_field}
 use Rattle.wb_machine.proofs.Rows.{read_cell_at}
 
@@ -69,7 +69,7 @@ pub pointer_asked : (script : Script) (h : RunState) (p : Pointer) (go : Ptr →
 unfolding with_pointer
 pointer_asked script h (Held (H.Local i)) go = refl
 pointer_asked script h (Held H.This) go = refl
-pointer_asked script h (Field (H.Local i) class n) go = field_is script h (held_in h (H.Local i)) class n go
+pointer_asked script h (Field (H.Local i) class n) go = field_is script h (holder_pointer_in h (H.Local i)) class n go
 pointer_asked script h (Field H.This class n) go = field_is script h h.this class n go
 
 -- one that isn't refused is its pointer
@@ -84,7 +84,7 @@ unfolding flow
 stored_is script h (Held (H.Local i)) q r k = refl
 stored_is script h (Held H.This) q r k = refl
 stored_is script h (Field (H.Local i) class n) q r k =
-    ap (λ (row : List (Cell Content)). flow r (k (set_row (state_of script h) row)) h) (sym (read_row_with_field script (held_in h (H.Local i)) n q h.debug.heap.row))
+    ap (λ (row : List (Cell Content)). flow r (k (set_row (state_of script h) row)) h) (sym (read_row_with_field script (holder_pointer_in h (H.Local i)) n q h.debug.heap.row))
 stored_is script h (Field H.This class n) q r k =
     ap (λ (row : List (Cell Content)). flow r (k (set_row (state_of script h) row)) h) (sym (read_row_with_field script h.this n q h.debug.heap.row))
 
@@ -143,14 +143,14 @@ argument_fine h (a ∷ rest) (suc i) some within before fine =
     ap (λ n. first_refusal h (of_arguments (take n (a ∷ rest)))) next ∙ of_first h a (take (i + 1) rest) ∙ ap (λ o. or_else o (first_refusal h (of_arguments (take (i + 1) rest)))) (or_left (first_refusal h (of_arguments (a ∷ []))) _ both)
     ∙ argument_fine h rest i some (omega (arith, within)) (or_right (first_refusal h (of_arguments (a ∷ []))) _ both) fine
 
-pub argument_refused : (h : RunState) (arguments : List Argument) (i : ℕ) (some : Argument) (panic : Panic) → i < length arguments → first_refusal h (of_arguments (take i arguments)) ≡ None →
+pub argument_refusal : (h : RunState) (arguments : List Argument) (i : ℕ) (some : Argument) (panic : Panic) → i < length arguments → first_refusal h (of_arguments (take i arguments)) ≡ None →
     first_refusal h (of_arguments (get_or arguments i some ∷ [])) ≡ Some panic → first_refusal h (of_arguments arguments) ≡ Some panic
-argument_refused h [] i some panic within before refused = absurd (omega (arith, within))
-argument_refused h (a ∷ rest) zero some panic within before refused = of_first h a rest ∙ ap (λ o. or_else o (first_refusal h (of_arguments rest))) refused
-argument_refused h (a ∷ rest) (suc i) some panic within before refused =
+argument_refusal h [] i some panic within before refused = absurd (omega (arith, within))
+argument_refusal h (a ∷ rest) zero some panic within before refused = of_first h a rest ∙ ap (λ o. or_else o (first_refusal h (of_arguments rest))) refused
+argument_refusal h (a ∷ rest) (suc i) some panic within before refused =
     let both = sym (of_first h a (take i rest)) ∙ before in
     of_first h a rest ∙ ap (λ o. or_else o (first_refusal h (of_arguments rest))) (or_left (first_refusal h (of_arguments (a ∷ []))) _ both)
-    ∙ argument_refused h rest i some panic (omega (arith, within)) (or_right (first_refusal h (of_arguments (a ∷ []))) _ both) refused
+    ∙ argument_refusal h rest i some panic (omega (arith, within)) (or_right (first_refusal h (of_arguments (a ∷ []))) _ both) refused
 
 -- one operand, and one after the other
 pub one_asked : (script : Script) (h : RunState) (p : Pointer) (go : Ptr → Process) →

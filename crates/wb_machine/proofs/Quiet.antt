@@ -2,7 +2,7 @@
 use Rattle.std.proofs.Common.{◌≤◌, is_some, refl, ap, ◌∙◌, sym, subst, arith}
 use Rattle.wb_model.specs.declared.heap.Ptr.{Ptr}
 use Rattle.wb_machine.specs.RunState.{RunState}
-use Rattle.wb_machine.specs.Carried.{stepped}
+use Rattle.wb_machine.specs.Effects.{stepped}
 use Rattle.wb_machine.specs.Owed.{Stays, KeepsSteps, IsSameButFrames, IsQuiet}
 
 pub quiet_still : (h : RunState) → IsQuiet h h

@@ -7,12 +7,12 @@ use Rattle.wb_model.specs.declared.script.Argument.TheVariants.{Passed, Given}
 use Rattle.wb_model.specs.declared.script.Statement.TheOpen.{Statement-F}
 use Rattle.wb_model.specs.State.{Value, pointer, number, panics, Process, stops}
 use Rattle.wb_model.specs.Operands.{number_of}
-use Rattle.wb_model.specs.Statements.{Layer, Meaning, Where, with_arguments, statement}
+use Rattle.wb_model.specs.Statements.{Layer, Meaning, Context, with_arguments, statement}
 use Rattle.wb_machine.specs.RunState.{RunState, state_of}
 use Rattle.wb_machine.specs.LocalValues.{passed}
-use Rattle.wb_machine.specs.PointerOperands.{pointer_read, pointer_refusal, first_refusal, of_arguments, operands_refused}
-use Rattle.wb_machine.proofs.Kept.{number_is}
-use Rattle.wb_machine.proofs.KeptLeaves.{condition_asked}
+use Rattle.wb_machine.specs.PointerOperands.{pointer_read, pointer_refusal, first_refusal, of_arguments, operands_refusal}
+use Rattle.wb_machine.proofs.StatementEffects.{number_is}
+use Rattle.wb_machine.proofs.LeaveEffects.{condition_asked}
 use Rattle.wb_machine.proofs.PointerOperands.{through, pointer_asked, one_asked, both_asked, passed_by, refused_by, through_both}
 use Rattle.wb_machine.proofs.ReadTexts.{writable_asked, readable_asked, texts_asked}
 
@@ -36,7 +36,7 @@ pub arguments_are : (script : Script) (h : RunState) (arguments : List Argument)
     with_arguments (state_of script h) arguments go ≡ go (map (passed script h) arguments)
 arguments_are script h arguments go fine = passed_by (state_of script h) _ (arguments_asked script h arguments go) fine
 
-pub statement_refused : (script : Script) (h : RunState) (rec : Meaning) (at : Where) (layer : Layer) (panic : Panic) → operands_refused h layer ≡ Some panic →
+pub statement_refused : (script : Script) (h : RunState) (rec : Meaning) (at : Context) (layer : Layer) (panic : Panic) → operands_refusal h layer ≡ Some panic →
     statement script rec at layer (state_of script h) ≡ stops (panics panic) (state_of script h)
 unfolding statement
 statement_refused script h rec at (Statement-F.Alloc p v x) panic e = refused_by (state_of script h) _ (one_asked script h p _) e

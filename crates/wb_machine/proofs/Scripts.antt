@@ -18,17 +18,17 @@ use Rattle.wb_model.specs.declared.script.Procedure.{Procedure}
 use Rattle.wb_model.specs.declared.script.Condition.{Condition}
 use Rattle.wb_model.specs.declared.script.Number.{Number}
 use Rattle.wb_model.specs.declared.script.Pointer.{Pointer}
-use Rattle.wb_model.specs.declared.script.Numbered.{Numbered}
+use Rattle.wb_model.specs.declared.script.StatementAt.{StatementAt}
 use Rattle.wb_model.specs.declared.script.Statement.TheOpen.{Statement-F}
 use Rattle.wb_model.specs.declared.script.Statement.TheViews.{out-Statement}
 use Rattle.wb_model.specs.Statements.{Layer, payload_of_object}
 use Rattle.wb_model.specs.Bodies.{no_body, procedure_at, operation_at, class_at}
 use Rattle.wb_model.specs.Sound.{Declared, is_class_among, is_local, is_number, is_variable, is_pointer, is_condition, is_quotable, is_literal_text, is_nested, are_within, are_statements, is_pointer_local, is_parameter, local_of_parameter, is_body, scope_of, is_procedure, is_operation, its_parameters, is_own_body, is_class_of, are_classes, signatures_of, declared_in, fields_declared, is_entry, is_called, is_call, are_passed, are_few, is_sound_script, is_script}
 use Rattle.wb_model.specs.Quiet.{is_quiet}
-use Rattle.wb_machine.specs.declared.pieces.Piece.{Piece}
-use Rattle.wb_machine.specs.declared.pieces.Piece.TheVariants.{MainTrap}
+use Rattle.wb_machine.specs.declared.pieces.PendingPiece.{PendingPiece}
+use Rattle.wb_machine.specs.declared.pieces.PendingPiece.TheVariants.{MainTrap}
 use Rattle.wb_machine.specs.LocalValues.{is_small}
-use Rattle.wb_machine.specs.Flow.{is_carried, AreOwn, IsOwn, IsSimple, IsSoundPiece, AreSound, leaves_steps, weight, weight_of}
+use Rattle.wb_machine.specs.Flow.{is_carried_out, AreOwn, IsOwn, IsSimple, IsSoundPiece, AreSound, leaves_steps, weight, weight_of}
 
 pub and_left : (a b : Bool) → (a && b) ≡ true → a ≡ true
 and_left true b e = refl
@@ -247,39 +247,39 @@ module _ (script : Script) (ok : is_script script ≡ true) where
       (all_at is_literal_text script.literals i text (and_right operations literals (and_right procedures (operations && literals) bodies_are)) e))
 
 -- one more piece on top
-pub sound_pushed : (script : Script) (below all : List Piece) (p : Piece) → all ≡ below ++ p ∷ [] → AreSound script below → IsSoundPiece script p → AreSound script all
+pub sound_pushed : (script : Script) (below all : List PendingPiece) (p : PendingPiece) → all ≡ below ++ p ∷ [] → AreSound script below → IsSoundPiece script p → AreSound script all
 sound_pushed script below all p is a b = subst (AreSound script) (sym is) (by below a)
   where
-    by : (ps : List Piece) → AreSound script ps → AreSound script (ps ++ p ∷ [])
+    by : (ps : List PendingPiece) → AreSound script ps → AreSound script (ps ++ p ∷ [])
     by [] s = (b, tt)
     by (q ∷ qs) s = (s.0, by qs s.1)
 
-sound_split : (script : Script) (below : List Piece) (p : Piece) → AreSound script (below ++ p ∷ []) → AreSound script below × IsSoundPiece script p
+sound_split : (script : Script) (below : List PendingPiece) (p : PendingPiece) → AreSound script (below ++ p ∷ []) → AreSound script below × IsSoundPiece script p
 sound_split script [] p s = (tt, s.0)
 sound_split script (q ∷ qs) p s = let rest = sound_split script qs p s.1 in ((s.0, rest.0), rest.1)
 
-pub sound_below : (script : Script) (below pieces : List Piece) (p : Piece) → pieces ≡ below ++ p ∷ [] → AreSound script pieces → AreSound script below
+pub sound_below : (script : Script) (below pieces : List PendingPiece) (p : PendingPiece) → pieces ≡ below ++ p ∷ [] → AreSound script pieces → AreSound script below
 sound_below script below pieces p is a = (sound_split script below p (subst (AreSound script) is a)).0
 
-pub sound_top : (script : Script) (below pieces : List Piece) (p : Piece) → pieces ≡ below ++ p ∷ [] → AreSound script pieces → IsSoundPiece script p
+pub sound_top : (script : Script) (below pieces : List PendingPiece) (p : PendingPiece) → pieces ≡ below ++ p ∷ [] → AreSound script pieces → IsSoundPiece script p
 sound_top script below pieces p is a = (sound_split script below p (subst (AreSound script) is a)).1
 
 -- and its weight
-weight_last : (ps : List Piece) (p : Piece) → weight_of (ps ++ p ∷ []) ≡ weight_of ps + weight p
+weight_last : (ps : List PendingPiece) (p : PendingPiece) → weight_of (ps ++ p ∷ []) ≡ weight_of ps + weight p
 weight_last [] p = omega arith
 weight_last (q ∷ ps) p = let rest = weight_last ps p in omega (arith, rest)
 
-pub weight_pushed : (below all : List Piece) (p : Piece) → all ≡ below ++ p ∷ [] → weight_of all ≡ weight_of below + weight p
+pub weight_pushed : (below all : List PendingPiece) (p : PendingPiece) → all ≡ below ++ p ∷ [] → weight_of all ≡ weight_of below + weight p
 weight_pushed below all p is = ap weight_of is ∙ weight_last below p
 
 -- the pieces of a run that was begun are the script's own
-pub sound_begun : (script : Script) (none one two : List Piece) (code : Piece) → none ≡ [] → one ≡ none ++ MainTrap ∷ [] → two ≡ one ++ code ∷ [] →
+pub sound_begun : (script : Script) (none one two : List PendingPiece) (code : PendingPiece) → none ≡ [] → one ≡ none ++ MainTrap ∷ [] → two ≡ one ++ code ∷ [] →
     IsSoundPiece script code → AreSound script two
 sound_begun script none one two code e f g ok =
     sound_pushed script one two code g (sound_pushed script none one MainTrap f (subst (AreSound script) (sym e) tt) tt) ok
 
 -- the first of statements that stand in a script, and the rest
-pub own_first : (script : Script) (s : Numbered) (ss : List Numbered) → AreOwn script (s ∷ ss) → IsOwn script (out-Statement s.statement)
+pub own_first : (script : Script) (s : StatementAt) (ss : List StatementAt) → AreOwn script (s ∷ ss) → IsOwn script (out-Statement s.statement)
 own_first script s ss (scope, shaped, trapped, zero, ok) = cc
 own_first script s ss (scope, shaped, trapped, suc depth, ok) = record {
   scope = scope;
@@ -289,7 +289,7 @@ own_first script s ss (scope, shaped, trapped, suc depth, ok) = record {
   sound = and_left (is_nested (declared_in script) scope trapped (are_within (declared_in script) scope depth) (out-Statement s.statement)) _ ok;
 }
 
-pub own_rest : (script : Script) (s : Numbered) (ss : List Numbered) → AreOwn script (s ∷ ss) → AreOwn script ss
+pub own_rest : (script : Script) (s : StatementAt) (ss : List StatementAt) → AreOwn script (s ∷ ss) → AreOwn script ss
 own_rest script s ss (scope, shaped, trapped, zero, ok) = cc
 own_rest script s ss (scope, shaped, trapped, suc depth, ok) =
     (scope, shaped, trapped, suc depth, and_right (is_nested (declared_in script) scope trapped (are_within (declared_in script) scope depth) (out-Statement s.statement)) _ ok)
@@ -299,7 +299,7 @@ own_none script = (no_body_own script).0
 
 -- what stands inside a statement
 module _ (script : Script) (layer : Layer) (own : IsOwn script layer) where
-  abbrev inside : Bool → List Numbered → Bool
+  abbrev inside : Bool → List StatementAt → Bool
   inside = are_within (declared_in script) own.scope own.depth
 
   abbrev sound_as : Layer → Type 0
@@ -308,24 +308,24 @@ module _ (script : Script) (layer : Layer) (own : IsOwn script layer) where
   seen_as : (was : Layer) → layer ≡ was → sound_as was
   seen_as was e = sym (ap (is_nested (declared_in script) own.scope own.trapped inside) e) ∙ own.sound
 
-  pub own_if : (c : Condition) (first : List Numbered) → layer ≡ Statement-F.If c first → AreOwn script first
+  pub own_if : (c : Condition) (first : List StatementAt) → layer ≡ Statement-F.If c first → AreOwn script first
   own_if c first e = (own.scope, own.shaped, own.trapped, own.depth, and_right (is_condition own.scope c) (inside own.trapped first) (seen_as _ e))
 
-  pub own_if_condition : (c : Condition) (first : List Numbered) → layer ≡ Statement-F.If c first → is_condition own.scope c ≡ true
+  pub own_if_condition : (c : Condition) (first : List StatementAt) → layer ≡ Statement-F.If c first → is_condition own.scope c ≡ true
   own_if_condition c first e = and_left (is_condition own.scope c) (inside own.trapped first) (seen_as _ e)
 
-  pub own_choice : (c : Condition) (first other : List Numbered) → layer ≡ Statement-F.IfElse c first other → AreOwn script first × AreOwn script other
+  pub own_choice : (c : Condition) (first other : List StatementAt) → layer ≡ Statement-F.IfElse c first other → AreOwn script first × AreOwn script other
   own_choice c first other e =
       let parts = and_right (is_condition own.scope c) (inside own.trapped first && inside own.trapped other) (seen_as _ e) in
       ((own.scope, own.shaped, own.trapped, own.depth, and_left (inside own.trapped first) _ parts), (own.scope, own.shaped, own.trapped, own.depth, and_right (inside own.trapped first) _ parts))
 
-  pub own_choice_condition : (c : Condition) (first other : List Numbered) → layer ≡ Statement-F.IfElse c first other → is_condition own.scope c ≡ true
+  pub own_choice_condition : (c : Condition) (first other : List StatementAt) → layer ≡ Statement-F.IfElse c first other → is_condition own.scope c ≡ true
   own_choice_condition c first other e = and_left (is_condition own.scope c) (inside own.trapped first && inside own.trapped other) (seen_as _ e)
 
-  pub own_turns : (v : Number) (body : List Numbered) → layer ≡ Statement-F.Repeat v body → AreOwn script body
+  pub own_turns : (v : Number) (body : List StatementAt) → layer ≡ Statement-F.Repeat v body → AreOwn script body
   own_turns v body e = (own.scope, own.shaped, own.trapped, own.depth, and_right (is_number own.scope.locals v) (inside own.trapped body) (seen_as _ e))
 
-  pub own_trapped : (x : ℕ) (body : List Numbered) → layer ≡ Statement-F.Trap x body → AreOwn script body
+  pub own_trapped : (x : ℕ) (body : List StatementAt) → layer ≡ Statement-F.Trap x body → AreOwn script body
   own_trapped x body e = (own.scope, own.shaped, true, own.depth, and_right (is_variable own.scope.locals x) (inside true body) (seen_as _ e))
 
   abbrev signatures : List (List Parameter)
@@ -357,9 +357,9 @@ module _ (script : Script) (layer : Layer) (own : IsOwn script layer) where
   own_delete p e = seen_as _ e
 
   -- one that no other stands inside
-  pub own_simple : ((c : Condition) (first : List Numbered) → layer ≡ Statement-F.If c first → ⊥) →
-      ((c : Condition) (first other : List Numbered) → layer ≡ Statement-F.IfElse c first other → ⊥) →
-      ((v : Number) (body : List Numbered) → layer ≡ Statement-F.Repeat v body → ⊥) → ((x : ℕ) (body : List Numbered) → layer ≡ Statement-F.Trap x body → ⊥) →
+  pub own_simple : ((c : Condition) (first : List StatementAt) → layer ≡ Statement-F.If c first → ⊥) →
+      ((c : Condition) (first other : List StatementAt) → layer ≡ Statement-F.IfElse c first other → ⊥) →
+      ((v : Number) (body : List StatementAt) → layer ≡ Statement-F.Repeat v body → ⊥) → ((x : ℕ) (body : List StatementAt) → layer ≡ Statement-F.Trap x body → ⊥) →
       ((index : ℕ) (arguments : List Argument) → layer ≡ Statement-F.Call index arguments → ⊥) →
       ((x index : ℕ) (arguments : List Argument) → layer ≡ Statement-F.CallTo x index arguments → ⊥) → ((v : Number) → layer ≡ Statement-F.PopDestroy v → ⊥) →
       ((p : Pointer) → layer ≡ Statement-F.Construct p → ⊥) → ((p : Pointer) → layer ≡ Statement-F.Delete p → ⊥) → IsSimple script layer
@@ -369,8 +369,8 @@ module _ (script : Script) (layer : Layer) (own : IsOwn script layer) where
       left (Statement-F.PopDestroy v) e = absurd (no_pop v e)
       left was e = ap leaves_steps e
 
-      by : (was : Layer) → layer ≡ was → is_carried (length script.literals) own.scope own.trapped layer ≡ true
-      by (Statement-F.PushOperation p n) e = ap (is_carried (length script.literals) own.scope own.trapped) e ∙ and_left (is_pointer own.scope p) (nat_lt n (length script.operations)) (seen_as _ e)
+      by : (was : Layer) → layer ≡ was → is_carried_out (length script.literals) own.scope own.trapped layer ≡ true
+      by (Statement-F.PushOperation p n) e = ap (is_carried_out (length script.literals) own.scope own.trapped) e ∙ and_left (is_pointer own.scope p) (nat_lt n (length script.operations)) (seen_as _ e)
       by (Statement-F.Construct p) e = absurd (no_construct p e)
       by (Statement-F.Delete p) e = absurd (no_delete p e)
       by (Statement-F.If c first) e = absurd (no_if c first e)
@@ -379,4 +379,4 @@ module _ (script : Script) (layer : Layer) (own : IsOwn script layer) where
       by (Statement-F.Trap x body) e = absurd (no_trap x body e)
       by (Statement-F.Call index arguments) e = absurd (no_call index arguments e)
       by (Statement-F.CallTo x index arguments) e = absurd (no_call_to x index arguments e)
-      by was e = ap (is_carried (length script.literals) own.scope own.trapped) e ∙ seen_as was e
+      by was e = ap (is_carried_out (length script.literals) own.scope own.trapped) e ∙ seen_as was e

@@ -20,8 +20,8 @@ use Rattle.wb_model.proofs.Reallocations.{cell_at-inserted_other, at-own, not_at
 use Rattle.wb_model.proofs.TextCellsHeap.{found-other}
 use Rattle.wb_cleanup.specs.declared.cleanup.Cleanup.{Cleanup}
 use Rattle.wb_cleanup.specs.Stacks.{IsStack, cell_of}
-use Rattle.wb_cleanup.proofs.Beside.{alloc-beside, old-number}
-use Rattle.wb_cleanup.proofs.Standing.{stack-kept}
+use Rattle.wb_cleanup.proofs.HeapBesideStack.{alloc-beside, old-number}
+use Rattle.wb_cleanup.proofs.StackInHeap.{stack-kept}
 use Rattle.wb_machine.specs.Owed.{KeepsCount}
 use Rattle.wb_machine.specs.RunState.{RunState, with_debug}
 use Rattle.wb_machine.specs.StackInvariant.{IsMemory, StandsIn, items_or_none}

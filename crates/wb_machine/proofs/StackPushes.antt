@@ -13,13 +13,13 @@ use Rattle.wb_cleanup.specs.declared.cleanup.Cleanup.{Cleanup}
 use Rattle.wb_cleanup.specs.declared.cleanup.Pushed.{Pushed}
 use Rattle.wb_cleanup.specs.Pushes.{fills, growth, push_made, remade, IsUnchanged, PushLeaves}
 use Rattle.wb_cleanup.specs.Stacks.{IsStack, cell_of, slots_of}
-use Rattle.wb_cleanup.proofs.Standing.{stack-kept}
+use Rattle.wb_cleanup.proofs.StackInHeap.{stack-kept}
 use Rattle.wb_machine.specs.TextInvariant.{AreTexts}
 use Rattle.wb_machine.specs.RunState.{RunState, with_debug}
 use Rattle.wb_machine.specs.StackInvariant.{IsMemory, StandsIn}
 use Rattle.wb_machine.specs.Owed.{HasStack, KeepsCount, Stays}
 use Rattle.wb_machine.proofs.TextInvariant.{texts_changed, texts_reallocated}
-use Rattle.wb_machine.proofs.Stayed.{realloc_stays}
+use Rattle.wb_machine.proofs.UnchangedByAttempts.{realloc_stays}
 
 -- a stack's cell has a number
 pub numbered : (stack : Cleanup) (d : Debug) → IsSoundDebug d → IsStack stack d → 1 ≤ (cell_of stack).number
@@ -28,8 +28,8 @@ numbered stack d sound is =
     omega (arith, at-number (cell_of stack) is.cell.cell.head named.named, named.numbered)
 
 -- where it stands, it stands in each heap with these cells
-pub standing : (stack : Cleanup) (d : Debug) → IsStack stack d → StandsIn (Some stack) d.heap.row
-standing stack d is = λ e row. (stack-kept stack d e (ap (cell_at (cell_of stack)) row) is).is
+pub context : (stack : Cleanup) (d : Debug) → IsStack stack d → StandsIn (Some stack) d.heap.row
+context stack d is = λ e row. (stack-kept stack d e (ap (cell_at (cell_of stack)) row) is).is
 
 module _ (stack new : Cleanup) (d e : Debug) (is : IsStack stack d) where
   -- the growth changes no text
@@ -88,7 +88,7 @@ stays_as h g x is has stays = record {
 -- a stack that was pushed on stands in its heap, whose texts are as they were
 pub memory_pushed : {Y : Type 0} (r : Result Pushed Y) (item : Item) (stack new : Cleanup) (d e : Debug) → IsMemory d (Some stack) → IsStack new e → IsSoundDebug e →
     IfOk r (λ pushed. PushLeaves pushed item stack new d e) → OnErr r (IsUnchanged stack new d e) → IsMemory e (Some new)
-memory_pushed {Y} r item stack new d e memory now sound ok err = record { sound = sound; texts = by r ok err; stands = standing new e now }
+memory_pushed {Y} r item stack new d e memory now sound ok err = record { sound = sound; texts = by r ok err; stands = context new e now }
   where
     by : (r : Result Pushed Y) → IfOk r (λ pushed. PushLeaves pushed item stack new d e) → OnErr r (IsUnchanged stack new d e) → AreTexts e.heap.row
     by (Ok x) ok err = texts_pushed stack new d e (memory.stands d refl) memory.texts now ok.heap

@@ -31,7 +31,7 @@ use Rattle.wb_machine.specs.declared.pieces.Ending.{Ending}
 use Rattle.wb_machine.specs.RunState.{RunState, with_debug}
 use Rattle.wb_machine.specs.declared.state.State.TheInside.{Inside}
 use Rattle.wb_machine.specs.StateView.{run_state}
-use Rattle.wb_machine.specs.CarriedTexts.{IsWritten, ending_by}
+use Rattle.wb_machine.specs.TextEffects.{IsWritten, ending_by}
 use Rattle.wb_machine.specs.TextOperands.{is_text, text_refusal, base_refusal, base_text, window_units}
 
 pub text_cell_at : (p : Ptr) (row : List (Cell (List ℕ))) (c : Cell (List ℕ)) → AreTexts row → cell_at p row ≡ Some c → IsTextCell c

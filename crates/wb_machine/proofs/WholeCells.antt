@@ -20,7 +20,7 @@ use Rattle.wb_model.specs.LimitedHeap.{zero_words}
 use Rattle.wb_model.specs.Spelling.{pointers, read_as}
 use Rattle.wb_model.specs.Throughout.{SuitsKind, HoldsItsKind}
 use Rattle.wb_model.specs.State.{State, stops, ends, is_cut, Process, and_then}
-use Rattle.wb_model.specs.Statements.{Layer, Meaning, Where, is_null, statement}
+use Rattle.wb_model.specs.Statements.{Layer, Meaning, Context, is_null, statement}
 use Rattle.wb_model.specs.Space.{space_of}
 use Rattle.wb_model.specs.Debug.{Debug, keeps_rises, made_by, answer_in, number_of_next, alloc_made, with_row}
 use Rattle.wb_model.proofs.AlikeLemmas.{Keeps, AlikeAll, and_then-alike}
@@ -33,7 +33,7 @@ use Rattle.wb_machine.specs.declared.pieces.Ending.{Ending}
 use Rattle.wb_machine.specs.declared.pieces.Ending.TheVariants.{GoesOn, Returns, Leaves, Panics, Cut, NoCleanup}
 use Rattle.wb_machine.specs.RunState.{RunState, first_state, state_of, account_of, with_debug, field_count, read_cell, read_row}
 use Rattle.wb_machine.specs.Bodies.{without_newest}
-use Rattle.wb_machine.specs.Carried.{stepped, first_bytes, first_made, started_by, free_carried, released_found, panicked, gone_on}
+use Rattle.wb_machine.specs.Effects.{stepped, first_bytes, first_made, started_by, free_effect, released_found, panicked, gone_on}
 use Rattle.wb_machine.specs.Flow.{ended_by, flow, IsCarriedOut}
 use Rattle.wb_machine.specs.ObjectInvariant.{AreWhole, StaysWhole}
 use Rattle.wb_machine.specs.Owed.{CarriesOut, IsQuiet}
@@ -89,13 +89,13 @@ shown script h g NoCleanup = refl
 
 -- A statement that was carried out leaves what the definitions leave, and in every state that these show the cells hold what
 -- their kinds hold.
-pub carried_whole : (script : Script) (floor : ℕ) (layer : Layer) (h g : RunState) (ending : Ending) → IsCarriedOut script floor layer h ending g →
+pub effect_whole : (script : Script) (floor : ℕ) (layer : Layer) (h g : RunState) (ending : Ending) → IsCarriedOut script floor layer h ending g →
     StaysWhole script h g
 unfolding flow
-carried_whole script floor layer h g ending kept whole =
+effect_whole script floor layer h g ending kept whole =
     subst (λ (st : State). AreOfKind script st.heap) (sym same) kinds_there.1
   where
-    at : Where
+    at : Context
     at = record { depth = 0; floor = floor }
 
     idle : Meaning
@@ -157,7 +157,7 @@ started_whole script h g start is =
     (first_whole script h.debug none)
 
 -- a release
-free_quiet : (h : RunState) (p : Ptr) → IsQuiet h (free_carried h p).state
+free_quiet : (h : RunState) (p : Ptr) → IsQuiet h (free_effect h p).state
 free_quiet h p = by (is_null p)
   where
     after : RunState
@@ -186,5 +186,5 @@ free_quiet h p = by (is_null p)
     by true = quiet_still h
     by false = found (cell_at p h.debug.heap.row)
 
-pub released_quiet : (h g : RunState) (p : Ptr) (ending : Ending) → CarriesOut h (free_carried h p) ending g → IsQuiet h g
+pub released_quiet : (h g : RunState) (p : Ptr) (ending : Ending) → CarriesOut h (free_effect h p) ending g → IsQuiet h g
 released_quiet h g p ending made = subst (λ (x : RunState). IsQuiet h x) (sym made.becomes) (free_quiet h p)

@@ -11,8 +11,8 @@ use Rattle.wb_model.specs.TextCells.{text_in}
 use Rattle.wb_model.specs.Statements.{Layer, is_null, is_raw}
 use Rattle.wb_model.specs.Rest.{Progress, not_begun, going, has_stopped, resume}
 use Rattle.wb_machine.specs.RunState.{RunState}
-use Rattle.wb_machine.specs.Carried.{pointer_read, number_read}
-use Rattle.wb_machine.specs.PointerOperands.{operands_refused}
+use Rattle.wb_machine.specs.Effects.{pointer_read, number_read}
+use Rattle.wb_machine.specs.PointerOperands.{operands_refusal}
 use Rattle.wb_machine.specs.TextOperands.{is_text}
 
 -- a process asks for an attempt first of all, but for notes, its state having counted this many steps
@@ -69,17 +69,17 @@ abbrev pub push_asks : RunState → Bool
 push_asks h = nat_eq (length h.items + 1) h.slots && growth_asks h.slots (cell_at h.cleanup h.debug.heap.row)
 
 -- a statement that is carried out from a state asks for an attempt
-abbrev pub carried_asks : Script → RunState → Layer → Bool
-carried_asks script h (Statement-F.Alloc p v x) = is_some (within LARGEST_REQUEST (number_read h v))
-carried_asks script h (Statement-F.Realloc p q v x) = realloc_asks h (pointer_read script h q) (within LARGEST_REQUEST (number_read h v))
-carried_asks script h (Statement-F.NewText p v x) = is_some (within MOST_UNITS (number_read h v))
-carried_asks script h (Statement-F.ReallocText p q v) = realloc_text_asks h (pointer_read script h q) (within MOST_UNITS (number_read h v))
-carried_asks script h (Statement-F.New p class x) = true
-carried_asks script h (Statement-F.Push p) = push_asks h
-carried_asks script h (Statement-F.PushObject p) = push_asks h
-carried_asks script h (Statement-F.PushOperation p operation) = push_asks h
-carried_asks script h _ = false
+abbrev pub effect_asks : Script → RunState → Layer → Bool
+effect_asks script h (Statement-F.Alloc p v x) = is_some (within LARGEST_REQUEST (number_read h v))
+effect_asks script h (Statement-F.Realloc p q v x) = realloc_asks h (pointer_read script h q) (within LARGEST_REQUEST (number_read h v))
+effect_asks script h (Statement-F.NewText p v x) = is_some (within MOST_UNITS (number_read h v))
+effect_asks script h (Statement-F.ReallocText p q v) = realloc_text_asks h (pointer_read script h q) (within MOST_UNITS (number_read h v))
+effect_asks script h (Statement-F.New p class x) = true
+effect_asks script h (Statement-F.Push p) = push_asks h
+effect_asks script h (Statement-F.PushObject p) = push_asks h
+effect_asks script h (Statement-F.PushOperation p operation) = push_asks h
+effect_asks script h _ = false
 
 -- the same of one whose operands may be refused, and then it asks for nothing
 abbrev pub statement_asks : Script → RunState → Layer → Bool
-statement_asks script h layer = not (is_some (operands_refused h layer)) && carried_asks script h layer
+statement_asks script h layer = not (is_some (operands_refusal h layer)) && effect_asks script h layer

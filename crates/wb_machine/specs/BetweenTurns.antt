@@ -3,7 +3,7 @@ use Rattle.std.specs.Prelude.{◌≡◌, ◌⊎◌, ℕ, ◌+◌, ◌≤◌, Boo
 use Rattle.wb_model.specs.declared.script.Script.{Script}
 use Rattle.wb_model.specs.Debug.{keeps_rises}
 use Rattle.wb_machine.specs.declared.pieces.Ending.{Ending}
-use Rattle.wb_machine.specs.declared.pieces.Piece.{Piece}
+use Rattle.wb_machine.specs.declared.pieces.PendingPiece.{PendingPiece}
 use Rattle.wb_machine.specs.RunState.{RunState}
 use Rattle.wb_machine.specs.Flow.{is_stop, is_over, AreSound, IsFirst, IsReady}
 use Rattle.wb_machine.specs.ObjectInvariant.{AreWhole}
@@ -11,7 +11,7 @@ use Rattle.wb_machine.specs.Owed.{HasStack}
 use Rattle.wb_machine.specs.SlotInvariant.{HasRoom}
 
 -- a turn is to come, of which the first may have been taken, or the run is over
-pub record IsBetweenTurns (script : Script) (budget : ℕ) (begun : Bool) (ending : Ending) (pieces : List Piece) (h : RunState) : Type 0 where
+pub record IsBetweenTurns (script : Script) (budget : ℕ) (begun : Bool) (ending : Ending) (pieces : List PendingPiece) (h : RunState) : Type 0 where
   pub within : h.steps ≤ budget
   -- each attempt took a step, but for the first
   pub counted : h.debug.attempts ≤ h.steps + 1

@@ -2,10 +2,10 @@ pub mod Asks
 pub mod BetweenTurns
 pub mod Bodies
 pub mod BufferEdits
-pub mod Carried
-pub mod CarriedCleanup
-pub mod CarriedObjects
-pub mod CarriedTexts
+pub mod Effects
+pub mod CleanupEffects
+pub mod ObjectEffects
+pub mod TextEffects
 pub mod Fault
 pub mod Flow
 pub mod InPlace
@@ -21,6 +21,6 @@ pub mod PointerOperands
 pub mod TextOperands
 pub mod TextInvariant
 pub mod TextStatements
-pub mod Told
+pub mod Results
 pub mod Turns
 pub mod Whole

@@ -15,8 +15,8 @@ use Rattle.wb_model.specs.declared.text.View.{View}
 use Rattle.wb_model.specs.Texts.{Buffer}
 use Rattle.wb_model.specs.State.{Value, pointer, number, buffer, view, initial, number_in}
 use Rattle.wb_model.specs.Reading.{buffer_text, max_in}
-use Rattle.wb_machine.specs.declared.arguments.Handed.{Handed}
-use Rattle.wb_machine.specs.declared.arguments.Handed.TheVariants.{Arguments, Item}
+use Rattle.wb_machine.specs.declared.arguments.CallArguments.{CallArguments}
+use Rattle.wb_machine.specs.declared.arguments.CallArguments.TheVariants.{Arguments, Item}
 use Rattle.wb_machine.specs.declared.locals.Slot.{Slot}
 use Rattle.wb_machine.specs.declared.locals.Slot.TheVariants as S
 use Rattle.wb_machine.specs.declared.locals.Stored.{Stored}
@@ -87,7 +87,7 @@ passed_over script d this locals (Passed p) = pointer (pointer_over script d thi
 passed_over script d this locals (Given v) = number (number_over locals v)
 
 -- what a body is handed
-abbrev pub values_over : Script → Debug → Ptr → Values → Handed → Values
+abbrev pub values_over : Script → Debug → Ptr → Values → CallArguments → Values
 values_over script d this locals (Arguments arguments) = map (passed_over script d this locals) arguments.now
 values_over script d this locals (Item p) = pointer p ∷ []
 
@@ -95,8 +95,8 @@ values_over script d this locals (Item p) = pointer p ∷ []
 abbrev pub passed : Script → RunState → Argument → Value
 passed script h argument = passed_over script h.debug h.this h.locals argument
 
-abbrev pub values_handed : Script → RunState → Handed → Values
-values_handed script h handed = values_over script h.debug h.this h.locals handed
+abbrev pub values_of_arguments : Script → RunState → CallArguments → Values
+values_of_arguments script h call_arguments = values_over script h.debug h.this h.locals call_arguments
 
 -- a frame on top of the innermost one: what its body is given, and what it declares
 abbrev pub framed : Frames → Values → List Local → Frames

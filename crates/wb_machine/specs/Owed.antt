@@ -4,7 +4,7 @@ use Rattle.wb_model.specs.Debug.{keeps_rises}
 use Rattle.wb_machine.specs.declared.pieces.Ending.{Ending}
 use Rattle.wb_model.specs.declared.script.Script.{Script}
 use Rattle.wb_machine.specs.RunState.{RunState}
-use Rattle.wb_machine.specs.Carried.{Carried}
+use Rattle.wb_machine.specs.Effects.{Effect}
 use Rattle.wb_machine.specs.ObjectInvariant.{StaysWhole}
 
 -- one attempt more has a number of 32 bits
@@ -39,9 +39,9 @@ pub record KeepsCount (before after : RunState) : Type 0 where
   pub callers : after.callers ≡ before.callers
 
 -- a statement ended so and left this state, as it is to be carried out
-pub record CarriesOut (before : RunState) (carried : Carried) (ending : Ending) (after : RunState) : Type 0 where
-  pub ends_so : ending ≡ carried.ending
-  pub becomes : after ≡ carried.state
+pub record CarriesOut (before : RunState) (effect : Effect) (ending : Ending) (after : RunState) : Type 0 where
+  pub ends_so : ending ≡ effect.ending
+  pub becomes : after ≡ effect.state
   pub keeps : KeepsCount before after
 
 -- nothing but frames changed: their locals, and the object of the innermost one

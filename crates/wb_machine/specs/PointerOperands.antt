@@ -29,12 +29,12 @@ use Rattle.wb_objects.specs.Objects.{words_found, with_field}
 use Rattle.wb_machine.specs.RunState.{Values, RunState, field_count, value_in}
 
 -- what a holder holds, in a body of this object and with these locals
-abbrev pub held_over : Ptr → Values → Holder → Ptr
-held_over this locals (H.Local i) = pointer_in (value_in locals i)
-held_over this locals H.This = this
+abbrev pub holder_pointer_over : Ptr → Values → Holder → Ptr
+holder_pointer_over this locals (H.Local i) = pointer_in (value_in locals i)
+holder_pointer_over this locals H.This = this
 
-abbrev pub held_in : RunState → Holder → Ptr
-held_in h holder = held_over h.this h.locals holder
+abbrev pub holder_pointer_in : RunState → Holder → Ptr
+holder_pointer_in h holder = holder_pointer_over h.this h.locals holder
 
 -- a field among so many, of an object with these words; null where it isn't among them, and where the object was refused
 abbrev pub field_among : ℕ → ℕ → Result (List ℕ) Panic → Ptr
@@ -43,8 +43,8 @@ field_among count i (Err panic) = null
 
 -- the pointer of an operand, over a heap, the object of a body and its locals
 abbrev pub pointer_over : Script → Debug → Ptr → Values → Pointer → Ptr
-pointer_over script d this locals (Held holder) = held_over this locals holder
-pointer_over script d this locals (Field holder class i) = field_among (field_count script class) i (words_found d (held_over this locals holder) class)
+pointer_over script d this locals (Held holder) = holder_pointer_over this locals holder
+pointer_over script d this locals (Field holder class i) = field_among (field_count script class) i (words_found d (holder_pointer_over this locals holder) class)
 
 -- the pointer of an operand
 abbrev pub pointer_read : Script → RunState → Pointer → Ptr
@@ -70,7 +70,7 @@ refusal_in (Err panic) = Some panic
 -- what is refused of an operand: only the holder of a field may name no cell, or no object of the field's class
 abbrev pub pointer_refusal : RunState → Pointer → Option Panic
 pointer_refusal h (Held holder) = None
-pointer_refusal h (Field holder class i) = refusal_in (words_found h.debug (held_in h holder) class)
+pointer_refusal h (Field holder class i) = refusal_in (words_found h.debug (holder_pointer_in h holder) class)
 
 -- the first of two refusals
 abbrev pub or_else : Option Panic → Option Panic → Option Panic
@@ -142,5 +142,5 @@ operands_of (Statement-F.IfElse c first other) = of_condition c
 operands_of _ = []
 
 -- what refuses a statement for its operands: the first refusal among them, before a cell is asked for or a range
-abbrev pub operands_refused : RunState → Layer → Option Panic
-operands_refused h layer = first_refusal h (operands_of layer)
+abbrev pub operands_refusal : RunState → Layer → Option Panic
+operands_refusal h layer = first_refusal h (operands_of layer)

@@ -13,7 +13,7 @@ use Rattle.wb_machine.specs.Asks.{asks_next}
 use Rattle.wb_machine.specs.BetweenTurns.{IsBetweenTurns}
 use Rattle.wb_machine.specs.Seen.{Seen}
 use Rattle.wb_machine.specs.Flow.{is_stop, is_over, has_met_ceiling, pending_in, progress_of, rest_at}
-use Rattle.wb_machine.specs.Told.{leaks_at_end}
+use Rattle.wb_machine.specs.Results.{leaks_at_end}
 
 -- the run has ended
 abbrev pub has_ended : Inside → Bool

@@ -5,14 +5,14 @@ ghost use Rattle.wb_model.specs.Texts.{Buffer};
 ghost use Rattle.wb_machine.specs.LocalValues.{value_of, values_stored, AreAscending, number_over, passed_over, values_over};
 
 use crate::locals::{Slot, Stored, push_slot};
-use crate::pointers::{Sight, pointer_over};
+use crate::pointers::{ReadContext, pointer_over};
 use std::alloc::AllocError;
 use wb_model::heap::Ptr;
 use wb_model::script::{Argument, Number};
 
 /// What a body is handed.
 #[derive(Clone, Copy)]
-pub enum Handed<'b> {
+pub enum CallArguments<'b> {
     /// Arguments of its caller, one for each parameter.
     Arguments(&'b [Argument]),
     /// The pointer of an item, which an operation destroys.
@@ -34,11 +34,11 @@ pub fn number_over(frame: &[Stored], operand: Number) -> i32
 }
 
 /// What a parameter gets, over the caller's locals.
-fn passed(sight: Sight, frame: &[Stored], argument: Argument) -> Slot
-    ensures { (buffers : List Buffer) → value_of result ≡ passed_over sight.entry.script.now sight.entry.heap.now sight.entry.this (values_stored buffers frame.now) argument }
+fn argument_slot(context: ReadContext, frame: &[Stored], argument: Argument) -> Slot
+    ensures { (buffers : List Buffer) → value_of result ≡ passed_over context.entry.script.now context.entry.heap.now context.entry.this (values_stored buffers frame.now) argument }
 {
     match argument {
-        Argument::Passed(pointer) => Slot::Pointer(pointer_over(sight, frame, pointer)),
+        Argument::Passed(pointer) => Slot::Pointer(pointer_over(context, frame, pointer)),
         Argument::Given(number) => Slot::Number(number_over(frame, number)),
     }
 }
@@ -47,17 +47,17 @@ fn passed(sight: Sight, frame: &[Stored], argument: Argument) -> Slot
 fn pass(
     slots: &mut Vec<Stored>,
     base: usize,
-    sight: Sight,
+    context: ReadContext,
     arguments: &[Argument],
 ) -> Result<(), AllocError>
     requires { base ≤ vec_len slots.old }
-    ensures passed { (buffers : List Buffer) → OnOk result (values_stored buffers slots.new.items ≡ values_stored buffers slots.old.items ++ map (passed_over sight.entry.script.now sight.entry.heap.now sight.entry.this (drop base (values_stored buffers slots.old.items))) arguments.now) }
+    ensures passed { (buffers : List Buffer) → OnOk result (values_stored buffers slots.new.items ≡ values_stored buffers slots.old.items ++ map (passed_over context.entry.script.now context.entry.heap.now context.entry.this (drop base (values_stored buffers slots.old.items))) arguments.now) }
     ensures ascending { (end : ℕ) → AreAscending 0 end slots.old.items → AreAscending 0 end slots.new.items }
     ensures more { vec_len slots.old ≤ vec_len slots.new }
 {
     let end = slots.len();
     for argument in arguments {
-        let slot = passed(sight, &slots[base..end], *argument);
+        let slot = argument_slot(context, &slots[base..end], *argument);
         push_slot(slots, slot)?;
     }
     Ok(())
@@ -67,16 +67,16 @@ fn pass(
 pub fn hand(
     slots: &mut Vec<Stored>,
     base: usize,
-    sight: Sight,
-    handed: Handed,
+    context: ReadContext,
+    call_arguments: CallArguments,
 ) -> Result<(), AllocError>
     requires { base ≤ vec_len slots.old }
-    ensures handed { (buffers : List Buffer) → OnOk result (values_stored buffers slots.new.items ≡ values_stored buffers slots.old.items ++ values_over sight.entry.script.now sight.entry.heap.now sight.entry.this (drop base (values_stored buffers slots.old.items)) handed.entry) }
+    ensures call_arguments { (buffers : List Buffer) → OnOk result (values_stored buffers slots.new.items ≡ values_stored buffers slots.old.items ++ values_over context.entry.script.now context.entry.heap.now context.entry.this (drop base (values_stored buffers slots.old.items)) call_arguments.entry) }
     ensures ascending { (end : ℕ) → AreAscending 0 end slots.old.items → AreAscending 0 end slots.new.items }
     ensures more { vec_len slots.old ≤ vec_len slots.new }
 {
-    match handed {
-        Handed::Arguments(arguments) => pass(slots, base, sight, arguments),
-        Handed::Item(ptr) => push_slot(slots, Slot::Pointer(ptr)),
+    match call_arguments {
+        CallArguments::Arguments(arguments) => pass(slots, base, context, arguments),
+        CallArguments::Item(ptr) => push_slot(slots, Slot::Pointer(ptr)),
     }
 }

@@ -5,8 +5,8 @@ ghost use Rattle.wb_model.specs.Operands.{within};
 ghost use Rattle.wb_model.specs.Row.{cell_at, cell_length};
 ghost use Rattle.wb_model.specs.declared.limits.TheConstants.{LARGEST_REQUEST, MOST_UNITS, CEILING};
 ghost use Rattle.wb_model.specs.declared.script.Statement.TheViews.{out-Statement};
-ghost use Rattle.wb_machine.specs.Carried.{pointer_read, number_read};
-ghost use Rattle.wb_machine.specs.Asks.{cell_asks, text_asks, realloc_asks, realloc_text_asks, push_asks, carried_asks, statement_asks};
+ghost use Rattle.wb_machine.specs.Effects.{pointer_read, number_read};
+ghost use Rattle.wb_machine.specs.Asks.{cell_asks, text_asks, realloc_asks, realloc_text_asks, push_asks, effect_asks, statement_asks};
 
 use crate::operands::number_within;
 use crate::state::State;
@@ -83,8 +83,8 @@ impl State {
     }
 
     /// Whether a statement asks for an attempt where it is carried out now.
-    fn carried_asks(&self, script: &Script, statement: &Statement) -> bool
-        ensures { result ≡ carried_asks script.now self.now (out-Statement statement.now) }
+    fn effect_asks(&self, script: &Script, statement: &Statement) -> bool
+        ensures { result ≡ effect_asks script.now self.now (out-Statement statement.now) }
     {
         match statement {
             Statement::Alloc(_, bytes, _) => {
@@ -109,6 +109,6 @@ impl State {
     pub fn asks(&self, script: &Script, statement: &Statement) -> bool
         ensures { result ≡ statement_asks script.now self.now (out-Statement statement.now) }
     {
-        self.operands_refused(statement).is_none() && self.carried_asks(script, statement)
+        self.operands_refusal(statement).is_none() && self.effect_asks(script, statement)
     }
 }

@@ -4,47 +4,47 @@ ghost use Rattle.wb_model.specs.Bodies.{class_at, no_body, operation_at};
 ghost use Rattle.std.specs.Prelude.{unwrap_or};
 ghost use Rattle.wb_machine.specs.Bodies.{IsBody};
 
-use wb_model::script::{Body, Class, Local, Numbered, Script};
+use wb_model::script::{Body, Class, Local, Script, StatementAt};
 
 /// What a body declares, and what it does.
 #[derive(Clone, Copy)]
-pub struct Lines<'a> {
+pub struct BodyContent<'a> {
     pub locals: &'a [Local],
-    pub statements: &'a [Numbered],
+    pub statements: &'a [StatementAt],
 }
 
 /// A body without a line.
-fn no_lines<'a>() -> Lines<'a>
+fn no_content<'a>() -> BodyContent<'a>
     ensures { IsBody result no_body }
 {
-    Lines {
+    BodyContent {
         locals: &[],
         statements: &[],
     }
 }
 
 /// The lines of a body.
-pub fn lines_of(body: &Body) -> Lines
+pub fn content_of(body: &Body) -> BodyContent
     ensures { IsBody result body.now }
 {
-    Lines {
+    BodyContent {
         locals: body.locals.as_slice(),
         statements: body.statements.as_slice(),
     }
 }
 
 /// The body of an operation.
-pub fn operation_at(script: &Script, index: u16) -> Lines
+pub fn operation_at(script: &Script, index: u16) -> BodyContent
     ensures { IsBody result (operation_at script.now index) }
 {
     match script.operations.get(index as usize) {
-        Some(operation) => lines_of(&operation.body),
-        None => no_lines(),
+        Some(operation) => content_of(&operation.body),
+        None => no_content(),
     }
 }
 
 /// The body that makes an object of a class.
-pub fn construct_at(script: &Script, class: u16) -> Lines
+pub fn construct_at(script: &Script, class: u16) -> BodyContent
     ensures { IsBody result (unwrap_or (class_at script.now class).construct no_body) }
 {
     match script.classes.get(class as usize) {
@@ -53,13 +53,13 @@ pub fn construct_at(script: &Script, class: u16) -> Lines
                 construct: Some(body),
                 ..
             },
-        ) => lines_of(body),
-        _ => no_lines(),
+        ) => content_of(body),
+        _ => no_content(),
     }
 }
 
 /// The body that destroys an object of a class.
-pub fn destroy_at(script: &Script, class: u16) -> Lines
+pub fn destroy_at(script: &Script, class: u16) -> BodyContent
     ensures { IsBody result (unwrap_or (class_at script.now class).destroy no_body) }
 {
     match script.classes.get(class as usize) {
@@ -68,7 +68,7 @@ pub fn destroy_at(script: &Script, class: u16) -> Lines
                 destroy: Some(body),
                 ..
             },
-        ) => lines_of(body),
-        _ => no_lines(),
+        ) => content_of(body),
+        _ => no_content(),
     }
 }

@@ -6,7 +6,7 @@ ghost use Rattle.wb_model.specs.declared.script.Statement.TheViews.{out-Statemen
 ghost use Rattle.wb_machine.specs.Flow.{IsSimple, IsCarriedOut};
 ghost use Rattle.wb_machine.specs.Owed.{HasStack, KeepsCount, MayAttempt};
 ghost use Rattle.wb_machine.specs.InPlace.{is_in_place};
-ghost use Rattle.wb_machine.specs.PointerOperands.{operands_refused};
+ghost use Rattle.wb_machine.specs.PointerOperands.{operands_refusal};
 
 use crate::pieces::Ending;
 use crate::state::State;
@@ -26,7 +26,7 @@ impl State {
     ) -> Result<Ending, NoMemory>
         requires script { IsTrue (is_script script.now) }
         requires statement { IsSimple script.now (out-Statement first.now) }
-        requires operands { operands_refused self.old (out-Statement first.now) ≡ None }
+        requires operands { operands_refusal self.old (out-Statement first.now) ≡ None }
         requires number { MayAttempt self.old }
         requires level { self.old.debug.heap.level + 1 < 2 ^ 32 }
         requires stack { HasStack self.old }
@@ -93,7 +93,7 @@ impl State {
         requires script { IsTrue (is_script script.now) }
         requires in_place { IsTrue (is_in_place (out-Statement first.now)) }
         requires statement { IsSimple script.now (out-Statement first.now) }
-        requires operands { operands_refused self.old (out-Statement first.now) ≡ None }
+        requires operands { operands_refusal self.old (out-Statement first.now) ≡ None }
         requires level { self.old.debug.heap.level + 1 < 2 ^ 32 }
         requires stack { HasStack self.old }
         ensures kept { IsCarriedOut script.now floor (out-Statement first.now) self.old result self.new }

@@ -6,7 +6,7 @@ ghost use Rattle.wb_model.specs.declared.script.Statement.TheViews.{out-Statemen
 ghost use Rattle.wb_machine.specs.Flow.{IsSimple, IsCarriedOut};
 ghost use Rattle.wb_machine.specs.TextStatements.{is_on_text};
 ghost use Rattle.wb_machine.specs.Owed.{KeepsCount, MayAttempt};
-ghost use Rattle.wb_machine.specs.PointerOperands.{operands_refused};
+ghost use Rattle.wb_machine.specs.PointerOperands.{operands_refusal};
 
 use crate::pieces::Ending;
 use crate::state::State;
@@ -22,7 +22,7 @@ impl State {
         requires script { IsTrue (is_script script.now) }
         requires text { IsTrue (is_on_text (out-Statement first.now)) }
         requires statement { IsSimple script.now (out-Statement first.now) }
-        requires operands { operands_refused self.old (out-Statement first.now) ≡ None }
+        requires operands { operands_refusal self.old (out-Statement first.now) ≡ None }
         requires number { MayAttempt self.old }
         ensures kept { (floor : ℕ) → IfOk result (λ ending. IsCarriedOut script.now floor (out-Statement first.now) self.old ending self.new) }
         ensures keeps { KeepsCount self.old self.new }

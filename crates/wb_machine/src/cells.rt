@@ -7,7 +7,7 @@ ghost use Rattle.wb_model.specs.Row.{cell_at, without};
 ghost use Rattle.wb_model.specs.Heap.{is_cleanup};
 ghost use Rattle.wb_model.specs.Operands.{within};
 ghost use Rattle.wb_machine.specs.RunState.{with_debug};
-ghost use Rattle.wb_machine.specs.Carried.{pointer_read, number_read, refused_carried, given_carried, alloc_carried, realloc_within, realloc_carried, usable_carried, free_carried};
+ghost use Rattle.wb_machine.specs.Effects.{pointer_read, number_read, refused_effect, given_effect, alloc_effect, realloc_within, realloc_effect, usable_effect, free_effect};
 ghost use Rattle.wb_machine.specs.Owed.{CarriesOut, KeepsCount, MayAttempt};
 
 use crate::locals::{NULL, Slot};
@@ -69,7 +69,7 @@ impl State {
     /// A target gets null for a refused attempt, or it is a leave with `KErrNoMemory` and the target stays.
     #[inline(always)]
     fn refuse(&mut self, target: &Pointer, refusal: Refusal) -> Ending
-        ensures { CarriesOut self.old (refused_carried self.old target.now refusal) result self.new }
+        ensures { CarriesOut self.old (refused_effect self.old target.now refusal) result self.new }
     {
         match refusal {
             Refusal::GivesNull => {
@@ -83,7 +83,7 @@ impl State {
     /// A target gets what an attempt gave.
     #[inline(always)]
     pub fn give(&mut self, target: &Pointer, refusal: Refusal, gave: Gave) -> Ending
-        ensures { CarriesOut self.old (given_carried self.old target.now refusal gave) result self.new }
+        ensures { CarriesOut self.old (given_effect self.old target.now refusal gave) result self.new }
     {
         match gave {
             Gave::Granted(ptr) => {
@@ -104,7 +104,7 @@ impl State {
         refusal: Refusal,
     ) -> Result<Ending, NoMemory>
         requires number { MayAttempt self.old }
-        ensures carried { IfOk result (λ ending. CarriesOut self.old (alloc_carried self.old target.now refusal (number_read self.old bytes.now)) ending self.new) }
+        ensures effect { IfOk result (λ ending. CarriesOut self.old (alloc_effect self.old target.now refusal (number_read self.old bytes.now)) ending self.new) }
         ensures err { OnErr result (self.new ≡ self.old) }
         ensures keeps { KeepsCount self.old self.new }
     {
@@ -126,7 +126,7 @@ impl State {
         requires live { IsSome (cell_at ptr self.old.debug.heap.row) }
         requires raw { IfSome (cell_at ptr self.old.debug.heap.row) (λ c. c.head.kind ≡ Raw) }
         requires number { MayAttempt self.old }
-        ensures carried { IfOk result (λ ending. IfSome (cell_at ptr self.old.debug.heap.row) (λ c. CarriesOut self.old (realloc_within self.old target.now refusal c (within LARGEST_REQUEST (number_read self.old bytes.now))) ending self.new)) }
+        ensures effect { IfOk result (λ ending. IfSome (cell_at ptr self.old.debug.heap.row) (λ c. CarriesOut self.old (realloc_within self.old target.now refusal c (within LARGEST_REQUEST (number_read self.old bytes.now))) ending self.new)) }
         ensures err { OnErr result (self.new ≡ self.old) }
         ensures keeps { KeepsCount self.old self.new }
     {
@@ -148,7 +148,7 @@ impl State {
         refusal: Refusal,
     ) -> Result<Ending, NoMemory>
         requires number { MayAttempt self.old }
-        ensures carried { IfOk result (λ ending. CarriesOut self.old (realloc_carried self.old target.now refusal (pointer_read script.now self.old source.now) (number_read self.old bytes.now)) ending self.new) }
+        ensures effect { IfOk result (λ ending. CarriesOut self.old (realloc_effect self.old target.now refusal (pointer_read script.now self.old source.now) (number_read self.old bytes.now)) ending self.new) }
         ensures err { OnErr result (self.new ≡ self.old) }
         ensures keeps { KeepsCount self.old self.new }
     {
@@ -167,7 +167,7 @@ impl State {
 
     /// A number local gets how many bytes of a cell are usable.
     pub fn alloc_len(&mut self, script: &Script, local: u8, pointer: &Pointer) -> Ending
-        ensures { CarriesOut self.old (usable_carried self.old local (pointer_read script.now self.old pointer.now)) result self.new }
+        ensures { CarriesOut self.old (usable_effect self.old local (pointer_read script.now self.old pointer.now)) result self.new }
     {
         let Some(header) = self.heap.header(self.pointer(script, *pointer)) else {
             return Ending::Panics(Panic::BAD_CELL);
@@ -192,7 +192,7 @@ impl State {
 
     /// Releases a pointer; null is nothing. One that names no cell, or the cleanup stack's own, is invalid.
     pub fn release(&mut self, ptr: Ptr) -> Ending
-        ensures { CarriesOut self.old (free_carried self.old ptr) result self.new }
+        ensures { CarriesOut self.old (free_effect self.old ptr) result self.new }
     {
         if ptr.number == 0 {
             return Ending::GoesOn;
@@ -210,7 +210,7 @@ impl State {
     /// Releases the pointer of an operand.
     #[inline(never)]
     pub fn free(&mut self, script: &Script, pointer: &Pointer) -> Ending
-        ensures { CarriesOut self.old (free_carried self.old (pointer_read script.now self.old pointer.now)) result self.new }
+        ensures { CarriesOut self.old (free_effect self.old (pointer_read script.now self.old pointer.now)) result self.new }
     {
         self.release(self.pointer(script, *pointer))
     }

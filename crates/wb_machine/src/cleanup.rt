@@ -10,8 +10,8 @@ ghost use Rattle.wb_cleanup.specs.Pushes.{pushed_by};
 ghost use Rattle.wb_cleanup.specs.Stacks.{expected_refusal, pop_refusal};
 ghost use Rattle.wb_machine.specs.RunState.{first_state, with_debug};
 ghost use Rattle.wb_model.specs.Debug.{keeps_rises};
-ghost use Rattle.wb_machine.specs.Carried.{first_made, started_by, is_granted, number_read, pointer_read};
-ghost use Rattle.wb_machine.specs.CarriedCleanup.{IsPushed, IsStackThere, growth_made, is_filled, pop_check_carried, pop_within, push_carried, without_newest};
+ghost use Rattle.wb_machine.specs.Effects.{first_made, started_by, is_granted, number_read, pointer_read};
+ghost use Rattle.wb_machine.specs.CleanupEffects.{IsPushed, IsStackThere, growth_made, is_filled, pop_check_effect, pop_within, push_effect, without_newest};
 ghost use Rattle.wb_machine.specs.Owed.{CarriesOut, HasStack, KeepsCount, MayAttempt, Stays};
 
 use crate::operands::not_negative;
@@ -84,7 +84,7 @@ impl State {
         requires stack { HasStack self.old }
         requires room { length self.old.items < self.old.slots }
         requires number { MayAttempt self.old }
-        ensures carried { IfOk result (λ ending. CarriesOut self.old (push_carried self.old item (payload_of self.new.cleanup self.new.debug.heap.row)) ending self.new) }
+        ensures effect { IfOk result (λ ending. CarriesOut self.old (push_effect self.old item (payload_of self.new.cleanup self.new.debug.heap.row)) ending self.new) }
         ensures err { OnErr result (self.new ≡ self.old) }
         ensures there { IsStackThere self.old }
         ensures stands { IsStackThere self.new }
@@ -103,7 +103,7 @@ impl State {
         requires stack { HasStack self.old }
         requires room { length self.old.items < self.old.slots }
         requires number { MayAttempt self.old }
-        ensures carried { IfOk result (λ ending. CarriesOut self.old (push_carried self.old (I.Free (pointer_read script.now self.old pointer.now)) (payload_of self.new.cleanup self.new.debug.heap.row)) ending self.new) }
+        ensures effect { IfOk result (λ ending. CarriesOut self.old (push_effect self.old (I.Free (pointer_read script.now self.old pointer.now)) (payload_of self.new.cleanup self.new.debug.heap.row)) ending self.new) }
         ensures err { OnErr result (self.new ≡ self.old) }
         ensures there { IsStackThere self.old }
         ensures stands { IsStackThere self.new }
@@ -118,7 +118,7 @@ impl State {
         requires stack { HasStack self.old }
         requires room { length self.old.items < self.old.slots }
         requires number { MayAttempt self.old }
-        ensures carried { IfOk result (λ ending. CarriesOut self.old (push_carried self.old (I.Delete (pointer_read script.now self.old pointer.now)) (payload_of self.new.cleanup self.new.debug.heap.row)) ending self.new) }
+        ensures effect { IfOk result (λ ending. CarriesOut self.old (push_effect self.old (I.Delete (pointer_read script.now self.old pointer.now)) (payload_of self.new.cleanup self.new.debug.heap.row)) ending self.new) }
         ensures err { OnErr result (self.new ≡ self.old) }
         ensures there { IsStackThere self.old }
         ensures stands { IsStackThere self.new }
@@ -138,7 +138,7 @@ impl State {
         requires stack { HasStack self.old }
         requires room { length self.old.items < self.old.slots }
         requires number { MayAttempt self.old }
-        ensures carried { IfOk result (λ ending. CarriesOut self.old (push_carried self.old (I.Call (pointer_read script.now self.old pointer.now) operation) (payload_of self.new.cleanup self.new.debug.heap.row)) ending self.new) }
+        ensures effect { IfOk result (λ ending. CarriesOut self.old (push_effect self.old (I.Call (pointer_read script.now self.old pointer.now) operation) (payload_of self.new.cleanup self.new.debug.heap.row)) ending self.new) }
         ensures err { OnErr result (self.new ≡ self.old) }
         ensures there { IsStackThere self.old }
         ensures stands { IsStackThere self.new }
@@ -192,7 +192,7 @@ impl State {
     /// Pops the newest item, which must be of a pointer.
     pub fn pop_check(&mut self, script: &Script, floor: u32, pointer: &Pointer) -> Ending
         requires { HasStack self.old }
-        ensures { CarriesOut self.old (pop_check_carried self.old floor (pointer_read script.now self.old pointer.now)) result self.new }
+        ensures { CarriesOut self.old (pop_check_effect self.old floor (pointer_read script.now self.old pointer.now)) result self.new }
     {
         match self.take_expected(floor, self.pointer(script, *pointer)) {
             Ok(()) => Ending::GoesOn,

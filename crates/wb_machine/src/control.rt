@@ -13,12 +13,12 @@ ghost use Rattle.wb_model.specs.declared.heap.Rule.{Rule};
 ghost use Rattle.wb_model.specs.declared.script.Script.{Script};
 ghost use Rattle.wb_model.specs.declared.script.Statement.TheViews.{out-Statement};
 ghost use Rattle.wb_machine.specs.declared.pieces.Ending.TheVariants.{GoesOn};
-ghost use Rattle.wb_machine.specs.declared.pieces.Piece.{Piece};
-ghost use Rattle.wb_machine.specs.declared.pieces.Piece.TheVariants.{Turns};
+ghost use Rattle.wb_machine.specs.declared.pieces.PendingPiece.{PendingPiece};
+ghost use Rattle.wb_machine.specs.declared.pieces.PendingPiece.TheVariants.{Turns};
 ghost use Rattle.wb_machine.specs.RunState.{first_state, state_of};
-ghost use Rattle.wb_machine.specs.Flow.{where_of, pending_in, is_stop, is_over, progress_by, needs_step, AreOwn, IsOwn, AreSound, IsReady, rest_from, rest_of_piece, rest_of_statement};
+ghost use Rattle.wb_machine.specs.Flow.{context_of, pending_in, is_stop, is_over, progress_by, needs_step, AreOwn, IsOwn, AreSound, IsReady, rest_from, rest_of_piece, rest_of_statement};
 ghost use Rattle.wb_machine.specs.Asks.{asks_next};
-ghost use Rattle.wb_machine.specs.Carried.{stepped};
+ghost use Rattle.wb_machine.specs.Effects.{stepped};
 ghost use Rattle.wb_machine.specs.ObjectInvariant.{AreWhole, StaysWhole};
 ghost use Rattle.wb_machine.specs.Owed.{HasStack, MayAttempt, Stays};
 ghost use Rattle.wb_machine.specs.SlotInvariant.{slots_for, slots_for_all, to_destroy, to_destroy_first, IsFree, HasRoom};
@@ -30,17 +30,17 @@ mod heads;
 mod running;
 mod unwinding;
 
-use crate::pieces::{Ending, IN_MAIN, Piece, Standing, first_statement};
+use crate::pieces::{Context, Ending, IN_MAIN, PendingPiece, first_statement};
 use crate::raiser::{Raised, Raiser};
 use crate::state::State;
 use std::alloc::{AllocError, Global};
 use wb_model::memory::NoMemory;
-use wb_model::script::{Body, Numbered, Script, Statement};
+use wb_model::script::{Body, Script, Statement, StatementAt};
 
 /// The pending pieces, the last of them on top, how the piece above them ended, and the statement begun last.
 #[derive(Drop)]
 pub struct Control<'a> {
-    pieces: Vec<Piece<'a>>,
+    pieces: Vec<PendingPiece<'a>>,
     ending: Ending,
     /// The line of the statement begun last.
     line: u32,
@@ -63,13 +63,13 @@ fn procedure_at(script: &Script, index: u16) -> &Body
 }
 
 /// How many bodies run where this piece is on top; 0 where there is none. What ends a body is never on top in a panic.
-fn depth_of(top: Option<&Piece>) -> u32 {
+fn depth_of(top: Option<&PendingPiece>) -> u32 {
     match top {
-        Some(Piece::Code(at, _))
-        | Some(Piece::Turns(at, ..))
-        | Some(Piece::Items(at, _))
-        | Some(Piece::Object(at, _))
-        | Some(Piece::Trap(at, ..)) => at.depth,
+        Some(PendingPiece::Code(at, _))
+        | Some(PendingPiece::Turns(at, ..))
+        | Some(PendingPiece::Items(at, _))
+        | Some(PendingPiece::Object(at, _))
+        | Some(PendingPiece::Trap(at, ..)) => at.depth,
         _ => 0,
     }
 }
@@ -155,7 +155,7 @@ impl<'a> Control<'a> {
 
     /// One more piece on top.
     #[inline(always)]
-    fn push(&mut self, piece: Piece<'a>) -> Result<(), AllocError>
+    fn push(&mut self, piece: PendingPiece<'a>) -> Result<(), AllocError>
         ensures pieces { OnOk result (self.new.pieces.items ≡ self.old.pieces.items ++ piece.entry ∷ []) }
         ensures ending { OnOk result (self.new.ending ≡ self.old.ending) }
         ensures slots { OnOk result (slots_for_all self.new.pieces.items
@@ -170,7 +170,7 @@ impl<'a> Control<'a> {
 
     /// The piece on top, where a step is to come.
     #[inline(always)]
-    fn top(&self) -> Piece<'a>
+    fn top(&self) -> PendingPiece<'a>
         requires { IsReady self.now.ending self.now.pieces.items }
         ensures top { self.now.pieces.items
             ≡ take (vec_len self.now.pieces - 1) self.now.pieces.items ++ result ∷ [] }
@@ -194,9 +194,9 @@ impl<'a> Control<'a> {
 
     /// Another piece in the place of the one on top.
     #[inline(always)]
-    fn replace_top(&mut self, piece: Piece<'a>)
+    fn replace_top(&mut self, piece: PendingPiece<'a>)
         requires { 0 < vec_len self.old.pieces }
-        ensures pieces { (below : List Piece) (p : Piece) → self.old.pieces.items ≡ below ++ p ∷ [] →
+        ensures pieces { (below : List PendingPiece) (p : PendingPiece) → self.old.pieces.items ≡ below ++ p ∷ [] →
             self.new.pieces.items ≡ below ++ piece.entry ∷ [] }
         ensures ending { self.new.ending ≡ self.old.ending }
         ensures line { self.new.line ≡ self.old.line }
@@ -232,8 +232,8 @@ impl<'a> Control<'a> {
         }
         let main = procedure_at(script, script.main);
         state.enter(script, main.locals.as_slice())?;
-        self.push(Piece::MainTrap)?;
-        self.push(Piece::Code(IN_MAIN, main.statements.as_slice()))?;
+        self.push(PendingPiece::MainTrap)?;
+        self.push(PendingPiece::Code(IN_MAIN, main.statements.as_slice()))?;
         Ok(())
     }
 
@@ -242,8 +242,8 @@ impl<'a> Control<'a> {
     fn step_code(
         &mut self,
         script: &'a Script,
-        at: Standing,
-        first: &'a Numbered,
+        at: Context,
+        first: &'a StatementAt,
         state: &mut State,
     ) -> Result<(), NoMemory>
         requires script { IsTrue (is_script script.now) }
@@ -257,7 +257,7 @@ impl<'a> Control<'a> {
         requires steps { state.old.steps + 1 < 2 ^ 32 }
         ensures kept { OnOk result ((r : Rule) (budget : ℕ) → Fits r state.old.debug.rule (is_stop self.new.ending) state.new.debug.attempts →
             rest_from script.now budget r self.new.ending self.new.pieces.items state.new
-            ≡ rest_of_statement script.now budget r (where_of at) (out-Statement first.now.statement) self.old.pieces.items (stepped state.old)) }
+            ≡ rest_of_statement script.now budget r (context_of at) (out-Statement first.now.statement) self.old.pieces.items (stepped state.old)) }
         ensures sound { OnOk result (AreSound script.now self.new.pieces.items) }
         ensures stays { Stays state.old state.new }
         ensures steps { OnOk result (state.new.steps ≡ state.old.steps + 1) }
@@ -277,28 +277,28 @@ impl<'a> Control<'a> {
     #[inline(always)]
     fn step_turns(
         &mut self,
-        at: Standing,
+        at: Context,
         left: u32,
-        body: &'a [Numbered],
+        body: &'a [StatementAt],
         state: &mut State,
     ) -> Result<(), NoMemory>
         requires going { self.old.ending ≡ GoesOn }
         requires left { 0 < left }
         requires some { 0 < vec_len self.old.pieces }
         requires steps { state.old.steps + 1 < 2 ^ 32 }
-        ensures kept { OnOk result ((script : Script) (r : Rule) (budget : ℕ) (below : List Piece) → self.old.pieces.items ≡ below ++ Turns at left body.entry ∷ [] → state.old.steps < budget →
+        ensures kept { OnOk result ((script : Script) (r : Rule) (budget : ℕ) (below : List PendingPiece) → self.old.pieces.items ≡ below ++ Turns at left body.entry ∷ [] → state.old.steps < budget →
             rest_from script budget r self.new.ending self.new.pieces.items state.new
-            ≡ rest_of_piece script budget r (doing (where_of at) (turns left body.now)) below state.old) }
-        ensures sound { OnOk result ((script : Script) (below : List Piece) → self.old.pieces.items ≡ below ++ Turns at left body.entry ∷ [] → AreOwn script body.now → AreSound script below → AreSound script self.new.pieces.items) }
-        ensures slots { OnOk result ((below : List Piece) → self.old.pieces.items ≡ below ++ Turns at left body.entry ∷ [] →
+            ≡ rest_of_piece script budget r (doing (context_of at) (turns left body.now)) below state.old) }
+        ensures sound { OnOk result ((script : Script) (below : List PendingPiece) → self.old.pieces.items ≡ below ++ Turns at left body.entry ∷ [] → AreOwn script body.now → AreSound script below → AreSound script self.new.pieces.items) }
+        ensures slots { OnOk result ((below : List PendingPiece) → self.old.pieces.items ≡ below ++ Turns at left body.entry ∷ [] →
             slots_for_all self.new.pieces.items ≤ slots_for_all below) }
         ensures ending { OnOk result (self.new.ending ≡ GoesOn) }
         ensures state { state.new ≡ stepped state.old }
         ensures line { self.new.line ≡ self.old.line }
     {
         state.tick();
-        self.replace_top(Piece::Turns(at, left - 1, body));
-        self.push(Piece::Code(at, body))?;
+        self.replace_top(PendingPiece::Turns(at, left - 1, body));
+        self.push(PendingPiece::Code(at, body))?;
         Ok(())
     }
 }
@@ -326,16 +326,16 @@ impl<'a> Control<'a> {
         ensures line { OnOk result (self.new.line ≡ unwrap_or (first_line (pending_in state.old.callers self.old.pieces.items)) self.old.line) }
     {
         match self.top() {
-            Piece::Code(at, [first, rest @ ..]) => {
-                self.replace_top(Piece::Code(at, rest));
+            PendingPiece::Code(at, [first, rest @ ..]) => {
+                self.replace_top(PendingPiece::Code(at, rest));
                 self.step_code(script, at, first, state)
             }
-            Piece::Turns(at, left, body) => self.step_turns(at, left, body, state),
-            Piece::Items(at, left) => {
+            PendingPiece::Turns(at, left, body) => self.step_turns(at, left, body, state),
+            PendingPiece::Items(at, left) => {
                 self.drop_top();
                 self.step_items(script, at, left, state)
             }
-            Piece::Object(at, ptr) => {
+            PendingPiece::Object(at, ptr) => {
                 self.drop_top();
                 self.step_object(script, at, ptr, state)
             }

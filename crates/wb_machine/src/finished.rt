@@ -1,7 +1,7 @@
 //! What a run leaves once it is over.
 
 ghost use Rattle.std.specs.Prelude.{◌≡◌, ◌↔◌, true, false, length, IfOk};
-ghost use Rattle.wb_model.specs.Run.{rises_told, run};
+ghost use Rattle.wb_model.specs.Run.{rises_result_of, run};
 ghost use Rattle.wb_model.specs.declared.run.Outcome.TheVariants.{Cut};
 ghost use Rattle.wb_model.specs.declared.run.Why.TheVariants.{Ceiling};
 ghost use Rattle.wb_machine.specs.Seen.{whole_run_of};
@@ -24,7 +24,7 @@ impl<'a> Machine<'a> {
     /// Takes all turns that are left. An Ok is what the run comes to under the machine's rule: exactly what the definitions
     /// say of a whole run, but without a trace where the machine keeps the rises.
     pub fn run_to_end(self) -> Result<RunResult, NoMemory>
-        ensures { IfOk result (λ told. told
+        ensures { IfOk result (λ run_result. run_result
             ≡ (whole_run_of self.entry).result) }
     {
         Ok(self.finish()?.result)
@@ -45,7 +45,7 @@ impl<'a> Machine<'a> {
         requires over { self.over ≡ true }
         requires well { self.failed ≡ false }
         requires lines { self.keeps_rises ≡ false }
-        ensures told { result ≡ run self.entry.script self.entry.rule self.entry.budget self.entry.shape }
+        ensures run_result { result ≡ run self.entry.script self.entry.rule self.entry.budget self.entry.shape }
         ensures attempts { length result.trace ≡ self.entry.attempts }
         ensures ceiling { (self.entry.met_ceiling ≡ true) ↔ (result.outcome ≡ Cut Ceiling) }
     {
@@ -56,7 +56,7 @@ impl<'a> Machine<'a> {
     fn into_finished(self) -> Finished
         requires over { self.over ≡ true }
         requires well { self.failed ≡ false }
-        ensures told { result.result ≡ (whole_run_of self.entry).result }
+        ensures run_result { result.result ≡ (whole_run_of self.entry).result }
         ensures attempts { (whole_run_of self.entry).attempts ≡ self.entry.attempts }
         ensures ceiling { (self.entry.met_ceiling ≡ true) ↔ (result.result.outcome ≡ Cut Ceiling) }
     {
@@ -79,7 +79,7 @@ impl<'a> Machine<'a> {
         requires well { self.failed ≡ false }
         requires rises { self.keeps_rises ≡ true }
         ensures { result
-            ≡ rises_told (run self.entry.script self.entry.rule self.entry.budget self.entry.shape) }
+            ≡ rises_result_of (run self.entry.script self.entry.rule self.entry.budget self.entry.shape) }
     {
         let Machine {
             script: _,

@@ -4,7 +4,7 @@ ghost use Rattle.std.specs.Prelude.{◌≡◌, pos, int_lt};
 ghost use Rattle.wb_model.specs.State.{null};
 ghost use Rattle.wb_model.specs.Statements.{is_null};
 ghost use Rattle.wb_model.specs.declared.heap.TheConstants.{KERR_NO_MEMORY};
-ghost use Rattle.wb_machine.specs.Carried.{pointer_read, number_read, condition_read, left_with, left_where, returned};
+ghost use Rattle.wb_machine.specs.Effects.{pointer_read, number_read, condition_read, left_with, left_where, returned};
 ghost use Rattle.wb_machine.specs.Owed.{CarriesOut};
 
 use crate::locals::NULL;

@@ -9,10 +9,10 @@ ghost use Rattle.wb_model.specs.State.{initial};
 ghost use Rattle.wb_machine.specs.RunState.{value_in};
 ghost use Rattle.wb_machine.specs.LocalValues.{is_small, value_of, value_of_buffer, values_stored, no_buffer, stored_at, AreAscending, first_buffer, number_over, values_over, framed, unframed, buffer_in, window_in};
 ghost use Rattle.wb_machine.specs.BufferEdits.{frames_edited, frames_put_back};
-ghost use Rattle.wb_machine.specs.PointerOperands.{held_over, pointer_over};
+ghost use Rattle.wb_machine.specs.PointerOperands.{holder_pointer_over, pointer_over};
 
-use crate::arguments::{Handed, hand, number_over};
-use crate::pointers::{Sight, held_over, pointer_over};
+use crate::arguments::{CallArguments, hand, number_over};
+use crate::pointers::{ReadContext, holder_pointer_over, pointer_over};
 use crate::windows::Window;
 use std::alloc::{AllocError, Global};
 use std::marker::Model;
@@ -203,17 +203,17 @@ impl Locals {
     /// memory is asked for where as many locals, and as many buffers, stood at once before.
     pub fn call(
         &mut self,
-        sight: Sight,
-        handed: Handed,
+        context: ReadContext,
+        call_arguments: CallArguments,
         locals: &[Local],
     ) -> Result<usize, AllocError>
         requires { IsTrue (list_all is_small locals.now) }
-        ensures frames { OnOk result (self.new ≡ framed self.old (values_over sight.entry.script.now sight.entry.heap.now sight.entry.this self.old.locals handed.entry) locals.now) }
+        ensures frames { OnOk result (self.new ≡ framed self.old (values_over context.entry.script.now context.entry.heap.now context.entry.this self.old.locals call_arguments.entry) locals.now) }
         ensures caller { IfOk result (λ base. base ≡ length self.old.callers) }
     {
         let caller = self.base;
         let top = self.slots.len();
-        hand(&mut self.slots, caller, sight, handed)?;
+        hand(&mut self.slots, caller, context, call_arguments)?;
         declare(&mut self.slots, &mut self.buffers, locals)?;
         self.base = top;
         Ok(caller)
@@ -232,18 +232,18 @@ impl Locals {
 
     /// What a holder holds, in a body of this object; null where it holds no pointer.
     #[inline(always)]
-    pub fn held(&self, this: Ptr, holder: Holder) -> Ptr
-        ensures { result ≡ held_over this self.now.locals holder }
+    pub fn holder_pointer(&self, this: Ptr, holder: Holder) -> Ptr
+        ensures { result ≡ holder_pointer_over this self.now.locals holder }
     {
-        held_over(this, &self.slots[self.base..], holder)
+        holder_pointer_over(this, &self.slots[self.base..], holder)
     }
 
     /// The pointer of an operand; null where it names no pointer.
     #[inline(always)]
-    pub fn pointer(&self, sight: Sight, operand: Pointer) -> Ptr
-        ensures { result ≡ pointer_over sight.entry.script.now sight.entry.heap.now sight.entry.this self.now.locals operand }
+    pub fn pointer(&self, context: ReadContext, operand: Pointer) -> Ptr
+        ensures { result ≡ pointer_over context.entry.script.now context.entry.heap.now context.entry.this self.now.locals operand }
     {
-        pointer_over(sight, &self.slots[self.base..], operand)
+        pointer_over(context, &self.slots[self.base..], operand)
     }
 
     /// The number of an operand; 0 where it names none.

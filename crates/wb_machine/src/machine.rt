@@ -6,13 +6,13 @@ ghost use Rattle.wb_model.specs.Sound.{is_script};
 ghost use Rattle.wb_model.specs.Rest.{SameSoFar};
 ghost use Rattle.wb_model.specs.Space.{is_shape};
 ghost use Rattle.wb_model.specs.Debug.{keeps_rises};
-ghost use Rattle.wb_model.specs.Run.{rises_told, run};
+ghost use Rattle.wb_model.specs.Run.{rises_result_of, run};
 ghost use Rattle.wb_model.specs.declared.heap.Rule.TheVariants.{Unlimited};
 ghost use Rattle.wb_machine.specs.declared.fault.RunFault.TheVariants.{BadShape};
 ghost use Rattle.wb_machine.specs.Flow.{is_stop};
 ghost use Rattle.wb_machine.specs.RunState.{first_state};
 ghost use Rattle.wb_machine.specs.Seen.{seen_at_start};
-ghost use Rattle.wb_machine.specs.Told.{leaks_at_end};
+ghost use Rattle.wb_machine.specs.Results.{leaks_at_end};
 ghost use Rattle.wb_machine.specs.Turns.{IsSameRun, TurnLeaves};
 
 use crate::control::Control;
@@ -266,7 +266,7 @@ fn at_start<'a>(alloc: Global, script: &'a Script, budget: u32, state: State) ->
 /// Lists the leaks of a run that ended so, where its outcome tells them. For any other outcome no memory is
 /// asked for.
 fn list_leaks(leaks: &mut Leaks, ending: Ending, state: &State) -> Result<(), NoMemory>
-    ensures told { OnOk result (is_stop ending ≡ false → leaks.new ≡ leaks_at_end state.now) }
+    ensures run_result { OnOk result (is_stop ending ≡ false → leaks.new ≡ leaks_at_end state.now) }
     ensures untold { is_stop ending ≡ true → (IsOk result) × (leaks.new ≡ leaks.old) }
 {
     if !ending.is_stop() {
@@ -290,7 +290,7 @@ pub fn run(
     requires script { IsTrue (is_script script.now) }
     requires least { 1 ≤ budget }
     requires greatest { budget ≤ LARGEST_BUDGET }
-    ensures ran { IfOk result (λ told. told ≡ run script.now rule budget shape) }
+    ensures ran { IfOk result (λ run_result. run_result ≡ run script.now rule budget shape) }
     ensures shape { (result ≡ Err RunFault.BadShape) ↔ (is_shape shape ≡ false) }
 {
     let machine = Machine::new(alloc, script, rule, budget, shape)?;
@@ -311,7 +311,7 @@ pub fn run_rises(
     requires script { IsTrue (is_script script.now) }
     requires least { 1 ≤ budget }
     requires greatest { budget ≤ LARGEST_BUDGET }
-    ensures ran { IfOk result (λ told. told ≡ rises_told (run script.now Unlimited budget shape)) }
+    ensures ran { IfOk result (λ run_result. run_result ≡ rises_result_of (run script.now Unlimited budget shape)) }
     ensures shape { (result ≡ Err RunFault.BadShape) ↔ (is_shape shape ≡ false) }
 {
     let mut machine = Machine::new_rises(alloc, script, budget, shape)?;

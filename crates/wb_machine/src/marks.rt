@@ -8,7 +8,7 @@ ghost use Rattle.wb_model.specs.Heap.{after_mark_end, mark_end_refusal};
 ghost use Rattle.wb_model.specs.Debug.{check_refusal, check_all_refusal, with_setting};
 ghost use Rattle.wb_machine.specs.RunState.{with_debug};
 ghost use Rattle.wb_machine.specs.declared.pieces.Ending.TheVariants.{GoesOn};
-ghost use Rattle.wb_machine.specs.Carried.{gone_on, number_read, marked, mark_end_within, check_within, set_within};
+ghost use Rattle.wb_machine.specs.Effects.{gone_on, number_read, marked, mark_end_within, check_within, set_within};
 ghost use Rattle.wb_machine.specs.Owed.{CarriesOut};
 
 use crate::operands::{at_least_one, not_negative};

@@ -3,7 +3,7 @@
 ghost use Rattle.std.specs.Prelude.{◌≡◌};
 ghost use Rattle.wb_model.specs.State.{number, null};
 ghost use Rattle.wb_machine.specs.declared.pieces.Ending.TheVariants.{GoesOn};
-ghost use Rattle.wb_machine.specs.Carried.{gone_on, pointer_read, number_read, pointer_stored, stored, add_carried};
+ghost use Rattle.wb_machine.specs.Effects.{gone_on, pointer_read, number_read, pointer_stored, stored, add_effect};
 ghost use Rattle.wb_machine.specs.Owed.{CarriesOut};
 
 use crate::locals::{NULL, Slot};
@@ -44,7 +44,7 @@ impl State {
     /// A number is added to a number local. A sum that no int holds stops the run.
     #[inline(always)]
     pub fn add(&mut self, local: u8, value: &Number) -> Ending
-        ensures { CarriesOut self.old (add_carried self.old local (number_read self.old value.now)) result self.new }
+        ensures { CarriesOut self.old (add_effect self.old local (number_read self.old value.now)) result self.new }
     {
         let value = self.number(*value);
         let Some(sum) = self.number(Number::Variable(local)).checked_add(value) else {

@@ -7,7 +7,7 @@ ghost use Rattle.wb_model.specs.CellRow.{payload_of};
 ghost use Rattle.wb_model.specs.Debug.{debug_changed, with_row};
 ghost use Rattle.wb_objects.specs.Objects.{object_made, with_field};
 ghost use Rattle.wb_machine.specs.Bodies.{class_read};
-ghost use Rattle.wb_machine.specs.CarriedObjects.{new_carried};
+ghost use Rattle.wb_machine.specs.ObjectEffects.{new_effect};
 ghost use Rattle.wb_machine.specs.Owed.{CarriesOut, KeepsCount, MayAttempt};
 ghost use Rattle.wb_machine.specs.PointerOperands.{row_with_field};
 ghost use Rattle.wb_machine.specs.RunState.{with_debug};
@@ -81,7 +81,7 @@ impl State {
         requires script { IsTrue (is_script script.now) }
         requires class { class < length script.now.classes }
         requires number { MayAttempt self.old }
-        ensures carried { IfOk result (λ ending. CarriesOut self.old (new_carried script.now self.old target.now class refusal) ending self.new) }
+        ensures effect { IfOk result (λ ending. CarriesOut self.old (new_effect script.now self.old target.now class refusal) ending self.new) }
         ensures err { OnErr result (self.new ≡ self.old) }
         ensures keeps { KeepsCount self.old self.new }
     {

@@ -6,7 +6,7 @@ ghost use Rattle.wb_machine.specs.Flow.{needs_step, is_stop, first_statement};
 
 use wb_model::heap::{Panic, Ptr};
 use wb_model::run::Why;
-use wb_model::script::Numbered;
+use wb_model::script::StatementAt;
 
 /// How the piece above the pending ones ended.
 #[derive(Clone, Copy)]
@@ -41,13 +41,13 @@ impl Ending {
 /// Where a piece stands: how many frames there are, and how many items stood at the entry of the innermost
 /// TRAP.
 #[derive(Clone, Copy)]
-pub struct Standing {
+pub struct Context {
     pub depth: u32,
     pub floor: u32,
 }
 
 /// Where `main` stands.
-pub const IN_MAIN: Standing = Standing { depth: 1, floor: 0 };
+pub const IN_MAIN: Context = Context { depth: 1, floor: 0 };
 
 /// What follows the end of a body.
 #[derive(Clone, Copy)]
@@ -61,17 +61,17 @@ pub enum After {
 
 /// A pending piece.
 #[derive(Clone, Copy)]
-pub enum Piece<'a> {
+pub enum PendingPiece<'a> {
     /// The rest of a block.
-    Code(Standing, &'a [Numbered]),
+    Code(Context, &'a [StatementAt]),
     /// The turns that a `repeat` has left.
-    Turns(Standing, u32, &'a [Numbered]),
+    Turns(Context, u32, &'a [StatementAt]),
     /// How many items are left to destroy, the newest first.
-    Items(Standing, u32),
+    Items(Context, u32),
     /// The destruction of an object, by a pointer that isn't null.
-    Object(Standing, Ptr),
+    Object(Context, Ptr),
     /// A TRAP: its local, which gets the code, and how many items stood at its entry.
-    Trap(Standing, u8, u32),
+    Trap(Context, u8, u32),
     /// The code that a TRAP's local gets once the items are destroyed.
     Caught(u8, i32),
     /// `main`'s own TRAP.
@@ -84,35 +84,35 @@ pub enum Piece<'a> {
 
 /// Whether a piece begins with a step.
 #[inline(always)]
-pub fn needs_step(piece: &Piece) -> bool
+pub fn needs_step(piece: &PendingPiece) -> bool
     ensures { result ≡ needs_step piece.now }
 {
     match piece {
-        Piece::Code(_, statements) => !statements.is_empty(),
-        Piece::Turns(_, left, _) => *left > 0,
-        Piece::Items(_, left) => *left > 0,
-        Piece::Object(..) => true,
-        Piece::Trap(..) => false,
-        Piece::Caught(..) => false,
-        Piece::MainTrap => false,
-        Piece::MainCaught(_) => false,
-        Piece::Call(..) => false,
+        PendingPiece::Code(_, statements) => !statements.is_empty(),
+        PendingPiece::Turns(_, left, _) => *left > 0,
+        PendingPiece::Items(_, left) => *left > 0,
+        PendingPiece::Object(..) => true,
+        PendingPiece::Trap(..) => false,
+        PendingPiece::Caught(..) => false,
+        PendingPiece::MainTrap => false,
+        PendingPiece::MainCaught(_) => false,
+        PendingPiece::Call(..) => false,
     }
 }
 
 /// The statement that a piece begins with, where it begins with one.
-pub fn first_statement<'a>(piece: &Piece<'a>) -> Option<&'a Numbered>
+pub fn first_statement<'a>(piece: &PendingPiece<'a>) -> Option<&'a StatementAt>
     ensures { option_copied result ≡ first_statement piece.now }
 {
     match piece {
-        Piece::Code(_, statements) => statements.first(),
-        Piece::Turns(..)
-        | Piece::Items(..)
-        | Piece::Object(..)
-        | Piece::Trap(..)
-        | Piece::Caught(..)
-        | Piece::MainTrap
-        | Piece::MainCaught(_)
-        | Piece::Call(..) => None,
+        PendingPiece::Code(_, statements) => statements.first(),
+        PendingPiece::Turns(..)
+        | PendingPiece::Items(..)
+        | PendingPiece::Object(..)
+        | PendingPiece::Trap(..)
+        | PendingPiece::Caught(..)
+        | PendingPiece::MainTrap
+        | PendingPiece::MainCaught(_)
+        | PendingPiece::Call(..) => None,
     }
 }

@@ -6,7 +6,7 @@ ghost use Rattle.wb_model.specs.Texts.{Buffer};
 ghost use Rattle.wb_objects.specs.Objects.{words_found};
 ghost use Rattle.wb_machine.specs.RunState.{field_count};
 ghost use Rattle.wb_machine.specs.LocalValues.{values_stored};
-ghost use Rattle.wb_machine.specs.PointerOperands.{held_over, field_among, pointer_over};
+ghost use Rattle.wb_machine.specs.PointerOperands.{holder_pointer_over, field_among, pointer_over};
 
 use crate::locals::{NULL, Slot, Stored};
 use wb_debug::debug_heap::DebugHeap;
@@ -16,7 +16,7 @@ use wb_objects::field;
 
 /// What operands see beside the locals of their frame: the script, the heap, and the object whose body runs.
 #[derive(Clone, Copy)]
-pub struct Sight<'b> {
+pub struct ReadContext<'b> {
     pub script: &'b Script,
     pub heap: &'b DebugHeap,
     pub this: Ptr,
@@ -24,8 +24,8 @@ pub struct Sight<'b> {
 
 /// What a holder holds.
 #[inline(always)]
-pub fn held_over(this: Ptr, frame: &[Stored], holder: Holder) -> Ptr
-    ensures { (buffers : List Buffer) → result ≡ held_over this (values_stored buffers frame.now) holder }
+pub fn holder_pointer_over(this: Ptr, frame: &[Stored], holder: Holder) -> Ptr
+    ensures { (buffers : List Buffer) → result ≡ holder_pointer_over this (values_stored buffers frame.now) holder }
 {
     let Holder::Local(index) = holder else {
         return this;
@@ -77,14 +77,14 @@ fn field_over(script: &Script, heap: &DebugHeap, object: Ptr, class: u16, index:
 
 /// The pointer of an operand; null where it names none.
 #[inline(always)]
-pub fn pointer_over(sight: Sight, frame: &[Stored], operand: Pointer) -> Ptr
-    ensures { (buffers : List Buffer) → result ≡ pointer_over sight.entry.script.now sight.entry.heap.now sight.entry.this (values_stored buffers frame.now) operand }
+pub fn pointer_over(context: ReadContext, frame: &[Stored], operand: Pointer) -> Ptr
+    ensures { (buffers : List Buffer) → result ≡ pointer_over context.entry.script.now context.entry.heap.now context.entry.this (values_stored buffers frame.now) operand }
 {
     match operand {
-        Pointer::Held(holder) => held_over(sight.this, frame, holder),
+        Pointer::Held(holder) => holder_pointer_over(context.this, frame, holder),
         Pointer::Field(holder, class, index) => {
-            let object = held_over(sight.this, frame, holder);
-            field_over(sight.script, sight.heap, object, class, index)
+            let object = holder_pointer_over(context.this, frame, holder);
+            field_over(context.script, context.heap, object, class, index)
         }
     }
 }

@@ -4,7 +4,7 @@
 ghost use Rattle.std.specs.Prelude.{◌≡◌, [], ◌∷◌, ◌++◌};
 ghost use Rattle.wb_model.specs.declared.script.Statement.TheViews.{out-Statement};
 ghost use Rattle.wb_objects.specs.Objects.{words_found};
-ghost use Rattle.wb_machine.specs.PointerOperands.{refusal_in, pointer_refusal, first_refusal, of_writable, of_readable, of_condition, of_arguments, operands_refused};
+ghost use Rattle.wb_machine.specs.PointerOperands.{refusal_in, pointer_refusal, first_refusal, of_writable, of_readable, of_condition, of_arguments, operands_refusal};
 
 use crate::state::State;
 use wb_model::heap::{Kind, Panic, Ptr};
@@ -15,7 +15,7 @@ impl State {
     /// What refuses the object that a field is read of, or written in.
     #[cold]
     #[inline(never)]
-    fn object_refused(&self, object: Ptr, class: u16) -> Option<Panic>
+    fn object_refusal(&self, object: Ptr, class: u16) -> Option<Panic>
         ensures { result ≡ refusal_in (words_found self.now.debug object class) }
     {
         match self.heap.header(object) {
@@ -27,90 +27,93 @@ impl State {
 
     /// What refuses a pointer operand. Few are fields, so that one is asked for out of the way.
     #[inline(always)]
-    fn pointer_refused(&self, operand: &Pointer) -> Option<Panic>
+    fn pointer_refusal(&self, operand: &Pointer) -> Option<Panic>
         ensures refused { result ≡ pointer_refusal self.now operand.now }
         ensures first { result ≡ first_refusal self.now (operand.now ∷ []) }
     {
         match operand {
             Pointer::Held(_) => None,
-            Pointer::Field(holder, class, _) => self.object_refused(self.held(*holder), *class),
+            Pointer::Field(holder, class, _) => self.object_refusal(
+                self.holder_pointer(*holder),
+                *class,
+            ),
         }
     }
 
     /// What refuses the first of two pointer operands, and else the second.
     #[inline(always)]
-    fn either_refused(&self, one: &Pointer, other: &Pointer) -> Option<Panic>
+    fn either_refusal(&self, one: &Pointer, other: &Pointer) -> Option<Panic>
         ensures { result ≡ first_refusal self.now (one.now ∷ other.now ∷ []) }
     {
-        match self.pointer_refused(one) {
+        match self.pointer_refusal(one) {
             Some(panic) => Some(panic),
-            None => self.pointer_refused(other),
+            None => self.pointer_refusal(other),
         }
     }
 
     /// What refuses a text that can be changed.
     #[inline(always)]
-    fn target_refused(&self, target: &Writable) -> Option<Panic>
+    fn target_refusal(&self, target: &Writable) -> Option<Panic>
         ensures { result ≡ first_refusal self.now (of_writable target.now) }
     {
         match target {
             Writable::OwnBuffer(_) => None,
-            Writable::InCell(pointer) => self.pointer_refused(pointer),
+            Writable::InCell(pointer) => self.pointer_refusal(pointer),
         }
     }
 
     /// What refuses a text that can be read.
     #[inline(never)]
-    fn text_refused(&self, text: &Readable) -> Option<Panic>
+    fn readable_refusal(&self, text: &Readable) -> Option<Panic>
         ensures { result ≡ first_refusal self.now (of_readable text.now) }
     {
         match text {
-            Readable::Of(target) => self.target_refused(target),
+            Readable::Of(target) => self.target_refusal(target),
             Readable::ViewOf(_) | Readable::Quoted(_) => None,
         }
     }
 
     /// What refuses a text that is to be changed, and else the one that it is changed by.
     #[inline(never)]
-    fn edit_refused(&self, target: &Writable, text: &Readable) -> Option<Panic>
+    fn edit_refusal(&self, target: &Writable, text: &Readable) -> Option<Panic>
         ensures { result ≡ first_refusal self.now (of_writable target.now ++ of_readable text.now) }
     {
-        match self.target_refused(target) {
+        match self.target_refusal(target) {
             Some(panic) => Some(panic),
-            None => self.text_refused(text),
+            None => self.readable_refusal(text),
         }
     }
 
     /// What refuses a condition.
     #[inline(always)]
-    fn condition_refused(&self, condition: &Condition) -> Option<Panic>
+    fn condition_refusal(&self, condition: &Condition) -> Option<Panic>
         ensures { result ≡ first_refusal self.now (of_condition condition.now) }
     {
         match condition {
-            Condition::IsNull(pointer) => self.pointer_refused(pointer),
-            Condition::NotNull(pointer) => self.pointer_refused(pointer),
+            Condition::IsNull(pointer) => self.pointer_refusal(pointer),
+            Condition::NotNull(pointer) => self.pointer_refusal(pointer),
             Condition::Equal(..) | Condition::Less(..) => None,
         }
     }
 
     /// What refuses an argument.
     #[inline(always)]
-    fn argument_refused(&self, argument: &Argument) -> Option<Panic>
+    fn argument_refusal(&self, argument: &Argument) -> Option<Panic>
         ensures { result ≡ first_refusal self.now (of_arguments (argument.now ∷ [])) }
     {
         match argument {
-            Argument::Passed(pointer) => self.pointer_refused(pointer),
+            Argument::Passed(pointer) => self.pointer_refusal(pointer),
             Argument::Given(_) => None,
         }
     }
 
     /// What refuses the arguments of a call, from left to right.
     #[inline(never)]
-    fn arguments_refused(&self, arguments: &[Argument]) -> Option<Panic>
+    fn arguments_refusal(&self, arguments: &[Argument]) -> Option<Panic>
         ensures { result ≡ first_refusal self.now (of_arguments arguments.now) }
     {
         for argument in arguments {
-            match self.argument_refused(argument) {
+            match self.argument_refusal(argument) {
                 Some(panic) => return Some(panic),
                 None => {}
             }
@@ -123,44 +126,44 @@ impl State {
 impl State {
     /// What refuses a statement for its operands, its target among them: the first refusal, from left to right.
     #[inline(always)]
-    pub fn operands_refused(&self, statement: &Statement) -> Option<Panic>
-        ensures { result ≡ operands_refused self.now (out-Statement statement.now) }
+    pub fn operands_refusal(&self, statement: &Statement) -> Option<Panic>
+        ensures { result ≡ operands_refusal self.now (out-Statement statement.now) }
     {
         match statement {
-            Statement::Alloc(target, ..) => self.pointer_refused(target),
-            Statement::Realloc(target, source, ..) => self.either_refused(target, source),
-            Statement::Free(pointer) => self.pointer_refused(pointer),
-            Statement::AllocLen(_, pointer) => self.pointer_refused(pointer),
-            Statement::Store(pointer, ..) => self.pointer_refused(pointer),
-            Statement::Load(_, pointer, _) => self.pointer_refused(pointer),
-            Statement::New(target, ..) => self.pointer_refused(target),
-            Statement::Construct(object) => self.pointer_refused(object),
-            Statement::Delete(object) => self.pointer_refused(object),
-            Statement::Set(target, source) => self.either_refused(target, source),
-            Statement::SetNull(target) => self.pointer_refused(target),
-            Statement::Push(pointer) => self.pointer_refused(pointer),
-            Statement::PushObject(pointer) => self.pointer_refused(pointer),
-            Statement::PushOperation(pointer, _) => self.pointer_refused(pointer),
-            Statement::PopCheck(pointer) => self.pointer_refused(pointer),
-            Statement::LeaveIfNull(pointer) => self.pointer_refused(pointer),
-            Statement::ReturnPointer(pointer) => self.pointer_refused(pointer),
-            Statement::Call(_, arguments) => self.arguments_refused(arguments.as_slice()),
-            Statement::CallTo(_, _, arguments) => self.arguments_refused(arguments.as_slice()),
-            Statement::NewText(target, ..) => self.pointer_refused(target),
-            Statement::ReallocText(target, source, _) => self.either_refused(target, source),
-            Statement::Copy(target, text) => self.edit_refused(target, text),
-            Statement::Append(target, text) => self.edit_refused(target, text),
-            Statement::Insert(target, _, text) => self.edit_refused(target, text),
-            Statement::DeleteText(target, ..) => self.target_refused(target),
-            Statement::SetLength(target, _) => self.target_refused(target),
-            Statement::Left(_, text, _) => self.text_refused(text),
-            Statement::Right(_, text, _) => self.text_refused(text),
-            Statement::Mid(_, text, ..) => self.text_refused(text),
-            Statement::GetLength(_, text) => self.text_refused(text),
-            Statement::GetMaximum(_, target) => self.target_refused(target),
-            Statement::PrintText(text) => self.text_refused(text),
-            Statement::If(condition, _) => self.condition_refused(condition),
-            Statement::IfElse(condition, ..) => self.condition_refused(condition),
+            Statement::Alloc(target, ..) => self.pointer_refusal(target),
+            Statement::Realloc(target, source, ..) => self.either_refusal(target, source),
+            Statement::Free(pointer) => self.pointer_refusal(pointer),
+            Statement::AllocLen(_, pointer) => self.pointer_refusal(pointer),
+            Statement::Store(pointer, ..) => self.pointer_refusal(pointer),
+            Statement::Load(_, pointer, _) => self.pointer_refusal(pointer),
+            Statement::New(target, ..) => self.pointer_refusal(target),
+            Statement::Construct(object) => self.pointer_refusal(object),
+            Statement::Delete(object) => self.pointer_refusal(object),
+            Statement::Set(target, source) => self.either_refusal(target, source),
+            Statement::SetNull(target) => self.pointer_refusal(target),
+            Statement::Push(pointer) => self.pointer_refusal(pointer),
+            Statement::PushObject(pointer) => self.pointer_refusal(pointer),
+            Statement::PushOperation(pointer, _) => self.pointer_refusal(pointer),
+            Statement::PopCheck(pointer) => self.pointer_refusal(pointer),
+            Statement::LeaveIfNull(pointer) => self.pointer_refusal(pointer),
+            Statement::ReturnPointer(pointer) => self.pointer_refusal(pointer),
+            Statement::Call(_, arguments) => self.arguments_refusal(arguments.as_slice()),
+            Statement::CallTo(_, _, arguments) => self.arguments_refusal(arguments.as_slice()),
+            Statement::NewText(target, ..) => self.pointer_refusal(target),
+            Statement::ReallocText(target, source, _) => self.either_refusal(target, source),
+            Statement::Copy(target, text) => self.edit_refusal(target, text),
+            Statement::Append(target, text) => self.edit_refusal(target, text),
+            Statement::Insert(target, _, text) => self.edit_refusal(target, text),
+            Statement::DeleteText(target, ..) => self.target_refusal(target),
+            Statement::SetLength(target, _) => self.target_refusal(target),
+            Statement::Left(_, text, _) => self.readable_refusal(text),
+            Statement::Right(_, text, _) => self.readable_refusal(text),
+            Statement::Mid(_, text, ..) => self.readable_refusal(text),
+            Statement::GetLength(_, text) => self.readable_refusal(text),
+            Statement::GetMaximum(_, target) => self.target_refusal(target),
+            Statement::PrintText(text) => self.readable_refusal(text),
+            Statement::If(condition, _) => self.condition_refusal(condition),
+            Statement::IfElse(condition, ..) => self.condition_refusal(condition),
             Statement::SetNumber(..)
             | Statement::Add(..)
             | Statement::Pop(_)

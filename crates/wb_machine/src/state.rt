@@ -9,17 +9,17 @@ ghost use Rattle.wb_model.specs.declared.heap.Rule.TheVariants.{Unlimited};
 ghost use Rattle.wb_model.specs.Space.{is_shape};
 ghost use Rattle.wb_model.specs.State.{null};
 ghost use Rattle.wb_machine.specs.RunState.{first_state};
-ghost use Rattle.wb_machine.specs.Told.{leaks_at_end, outcome_by, told_by};
-ghost use Rattle.wb_machine.specs.Carried.{pointer_read, number_read, pointer_stored, stored, stepped, entered, framed_with, called_back};
-ghost use Rattle.wb_machine.specs.LocalValues.{is_small, value_of, values_handed};
-ghost use Rattle.wb_machine.specs.PointerOperands.{held_in};
+ghost use Rattle.wb_machine.specs.Results.{leaks_at_end, outcome_by, run_result_by};
+ghost use Rattle.wb_machine.specs.Effects.{pointer_read, number_read, pointer_stored, stored, stepped, entered, framed_with, called_back};
+ghost use Rattle.wb_machine.specs.LocalValues.{is_small, value_of, values_of_arguments};
+ghost use Rattle.wb_machine.specs.PointerOperands.{holder_pointer_in};
 ghost use Rattle.wb_machine.specs.Owed.{IsSameButFrames, KeepsCount};
 
-use crate::arguments::Handed;
+use crate::arguments::CallArguments;
 use crate::finished::Finished;
 use crate::locals::{Locals, NULL, Slot};
 use crate::pieces::Ending;
-use crate::pointers::Sight;
+use crate::pointers::ReadContext;
 use std::alloc::Global;
 use std::marker::Model;
 use wb_cleanup::Cleanup;
@@ -135,12 +135,13 @@ impl State {
         ensures entered { OnOk result (self.new ≡ entered self.old locals.now) }
         ensures debug { self.new.debug ≡ self.old.debug }
     {
-        let sight = Sight {
+        let context = ReadContext {
             script,
             heap: &self.heap,
             this: self.this,
         };
-        self.locals.call(sight, Handed::Arguments(&[]), locals)?;
+        self.locals
+            .call(context, CallArguments::Arguments(&[]), locals)?;
         Ok(())
     }
 
@@ -157,20 +158,20 @@ impl State {
         &mut self,
         script: &Script,
         this: Ptr,
-        handed: Handed,
+        call_arguments: CallArguments,
         locals: &[Local],
     ) -> Result<usize, NoMemory>
         requires { IsTrue (list_all is_small locals.now) }
-        ensures called { OnOk result (self.new ≡ framed_with self.old this (values_handed script.now self.old handed.entry) locals.now) }
+        ensures called { OnOk result (self.new ≡ framed_with self.old this (values_of_arguments script.now self.old call_arguments.entry) locals.now) }
         ensures caller { IfOk result (λ base. base ≡ length self.old.callers) }
         ensures frames { IsSameButFrames self.old self.new }
     {
-        let sight = Sight {
+        let context = ReadContext {
             script,
             heap: &self.heap,
             this: self.this,
         };
-        let caller = self.locals.call(sight, handed, locals)?;
+        let caller = self.locals.call(context, call_arguments, locals)?;
         self.this = this;
         Ok(caller)
     }
@@ -188,20 +189,20 @@ impl State {
     pub fn pointer(&self, script: &Script, operand: Pointer) -> Ptr
         ensures { result ≡ pointer_read script.now self.now operand }
     {
-        let sight = Sight {
+        let context = ReadContext {
             script,
             heap: &self.heap,
             this: self.this,
         };
-        self.locals.pointer(sight, operand)
+        self.locals.pointer(context, operand)
     }
 
     /// What a holder holds.
     #[inline(always)]
-    pub fn held(&self, holder: Holder) -> Ptr
-        ensures { result ≡ held_in self.now holder }
+    pub fn holder_pointer(&self, holder: Holder) -> Ptr
+        ensures { result ≡ holder_pointer_in self.now holder }
     {
-        self.locals.held(self.this, holder)
+        self.locals.holder_pointer(self.this, holder)
     }
 
     /// The number of an operand.
@@ -229,7 +230,11 @@ impl State {
         match target {
             Pointer::Held(Holder::Local(index)) => self.set(index, Slot::Pointer(ptr)),
             Pointer::Held(Holder::This) => {}
-            Pointer::Field(holder, _, index) => self.set_field(self.held(holder), index, ptr),
+            Pointer::Field(holder, _, index) => self.set_field(
+                self.holder_pointer(holder),
+                index,
+                ptr,
+            ),
         }
     }
 
@@ -265,7 +270,7 @@ impl State {
 
     /// What a run leaves, by how it ended and by its leaks.
     pub fn finish(self, ending: Ending, leaks: Leaks) -> Finished
-        ensures { result.result ≡ told_by ending leaks self }
+        ensures { result.result ≡ run_result_by ending leaks self }
     {
         let State {
             heap,

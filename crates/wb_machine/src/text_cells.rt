@@ -9,8 +9,8 @@ ghost use Rattle.wb_hbuf.specs.Sources.{IsApart, IsSource, SuitsEdit, cell_edite
 ghost use Rattle.wb_machine.specs.RunState.{with_debug};
 ghost use Rattle.wb_machine.specs.TextOperands.{text_refusal};
 ghost use Rattle.wb_machine.specs.TextInvariant.{AreTexts};
-ghost use Rattle.wb_machine.specs.Carried.{pointer_read, number_read};
-ghost use Rattle.wb_machine.specs.CarriedTexts.{new_text_carried, realloc_text_carried};
+ghost use Rattle.wb_machine.specs.Effects.{pointer_read, number_read};
+ghost use Rattle.wb_machine.specs.TextEffects.{new_text_effect, realloc_text_effect};
 ghost use Rattle.wb_machine.specs.Owed.{CarriesOut, KeepsCount, MayAttempt};
 
 use crate::operands::number_within;
@@ -46,7 +46,7 @@ impl State {
         refusal: Refusal,
     ) -> Result<Ending, NoMemory>
         requires number { MayAttempt self.old }
-        ensures carried { IfOk result (λ ending. CarriesOut self.old (new_text_carried self.old target refusal (number_read self.old units)) ending self.new) }
+        ensures effect { IfOk result (λ ending. CarriesOut self.old (new_text_effect self.old target refusal (number_read self.old units)) ending self.new) }
         ensures err { OnErr result (self.new ≡ self.old) }
         ensures keeps { KeepsCount self.old self.new }
     {
@@ -66,7 +66,7 @@ impl State {
         units: Number,
     ) -> Result<Ending, NoMemory>
         requires number { MayAttempt self.old }
-        ensures carried { IfOk result (λ ending. CarriesOut self.old (realloc_text_carried self.old target (pointer_read script.now self.old source) (number_read self.old units)) ending self.new) }
+        ensures effect { IfOk result (λ ending. CarriesOut self.old (realloc_text_effect self.old target (pointer_read script.now self.old source) (number_read self.old units)) ending self.new) }
         ensures err { OnErr result (self.new ≡ self.old) }
         ensures texts { AreTexts self.old.debug.heap.row }
         ensures keeps { KeepsCount self.old self.new }

@@ -103,7 +103,7 @@ impl State {
     }
 
     /// A view, or what is refused of its base.
-    fn viewed(&self, window: Window) -> Result<Window, Panic>
+    fn view_or_refusal(&self, window: Window) -> Result<Window, Panic>
         ensures { result ≡ unless_gone (base_refusal self.now window.base) window }
     {
         match self.refusal(window.view().base) {
@@ -113,7 +113,7 @@ impl State {
     }
 
     /// The whole of a base, or what is refused of it.
-    fn whole(&self, script: &Script, base: Base) -> Result<Window, Panic>
+    fn whole_or_refusal(&self, script: &Script, base: Base) -> Result<Window, Panic>
         requires { IsTrue (is_script script.now) }
         ensures { result ≡ unless_gone (base_refusal self.now base) (whole_of script.now.literals self.now base) }
     {
@@ -129,9 +129,9 @@ impl State {
         ensures { result ≡ window_found script.now self.now text }
     {
         match text {
-            Readable::Of(target) => self.whole(script, self.base(script, target)),
-            Readable::ViewOf(index) => self.viewed(self.locals.view(index)),
-            Readable::Quoted(index) => self.whole(script, Base::Literal(index)),
+            Readable::Of(target) => self.whole_or_refusal(script, self.base(script, target)),
+            Readable::ViewOf(index) => self.view_or_refusal(self.locals.view(index)),
+            Readable::Quoted(index) => self.whole_or_refusal(script, Base::Literal(index)),
         }
     }
 

@@ -6,9 +6,9 @@ ghost use Rattle.wb_model.specs.Texts.{delete_text, set_length_text};
 ghost use Rattle.wb_model.specs.declared.text.Base.{Base};
 ghost use Rattle.wb_model.specs.declared.text.Base.TheVariants as B;
 ghost use Rattle.wb_hbuf.specs.Sources.{edit_text};
-ghost use Rattle.wb_machine.specs.Carried.{number_read};
+ghost use Rattle.wb_machine.specs.Effects.{number_read};
 ghost use Rattle.wb_machine.specs.TextOperands.{base_named, base_refusal, base_text, base_max, is_writable_base, window_read, window_units, buffer_under};
-ghost use Rattle.wb_machine.specs.CarriedTexts.{ending_by, IsWritten, IsEditedBy, IsInsertedBy, IsDeletedBy, IsLengthSet, SuitsBase};
+ghost use Rattle.wb_machine.specs.TextEffects.{ending_by, IsWritten, IsEditedBy, IsInsertedBy, IsDeletedBy, IsLengthSet, SuitsBase};
 ghost use Rattle.wb_machine.specs.Owed.{KeepsCount};
 
 use crate::locals::copy_of;

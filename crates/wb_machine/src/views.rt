@@ -3,9 +3,9 @@
 ghost use Rattle.std.specs.Prelude.{◌≡◌, ◌^◌, ◌<◌, None, IfOk, OnOk, IsTrue};
 ghost use Rattle.wb_model.specs.Operands.{not_negative};
 ghost use Rattle.wb_model.specs.Sound.{is_script};
-ghost use Rattle.wb_machine.specs.Carried.{number_read};
+ghost use Rattle.wb_machine.specs.Effects.{number_read};
 ghost use Rattle.wb_machine.specs.TextOperands.{base_named, base_refusal, base_max, window_read, window_units};
-ghost use Rattle.wb_machine.specs.CarriedTexts.{unless_panics, part_stored, count_read, left_read, right_read, mid_read, length_carried, max_carried, print_carried};
+ghost use Rattle.wb_machine.specs.TextEffects.{unless_panics, part_stored, count_read, left_read, right_read, mid_read, length_effect, max_effect, print_effect};
 ghost use Rattle.wb_machine.specs.Owed.{CarriesOut, KeepsCount};
 
 use crate::locals::Slot;
@@ -117,7 +117,7 @@ impl State {
     /// A number local gets the length of a text.
     pub fn get_length(&mut self, script: &Script, local: u8, text: Readable) -> Ending
         requires { IsTrue (is_script script.now) }
-        ensures { CarriesOut self.old (length_carried script.now self.old local text) result self.new }
+        ensures { CarriesOut self.old (length_effect script.now self.old local text) result self.new }
     {
         match self.window(script, text) {
             Ok(window) => {
@@ -147,7 +147,7 @@ impl State {
 
     /// A number local gets the maximum of a text.
     pub fn get_maximum(&mut self, script: &Script, local: u8, target: Writable) -> Ending
-        ensures { CarriesOut self.old (max_carried self.old local (base_named script.now self.old target)) result self.new }
+        ensures { CarriesOut self.old (max_effect self.old local (base_named script.now self.old target)) result self.new }
     {
         let base = self.base(script, target);
         if let Some(panic) = self.refusal(base) {
@@ -161,7 +161,7 @@ impl State {
     /// Prints a text.
     pub fn print_text(&mut self, script: &Script, text: Readable) -> Result<Ending, NoMemory>
         requires { IsTrue (is_script script.now) }
-        ensures carried { IfOk result (λ ending. CarriesOut self.old (print_carried script.now self.old text) ending self.new) }
+        ensures effect { IfOk result (λ ending. CarriesOut self.old (print_effect script.now self.old text) ending self.new) }
         ensures keeps { KeepsCount self.old self.new }
     {
         match self.window(script, text) {

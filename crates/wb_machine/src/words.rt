@@ -8,7 +8,7 @@ ghost use Rattle.wb_model.specs.Spelling.{signed};
 ghost use Rattle.wb_model.specs.State.{number};
 ghost use Rattle.wb_model.specs.Statements.{is_raw};
 ghost use Rattle.wb_machine.specs.RunState.{with_debug};
-ghost use Rattle.wb_machine.specs.Carried.{pointer_read, number_read, stored, store_carried, load_carried};
+ghost use Rattle.wb_machine.specs.Effects.{pointer_read, number_read, stored, store_effect, load_effect};
 ghost use Rattle.wb_machine.specs.Owed.{CarriesOut, KeepsCount};
 
 use crate::locals::Slot;
@@ -48,7 +48,7 @@ impl State {
         index: &Number,
         value: i32,
     ) -> Ending
-        ensures { CarriesOut self.old (store_carried self.old (pointer_read script.now self.old pointer.now) (number_read self.old index.now) value) result self.new }
+        ensures { CarriesOut self.old (store_effect self.old (pointer_read script.now self.old pointer.now) (number_read self.old index.now) value) result self.new }
     {
         let ptr = self.pointer(script, *pointer);
         let Some(header) = self.heap.header(ptr) else {
@@ -75,7 +75,7 @@ impl State {
     /// A number local gets a word of a Raw cell, as a signed number.
     #[inline(never)]
     pub fn load(&mut self, script: &Script, local: u8, pointer: &Pointer, index: &Number) -> Ending
-        ensures { CarriesOut self.old (load_carried self.old local (pointer_read script.now self.old pointer.now) (number_read self.old index.now)) result self.new }
+        ensures { CarriesOut self.old (load_effect self.old local (pointer_read script.now self.old pointer.now) (number_read self.old index.now)) result self.new }
     {
         let ptr = self.pointer(script, *pointer);
         let Some(header) = self.heap.header(ptr) else {

@@ -2,27 +2,27 @@
 
 use crate::further_lines::mark_declaration;
 use crate::lines::Line;
-use crate::sorts::{description_of, sort_in_body};
-use crate::spaces::{find_item, key_of};
-use wb_lines::sorts::{is_number_sort, is_pointer_sort};
-use wb_lines::words::{before_first, parameter_taken};
-use wb_model::script_lines::{Key, Taken};
+use crate::operand_kinds::{description_of, operand_kind_in_body};
+use crate::spaces::{find_item, line_kind_of};
+use wb_lines::operand_kinds::{is_number_kind, is_pointer_kind};
+use wb_lines::words::{before_first, parameter_type_of_word};
+use wb_model::script_lines::{LineKind, ParameterType};
 use wb_pages::{Fragment, Page, Spot, Word};
 
 /// The place of the procedure's name among the words of a call.
 fn procedure_place(line: &Line) -> usize {
-    match key_of(line) {
-        Some(Key::CallTo) => 2,
+    match line_kind_of(line) {
+        Some(LineKind::CallTo) => 2,
         _ => 1,
     }
 }
 
 /// Whether a parameter takes what a word refers to.
 fn fits_parameter(lines: &[Line], index: usize, parameter: Word, word: &[u8]) -> bool {
-    let sort = sort_in_body(lines, index, word);
-    match parameter_taken(parameter.text) {
-        Some(Taken::Number) => is_number_sort(sort),
-        _ => is_pointer_sort(sort),
+    let operand_kind = operand_kind_in_body(lines, index, word);
+    match parameter_type_of_word(parameter.text) {
+        Some(ParameterType::Number) => is_number_kind(operand_kind),
+        _ => is_pointer_kind(operand_kind),
     }
 }
 
@@ -71,7 +71,7 @@ fn explain_argument<'x>(
             Fragment::Text("wrong kind: `"),
             Fragment::Word(spot.word),
             Fragment::Text("` is "),
-            Fragment::Text(description_of(sort_in_body(lines, index, spot.word))),
+            Fragment::Text(description_of(operand_kind_in_body(lines, index, spot.word))),
             Fragment::Text(", but the parameter is `"),
             Fragment::Word(parameter),
             Fragment::Text("`"),

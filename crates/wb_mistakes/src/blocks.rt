@@ -2,7 +2,7 @@
 
 use crate::lines::Line;
 use std::alloc::{AllocError, Global};
-use wb_lines::keys::role_of;
+use wb_lines::line_kinds::role_of;
 use wb_model::script_lines::Role;
 
 /// How far an open block is, and so what may come next in it.
@@ -55,8 +55,8 @@ pub(crate) fn begins_body(role: Role) -> bool {
 
 /// The role of a line in the nesting of blocks, by its form.
 pub(crate) fn role(line: &Line) -> Role {
-    match line.key {
-        Some(key) => role_of(key),
+    match line.line_kind {
+        Some(line_kind) => role_of(line_kind),
         None => Role::Skip,
     }
 }

@@ -3,7 +3,7 @@
 use crate::further_lines::mark_name;
 use crate::lines::Line;
 use crate::spaces::{find_item, find_local, find_local_anywhere, has_self, line_of_field};
-use wb_model::script_lines::{ItemKind, Kind};
+use wb_model::script_lines::{ItemKind, LocalKind};
 use wb_pages::Page;
 
 /// What a name is elsewhere, and the line that declares it.
@@ -25,12 +25,12 @@ fn item_problem(kind: ItemKind) -> &'static str {
     }
 }
 
-fn local_problem(kind: Kind<&[u8]>) -> &'static str {
+fn local_problem(kind: LocalKind<&[u8]>) -> &'static str {
     match kind {
-        Kind::Pointer(_) => "a pointer of the body has this name",
-        Kind::Number => "an int of the body has this name",
-        Kind::Buffer => "a buffer of the body has this name",
-        Kind::View => "a view of the body has this name",
+        LocalKind::Pointer(_) => "a pointer of the body has this name",
+        LocalKind::Number => "an int of the body has this name",
+        LocalKind::Buffer => "a buffer of the body has this name",
+        LocalKind::View => "a view of the body has this name",
     }
 }
 

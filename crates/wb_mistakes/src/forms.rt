@@ -2,47 +2,47 @@
 
 use crate::lines::Line;
 use wb_lines::forms::operand_of;
-use wb_lines::keys::{Letters, keys, letters_of, rest_of, text_of};
+use wb_lines::line_kinds::{OperandPlaces, line_kinds, operand_places_of, rest_of, text_of};
 use wb_lines::words::text_of_keyword;
-use wb_model::script_lines::{Key, Letter};
+use wb_model::script_lines::{LineKind, OperandPlace};
 use wb_pages::{Fragment, Page, Word};
 
 /// The operand that a form has at a place after its first word, counted from 1; `None` at place 0 and where it has none.
-pub(crate) fn letter_at(key: Key, place: usize) -> Option<Letter> {
+pub(crate) fn operand_place_at(line_kind: LineKind, place: usize) -> Option<OperandPlace> {
     if place == 0 {
         return None;
     }
-    Letters::of(key).at(place - 1)
+    OperandPlaces::of(line_kind).at(place - 1)
 }
 
 /// The operand at a place of a line, by the line's form; `None` if it has none there.
-pub(crate) fn letter_of(line: &Line, place: usize) -> Option<Letter> {
-    match line.key {
-        Some(key) => letter_at(key, place),
+pub(crate) fn operand_place_of(line: &Line, place: usize) -> Option<OperandPlace> {
+    match line.line_kind {
+        Some(line_kind) => operand_place_at(line_kind, place),
         None => None,
     }
 }
 
 /// Whether a line of this form may have this number of words, its first one included.
-pub(crate) fn admits_count(key: Key, words: usize) -> bool {
-    Letters::of(key).admit(words.saturating_sub(1))
+pub(crate) fn admits_count(line_kind: LineKind, words: usize) -> bool {
+    OperandPlaces::of(line_kind).admit(words.saturating_sub(1))
 }
 
-pub(crate) fn begins_with(key: Key, word: &[u8]) -> bool {
-    text_of(key) == word
+pub(crate) fn begins_with(line_kind: LineKind, word: &[u8]) -> bool {
+    text_of(line_kind) == word
 }
 
-fn fits_at(key: Key, place: usize, word: &[u8]) -> bool {
-    match letter_at(key, place) {
-        Some(letter) => operand_of(letter, word).is_some(),
+fn fits_at(line_kind: LineKind, place: usize, word: &[u8]) -> bool {
+    match operand_place_at(line_kind, place) {
+        Some(operand_place) => operand_of(operand_place, word).is_some(),
         None => place == 0,
     }
 }
 
 /// The place of the first word that doesn't fit the form; `None` if all fit.
-pub(crate) fn first_wrong_word(key: Key, words: &[Word]) -> Option<usize> {
+pub(crate) fn first_wrong_word(line_kind: LineKind, words: &[Word]) -> Option<usize> {
     for (place, word) in words.iter().enumerate() {
-        if !fits_at(key, place, word.text) {
+        if !fits_at(line_kind, place, word.text) {
             return Some(place);
         }
     }
@@ -50,38 +50,41 @@ pub(crate) fn first_wrong_word(key: Key, words: &[Word]) -> Option<usize> {
 }
 
 /// The placeholder for an operand, in a form as it is written.
-fn placeholder_of(letter: Letter) -> &'static [u8] {
-    match letter {
-        Letter::Declared => b"NAME",
-        Letter::Pointer | Letter::Written | Letter::Receiver => b"POINTER",
-        Letter::FieldTarget | Letter::ItsPointer => b"POINTER",
-        Letter::Value | Letter::Source | Letter::Size => b"NUMBER",
-        Letter::Variable | Letter::Target => b"INT",
-        Letter::Writable => b"EDITED",
-        Letter::Readable => b"TEXT",
-        Letter::ViewName => b"VIEW",
-        Letter::Printed => b"NUMBER-OR-TEXT",
-        Letter::Class => b"CLASS",
-        Letter::Procedure => b"PROCEDURE",
-        Letter::Operation => b"OPERATION",
-        Letter::Parameter => b"PARAMETERS",
-        Letter::Argument => b"ARGUMENTS",
-        Letter::Keyword(keyword) => text_of_keyword(keyword),
+fn placeholder_of(operand_place: OperandPlace) -> &'static [u8] {
+    match operand_place {
+        OperandPlace::Declared => b"NAME",
+        OperandPlace::Pointer | OperandPlace::Written | OperandPlace::Receiver => b"POINTER",
+        OperandPlace::FieldTarget | OperandPlace::ItsPointer => b"POINTER",
+        OperandPlace::Value | OperandPlace::Source | OperandPlace::Size => b"NUMBER",
+        OperandPlace::Variable | OperandPlace::Target => b"INT",
+        OperandPlace::Writable => b"EDITED",
+        OperandPlace::Readable => b"TEXT",
+        OperandPlace::ViewName => b"VIEW",
+        OperandPlace::Printed => b"NUMBER-OR-TEXT",
+        OperandPlace::Class => b"CLASS",
+        OperandPlace::Procedure => b"PROCEDURE",
+        OperandPlace::Operation => b"OPERATION",
+        OperandPlace::Parameter => b"PARAMETERS",
+        OperandPlace::Argument => b"ARGUMENTS",
+        OperandPlace::Keyword(keyword) => text_of_keyword(keyword),
     }
 }
 
-fn write_placeholder(page: &mut Page, letter: Letter) {
-    page.write(&[Fragment::Text(" "), Fragment::Word(placeholder_of(letter))]);
+fn write_placeholder(page: &mut Page, operand_place: OperandPlace) {
+    page.write(&[
+        Fragment::Text(" "),
+        Fragment::Word(placeholder_of(operand_place)),
+    ]);
 }
 
 /// Writes a form between backquotes, as `alloc POINTER NUMBER`.
-pub(crate) fn write_form(page: &mut Page, key: Key) {
-    page.write(&[Fragment::Text("`"), Fragment::Word(text_of(key))]);
-    for letter in letters_of(key) {
-        write_placeholder(page, *letter);
+pub(crate) fn write_form(page: &mut Page, line_kind: LineKind) {
+    page.write(&[Fragment::Text("`"), Fragment::Word(text_of(line_kind))]);
+    for operand_place in operand_places_of(line_kind) {
+        write_placeholder(page, *operand_place);
     }
-    if let Some(letter) = rest_of(key) {
-        write_placeholder(page, letter);
+    if let Some(operand_place) = rest_of(line_kind) {
+        write_placeholder(page, operand_place);
     }
     page.write(&[Fragment::Text("`")]);
 }
@@ -89,12 +92,12 @@ pub(crate) fn write_form(page: &mut Page, key: Key) {
 /// Writes all forms that begin with a word, with `or` between them.
 pub(crate) fn write_forms(page: &mut Page, word: &[u8]) {
     let mut is_first = true;
-    for key in keys() {
-        if begins_with(*key, word) {
+    for line_kind in line_kinds() {
+        if begins_with(*line_kind, word) {
             if !is_first {
                 page.write(&[Fragment::Text(" or ")]);
             }
-            write_form(page, *key);
+            write_form(page, *line_kind);
             is_first = false;
         }
     }

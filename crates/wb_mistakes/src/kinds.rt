@@ -2,27 +2,37 @@
 
 use crate::arguments::explain_arguments;
 use crate::blocks::{Blocks, role, role_at};
-use crate::forms::letter_of;
+use crate::forms::operand_place_of;
 use crate::further_lines::{mark_declaration, mark_line, mark_name};
 use crate::lines::Line;
 use crate::misspelled::help_with_operand;
-use crate::sorts::{description_of, line_of_declaration, sort_in_body, sort_of};
-use crate::spaces::{body_of, class_of_holder, key_at, key_of, line_of_item};
+use crate::operand_kinds::{
+    description_of, line_of_declaration, operand_kind_in_body, operand_kind_of,
+};
+use crate::spaces::{body_of, class_of_holder, line_kind_at, line_kind_of, line_of_item};
 use crate::words::{is_field, is_parameter};
-use wb_lines::sorts::{is_pointer_sort, takes};
-use wb_lines::words::{before_first, behind_first};
-use wb_model::script_lines::{Key, Letter, Role, Sort};
+use wb_lines::operand_kinds::{is_pointer_kind, takes};
+use wb_lines::words::{after_first_of, before_first};
+use wb_model::script_lines::{LineKind, OperandKind, OperandPlace, Role};
 use wb_pages::{Fragment, Page, Span, Spot, Word};
 
 /// Whether what a word refers to is right for an operand.
-fn fits_letter(lines: &[Line], index: usize, letter: Letter, word: &[u8]) -> bool {
-    takes(letter, sort_of(lines, index, letter, word))
+fn fits_letter(lines: &[Line], index: usize, operand_place: OperandPlace, word: &[u8]) -> bool {
+    takes(
+        operand_place,
+        operand_kind_of(lines, index, operand_place, word),
+    )
 }
 
 /// The same of a word that may be no operand; such a word is right.
-fn fits_place(lines: &[Line], index: usize, letter: Option<Letter>, word: &[u8]) -> bool {
-    match letter {
-        Some(letter) => fits_letter(lines, index, letter, word),
+fn fits_place(
+    lines: &[Line],
+    index: usize,
+    operand_place: Option<OperandPlace>,
+    word: &[u8],
+) -> bool {
+    match operand_place {
+        Some(operand_place) => fits_letter(lines, index, operand_place, word),
         None => true,
     }
 }
@@ -30,7 +40,7 @@ fn fits_place(lines: &[Line], index: usize, letter: Option<Letter>, word: &[u8])
 /// The place of the first word of a wrong kind; `None` if there is none.
 fn first_wrong_operand(lines: &[Line], index: usize, line: &Line) -> Option<usize> {
     for (place, word) in line.words.iter().enumerate() {
-        if !fits_place(lines, index, letter_of(line, place), word.text) {
+        if !fits_place(lines, index, operand_place_of(line, place), word.text) {
             return Some(place);
         }
     }
@@ -62,7 +72,7 @@ fn spot_of_holder<'a>(line: &Line<'a>, word: Word<'a>) -> Spot<'a> {
 
 /// The class in the word of a parameter.
 fn spot_of_class<'a>(line: &Line<'a>, word: Word<'a>) -> Spot<'a> {
-    let class = behind_first(b':', word.text);
+    let class = after_first_of(b':', word.text);
     let end = word.column.saturating_add(word.text.len());
     let span = Span {
         column: end.saturating_sub(class.len()),
@@ -73,9 +83,9 @@ fn spot_of_class<'a>(line: &Line<'a>, word: Word<'a>) -> Spot<'a> {
 
 /// Says why the name before a dot has no fields.
 fn explain_holder(page: &mut Page, lines: &[Line], index: usize, spot: Spot) {
-    let is = match sort_in_body(lines, index, spot.word) {
-        Sort::Pointer => "a pointer without a class, so it has no fields",
-        sort => description_of(sort),
+    let is = match operand_kind_in_body(lines, index, spot.word) {
+        OperandKind::Pointer => "a pointer without a class, so it has no fields",
+        operand_kind => description_of(operand_kind),
     };
     mark_kind(page, spot, is);
     mark_declaration(page, lines, index, spot.word);
@@ -93,10 +103,16 @@ fn explain_parameter(page: &mut Page, lines: &[Line], spot: Spot) {
     page.write_help_text("a parameter is `NAME:ptr`, `NAME:int` or `NAME:CLASS`");
 }
 
-fn explain_name(page: &mut Page, lines: &[Line], index: usize, letter: Letter, spot: Spot) {
-    let sort = sort_of(lines, index, letter, spot.word);
-    mark_kind(page, spot, description_of(sort));
-    if let Some(declared) = line_of_declaration(lines, index, letter, spot.word) {
+fn explain_name(
+    page: &mut Page,
+    lines: &[Line],
+    index: usize,
+    operand_place: OperandPlace,
+    spot: Spot,
+) {
+    let operand_kind = operand_kind_of(lines, index, operand_place, spot.word);
+    mark_kind(page, spot, description_of(operand_kind));
+    if let Some(declared) = line_of_declaration(lines, index, operand_place, spot.word) {
         mark_name(
             page,
             lines,
@@ -122,17 +138,18 @@ fn explain_operand(page: &mut Page, lines: &[Line], index: usize, line: &Line, p
     } else if is_field_without_class(lines, index, word.text) {
         explain_holder(page, lines, index, spot_of_holder(line, word));
     } else {
-        let letter = letter_of(line, place).unwrap_or(Letter::Argument);
-        explain_name(page, lines, index, letter, line.spot(place));
-        help_with_operand(page, line, letter);
+        let operand_place = operand_place_of(line, place).unwrap_or(OperandPlace::Argument);
+        explain_name(page, lines, index, operand_place, line.spot(place));
+        help_with_operand(page, line, operand_place);
     }
 }
 
 /// Whether the two sides of a `set` are of different kinds.
 fn sides_differ(lines: &[Line], index: usize, line: &Line) -> bool {
-    let target = sort_in_body(lines, index, line.text_at(1));
-    let source = sort_in_body(lines, index, line.text_at(2));
-    matches!(key_of(line), Some(Key::Set)) && is_pointer_sort(target) != is_pointer_sort(source)
+    let target = operand_kind_in_body(lines, index, line.text_at(1));
+    let source = operand_kind_in_body(lines, index, line.text_at(2));
+    matches!(line_kind_of(line), Some(LineKind::Set))
+        && is_pointer_kind(target) != is_pointer_kind(source)
 }
 
 fn explain_sides(page: &mut Page, lines: &[Line], index: usize, line: &Line) {
@@ -143,11 +160,11 @@ fn explain_sides(page: &mut Page, lines: &[Line], index: usize, line: &Line) {
             Fragment::Text("wrong kind: `"),
             Fragment::Word(target),
             Fragment::Text("` is "),
-            Fragment::Text(description_of(sort_in_body(lines, index, target))),
+            Fragment::Text(description_of(operand_kind_in_body(lines, index, target))),
             Fragment::Text(", but `"),
             Fragment::Word(source),
             Fragment::Text("` is "),
-            Fragment::Text(description_of(sort_in_body(lines, index, source))),
+            Fragment::Text(description_of(operand_kind_in_body(lines, index, source))),
         ],
     );
     mark_declaration(page, lines, index, target);
@@ -158,7 +175,7 @@ fn explain_sides(page: &mut Page, lines: &[Line], index: usize, line: &Line) {
 /// Whether a line gives `main` parameters, or makes it a class or an operation.
 fn misuses_main(line: &Line) -> bool {
     let begins_item = matches!(role(line), Role::Class | Role::Procedure);
-    let is_plain = matches!(key_of(line), Some(Key::Proc)) && line.words.len() == 2;
+    let is_plain = matches!(line_kind_of(line), Some(LineKind::Proc)) && line.words.len() == 2;
     begins_item && line.text_at(1) == b"main".as_slice() && !is_plain
 }
 
@@ -167,8 +184,8 @@ fn explain_main(page: &mut Page, line: &Line) {
         line.whole(),
         "`main` must be a procedure without parameters",
     );
-    page.write_help_text(match key_of(line) {
-        Some(Key::Proc) => "write only `proc main`: it gets no arguments when the run begins",
+    page.write_help_text(match line_kind_of(line) {
+        Some(LineKind::Proc) => "write only `proc main`: it gets no arguments when the run begins",
         _ => "the run begins with `proc main`; give this another name",
     });
 }
@@ -177,7 +194,7 @@ fn explain_main(page: &mut Page, line: &Line) {
 fn open_trap(lines: &[Line], blocks: &Blocks) -> Option<usize> {
     let mut trap = None;
     for block in &blocks.open {
-        if matches!(key_at(lines, block.line), Some(Key::Trap)) {
+        if matches!(line_kind_at(lines, block.line), Some(LineKind::Trap)) {
             trap = Some(block.line);
         }
     }
@@ -212,7 +229,10 @@ fn help_of_return(body: Role) -> &'static str {
 }
 
 fn ends_body(line: &Line) -> bool {
-    matches!(key_of(line), Some(Key::Return | Key::ReturnPointer))
+    matches!(
+        line_kind_of(line),
+        Some(LineKind::Return | LineKind::ReturnPointer)
+    )
 }
 
 /// Says which operand of a line is of a wrong kind, or why the line is not allowed where it is.

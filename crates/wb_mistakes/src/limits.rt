@@ -2,15 +2,15 @@
 
 use crate::blocks::{Blocks, role, role_at};
 use crate::lines::Line;
-use crate::spaces::{body_of, class_before, key_of};
+use crate::spaces::{body_of, class_before, line_kind_of};
 use crate::words::is_parameter;
 use wb_lines::forms::operand_of;
-use wb_lines::words::{before_first, behind_first, is_name};
+use wb_lines::words::{after_first_of, before_first, is_name};
 use wb_model::limits::{
     DEEPEST_BLOCK, LARGEST_BUFFER, LONGEST_NAME, MOST_CLASSES, MOST_EXTRA, MOST_FIELDS,
     MOST_LOCALS, MOST_PARAMETERS, MOST_PROCEDURES,
 };
-use wb_model::script_lines::{Key, Letter, Operand, Role};
+use wb_model::script_lines::{LineKind, Operand, OperandPlace, Role};
 use wb_pages::{Fragment, Page, Span, Word};
 
 /// More than a limit allows: of what, the count, the limit, and the part of the line that exceeds it.
@@ -31,8 +31,8 @@ fn long_name_length(word: &[u8]) -> usize {
     let byte = if is_parameter(word) { b':' } else { b'.' };
     if is_long(before_first(byte, word)) {
         before_first(byte, word).len()
-    } else if is_long(behind_first(byte, word)) {
-        behind_first(byte, word).len()
+    } else if is_long(after_first_of(byte, word)) {
+        after_first_of(byte, word).len()
     } else {
         0
     }
@@ -79,7 +79,9 @@ fn local_count(lines: &[Line], index: usize) -> usize {
     let body = body_of(lines, index);
     let declared = count_between(lines, body, index, Role::Declaration);
     match lines.get(body) {
-        Some(line) if matches!(key_of(line), Some(Key::Op)) => declared.saturating_add(1),
+        Some(line) if matches!(line_kind_of(line), Some(LineKind::Op)) => declared.saturating_add(
+            1,
+        ),
         Some(line) => declared.saturating_add(parameter_count(&line.words)),
         None => declared,
     }
@@ -100,7 +102,7 @@ fn excess_over(what: &'static str, counted: usize, most: u32, span: Span) -> Opt
 
 /// The size that a word spells; 0 if it spells none.
 fn size_of(word: &[u8]) -> usize {
-    match operand_of(Letter::Size, word) {
+    match operand_of(OperandPlace::Size, word) {
         Some(Operand::Size(size)) => size as usize,
         _ => 0,
     }
@@ -109,14 +111,19 @@ fn size_of(word: &[u8]) -> usize {
 /// The size in a line that is larger than its limit; `None` if there is none.
 fn size_excess(line: &Line) -> Option<Excess> {
     let size = size_of(line.text_at(2));
-    match key_of(line) {
-        Some(Key::Class) => excess_over(
+    match line_kind_of(line) {
+        Some(LineKind::Class) => excess_over(
             "extra bytes in a class",
             size,
             MOST_EXTRA,
             line.span_at(2),
         ),
-        Some(Key::Buf) => excess_over("units in a buffer", size, LARGEST_BUFFER, line.span_at(2)),
+        Some(LineKind::Buf) => excess_over(
+            "units in a buffer",
+            size,
+            LARGEST_BUFFER,
+            line.span_at(2),
+        ),
         _ => None,
     }
 }

@@ -3,9 +3,9 @@
 use crate::blocks::begins_body;
 use std::alloc::{AllocError, Global};
 use wb_lines::forms::{begins_comment, form_of};
-use wb_lines::keys::role_of;
-use wb_lines::pieces::{self, add_words};
-use wb_model::script_lines::{Form, Key};
+use wb_lines::line_kinds::role_of;
+use wb_lines::segments::{self, add_words};
+use wb_model::script_lines::{Form, LineKind};
 use wb_pages::words::{count_blanks, place_words, trim};
 use wb_pages::{Span, Spot, Word};
 
@@ -17,23 +17,23 @@ pub(crate) struct Line<'a> {
     pub text: &'a [u8],
     pub indent: usize,
     pub words: Vec<Word<'a>>,
-    pub key: Option<Key>,
+    pub line_kind: Option<LineKind>,
     pub body: usize,
 }
 
 /// Returns the key of the form that words have; `None` if they are of no form, or begin a comment. The only error is that memory ran
 /// out.
-fn key_of_words(alloc: Global, texts: &[&[u8]]) -> Result<Option<Key>, AllocError> {
+fn line_kind_of_words(alloc: Global, texts: &[&[u8]]) -> Result<Option<LineKind>, AllocError> {
     match form_of(alloc, texts)? {
-        Form::Line(key, _) => Ok(Some(key)),
+        Form::Line(line_kind, _) => Ok(Some(line_kind)),
         Form::Skip | Form::Unknown => Ok(None),
     }
 }
 
 /// The index of the line that begins the body of a line with this key, after these lines.
-fn body_after(lines: &[Line], key: Option<Key>) -> usize {
-    match (key, lines.last()) {
-        (Some(key), _) if begins_body(role_of(key)) => lines.len(),
+fn body_after(lines: &[Line], line_kind: Option<LineKind>) -> usize {
+    match (line_kind, lines.last()) {
+        (Some(line_kind), _) if begins_body(role_of(line_kind)) => lines.len(),
         (_, Some(line)) => line.body,
         (_, None) => 0,
     }
@@ -47,14 +47,14 @@ fn read_line<'a>(
     let text = trim(bytes);
     let mut texts = Vec::new(alloc);
     add_words(&mut texts, text)?;
-    let key = key_of_words(alloc, &texts)?;
+    let line_kind = line_kind_of_words(alloc, &texts)?;
     Ok(Line {
         number: lines.len().saturating_add(1),
         text,
         indent: count_blanks(bytes),
         words: place_words(alloc, text, &texts)?,
-        key,
-        body: body_after(lines, key),
+        line_kind,
+        body: body_after(lines, line_kind),
     })
 }
 
@@ -71,7 +71,7 @@ fn add_line<'a>(
 /// Returns the lines of a script. The only error is that memory ran out.
 pub(crate) fn lines_of<'a>(alloc: Global, bytes: &'a [u8]) -> Result<Vec<Line<'a>>, AllocError> {
     let mut lines = Vec::new(alloc);
-    for line in pieces::lines(alloc, bytes)? {
+    for line in segments::lines(alloc, bytes)? {
         add_line(alloc, &mut lines, line)?;
     }
     Ok(lines)

@@ -1,16 +1,16 @@
 //! A line that is of no form: no such statement, too few or too many words, or a word that doesn't fit.
 
 use crate::forms::{
-    admits_count, begins_with, first_wrong_word, letter_at, write_form, write_forms,
+    admits_count, begins_with, first_wrong_word, operand_place_at, write_form, write_forms,
 };
 use crate::lines::Line;
 use crate::nearest::{Candidate, Search};
 use crate::words::is_field;
 use crate::wrong_words::{complaint_of, expectation_of};
 use wb_lines::forms::begins_comment;
-use wb_lines::keys::{keys, letters_of, text_of};
+use wb_lines::line_kinds::{line_kinds, operand_places_of, text_of};
 use wb_lines::words::text_of_keyword;
-use wb_model::script_lines::{Key, Keyword, Letter};
+use wb_model::script_lines::{Keyword, LineKind, OperandPlace};
 use wb_pages::{Fragment, Page, Span, Spot, Word};
 
 /// What a condition asks.
@@ -54,8 +54,8 @@ fn open_quote<'a>(line: &Line<'a>) -> Option<Word<'a>> {
 /// The first word of a form that is nearest to this word; `None` if none is near.
 fn nearest_statement(word: &[u8]) -> Option<Candidate<'static>> {
     let mut search = Search::of(word);
-    for key in keys() {
-        search.consider(text_of(*key), 0);
+    for line_kind in line_kinds() {
+        search.consider(text_of(*line_kind), 0);
     }
     search.found
 }
@@ -69,8 +69,8 @@ fn nearest_condition(word: &[u8]) -> Option<Candidate<'static>> {
 }
 
 fn begins_statement(word: &[u8]) -> bool {
-    for key in keys() {
-        if begins_with(*key, word) {
+    for line_kind in line_kinds() {
+        if begins_with(*line_kind, word) {
             return true;
         }
     }
@@ -125,24 +125,26 @@ fn has_no_condition(line: &Line) -> bool {
 
 /// Whether a line may be meant to have a form, whatever the number of its words: the word of a condition, and the field of a `set`,
 /// must be right.
-fn is_intended(key: Key, line: &Line) -> bool {
-    let is_right = match letters_of(key).first() {
-        Some(Letter::Keyword(_) | Letter::FieldTarget) => first_wrong_word(key, &line.words)
-            != Some(1),
-        Some(Letter::Target) => !is_field(line.text_at(1)),
+fn is_intended(line_kind: LineKind, line: &Line) -> bool {
+    let is_right = match operand_places_of(line_kind).first() {
+        Some(OperandPlace::Keyword(_) | OperandPlace::FieldTarget) => first_wrong_word(
+            line_kind,
+            &line.words,
+        ) != Some(1),
+        Some(OperandPlace::Target) => !is_field(line.text_at(1)),
         _ => true,
     };
-    begins_with(key, line.text_at(0)) && is_right
+    begins_with(line_kind, line.text_at(0)) && is_right
 }
 
 /// The form that a line is meant to have: one that may have as many words, or else the last of those that begin as it does; `None` if
 /// there is none.
-fn intended_key(line: &Line) -> Option<Key> {
+fn intended_key(line: &Line) -> Option<LineKind> {
     let mut found = None;
-    for key in keys() {
-        if is_intended(*key, line) {
-            found = Some(*key);
-            if admits_count(*key, line.words.len()) {
+    for line_kind in line_kinds() {
+        if is_intended(*line_kind, line) {
+            found = Some(*line_kind);
+            if admits_count(*line_kind, line.words.len()) {
                 return found;
             }
         }
@@ -155,22 +157,22 @@ fn is_else_if(line: &Line) -> bool {
 }
 
 /// The first word too many, or the whole line if it has too few.
-fn spot_of_count<'a>(line: &Line<'a>, key: Key, is_more: bool) -> Spot<'a> {
-    match first_wrong_word(key, &line.words) {
+fn spot_of_count<'a>(line: &Line<'a>, line_kind: LineKind, is_more: bool) -> Spot<'a> {
+    match first_wrong_word(line_kind, &line.words) {
         Some(place) if is_more => line.spot_of(line.span_at(place), line.text_at(0)),
         _ => line.spot_of(line.span(), line.text_at(0)),
     }
 }
 
 /// Says that a line has too few words, or too many.
-fn explain_word_count(page: &mut Page, line: &Line, key: Key) {
-    let is_more = line.words.len() > letters_of(key).len();
+fn explain_word_count(page: &mut Page, line: &Line, line_kind: LineKind) {
+    let is_more = line.words.len() > operand_places_of(line_kind).len();
     let problem = if is_more {
         "too many words for `"
     } else {
         "too few words for `"
     };
-    page.mark_word(spot_of_count(line, key, is_more), problem, "`");
+    page.mark_word(spot_of_count(line, line_kind, is_more), problem, "`");
     if is_else_if(line) {
         page.write_help_text("write the `if` on the next line, with an `end` of its own");
     }
@@ -178,26 +180,26 @@ fn explain_word_count(page: &mut Page, line: &Line, key: Key) {
 }
 
 /// Says what is expected as an operand, and the form of its line.
-fn help_with_place(page: &mut Page, key: Key, letter: Letter) {
+fn help_with_place(page: &mut Page, line_kind: LineKind, operand_place: OperandPlace) {
     page.begin_help();
     page.write(&[
-        Fragment::Text(expectation_of(letter)),
+        Fragment::Text(expectation_of(operand_place)),
         Fragment::Text(" is expected here: "),
     ]);
-    write_form(page, key);
+    write_form(page, line_kind);
     page.end_line();
 }
 
 /// The same of a line, if it has a form.
-pub(crate) fn help_with_operand(page: &mut Page, line: &Line, letter: Letter) {
-    if let Some(key) = line.key {
-        help_with_place(page, key, letter);
+pub(crate) fn help_with_operand(page: &mut Page, line: &Line, operand_place: OperandPlace) {
+    if let Some(line_kind) = line.line_kind {
+        help_with_place(page, line_kind, operand_place);
     }
 }
 
 /// Says what is wrong with the word at a place of a form.
-fn explain_word(page: &mut Page, key: Key, letter: Letter, spot: Spot) {
-    let found = complaint_of(letter, spot.word);
+fn explain_word(page: &mut Page, line_kind: LineKind, operand_place: OperandPlace, spot: Spot) {
+    let found = complaint_of(operand_place, spot.word);
     page.mark(
         spot,
         &[
@@ -210,7 +212,7 @@ fn explain_word(page: &mut Page, key: Key, letter: Letter, spot: Spot) {
     if !found.hint.is_empty() {
         page.write_help_text(found.hint);
     }
-    help_with_place(page, key, letter);
+    help_with_place(page, line_kind, operand_place);
 }
 
 fn explain_late_comment(page: &mut Page, spot: Spot) {
@@ -226,13 +228,15 @@ fn explain_open_quote(page: &mut Page, spot: Spot) {
 }
 
 /// Says what is wrong with the words of a line that begins as some form does.
-fn explain_words(page: &mut Page, line: &Line, key: Key) {
-    match first_wrong_word(key, &line.words) {
-        Some(place) if admits_count(key, line.words.len()) => {
-            let letter = letter_at(key, place).unwrap_or(Letter::Declared);
-            explain_word(page, key, letter, line.spot(place));
+fn explain_words(page: &mut Page, line: &Line, line_kind: LineKind) {
+    match first_wrong_word(line_kind, &line.words) {
+        Some(place) if admits_count(line_kind, line.words.len()) => {
+            let operand_place = operand_place_at(line_kind, place).unwrap_or(
+                OperandPlace::Declared,
+            );
+            explain_word(page, line_kind, operand_place, line.spot(place));
         }
-        _ => explain_word_count(page, line, key),
+        _ => explain_word_count(page, line, line_kind),
     }
 }
 
@@ -249,7 +253,7 @@ pub(crate) fn explain_misspelled(page: &mut Page, line: &Line) {
         explain_open_quote(page, spot_from(line, word));
     } else if has_no_condition(line) {
         explain_condition(page, line.spot(1));
-    } else if let Some(key) = intended_key(line) {
-        explain_words(page, line, key);
+    } else if let Some(line_kind) = intended_key(line) {
+        explain_words(page, line, line_kind);
     }
 }

@@ -3,10 +3,10 @@
 use crate::blocks::role;
 use crate::lines::Line;
 use crate::nearest::{Candidate, Search};
-use crate::spaces::{body_of, declared_kind, item_kind_of, key_of};
+use crate::spaces::{body_of, declared_kind, item_kind_of, line_kind_of};
 use crate::words::is_parameter;
 use wb_lines::words::before_first;
-use wb_model::script_lines::{ItemKind, Key, Role};
+use wb_model::script_lines::{ItemKind, LineKind, Role};
 use wb_pages::Word;
 
 fn is_item(line: &Line, kind: ItemKind) -> bool {
@@ -42,10 +42,10 @@ impl<'w, 'a> Search<'w, 'a> {
 
     /// Considers what one line declares for its body.
     fn consider_declared(&mut self, line: &Line<'a>, number: usize) {
-        match key_of(line) {
-            Some(Key::Proc) => self.consider_parameters(&line.words, number),
-            Some(Key::Op) => self.consider(line.text_at(2), number),
-            Some(Key::Constructor | Key::Destructor) => self.consider(b"self", number),
+        match line_kind_of(line) {
+            Some(LineKind::Proc) => self.consider_parameters(&line.words, number),
+            Some(LineKind::Op) => self.consider(line.text_at(2), number),
+            Some(LineKind::Constructor | LineKind::Destructor) => self.consider(b"self", number),
             _ if declared_kind(line).is_some() => self.consider(line.text_at(1), number),
             _ => {}
         }

@@ -3,14 +3,14 @@
 use crate::blocks::{role, role_at};
 use crate::lines::Line;
 use crate::words::is_parameter_named;
-use wb_lines::words::parameter_taken;
-use wb_model::script_lines::{ItemKind, Key, Kind, Role, Taken};
+use wb_lines::words::parameter_type_of_word;
+use wb_model::script_lines::{ItemKind, LineKind, LocalKind, ParameterType, Role};
 use wb_pages::Word;
 
 /// A local: what it holds, and the index of the line that declares it.
 #[derive(Clone, Copy)]
 pub(crate) struct Local<'a> {
-    pub kind: Kind<&'a [u8]>,
+    pub kind: LocalKind<&'a [u8]>,
     pub line: usize,
 }
 
@@ -22,24 +22,24 @@ pub(crate) struct Item {
 }
 
 /// The key of a line's form; `None` if it has none.
-pub(crate) fn key_of(line: &Line) -> Option<Key> {
-    line.key
+pub(crate) fn line_kind_of(line: &Line) -> Option<LineKind> {
+    line.line_kind
 }
 
 /// The same of the line with an index.
-pub(crate) fn key_at(lines: &[Line], index: usize) -> Option<Key> {
+pub(crate) fn line_kind_at(lines: &[Line], index: usize) -> Option<LineKind> {
     match lines.get(index) {
-        Some(line) => key_of(line),
+        Some(line) => line_kind_of(line),
         None => None,
     }
 }
 
 /// Which of a class, a procedure and an operation a line begins; `None` if it begins none of these.
 pub(crate) fn item_kind_of(line: &Line) -> Option<ItemKind> {
-    match key_of(line) {
-        Some(Key::Class) => Some(ItemKind::Class),
-        Some(Key::Proc) => Some(ItemKind::Procedure),
-        Some(Key::Op) => Some(ItemKind::Operation),
+    match line_kind_of(line) {
+        Some(LineKind::Class) => Some(ItemKind::Class),
+        Some(LineKind::Proc) => Some(ItemKind::Procedure),
+        Some(LineKind::Op) => Some(ItemKind::Operation),
         _ => None,
     }
 }
@@ -97,16 +97,16 @@ pub(crate) fn has_self(lines: &[Line], index: usize) -> bool {
 }
 
 /// What a parameter holds.
-pub(crate) fn kind_of_parameter<'a>(word: &'a [u8]) -> Kind<&'a [u8]> {
-    match parameter_taken(word) {
-        Some(Taken::Number) => Kind::Number,
-        Some(Taken::OfClass(class)) => Kind::Pointer(Some(class)),
-        Some(Taken::Pointer) | None => Kind::Pointer(None),
+pub(crate) fn kind_of_parameter<'a>(word: &'a [u8]) -> LocalKind<&'a [u8]> {
+    match parameter_type_of_word(word) {
+        Some(ParameterType::Number) => LocalKind::Number,
+        Some(ParameterType::OfClass(class)) => LocalKind::Pointer(Some(class)),
+        Some(ParameterType::Pointer) | None => LocalKind::Pointer(None),
     }
 }
 
 /// What the parameter with a name holds, among words; `None` if there is none.
-fn parameter_kind<'a>(words: &[Word<'a>], name: &[u8]) -> Option<Kind<&'a [u8]>> {
+fn parameter_kind<'a>(words: &[Word<'a>], name: &[u8]) -> Option<LocalKind<&'a [u8]>> {
     for word in words {
         if is_parameter_named(word.text, name) {
             return Some(kind_of_parameter(word.text));
@@ -116,22 +116,22 @@ fn parameter_kind<'a>(words: &[Word<'a>], name: &[u8]) -> Option<Kind<&'a [u8]>>
 }
 
 /// What the local holds that a line declares; `None` if it declares none.
-pub(crate) fn declared_kind<'a>(line: &Line<'a>) -> Option<Kind<&'a [u8]>> {
-    match key_of(line) {
-        Some(Key::Ptr) => Some(Kind::Pointer(None)),
-        Some(Key::ClassPtr) => Some(Kind::Pointer(Some(line.text_at(2)))),
-        Some(Key::Int) => Some(Kind::Number),
-        Some(Key::Buf) => Some(Kind::Buffer),
-        Some(Key::View) => Some(Kind::View),
+pub(crate) fn declared_kind<'a>(line: &Line<'a>) -> Option<LocalKind<&'a [u8]>> {
+    match line_kind_of(line) {
+        Some(LineKind::Ptr) => Some(LocalKind::Pointer(None)),
+        Some(LineKind::ClassPtr) => Some(LocalKind::Pointer(Some(line.text_at(2)))),
+        Some(LineKind::Int) => Some(LocalKind::Number),
+        Some(LineKind::Buf) => Some(LocalKind::Buffer),
+        Some(LineKind::View) => Some(LocalKind::View),
         _ => None,
     }
 }
 
 /// What a name holds by one line, a declaration or the first line of a body with its parameters; `None` if the line doesn't declare it.
-fn kind_by_line<'a>(line: &Line<'a>, name: &[u8]) -> Option<Kind<&'a [u8]>> {
-    match key_of(line) {
-        Some(Key::Proc) => parameter_kind(&line.words, name),
-        Some(Key::Op) if line.text_at(2) == name => Some(Kind::Pointer(None)),
+fn kind_by_line<'a>(line: &Line<'a>, name: &[u8]) -> Option<LocalKind<&'a [u8]>> {
+    match line_kind_of(line) {
+        Some(LineKind::Proc) => parameter_kind(&line.words, name),
+        Some(LineKind::Op) if line.text_at(2) == name => Some(LocalKind::Pointer(None)),
         _ if line.text_at(1) == name => declared_kind(line),
         _ => None,
     }
@@ -178,7 +178,7 @@ pub(crate) fn class_of_holder(lines: &[Line], index: usize, base: &[u8]) -> Opti
     match find_local(lines, index, base) {
         Some(
             Local {
-                kind: Kind::Pointer(Some(class)),
+                kind: LocalKind::Pointer(Some(class)),
                 line: _,
             },
         ) => find_class(lines, class),

@@ -1,7 +1,7 @@
 //! A name that is declared nowhere: in which space it was looked for, and what is nearest there.
 
 use crate::elsewhere::{Elsewhere, elsewhere_of_item, elsewhere_of_local, explain_elsewhere};
-use crate::forms::letter_of;
+use crate::forms::operand_place_of;
 use crate::further_lines::mark_line;
 use crate::lines::Line;
 use crate::misspelled::help_with_operand;
@@ -9,8 +9,8 @@ use crate::near_names::{nearest_field, nearest_item, nearest_local};
 use crate::nearest::Candidate;
 use crate::spaces::{body_of, class_of_holder, find_field, find_item, find_local, has_self};
 use crate::words::{is_field, is_parameter};
-use wb_lines::words::{before_first, behind_first, is_name, is_reserved, parameter_taken};
-use wb_model::script_lines::{ItemKind, Letter, Taken};
+use wb_lines::words::{after_first_of, before_first, is_name, is_reserved, parameter_type_of_word};
+use wb_model::script_lines::{ItemKind, OperandPlace, ParameterType};
 use wb_pages::{Fragment, Page, Span, Spot};
 
 /// Where a name was looked for.
@@ -71,7 +71,7 @@ fn unknown_field<'a>(
     column: usize,
 ) -> Option<Unknown<'a>> {
     let base = before_first(b'.', word);
-    let name = behind_first(b'.', word);
+    let name = after_first_of(b'.', word);
     match class_of_holder(lines, index, base) {
         Some(class) if find_field(lines, class, name).is_none() => unknown_at(
             name,
@@ -110,7 +110,7 @@ fn unknown_class<'a>(lines: &[Line], word: &'a [u8], column: usize) -> Option<Un
     if !is_parameter(word) {
         return None;
     }
-    let Some(Taken::OfClass(class)) = parameter_taken(word) else {
+    let Some(ParameterType::OfClass(class)) = parameter_type_of_word(word) else {
         return None;
     };
     let column = column
@@ -123,16 +123,19 @@ fn unknown_class<'a>(lines: &[Line], word: &'a [u8], column: usize) -> Option<Un
 fn unknown_in_word<'a>(
     lines: &[Line],
     index: usize,
-    letter: Letter,
+    operand_place: OperandPlace,
     word: &'a [u8],
     column: usize,
 ) -> Option<Unknown<'a>> {
-    match letter {
-        Letter::Declared | Letter::ItsPointer | Letter::Size | Letter::Keyword(_) => None,
-        Letter::Parameter => unknown_class(lines, word, column),
-        Letter::Class => unknown_item(lines, word, column, ItemKind::Class),
-        Letter::Procedure => unknown_item(lines, word, column, ItemKind::Procedure),
-        Letter::Operation => unknown_item(lines, word, column, ItemKind::Operation),
+    match operand_place {
+        OperandPlace::Declared
+        | OperandPlace::ItsPointer
+        | OperandPlace::Size
+        | OperandPlace::Keyword(_) => None,
+        OperandPlace::Parameter => unknown_class(lines, word, column),
+        OperandPlace::Class => unknown_item(lines, word, column, ItemKind::Class),
+        OperandPlace::Procedure => unknown_item(lines, word, column, ItemKind::Procedure),
+        OperandPlace::Operation => unknown_item(lines, word, column, ItemKind::Operation),
         _ => unknown_in_body(lines, index, word, column),
     }
 }
@@ -142,11 +145,17 @@ fn first_unknown<'a>(
     lines: &[Line<'a>],
     index: usize,
     line: &Line<'a>,
-) -> Option<(Unknown<'a>, Letter)> {
+) -> Option<(Unknown<'a>, OperandPlace)> {
     for (place, word) in line.words.iter().enumerate() {
-        if let Some(letter) = letter_of(line, place) {
-            if let Some(found) = unknown_in_word(lines, index, letter, word.text, word.column) {
-                return Some((found, letter));
+        if let Some(operand_place) = operand_place_of(line, place) {
+            if let Some(found) = unknown_in_word(
+                lines,
+                index,
+                operand_place,
+                word.text,
+                word.column,
+            ) {
+                return Some((found, operand_place));
             }
         }
     }
@@ -269,9 +278,9 @@ fn help_with_candidate(page: &mut Page, near: Candidate) {
 /// Says which name of a line is declared nowhere.
 pub(crate) fn explain_unknown_name(page: &mut Page, lines: &[Line], index: usize) {
     if let Some(line) = lines.get(index)
-        && let Some((found, letter)) = first_unknown(lines, index, line)
+        && let Some((found, operand_place)) = first_unknown(lines, index, line)
     {
-        explain_unknown(page, lines, index, line, found, letter);
+        explain_unknown(page, lines, index, line, found, operand_place);
     }
 }
 
@@ -282,7 +291,7 @@ fn explain_unknown<'x>(
     index: usize,
     line: &Line<'x>,
     found: Unknown<'x>,
-    letter: Letter,
+    operand_place: OperandPlace,
 ) {
     let spot = line.spot_of(found.span, found.name);
     explain_problem(page, lines, spot, found.space);
@@ -294,7 +303,7 @@ fn explain_unknown<'x>(
     match (nearest_candidate(lines, index, found), elsewhere) {
         (_, Some(Elsewhere::FieldOfClass(_))) => {}
         (Some(near), _) => help_with_candidate(page, near),
-        (None, Some(Elsewhere::OtherKind(..))) => help_with_operand(page, line, letter),
+        (None, Some(Elsewhere::OtherKind(..))) => help_with_operand(page, line, operand_place),
         (None, _) => page.write_help_text(help_of(found)),
     }
 }

@@ -1,7 +1,7 @@
 //! What a word is by its bytes: a name, a field, a number, a text, a parameter.
 
 use wb_lines::words::{
-    base_name, field_name, is_digit, literal_of, number_of, parameter_name, parameter_taken,
+    base_name, field_name, is_digit, literal_of, number_of, parameter_name, parameter_type_of_word,
 };
 
 /// Whether a word has a byte.
@@ -41,7 +41,7 @@ pub(crate) fn is_literal(word: &[u8]) -> bool {
 }
 
 pub(crate) fn is_parameter(word: &[u8]) -> bool {
-    parameter_name(word).is_some() && parameter_taken(word).is_some()
+    parameter_name(word).is_some() && parameter_type_of_word(word).is_some()
 }
 
 /// Whether a word is a parameter with a name.

@@ -1,8 +1,8 @@
 //! What is wrong with a word that is not allowed where it is, by its bytes alone, and what is expected there.
 
 use crate::words::{digits, has_byte, is_field, is_literal, is_numeral};
-use wb_lines::words::{before_first, behind_first, is_digit, is_name, is_reserved};
-use wb_model::script_lines::{Keyword, Letter};
+use wb_lines::words::{after_first_of, before_first, is_digit, is_name, is_reserved};
+use wb_model::script_lines::{Keyword, OperandPlace};
 
 /// What is wrong with a word, and a hint, which may be empty.
 #[derive(Clone, Copy)]
@@ -16,48 +16,54 @@ fn complaint_with(problem: &'static str, hint: &'static str) -> Complaint {
 }
 
 /// What is expected as an operand.
-pub(crate) fn expectation_of(letter: Letter) -> &'static str {
-    match letter {
-        Letter::Declared => "the name to declare",
-        Letter::ItsPointer => "a name for the pointer that it takes",
-        Letter::Pointer => "a pointer (its name, a field or `self`)",
-        Letter::Written => "a pointer that can be set (its name or a field)",
-        Letter::Receiver => "the name of a pointer that can be set",
-        Letter::FieldTarget => "a field",
-        Letter::Value => "a number or the name of an int",
-        Letter::Variable => "the name of an int",
-        Letter::Target => "the name of an int or a pointer",
-        Letter::Source => "a number, a field, or the name of an int or a pointer",
-        Letter::Size => "a number from 0 up",
-        Letter::Writable =>
+pub(crate) fn expectation_of(operand_place: OperandPlace) -> &'static str {
+    match operand_place {
+        OperandPlace::Declared => "the name to declare",
+        OperandPlace::ItsPointer => "a name for the pointer that it takes",
+        OperandPlace::Pointer => "a pointer (its name, a field or `self`)",
+        OperandPlace::Written => "a pointer that can be set (its name or a field)",
+        OperandPlace::Receiver => "the name of a pointer that can be set",
+        OperandPlace::FieldTarget => "a field",
+        OperandPlace::Value => "a number or the name of an int",
+        OperandPlace::Variable => "the name of an int",
+        OperandPlace::Target => "the name of an int or a pointer",
+        OperandPlace::Source => "a number, a field, or the name of an int or a pointer",
+        OperandPlace::Size => "a number from 0 up",
+        OperandPlace::Writable =>
             "a text that can be changed (the name of a buffer, or a pointer to a text)",
-        Letter::Readable => "a text (a literal, or the name of a buffer, a view or a pointer)",
-        Letter::ViewName => "the name of a view",
-        Letter::Printed => "a number, a text, or the name of an int, a buffer, a view or a pointer",
-        Letter::Class => "the name of a class",
-        Letter::Procedure => "the name of a procedure",
-        Letter::Operation => "the name of an operation",
-        Letter::Parameter => "a parameter (`NAME:ptr`, `NAME:int` or `NAME:CLASS`)",
-        Letter::Argument => {
+        OperandPlace::Readable =>
+            "a text (a literal, or the name of a buffer, a view or a pointer)",
+        OperandPlace::ViewName => "the name of a view",
+        OperandPlace::Printed =>
+            "a number, a text, or the name of an int, a buffer, a view or a pointer",
+        OperandPlace::Class => "the name of a class",
+        OperandPlace::Procedure => "the name of a procedure",
+        OperandPlace::Operation => "the name of an operation",
+        OperandPlace::Parameter => "a parameter (`NAME:ptr`, `NAME:int` or `NAME:CLASS`)",
+        OperandPlace::Argument => {
             "an argument (a number, a field, or the name of an int or a pointer)"
         }
-        Letter::Keyword(Keyword::Null) => "`null`",
-        Letter::Keyword(Keyword::Some) => "`some`",
-        Letter::Keyword(Keyword::Equal) => "`eq`",
-        Letter::Keyword(Keyword::Less) => "`less`",
+        OperandPlace::Keyword(Keyword::Null) => "`null`",
+        OperandPlace::Keyword(Keyword::Some) => "`some`",
+        OperandPlace::Keyword(Keyword::Equal) => "`eq`",
+        OperandPlace::Keyword(Keyword::Less) => "`less`",
     }
 }
 
 /// Whether an operand may be a number.
-fn takes_number(letter: Letter) -> bool {
+fn takes_number(operand_place: OperandPlace) -> bool {
     matches!(
-        letter,
-        Letter::Value | Letter::Source | Letter::Size | Letter::Printed | Letter::Argument
+        operand_place,
+        OperandPlace::Value
+            | OperandPlace::Source
+            | OperandPlace::Size
+            | OperandPlace::Printed
+            | OperandPlace::Argument
     )
 }
 
-fn numeral_complaint(letter: Letter, word: &[u8]) -> Complaint {
-    if !takes_number(letter) {
+fn numeral_complaint(operand_place: OperandPlace, word: &[u8]) -> Complaint {
+    if !takes_number(operand_place) {
         complaint_with("a number is not allowed here", "")
     } else if digits(word).len() > 9 {
         complaint_with("the number is too long", "a number has one to nine digits")
@@ -80,13 +86,13 @@ fn quoted_complaint(word: &[u8]) -> Complaint {
 }
 
 /// What is wrong with a word that has a colon, or is where a parameter is expected.
-fn parameter_complaint(letter: Letter, word: &[u8]) -> Complaint {
-    if matches!(letter, Letter::ItsPointer) {
+fn parameter_complaint(operand_place: OperandPlace, word: &[u8]) -> Complaint {
+    if matches!(operand_place, OperandPlace::ItsPointer) {
         complaint_with(
             "a word with a colon is not allowed here",
             "an operation takes one pointer, and no kind is written after its name",
         )
-    } else if !matches!(letter, Letter::Parameter) {
+    } else if !matches!(operand_place, OperandPlace::Parameter) {
         complaint_with("a word with a colon is not allowed here", "")
     } else if is_reserved(before_first(b':', word)) {
         reserved_complaint()
@@ -116,7 +122,7 @@ fn hint_at_end(word: &[u8], other: &'static str) -> &'static str {
 
 /// Whether a word names a field of a field.
 fn is_chain(word: &[u8]) -> bool {
-    is_name(before_first(b'.', word)) && is_field(behind_first(b'.', word))
+    is_name(before_first(b'.', word)) && is_field(after_first_of(b'.', word))
 }
 
 fn reserved_complaint() -> Complaint {
@@ -127,9 +133,10 @@ fn reserved_complaint() -> Complaint {
 }
 
 /// What is wrong with a word that is a name or a field.
-fn name_complaint(letter: Letter, word: &[u8]) -> Complaint {
-    match letter {
-        Letter::Declared | Letter::ItsPointer if is_reserved(word) => reserved_complaint(),
+fn name_complaint(operand_place: OperandPlace, word: &[u8]) -> Complaint {
+    match operand_place {
+        OperandPlace::Declared | OperandPlace::ItsPointer if is_reserved(word) =>
+            reserved_complaint(),
         _ if is_field(word) => complaint_with("a field is not allowed here", ""),
         _ => complaint_with("a name is not allowed here", ""),
     }
@@ -165,15 +172,15 @@ fn other_complaint(word: &[u8]) -> Complaint {
 }
 
 /// What is wrong with a word that isn't allowed as this operand.
-pub(crate) fn complaint_of(letter: Letter, word: &[u8]) -> Complaint {
+pub(crate) fn complaint_of(operand_place: OperandPlace, word: &[u8]) -> Complaint {
     if matches!(word, [b'"', ..]) {
         quoted_complaint(word)
-    } else if has_byte(b':', word) || matches!(letter, Letter::Parameter) {
-        parameter_complaint(letter, word)
+    } else if has_byte(b':', word) || matches!(operand_place, OperandPlace::Parameter) {
+        parameter_complaint(operand_place, word)
     } else if is_numeral(word) {
-        numeral_complaint(letter, word)
+        numeral_complaint(operand_place, word)
     } else if is_name(word) || is_field(word) {
-        name_complaint(letter, word)
+        name_complaint(operand_place, word)
     } else {
         other_complaint(word)
     }

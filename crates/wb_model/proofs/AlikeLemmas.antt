@@ -33,7 +33,7 @@ use Rattle.wb_model.specs.State.{Content, words, fields, units, none, State, Way
 use Rattle.wb_model.specs.Operands.{raw_words_of, set_field, with_cell, with_fields, with_pointer, set_pointer, set_row}
 use Rattle.wb_model.specs.Attempts.{attempt, allocate, resized, reallocate, reallocate_longer, grow_if, push, after_growth}
 use Rattle.wb_model.specs.Reading.{Source, whole, part, set_units, with_writable, with_readable, with_base, with_units, with_room, with_text_cell, write, write_view}
-use Rattle.wb_model.specs.Statements.{with_words, with_class, Piece, Where, Meaning, given_to, released, of_script, release, is_null}
+use Rattle.wb_model.specs.Statements.{with_words, with_class, Todo, Context, Meaning, given_to, released, of_script, release, is_null}
 
 -- the heap with other cells
 abbrev pub with_cells : Heap Content → List (Cell Content) → Heap Content
@@ -313,4 +313,4 @@ module _ (L : Lasting) where
 
   -- two meanings of what stands inside
   abbrev pub AlikeAll : Meaning → Meaning → Type 0
-  AlikeAll rec rec' = (ns : List ℕ) (at : Where) (p : Piece) (st : State) → Fine ns st → Alike ns (rec at p st) (rec' at p st)
+  AlikeAll rec rec' = (ns : List ℕ) (at : Context) (p : Todo) (st : State) → Fine ns st → Alike ns (rec at p st) (rec' at p st)

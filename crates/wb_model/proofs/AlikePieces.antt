@@ -4,7 +4,7 @@ use Rattle.std.specs.Prelude.{nat_lt}
 use Rattle.std.proofs.lemmas.Bool.{ltb-true}
 use Rattle.wb_model.specs.declared.script.Statement.TheViews.{out-Statement}
 use Rattle.wb_model.specs.State.{State, Process, ends, stops, asks, notes}
-use Rattle.wb_model.specs.Statements.{Piece, all, turns, destroy_items, destroy_object, Where, Meaning}
+use Rattle.wb_model.specs.Statements.{Todo, all, turns, destroy_items, destroy_object, Context, Meaning}
 use Rattle.wb_model.specs.Meaning.{begun, begun_if, piece, meaning_within}
 use Rattle.wb_model.proofs.AlikeLemmas.{Lasting, Fine, Keeps, Alike, AlikeAll, then_do-alike, with_some-alike, with_class-alike, release-alike}
 use Rattle.wb_model.proofs.AlikeStatements.{plain-alike, in_frame-alike, destroyed_item-alike, statement-alike}
@@ -39,7 +39,7 @@ module _ (L : Lasting) where
           (is.0, shows_weaker ns st.steps (st.steps + 1) budget (omega arith) (go (record st { steps = st.steps + 1 })) is.1)
       by false e = (refl, ((omega arith, f), h, lines))
 
-  pub piece-alike : (ns : List ℕ) (budget : ℕ) (rec rec' : Meaning) (at : Where) (p : Piece) (st : State) → st.steps ≤ budget → L.Holds ns st.heap → L.Prints st.lines →
+  pub piece-alike : (ns : List ℕ) (budget : ℕ) (rec rec' : Meaning) (at : Context) (p : Todo) (st : State) → st.steps ≤ budget → L.Holds ns st.heap → L.Prints st.lines →
       AlikeAll (between L (st.steps + 1) budget) rec rec' → Alike (between L st.steps budget) ns (piece L.script budget rec at p st) (piece L.script budget rec' at p st)
   unfolding piece
   piece-alike ns budget rec rec' at (all []) st f h lines k = (refl, ((omega arith, f), h, lines))
@@ -60,7 +60,7 @@ module _ (L : Lasting) where
       in_frame-alike B _ _ _ _ _ _ _ _ _ k g (λ ns w st g. plain-alike B _ _ w st g (λ _ st g. release-alike B _ _ g))))
 
   -- past the budget the bound doesn't matter, and no run counts more steps than its budget
-  pub meaning_within-alike : (budget n m : ℕ) (ns : List ℕ) (at : Where) (p : Piece) (st : State) → st.steps ≤ budget →
+  pub meaning_within-alike : (budget n m : ℕ) (ns : List ℕ) (at : Context) (p : Todo) (st : State) → st.steps ≤ budget →
       L.Holds ns st.heap → L.Prints st.lines → budget < n + st.steps → budget < m + st.steps →
       Alike (between L st.steps budget) ns (meaning_within L.script budget n at p st) (meaning_within L.script budget m at p st)
   unfolding meaning_within

@@ -19,7 +19,7 @@ use Rattle.wb_model.specs.Rules.{never, next, each}
 use Rattle.wb_model.specs.State.{null, State, Value, Way, goes_on, returns, leaves, Process}
 use Rattle.wb_model.specs.Operands.{number_of}
 use Rattle.wb_model.specs.Reading.{printed}
-use Rattle.wb_model.specs.Statements.{new_object, alloc_raw, Where, Meaning, Layer, realloc_of, realloc_raw, in_frame, plain, with_arguments, destroyed_object, destroyed_item, trapped, with_condition, leave_if, realloc_text, statement}
+use Rattle.wb_model.specs.Statements.{new_object, alloc_raw, Context, Meaning, Layer, realloc_of, realloc_raw, in_frame, plain, with_arguments, destroyed_object, destroyed_item, trapped, with_condition, leave_if, realloc_text, statement}
 use Rattle.wb_model.proofs.AlikeLemmas.{Lasting, Fine, Alike, AlikeAll, and_then-alike, then_do-alike, require-alike, with_some-alike, unless-alike, with_cell-alike, with_pointer-alike, set_pointer-fine, stored-fine, given_to-alike, allocate-alike, reallocate-alike, push-alike, with_writable-alike, with_readable-alike, with_units-alike, with_room-alike, write-alike, write_view-alike, release-alike, with_words-alike, with_class-alike}
 use Rattle.wb_model.proofs.PrintableLemmas.{printed-printable, signed_decimal-printable}
 
@@ -30,7 +30,7 @@ module _ (L : Lasting) where
   plain-alike _ _ (returns p) st f k = k p st f
   plain-alike _ _ (leaves code) st f k = (refl, f)
 
-  pub in_frame-alike : {ns : List ℕ} (rec rec' : Meaning) (at : Where) (this : Ptr) (given : List Value) (body : Body) (st : State) (go go' : Way → State → Process) → AlikeAll L rec rec' → Fine L ns st →
+  pub in_frame-alike : {ns : List ℕ} (rec rec' : Meaning) (at : Context) (this : Ptr) (given : List Value) (body : Body) (st : State) (go go' : Way → State → Process) → AlikeAll L rec rec' → Fine L ns st →
       ((ns : List ℕ) (w : Way) (st : State) → Fine L ns st → Alike L ns (go w st) (go' w st)) → Alike L ns (in_frame rec at this given body st go) (in_frame rec' at this given body st go')
   unfolding in_frame
   in_frame-alike _ rec' _ _ _ _ _ _ _ r f k = require-alike L _ _ _ _ _ f (and_then-alike L _ _ _ _ _ (r _ _ _ _ f) (λ ns w st f. k ns w _ f))
@@ -41,18 +41,18 @@ module _ (L : Lasting) where
   with_arguments-alike _ _ _ (Passed p ∷ rest) f k = with_pointer-alike L _ _ _ _ f (λ q. with_arguments-alike _ _ _ rest f (λ vs. k _))
   with_arguments-alike _ _ _ (Given v ∷ rest) f k = with_arguments-alike _ _ _ rest f (λ vs. k _)
 
-  pub destroyed_object-alike : {ns : List ℕ} (b : Bool) (rec rec' : Meaning) (at : Where) (p : Ptr) (st : State) → AlikeAll L rec rec' → Fine L ns st → Alike L ns (destroyed_object b rec at p st) (destroyed_object b rec' at p st)
+  pub destroyed_object-alike : {ns : List ℕ} (b : Bool) (rec rec' : Meaning) (at : Context) (p : Ptr) (st : State) → AlikeAll L rec rec' → Fine L ns st → Alike L ns (destroyed_object b rec at p st) (destroyed_object b rec' at p st)
   unfolding destroyed_object
   destroyed_object-alike true _ rec' _ _ _ r f = (refl, f)
   destroyed_object-alike false _ rec' _ _ _ r f = r _ _ _ _ f
 
-  pub destroyed_item-alike : {ns : List ℕ} (script : Script) (rec rec' : Meaning) (at : Where) (item : Item) (st : State) → AlikeAll L rec rec' → Fine L ns st → Alike L ns (destroyed_item script rec at item st) (destroyed_item script rec' at item st)
+  pub destroyed_item-alike : {ns : List ℕ} (script : Script) (rec rec' : Meaning) (at : Context) (item : Item) (st : State) → AlikeAll L rec rec' → Fine L ns st → Alike L ns (destroyed_item script rec at item st) (destroyed_item script rec' at item st)
   unfolding destroyed_item
   destroyed_item-alike _ _ rec' _ (I.Free p) _ r f = release-alike L _ _ f
   destroyed_item-alike _ _ rec' _ (I.Delete p) _ r f = destroyed_object-alike _ _ _ _ _ _ r f
   destroyed_item-alike _ _ rec' _ (I.Call p op) _ r f = in_frame-alike _ _ _ _ _ _ _ _ _ r f (λ ns w st f. plain-alike _ _ w st f (λ _ st f. (refl, f)))
 
-  pub trapped-alike : {ns : List ℕ} (rec rec' : Meaning) (at : Where) (x entry : ℕ) (w : Way) (st : State) → AlikeAll L rec rec' → Fine L ns st → Alike L ns (trapped rec at x entry w st) (trapped rec' at x entry w st)
+  pub trapped-alike : {ns : List ℕ} (rec rec' : Meaning) (at : Context) (x entry : ℕ) (w : Way) (st : State) → AlikeAll L rec rec' → Fine L ns st → Alike L ns (trapped rec at x entry w st) (trapped rec' at x entry w st)
   unfolding trapped
   trapped-alike _ rec' _ _ _ goes_on st r f = require-alike L _ _ _ _ _ f (refl, f)
   trapped-alike _ rec' _ _ _ (leaves code) st r f = then_do-alike L _ _ _ _ _ (r _ _ _ _ f) (λ ns st f. (refl, f))
@@ -82,7 +82,7 @@ module _ (L : Lasting) where
       reallocate-alike L q c _ st st _ _ e refl f f (λ ns o st f. given_to-alike L _ _ o st f))))
 
   -- one clause for each statement
-  pub statement-alike : {ns : List ℕ} (rec rec' : Meaning) (at : Where) (s : Layer) (st : State) → AlikeAll L rec rec' → Fine L ns st → Alike L ns (statement L.script rec at s st) (statement L.script rec' at s st)
+  pub statement-alike : {ns : List ℕ} (rec rec' : Meaning) (at : Context) (s : Layer) (st : State) → AlikeAll L rec rec' → Fine L ns st → Alike L ns (statement L.script rec at s st) (statement L.script rec' at s st)
   unfolding statement new_object realloc_text
   statement-alike rec rec' at (Statement-F.Alloc p v r) st k f = with_pointer-alike L _ _ _ _ f (λ _. with_some-alike L _ _ _ _ _ f (λ n _. alloc_raw-alike _ _ _ _ f))
   statement-alike rec rec' at (Statement-F.Realloc p q v r) st k f = with_pointer-alike L _ _ _ _ f (λ _. with_pointer-alike L _ _ _ _ f (λ old. realloc_of-alike _ _ _ _ _ _ f))

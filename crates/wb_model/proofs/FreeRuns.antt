@@ -23,7 +23,7 @@ record AreRunsFrom (at : ℕ) (row : List Header) (committed : ℕ) (runs : List
 -- the run before a cell, or the longest behind it
 found_before : (h : Header) (hs : List Header) (at committed rest : ℕ) → IsSpacedFrom at (h ∷ hs) → top_from (end_of h) hs ≤ committed →
     IsFound (end_of h) hs committed rest → IsFound at (h ∷ hs) committed (max (h.place - at) rest)
-found_before h hs at committed rest s top behind = by (nat_le rest (h.place - at)) refl
+found_before h hs at committed rest s top following = by (nat_le rest (h.place - at)) refl
   where
     by : (b : Bool) → nat_le rest (h.place - at) ≡ b → IsFound at (h ∷ hs) committed (max (h.place - at) rest)
     by true e =
@@ -39,11 +39,11 @@ found_before h hs at committed rest s top behind = by (nat_le rest (h.place - at
     by false e =
         let n : rest ≡ max (h.place - at) rest = omega (arith, leb-false _ _ e) in
         record {
-          place = behind.place;
-          above = omega (arith, behind.above, s.0);
+          place = following.place;
+          above = omega (arith, following.above, s.0);
           found = record {
-            within = omega (arith, n, behind.found.within);
-            free = (inr behind.above, subst (λ l. IsFree hs behind.place l) n behind.found.free);
+            within = omega (arith, n, following.found.within);
+            free = (inr following.above, subst (λ l. IsFree hs following.place l) n following.found.free);
           };
         }
 
@@ -76,9 +76,9 @@ free_runs-from (h ∷ hs) at committed s top =
     by : (p length : ℕ) → at ≤ p → IsFreeBelow (h ∷ hs) committed p length → Misses p length h →
         ((p length : ℕ) → end_of h ≤ p → IsFreeBelow hs committed p length → length ≤ longest (free_runs (end_of h) hs committed)) →
         length ≤ max (h.place - at) (longest (free_runs (end_of h) hs committed))
-    by p length above free (inl before) behind = omega (arith, above, before)
-    by p length above free (inr after) behind =
-        let le = behind p length after (record { within = free.within; free = free.free.1 }) in omega (arith, le)
+    by p length above free (inl before) following = omega (arith, above, before)
+    by p length above free (inr after) following =
+        let le = following p length after (record { within = free.within; free = free.free.1 }) in omega (arith, le)
 
 pub free_runs-are : (row : List Header) (committed : ℕ) → IsSpacedFrom 0 row → top_of row ≤ committed → AreFreeRuns row committed (free_runs 0 row committed)
 free_runs-are row committed s top =

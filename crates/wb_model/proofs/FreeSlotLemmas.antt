@@ -9,7 +9,7 @@ use Rattle.wb_model.specs.declared.script.Body.{Body}
 use Rattle.wb_model.specs.declared.script.Statement.TheOpen.{Statement-F}
 use Rattle.wb_model.specs.declared.script.Statement.TheViews.{out-Statement}
 use Rattle.wb_model.specs.State.{Value, State, Way, goes_on, returns, leaves, Process, ends, stops, asks, notes, and_then, is_cut}
-use Rattle.wb_model.specs.Statements.{Piece, all, turns, destroy_items, destroy_object, Where, Meaning, Layer, new_object, realloc_text, in_frame, drop_newest, destroyed_object, destroyed_item, trapped, statement}
+use Rattle.wb_model.specs.Statements.{Todo, all, turns, destroy_items, destroy_object, Context, Meaning, Layer, new_object, realloc_text, in_frame, drop_newest, destroyed_object, destroyed_item, trapped, statement}
 use Rattle.wb_model.specs.declared.heap.Rule.{Rule}
 use Rattle.wb_model.specs.declared.heap.Answer.{Answer}
 use Rattle.wb_model.specs.declared.run.Why.TheVariants.{Ceiling}
@@ -22,12 +22,12 @@ use Rattle.wb_model.specs.FreeSlots.{HasFreeSlot, WhereverItGoesOn}
 use Rattle.wb_model.proofs.FreeSlots.{HasFree, EndsFree, KeepsFree, fewer, and_then-free, then_do-free, require-free, with_some-free, unless-free, with_cell-free, with_pointer-free, with_words-free, with_class-free, with_condition-free, with_arguments-free, with_writable-free, with_readable-free, with_units-free, with_room-free, write-free, write_view-free, set_pointer-free, given_to-free, allocate-free, reallocate-free, push-free, release-free, leave_if-free, alloc_raw-free, realloc_of-free, plain-free, framed-free}
 
 -- The stack as a piece may find it. A push that filled the last slot and left is followed by the destruction of an item, if of any.
-abbrev pub FindsFree : Piece → State → Type 0
+abbrev pub FindsFree : Todo → State → Type 0
 FindsFree (destroy_items n) st = (length st.items ≤ st.slots) × (length st.items < st.slots + n) × (1 ≤ st.slots)
 FindsFree _ st = HasFreeSlot st
 
 abbrev pub KeepsAll : Meaning → Type 0
-KeepsAll rec = (at : Where) (p : Piece) (st : State) → FindsFree p st → KeepsFree st.slots (rec at p st)
+KeepsAll rec = (at : Context) (p : Todo) (st : State) → FindsFree p st → KeepsFree st.slots (rec at p st)
 
 -- fewer items leave more slots free
 dropped-free : (least n : ℕ) (st : State) → HasFree least st → HasFree least (drop_newest n st)
@@ -37,28 +37,28 @@ dropped-free least n st f =
 
 module _ (rec : Meaning) (keeps : KeepsAll rec) (least : ℕ) where
   -- what stands inside a piece, from a state with a free slot on
-  inside : (at : Where) (p : Piece) (st : State) → least ≤ st.slots → FindsFree p st → KeepsFree least (rec at p st)
+  inside : (at : Context) (p : Todo) (st : State) → least ≤ st.slots → FindsFree p st → KeepsFree least (rec at p st)
   inside at p st le finds = fewer least st.slots le (rec at p st) (keeps at p st finds)
 
-  in_frame-free : (at : Where) (this : Ptr) (given : List Value) (body : Body) (st : State) (go : Way → State → Process) → HasFree least st →
+  in_frame-free : (at : Context) (this : Ptr) (given : List Value) (body : Body) (st : State) (go : Way → State → Process) → HasFree least st →
       ((w : Way) (st : State) → EndsFree least w st → KeepsFree least (go w st)) → KeepsFree least (in_frame rec at this given body st go)
   unfolding in_frame
   in_frame-free at this given body st go f k =
       require-free least _ _ _ _ (and_then-free least _ _ (inside _ _ _ f.0 f.1) (λ w after e. k w _ (framed-free least w after st.frame e)))
 
-  destroyed_object-free : (b : Bool) (at : Where) (p : Ptr) (st : State) → HasFree least st → KeepsFree least (destroyed_object b rec at p st)
+  destroyed_object-free : (b : Bool) (at : Context) (p : Ptr) (st : State) → HasFree least st → KeepsFree least (destroyed_object b rec at p st)
   unfolding destroyed_object
   destroyed_object-free true at p st f = f
   destroyed_object-free false at p st f = inside _ _ _ f.0 f.1
 
-  destroyed_item-free : (script : Script) (at : Where) (item : Item) (st : State) → HasFree least st → KeepsFree least (destroyed_item script rec at item st)
+  destroyed_item-free : (script : Script) (at : Context) (item : Item) (st : State) → HasFree least st → KeepsFree least (destroyed_item script rec at item st)
   unfolding destroyed_item
   destroyed_item-free script at (I.Free p) st f = release-free least _ _ f
   destroyed_item-free script at (I.Delete p) st f = destroyed_object-free _ _ _ _ f
   destroyed_item-free script at (I.Call p op) st f = in_frame-free _ _ _ _ st _ f (λ w st e. plain-free least _ w st e (λ p st f. f))
 
   -- a TRAP that had a free slot at its entry
-  trapped-free : (at : Where) (x entry : ℕ) (w : Way) (st : State) → entry < least → EndsFree least w st → KeepsFree least (trapped rec at x entry w st)
+  trapped-free : (at : Context) (x entry : ℕ) (w : Way) (st : State) → entry < least → EndsFree least w st → KeepsFree least (trapped rec at x entry w st)
   unfolding trapped
   trapped-free at x entry goes_on st had f = require-free least _ _ _ _ f
   trapped-free at x entry (leaves code) st had f =
@@ -67,7 +67,7 @@ module _ (rec : Meaning) (keeps : KeepsAll rec) (least : ℕ) where
 
 module _ (rec : Meaning) (keeps : KeepsAll rec) (least : ℕ) where
   -- one clause for each statement
-  pub statement-free : (script : Script) (at : Where) (s : Layer) (st : State) → HasFree least st → KeepsFree least (statement script rec at s st)
+  pub statement-free : (script : Script) (at : Context) (s : Layer) (st : State) → HasFree least st → KeepsFree least (statement script rec at s st)
   unfolding statement new_object realloc_text
   statement-free script at (Statement-F.Alloc p v r) st f = with_pointer-free least _ _ _ (λ _. with_some-free least _ _ _ _ (λ n. alloc_raw-free least _ _ _ _ f))
   statement-free script at (Statement-F.Realloc p q v r) st f = with_pointer-free least _ _ _ (λ _. with_pointer-free least _ _ _ (λ old. realloc_of-free least _ _ _ _ _ _ f))
@@ -189,7 +189,7 @@ module _ (script : Script) (budget : ℕ) where
   unfolding meaning_of
   meaning-free at p st finds = meaning_within-free (suc budget) at p st finds
 
-  main_trapped-free : (at : Where) (w : Way) (st : State) → EndsFree 8 w st → KeepsFree 8 (main_trapped (meaning_of script budget) at w st)
+  main_trapped-free : (at : Context) (w : Way) (st : State) → EndsFree 8 w st → KeepsFree 8 (main_trapped (meaning_of script budget) at w st)
   unfolding main_trapped
   main_trapped-free at goes_on st f = require-free 8 _ _ _ _ f
   main_trapped-free at (returns p) st f = require-free 8 _ _ _ _ f
@@ -237,7 +237,7 @@ onward least (stops stop st) k = tt
 onward least (asks t cut go) k = (k.0.1, λ n a. onward least (go n a) (k.1 n a))
 onward least (notes q p) k = onward least p k
 
-finds : (p : Piece) (st : State) → HasFreeSlot st → FindsFree p st
+finds : (p : Todo) (st : State) → HasFreeSlot st → FindsFree p st
 finds (all ss) st free = free
 finds (turns n body) st free = free
 finds (destroy_items n) st free = (omega (arith, free), omega (arith, free), omega (arith, free))
@@ -246,5 +246,5 @@ finds (destroy_object p) st free = free
 pub run-has_free_slot : (script : Script) (budget : ℕ) → WhereverItGoesOn HasFreeSlot (process script budget)
 run-has_free_slot script budget = onward 8 (process script budget) (process-free script budget)
 
-pub piece-has_free_slot : (script : Script) (budget : ℕ) (at : Where) (p : Piece) (st : State) → HasFreeSlot st → WhereverItGoesOn HasFreeSlot (meaning_of script budget at p st)
+pub piece-has_free_slot : (script : Script) (budget : ℕ) (at : Context) (p : Todo) (st : State) → HasFreeSlot st → WhereverItGoesOn HasFreeSlot (meaning_of script budget at p st)
 piece-has_free_slot script budget at p st free = onward st.slots (meaning_of script budget at p st) (meaning-free script budget at p st (finds p st free))

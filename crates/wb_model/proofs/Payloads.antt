@@ -11,11 +11,11 @@ pub filled-changed : (p : Ptr) (words : List ℕ) (row : List (Cell (List ℕ)))
 filled-changed p words [] same all = All-nil _
 filled-changed p words (c ∷ cs) same all = by (is_at p c.head) same (filled-changed p words cs)
   where
-    behind : All IsFilled cs
-    behind k x lt = all (suc k) x (omega arith)
+    following : All IsFilled cs
+    following k x lt = all (suc k) x (omega arith)
 
     by : (b : Bool) → length words ≡ length (content_or_nil (cond b (Some c) (cell_at p cs))) →
         (length words ≡ length (payload_of p cs) → All IsFilled cs → All IsFilled (with_payload p words cs)) →
         All IsFilled (cond b (record c { content = words } ∷ cs) (c ∷ with_payload p words cs))
-    by true e rest = All-cons IsFilled (record c { content = words }) cs (ap (λ n. 4 * n) e ∙ all 0 c (omega arith)) behind
-    by false e rest = All-cons IsFilled c (with_payload p words cs) (all 0 c (omega arith)) (rest e behind)
+    by true e rest = All-cons IsFilled (record c { content = words }) cs (ap (λ n. 4 * n) e ∙ all 0 c (omega arith)) following
+    by false e rest = All-cons IsFilled c (with_payload p words cs) (all 0 c (omega arith)) (rest e following)

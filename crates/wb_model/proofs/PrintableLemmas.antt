@@ -28,10 +28,10 @@ glyph-printable d small = by (nat_lt d 10) refl
     by true low = let less = ltb-true d 10 low in (omega (arith, less), omega (arith, less))
     by false high = (omega (arith, small), omega (arith, small))
 
-onto-printable : (base : ℕ) → ((n : ℕ) → n % base < 16) → (k n : ℕ) (behind : List ℕ) → ArePrintable behind → ArePrintable (digits_onto k base false n behind)
-onto-printable base small zero n behind are = are
-onto-printable base small (suc k) n behind are =
-    let more = All-cons IsPrintable (digit_glyph false (n % base)) behind (glyph-printable (n % base) (small n)) are in
+onto-printable : (base : ℕ) → ((n : ℕ) → n % base < 16) → (k n : ℕ) (following : List ℕ) → ArePrintable following → ArePrintable (digits_onto k base false n following)
+onto-printable base small zero n following are = are
+onto-printable base small (suc k) n following are =
+    let more = All-cons IsPrintable (digit_glyph false (n % base)) following (glyph-printable (n % base) (small n)) are in
     either (eqb (n / base) 0) _ _ more (onto-printable base small k (n / base) _ more)
   where
     either : (b : Bool) (xs ys : List ℕ) → ArePrintable xs → ArePrintable ys → ArePrintable (cond b xs ys)

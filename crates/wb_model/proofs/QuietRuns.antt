@@ -26,7 +26,7 @@ use Rattle.wb_model.specs.Row.{Cell, cell_at}
 use Rattle.wb_model.specs.State.{Content, Value, State, Way, goes_on, returns, leaves, Process, ends, stops, asks, notes, and_then, on_plain_end, then_do, require, with_some}
 use Rattle.wb_model.specs.Operands.{with_cell, with_fields, with_pointer, set_pointer}
 use Rattle.wb_model.specs.Reading.{Source, whole, part, with_writable, with_readable, with_text_cell, with_base, with_units}
-use Rattle.wb_model.specs.Statements.{Piece, all, turns, destroy_items, destroy_object, Where, Meaning, Layer, is_null, released, of_script, release, with_words, in_frame, plain, with_class, destroyed_object, destroyed_item, with_condition, choice, statement}
+use Rattle.wb_model.specs.Statements.{Todo, all, turns, destroy_items, destroy_object, Context, Meaning, Layer, is_null, released, of_script, release, with_words, in_frame, plain, with_class, destroyed_object, destroyed_item, with_condition, choice, statement}
 use Rattle.wb_model.specs.Bodies.{no_body, operation_at, class_at}
 use Rattle.wb_model.specs.Meaning.{begun_if, begun, piece, meaning_within, meaning_of}
 use Rattle.wb_model.specs.Quiet.{is_quiet, is_quiet_body, is_quiet_if_there, is_quiet_local, is_quiet_statement, are_quiet}
@@ -134,34 +134,34 @@ set_pointer-items st (Held H.This) q = refl
 set_pointer-items st (Field h class i) q = refl
 
 -- pieces that carry out bodies which cannot leave
-abbrev IsQuiet : Piece → Type 0
+abbrev IsQuiet : Todo → Type 0
 IsQuiet (all ss) = (depth : ℕ) × IsTrue (are_quiet depth ss)
 IsQuiet (turns n body) = (depth : ℕ) × IsTrue (are_quiet depth body)
 IsQuiet _ = Unit {0}
 
 -- the items that stand behind a piece
-abbrev items_behind : Piece → List Item → List Item
-items_behind (destroy_items n) items = take (length items - n) items
-items_behind _ items = items
+abbrev items_after : Todo → List Item → List Item
+items_after (destroy_items n) items = take (length items - n) items
+items_after _ items = items
 
 abbrev GoesOn : Meaning → Type 0
-GoesOn rec = (at : Where) (p : Piece) (st : State) → IsQuiet p → GoesOnWith (items_behind p st.items) (rec at p st)
+GoesOn rec = (at : Context) (p : Todo) (st : State) → IsQuiet p → GoesOnWith (items_after p st.items) (rec at p st)
 
 module _ (rec : Meaning) (goes : GoesOn rec) where
-  in_frame-goes : (items : List Item) (at : Where) (this : Ptr) (given : List Value) (body : Body) (st : State) (go : Way → State → Process) → IsTrue (is_quiet_body body) →
+  in_frame-goes : (items : List Item) (at : Context) (this : Ptr) (given : List Value) (body : Body) (st : State) (go : Way → State → Process) → IsTrue (is_quiet_body body) →
       ((after : State) → after.items ≡ st.items → GoesOnWith items (go goes_on after)) → GoesOnWith items (in_frame rec at this given body st go)
   unfolding in_frame
   in_frame-goes items at this given body st go quiet h =
       let statements_quiet = (both (list_all is_quiet_local body.locals) (are_quiet (suc DEEPEST_BLOCK) body.statements) quiet).1 in
       require-goes items _ _ _ _ (and_then-goes items st.items _ _ (goes _ (all body.statements) _ (suc DEEPEST_BLOCK, statements_quiet)) (λ after is. h _ is))
 
-  destroyed_object-goes : (b : Bool) (at : Where) (p : Ptr) (st : State) → GoesOnWith st.items (destroyed_object b rec at p st)
+  destroyed_object-goes : (b : Bool) (at : Context) (p : Ptr) (st : State) → GoesOnWith st.items (destroyed_object b rec at p st)
   unfolding destroyed_object
   destroyed_object-goes true at p st = refl
   destroyed_object-goes false at p st = goes at (destroy_object p) st tt
 
   -- a statement that cannot leave, where those in its blocks can't
-  statement-goes : (script : Script) (depth : ℕ) (at : Where) (s : Layer) (st : State) → IsTrue (is_quiet_statement (are_quiet depth) s) → GoesOnWith st.items (statement script rec at s st)
+  statement-goes : (script : Script) (depth : ℕ) (at : Context) (s : Layer) (st : State) → IsTrue (is_quiet_statement (are_quiet depth) s) → GoesOnWith st.items (statement script rec at s st)
   unfolding statement
   statement-goes script depth at (Statement-F.Free p) st quiet = with_pointer-goes st.items _ _ _ (λ q. release-goes st.items _ _ refl)
   statement-goes script depth at (Statement-F.Delete p) st quiet = with_pointer-goes st.items _ _ _ (λ q. destroyed_object-goes _ _ _ _)
@@ -224,7 +224,7 @@ module _ (script : Script) (quiet : IsTrue (is_quiet script)) where
       (both (list_all (λ (c : Class). is_quiet_if_there c.destroy) script.classes) (list_all (λ (o : Operation). is_quiet_body o.body) script.operations) quiet).0 refl)
 
   module _ (budget : ℕ) (rec : Meaning) (goes : GoesOn rec) where
-    destroyed_item-goes : (at : Where) (item : Item) (st : State) → GoesOnWith st.items (destroyed_item script rec at item st)
+    destroyed_item-goes : (at : Context) (item : Item) (st : State) → GoesOnWith st.items (destroyed_item script rec at item st)
     unfolding destroyed_item plain
     destroyed_item-goes at (I.Free p) st = release-goes st.items _ _ refl
     destroyed_item-goes at (I.Delete p) st = destroyed_object-goes rec goes _ at p st
@@ -245,9 +245,9 @@ module _ (script : Script) (quiet : IsTrue (is_quiet script)) where
     piece-goes at (destroy_items zero) st is = sym (take_all (length st.items - 0) st.items (omega arith))
     piece-goes at (destroy_items (suc n)) st is =
         let left = take (length st.items - 1) st.items in
-        let behind = take (length st.items - suc n) st.items in
-        begun-goes behind _ _ _ (with_some-goes behind _ _ _ _ (λ item.
-        then_do-goes behind left _ _ (destroyed_item-goes at item _)
+        let following = take (length st.items - suc n) st.items in
+        begun-goes following _ _ _ (with_some-goes following _ _ _ _ (λ item.
+        then_do-goes following left _ _ (destroyed_item-goes at item _)
         (λ after same. subst (λ items. GoesOnWith items (rec at (destroy_items n) after)) (ap (λ items. take (length items - n) items) same ∙ dropped st.items n) (goes at (destroy_items n) after tt))))
     piece-goes at (destroy_object p) st is =
         begun-goes st.items _ _ _ (with_class-goes st.items _ _ _ (λ class.
@@ -258,10 +258,10 @@ module _ (script : Script) (quiet : IsTrue (is_quiet script)) where
   meaning-goes budget zero at p st is = tt
   meaning-goes budget (suc n) at p st is = piece-goes budget (meaning_within script budget n) (meaning-goes budget n) at p st is
 
-pub items_destroyed : (script : Script) (budget : ℕ) (at : Where) (n : ℕ) (st : State) → IsTrue (is_quiet script) → GoesOnWith (take (length st.items - n) st.items) (meaning_of script budget at (destroy_items n) st)
+pub items_destroyed : (script : Script) (budget : ℕ) (at : Context) (n : ℕ) (st : State) → IsTrue (is_quiet script) → GoesOnWith (take (length st.items - n) st.items) (meaning_of script budget at (destroy_items n) st)
 unfolding meaning_of
 items_destroyed script budget at n st quiet = meaning-goes script quiet budget (suc budget) at (destroy_items n) st tt
 
-pub object_destroyed : (script : Script) (budget : ℕ) (at : Where) (p : Ptr) (st : State) → IsTrue (is_quiet script) → GoesOnWith st.items (meaning_of script budget at (destroy_object p) st)
+pub object_destroyed : (script : Script) (budget : ℕ) (at : Context) (p : Ptr) (st : State) → IsTrue (is_quiet script) → GoesOnWith st.items (meaning_of script budget at (destroy_object p) st)
 unfolding meaning_of
 object_destroyed script budget at p st quiet = meaning-goes script quiet budget (suc budget) at (destroy_object p) st tt

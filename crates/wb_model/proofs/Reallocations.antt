@@ -6,7 +6,7 @@ use Rattle.std.proofs.lemmas.Bool.{eqb-true, eq-eqb, ne_eqb, leb-true, leb-false
 use Rattle.std.proofs.lemmas.List.{length-take, length-replicate, take_all, drop-replicate}
 use Rattle.wb_model.specs.declared.heap.Header.{Header}
 use Rattle.wb_model.specs.declared.heap.Ptr.{Ptr}
-use Rattle.wb_model.specs.CellRow.{room_behind, Clears, FitsInPlace, resized_words, resized_cell, with_length}
+use Rattle.wb_model.specs.CellRow.{room_after, Clears, FitsInPlace, resized_words, resized_cell, with_length}
 use Rattle.wb_model.specs.Heap.{fits_in_place}
 use Rattle.wb_model.specs.LimitedHeap.{zero_words}
 use Rattle.wb_model.specs.Row.{Cell, headers, end_of, pointer_to, is_at, cell_at, inserted, without, changed, IsSpacedFrom, Misses, IsFree}
@@ -113,30 +113,30 @@ first-clears h (g ∷ gs) to long s = by (nat_le (h.place + to) g.place) refl
         (or_from (nat_le (h.place + to) g.place) (nat_le (end_of g) h.place) e (lt-leb (end_of g) h.place (omega (arith, s.0, long)))))
         ∙ sym (lt-leb to (h.length + (g.place - end_of h)) (omega (arith, gt, s.0)))
 
-room-here : (p : Ptr) (h : Header) (hs : List Header) → is_at p h ≡ true → room_behind p (h ∷ hs) ≡ first_room h hs
+room-here : (p : Ptr) (h : Header) (hs : List Header) → is_at p h ≡ true → room_after p (h ∷ hs) ≡ first_room h hs
 unfolding first_room
 room-here p h [] e = refl
-room-here p h (g ∷ gs) e = cond-true (is_at p h) (Some (g.place - end_of h)) (room_behind p (g ∷ gs)) e
+room-here p h (g ∷ gs) e = cond-true (is_at p h) (Some (g.place - end_of h)) (room_after p (g ∷ gs)) e
 
-room-past : (p : Ptr) (h : Header) (hs : List Header) → is_at p h ≡ false → room_behind p (h ∷ hs) ≡ room_behind p hs
+room-past : (p : Ptr) (h : Header) (hs : List Header) → is_at p h ≡ false → room_after p (h ∷ hs) ≡ room_after p hs
 room-past p h [] e = refl
-room-past p h (g ∷ gs) e = cond-false (is_at p h) (Some (g.place - end_of h)) (room_behind p (g ∷ gs)) e
+room-past p h (g ∷ gs) e = cond-false (is_at p h) (Some (g.place - end_of h)) (room_after p (g ∷ gs)) e
 
 pub fits-room : (p : Ptr) (hs : List Header) (at : ℕ) (h : Header) (to : ℕ) → IsSpacedFrom at hs → find (is_at p) hs ≡ Some h →
-    fits_in_place hs h to ≡ has_room (room_behind p hs) h.length to
+    fits_in_place hs h to ≡ has_room (room_after p hs) h.length to
 fits-room p [] at h to s e = cc
 fits-room p (g ∷ gs) at h to s e = by (is_at p g) refl e (fits-room p gs (end_of g) h to s.5)
   where
-    own : (x : Header) → x ≡ h → 16 ≤ x.length → IsSpacedFrom (end_of x) gs → is_at p x ≡ true → fits_in_place (x ∷ gs) h to ≡ has_room (room_behind p (x ∷ gs)) h.length to
+    own : (x : Header) → x ≡ h → 16 ≤ x.length → IsSpacedFrom (end_of x) gs → is_at p x ≡ true → fits_in_place (x ∷ gs) h to ≡ has_room (room_after p (x ∷ gs)) h.length to
     own x same long spaced here =
-        subst (λ y. 16 ≤ y.length → IsSpacedFrom (end_of y) gs → is_at p y ≡ true → fits_in_place (y ∷ gs) h to ≡ has_room (room_behind p (y ∷ gs)) h.length to) (sym same)
+        subst (λ y. 16 ≤ y.length → IsSpacedFrom (end_of y) gs → is_at p y ≡ true → fits_in_place (y ∷ gs) h to ≡ has_room (room_after p (y ∷ gs)) h.length to) (sym same)
         (λ l t n.
         ap (λ b. b && fits_in_place gs h to) (or_left (is_at (pointer_to h) h) (nat_le (h.place + to) h.place || nat_le (end_of h) h.place) (at-own h))
         ∙ first-clears h gs to l t ∙ ap (λ r. has_room r h.length to) (sym (room-here p h gs n)))
         long spaced here
 
-    by : (b : Bool) → is_at p g ≡ b → cond b (Some g) (find (is_at p) gs) ≡ Some h → (find (is_at p) gs ≡ Some h → fits_in_place gs h to ≡ has_room (room_behind p gs) h.length to) →
-        fits_in_place (g ∷ gs) h to ≡ has_room (room_behind p (g ∷ gs)) h.length to
+    by : (b : Bool) → is_at p g ≡ b → cond b (Some g) (find (is_at p) gs) ≡ Some h → (find (is_at p) gs ≡ Some h → fits_in_place gs h to ≡ has_room (room_after p gs) h.length to) →
+        fits_in_place (g ∷ gs) h to ≡ has_room (room_after p (g ∷ gs)) h.length to
     by true here found rest = let same : g ≡ h = cc in own g same s.3 s.5 here
     by false other found rest =
         let is = found-from p gs (end_of g) h s.5 found in
@@ -148,7 +148,7 @@ fits-room p (g ∷ gs) at h to s e = by (is_at p g) refl e (fits-room p gs (end_
 -- a length that isn't greater fits
 pub fits-shorter : (p : Ptr) (hs : List Header) (at : ℕ) (h : Header) (to : ℕ) → IsSpacedFrom at hs → find (is_at p) hs ≡ Some h → to ≤ h.length →
     fits_in_place hs h to ≡ true
-fits-shorter p hs at h to s e le = fits-room p hs at h to s e ∙ by (room_behind p hs)
+fits-shorter p hs at h to s e le = fits-room p hs at h to s e ∙ by (room_after p hs)
   where
     by : (o : Option ℕ) → has_room o h.length to ≡ true
     by None = refl

@@ -9,12 +9,12 @@ use Rattle.wb_model.specs.declared.script.Pointer.{Pointer}
 use Rattle.wb_model.specs.declared.script.Pointer.TheVariants.{Held, Field}
 use Rattle.wb_model.specs.declared.script.Condition.{Condition}
 use Rattle.wb_model.specs.declared.script.Condition.TheVariants.{IsNull, NotNull, Equal, Less}
-use Rattle.wb_model.specs.declared.script.Numbered.{Numbered}
+use Rattle.wb_model.specs.declared.script.StatementAt.{StatementAt}
 use Rattle.wb_model.specs.declared.script.Statement.TheOpen.{Statement-F}
 use Rattle.wb_model.specs.declared.script.Statement.TheViews.{out-Statement}
 use Rattle.wb_model.specs.State.{State, Way, goes_on, Process, ends, stops, asks, notes, and_then, on_plain_end, then_do, with_some}
 use Rattle.wb_model.specs.Operands.{with_cell, with_fields, with_pointer}
-use Rattle.wb_model.specs.Statements.{all, turns, Where, statement, with_condition, choice}
+use Rattle.wb_model.specs.Statements.{all, turns, Context, statement, with_condition, choice}
 use Rattle.wb_model.specs.Meaning.{begun, begun_if, piece, meaning_of}
 use Rattle.wb_model.specs.Rest.{Pending, doing, resumed, resume}
 use Rattle.wb_model.proofs.MeaningLemmas.{meaning_of-unfolds}
@@ -60,7 +60,7 @@ with_condition-and_then st (Equal v w) go k = refl
 with_condition-and_then st (Less v w) go k = refl
 
 -- the turn that begins a statement
-pub resume-all : (script : Script) (budget : ℕ) (at : Where) (s : Numbered) (ss : List Numbered) (ps : List Pending) (st : State) → st.steps ≤ budget →
+pub resume-all : (script : Script) (budget : ℕ) (at : Context) (s : StatementAt) (ss : List StatementAt) (ps : List Pending) (st : State) → st.steps ≤ budget →
     resume script budget (doing at (all (s ∷ ss)) ∷ ps) goes_on st
     ≡ begun budget st (λ st. and_then (statement script (meaning_of script budget) at (out-Statement s.statement) st) (resume script budget (doing at (all ss) ∷ ps)))
 unfolding resume resumed on_plain_end piece then_do
@@ -70,7 +70,7 @@ resume-all script budget at s ss ps st f =
     ∙ ap (begun budget st) (fun_ext (λ st. and_then-assoc (statement script (meaning_of script budget) at (out-Statement s.statement) st) _ (resume script budget ps)))
 
 -- the turn that begins a turn of a loop
-pub resume-turns : (script : Script) (budget : ℕ) (at : Where) (n : ℕ) (body : List Numbered) (ps : List Pending) (st : State) → st.steps ≤ budget →
+pub resume-turns : (script : Script) (budget : ℕ) (at : Context) (n : ℕ) (body : List StatementAt) (ps : List Pending) (st : State) → st.steps ≤ budget →
     resume script budget (doing at (turns (suc n) body) ∷ ps) goes_on st
     ≡ begun budget st (λ st. resume script budget (doing at (all body) ∷ doing at (turns n body) ∷ ps) goes_on st)
 unfolding resume resumed on_plain_end piece then_do
@@ -80,7 +80,7 @@ resume-turns script budget at n body ps st f =
     ∙ ap (begun budget st) (fun_ext (λ st. and_then-assoc (meaning_of script budget at (all body) st) _ (resume script budget ps)))
 
 -- an `if` leaves its part before the rest of the block
-pub resume-if : (script : Script) (budget : ℕ) (at : Where) (s : Numbered) (c : Condition) (one other ss : List Numbered) (ps : List Pending) (st : State) →
+pub resume-if : (script : Script) (budget : ℕ) (at : Context) (s : StatementAt) (c : Condition) (one other ss : List StatementAt) (ps : List Pending) (st : State) →
     out-Statement s.statement ≡ Statement-F.IfElse c one other → st.steps ≤ budget →
     resume script budget (doing at (all (s ∷ ss)) ∷ ps) goes_on st
     ≡ begun budget st (λ st. with_condition st c (λ b. resume script budget (doing at (all (choice b one other)) ∷ doing at (all ss) ∷ ps) goes_on st))

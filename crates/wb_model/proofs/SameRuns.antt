@@ -44,18 +44,18 @@ same_refusal r s no_limit h n end v w one e f = by (simulates r n) refl (simulat
         let left = open_at_0 b in cc
     by false a b c e f = let none : refusal_past (limit_of r) end ≡ None = ap (λ o. refusal_past o end) no_limit in cc
 
-get_behind : {A : Type 0} (xs : List A) (x : A) (ys : List A) → slice_get (xs ++ x ∷ ys) (length xs) ≡ Some x
-get_behind [] x ys = refl
-get_behind (y ∷ ys) x zs =
+get_after : {A : Type 0} (xs : List A) (x : A) (ys : List A) → slice_get (xs ++ x ∷ ys) (length xs) ≡ Some x
+get_after [] x ys = refl
+get_after (y ∷ ys) x zs =
     let z : length (y ∷ ys) ≡ suc (length ys) = omega arith in
-    ap (λ k. slice_get (y ∷ ys ++ x ∷ zs) k) z ∙ get_behind ys x zs
+    ap (λ k. slice_get (y ∷ ys ++ x ∷ zs) k) z ∙ get_after ys x zs
 
 -- no attempt parts the runs then
 parts_nowhere : (r s : Rule) (x y : List Attempt) → IsNoLimit r → RefusesAtLeast r s → RefusesNoGrant s x → PartsAt r s x y → ⊥
 parts_nowhere r s x y no_limit h no_grant p = by (refusal_by r p.one) refl
   where
     there : slice_get x (length p.before) ≡ Some p.one
-    there = ap (λ l. slice_get l (length p.before)) p.is_one ∙ get_behind p.before p.one p.after_one
+    there = ap (λ l. slice_get l (length p.before)) p.is_one ∙ get_after p.before p.one p.after_one
 
     end : ℕ
     end = end_of_attempt p.one

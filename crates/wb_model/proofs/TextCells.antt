@@ -5,7 +5,7 @@ use Rattle.std.proofs.lemmas.List.Elements.{All-nil, All-append, All-take, All-r
 use Rattle.wb_model.specs.CellRow.{resized_words}
 use Rattle.wb_model.specs.Texts.{AreUnits, exactly}
 use Rattle.wb_model.specs.Spelling.{halves}
-use Rattle.wb_model.specs.TextCells.{joined, room_in, text_words, units_behind, text_in, IsText}
+use Rattle.wb_model.specs.TextCells.{joined, room_in, text_words, units_after, text_in, IsText}
 
 -- a unit has 16 bits
 abbrev pub IsUnit : ℕ → Type 0
@@ -95,14 +95,14 @@ pub record IsRead (ws t : List ℕ) : Type 0 where
   pub some : 1 ≤ length ws
   pub length-is : slice_index ws 0 ≡ length t
   pub text : text_in ws ≡ t
-  pub behind : units_behind ws ≡ exactly (room_in (length ws)) t
+  pub following : units_after ws ≡ exactly (room_in (length ws)) t
 
 pub text-read : (ws t : List ℕ) → IsText ws t → IsRead ws t
 text-read ws t is = record {
   some = omega (arith, ap length is.words);
   length-is = ap (λ vs. slice_index vs 0) is.words;
   text = ap text_in is.words ∙ text_in-words (length ws) t is.fits is.units;
-  behind = ap units_behind is.words ∙ halves-exactly (length ws) t is.units;
+  following = ap units_after is.words ∙ halves-exactly (length ws) t is.units;
 }
 
 -- a new cell reads as the empty text

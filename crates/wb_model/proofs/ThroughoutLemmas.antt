@@ -16,7 +16,7 @@ use Rattle.wb_model.specs.Heap.{cells_of_all_levels}
 use Rattle.wb_model.specs.Rules.{answer_to}
 use Rattle.wb_model.specs.Space.{Space, space_of}
 use Rattle.wb_model.specs.State.{State, Way, goes_on, returns, leaves, Query, heap_note, available_note, compress_note, panics, is_cut, no_cleanup, Process, ends, stops, asks, notes}
-use Rattle.wb_model.specs.Statements.{Where}
+use Rattle.wb_model.specs.Statements.{Context}
 use Rattle.wb_model.specs.Meaning.{meaning_of, meaning_within}
 use Rattle.wb_model.specs.Account.{over, stopped, End, Account, Settled, settled, on_answer, recorded, noted, next_number}
 use Rattle.wb_model.specs.Run.{start, main_trapped, in_main, started, process, before, run, outcome_of}
@@ -43,7 +43,7 @@ module _ (L : Lasting) (budget : ℕ) where
         (meaning_within-alike L budget (suc budget) (suc budget) ns at p st f.0.1 f.1 f.2 (omega arith) (omega arith)).1,
   )
 
-  main_trapped-keeps : (ns : List ℕ) (at : Where) (w : Way) (st : State) → Fine B ns st → Alike B ns (main_trapped (meaning_of L.script budget) at w st) (main_trapped (meaning_of L.script budget) at w st)
+  main_trapped-keeps : (ns : List ℕ) (at : Context) (w : Way) (st : State) → Fine B ns st → Alike B ns (main_trapped (meaning_of L.script budget) at w st) (main_trapped (meaning_of L.script budget) at w st)
   unfolding main_trapped
   main_trapped-keeps ns at (leaves code) st f = then_do-alike B _ _ _ _ _ (meaning-keeps ns at _ st f) (λ ns st f. (refl, f))
   main_trapped-keeps ns at goes_on st f = require-alike B _ _ _ _ _ f (refl, f)

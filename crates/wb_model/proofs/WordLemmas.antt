@@ -7,22 +7,22 @@ use Rattle.std.specs.Str.{bytes_eq}
 use Rattle.std.specs.Cmp.Lexicographic.{same_text}
 use Rattle.std.proofs.lemmas.Bool.Decides.{nat_tests}
 use borrow.Author.Tests.{ne_eqb, eqb-true}
-use Rattle.wb_model.specs.declared.script_lines.Key.{Key}
-use Rattle.wb_model.specs.declared.script_lines.Letter.{Letter}
+use Rattle.wb_model.specs.declared.script_lines.LineKind.{LineKind}
+use Rattle.wb_model.specs.declared.script_lines.OperandPlace.{OperandPlace}
 use Rattle.wb_model.specs.declared.script_lines.Operand.{Operand}
 use Rattle.wb_model.specs.declared.script_lines.Operand.TheVariants.{Name, Number, Literal, Keyword}
 use Rattle.wb_model.specs.declared.script_lines.Operand.TheVariants as spelled
-use Rattle.wb_model.specs.declared.script_lines.Taken.{Taken}
-use Rattle.wb_model.specs.declared.script_lines.Taken.TheVariants.{Pointer, OfClass}
+use Rattle.wb_model.specs.declared.script_lines.ParameterType.{ParameterType}
+use Rattle.wb_model.specs.declared.script_lines.ParameterType.TheVariants.{Pointer, OfClass}
 use Rattle.wb_model.specs.declared.script_lines.Keyword as model
 use Rattle.wb_model.specs.declared.script_lines.Keyword.TheVariants as keyword
 use Rattle.wb_model.specs.declared.script_lines.Form.{Form}
 use Rattle.wb_model.specs.declared.script_lines.Form.TheVariants.{Line}
 use Rattle.wb_model.specs.Lines.{is_blank, words_of}
-use Rattle.wb_model.specs.Words.{is_reserved, with_digit, is_digit, is_name_byte, is_name, is_letter, declared_name, used_name, digits_of, number_spelled, literal_spelled, length_before, before_first, behind_first, base_name, field_name, taken_spelled, parameter_name, parameter_taken, text_of_keyword}
+use Rattle.wb_model.specs.Words.{is_reserved, with_digit, is_digit, is_name_byte, is_name, is_letter, declared_name, used_name, digits_of, number_spelled, literal_spelled, length_before, before_first, after_first_of, base_name, field_name, parameter_type_after_colon, parameter_name, parameter_type_of_word, text_of_keyword}
 use Rattle.wb_model.specs.declared.script_lines.WordKind.{WordKind}
 use Rattle.wb_model.specs.declared.script_lines.WordKind.TheVariants as kind
-use Rattle.wb_model.specs.Keys.{keys, text_of, letters_for, word_kinds}
+use Rattle.wb_model.specs.LineKinds.{line_kinds, text_of, operand_places_for, word_kinds}
 use Rattle.wb_model.specs.Forms.{operand_of, operand_as, operand_among, operands_of, operands_if, either, size_of, parameter_of, field_of, onto, line_or, form_in, begins_comment, skipped_or, form_of}
 use Rattle.wb_model.specs.Writing.{is_plain, IsWord, AreWords, IsMadeOfWords}
 use Rattle.wb_model.proofs.WritingLemmas.{both, quoted_of_literal}
@@ -41,8 +41,8 @@ high_of_name byte h = grind (arith, nat_tests)
 high_of_digit : (byte : ℕ) → is_digit byte ≡ true → 45 ≤ byte
 high_of_digit byte h = grind (arith, nat_tests)
 
-high_of_letter : (byte : ℕ) → is_letter byte ≡ true → 45 ≤ byte
-high_of_letter byte h = grind (arith, nat_tests)
+high_of_operand_place : (byte : ℕ) → is_letter byte ≡ true → 45 ≤ byte
+high_of_operand_place byte h = grind (arith, nat_tests)
 
 both_hold : (a b : Bool) → a ≡ true → b ≡ true → a && b ≡ true
 both_hold a b is_a is_b = rw (is_a, is_b) refl
@@ -72,7 +72,7 @@ word_of_name : (word : List ℕ) → is_name word ≡ true → IsWord word
 word_of_name [] h = cc
 word_of_name (byte ∷ bytes) h =
     let (here, there) = both (is_letter byte) (list_all is_name_byte bytes) h in
-    inl (not_empty byte bytes, both_hold _ (is_plain bytes) (high_byte byte (high_of_letter byte here)) (plain_all is_name_byte high_of_name bytes there))
+    inl (not_empty byte bytes, both_hold _ (is_plain bytes) (high_byte byte (high_of_operand_place byte here)) (plain_all is_name_byte high_of_name bytes there))
 
 word_of_declared : (word name : List ℕ) → declared_name word ≡ Some name → IsWord word
 word_of_declared word name h =
@@ -123,12 +123,12 @@ plain_of_name : (word : List ℕ) → is_name word ≡ true → (word ≢ []) ×
 plain_of_name [] h = cc
 plain_of_name (byte ∷ bytes) h =
     let (here, there) = both (is_letter byte) (list_all is_name_byte bytes) h in
-    (not_empty byte bytes, both_hold _ (is_plain bytes) (high_byte byte (high_of_letter byte here)) (plain_all is_name_byte high_of_name bytes there))
+    (not_empty byte bytes, both_hold _ (is_plain bytes) (high_byte byte (high_of_operand_place byte here)) (plain_all is_name_byte high_of_name bytes there))
 
-plain_of_taken : (bytes : List ℕ) (kind : Taken (List ℕ)) → taken_spelled bytes ≡ Some kind → is_plain bytes ≡ true
-plain_of_taken bytes kind h = go (bytes_eq bytes (codes "ptr")) (bytes_eq bytes (codes "int")) refl refl h
+plain_of_parameter_type : (bytes : List ℕ) (kind : ParameterType (List ℕ)) → parameter_type_after_colon bytes ≡ Some kind → is_plain bytes ≡ true
+plain_of_parameter_type bytes kind h = go (bytes_eq bytes (codes "ptr")) (bytes_eq bytes (codes "int")) refl refl h
   where
-    go : (ptr int : Bool) → bytes_eq bytes (codes "ptr") ≡ ptr → bytes_eq bytes (codes "int") ≡ int → taken_spelled bytes ≡ Some kind → is_plain bytes ≡ true
+    go : (ptr int : Bool) → bytes_eq bytes (codes "ptr") ≡ ptr → bytes_eq bytes (codes "int") ≡ int → parameter_type_after_colon bytes ≡ Some kind → is_plain bytes ≡ true
     go true int is_ptr is_int h = subst (λ b. is_plain b ≡ true) (sym (same_text bytes (codes "ptr") (sym is_ptr))) refl
     go false true is_ptr is_int h = subst (λ b. is_plain b ≡ true) (sym (same_text bytes (codes "int") (sym is_int))) refl
     go false false is_ptr is_int h =
@@ -143,39 +143,39 @@ none_taken (suc n) word h = ap (take (suc n)) h
 -- what stands before and behind a byte that is plain, and the byte itself
 module _ (byte : ℕ) (plain : is_plain (byte ∷ []) ≡ true) where
   -- one byte more, which is this one or not
-  plain_here : (b : ℕ) (word : List ℕ) (same : Bool) → nat_eq b byte ≡ same → (is_plain (before_first byte word) ≡ true → is_plain (behind_first byte word) ≡ true → is_plain word ≡ true) →
-      is_plain (before_first byte (b ∷ word)) ≡ true → is_plain (behind_first byte (b ∷ word)) ≡ true → is_plain (b ∷ word) ≡ true
+  plain_here : (b : ℕ) (word : List ℕ) (same : Bool) → nat_eq b byte ≡ same → (is_plain (before_first byte word) ≡ true → is_plain (after_first_of byte word) ≡ true → is_plain word ≡ true) →
+      is_plain (before_first byte (b ∷ word)) ≡ true → is_plain (after_first_of byte (b ∷ word)) ≡ true → is_plain (b ∷ word) ≡ true
   plain_here b word true is rest front back =
       let here : b ≡ byte = eqb-true b byte is in
-      let behind : is_plain word ≡ true = rw (is) at back in
-      plain_append (b ∷ []) word (subst (λ x. is_plain (x ∷ []) ≡ true) (sym here) plain) behind
+      let following : is_plain word ≡ true = rw (is) at back in
+      plain_append (b ∷ []) word (subst (λ x. is_plain (x ∷ []) ≡ true) (sym here) plain) following
   plain_here b word false is rest front back =
       let before : is_plain (b ∷ before_first byte word) ≡ true = rw (is) at front in
       let one_less : suc (length_before byte word) + 1 ≡ suc (length_before byte word + 1) = omega arith in
       let shifted : is_plain (drop (suc (length_before byte word) + 1) (b ∷ word)) ≡ true = rw (is) at back in
-      let behind : is_plain (behind_first byte word) ≡ true = subst (λ n. is_plain (drop n (b ∷ word)) ≡ true) one_less shifted in
+      let following : is_plain (after_first_of byte word) ≡ true = subst (λ n. is_plain (drop n (b ∷ word)) ≡ true) one_less shifted in
       let (first, others) = both (not (is_blank b) && not (nat_eq b 34)) (is_plain (before_first byte word)) before in
-      both_hold _ (is_plain word) first (rest others behind)
+      both_hold _ (is_plain word) first (rest others following)
 
-  plain_around : (word : List ℕ) → is_plain (before_first byte word) ≡ true → is_plain (behind_first byte word) ≡ true → is_plain word ≡ true
+  plain_around : (word : List ℕ) → is_plain (before_first byte word) ≡ true → is_plain (after_first_of byte word) ≡ true → is_plain word ≡ true
   plain_around [] front back = refl
   plain_around (b ∷ word) front back = plain_here b word (nat_eq b byte) refl (plain_around word) front back
 
   -- the first part isn't empty
-  word_around : (word : List ℕ) → before_first byte word ≢ [] → is_plain (before_first byte word) ≡ true → is_plain (behind_first byte word) ≡ true → IsWord word
+  word_around : (word : List ℕ) → before_first byte word ≢ [] → is_plain (before_first byte word) ≡ true → is_plain (after_first_of byte word) ≡ true → IsWord word
   word_around word some front back = inl ((λ none. some (none_taken (length_before byte word) word none)), plain_around word front back)
 
-word_of_parameter : (word : List ℕ) (operand : Operand (List ℕ)) → parameter_of (parameter_name word) (parameter_taken word) ≡ Some operand → IsWord word
-word_of_parameter word operand h = go (parameter_name word) (parameter_taken word) refl refl h
+word_of_parameter : (word : List ℕ) (operand : Operand (List ℕ)) → parameter_of (parameter_name word) (parameter_type_of_word word) ≡ Some operand → IsWord word
+word_of_parameter word operand h = go (parameter_name word) (parameter_type_of_word word) refl refl h
   where
     front : List ℕ
     front = before_first 58 word
 
-    go : (name : Option (List ℕ)) (kind : Option (Taken (List ℕ))) → parameter_name word ≡ name → parameter_taken word ≡ kind → parameter_of name kind ≡ Some operand → IsWord word
+    go : (name : Option (List ℕ)) (kind : Option (ParameterType (List ℕ))) → parameter_name word ≡ name → parameter_type_of_word word ≡ kind → parameter_of name kind ≡ Some operand → IsWord word
     go (Some name) (Some kind) is_name_there is_kind h =
         let (named, _) = both (is_name front) (not (is_reserved front)) (chosen_back (is_name front && not (is_reserved front)) front name is_name_there) in
         let (some, plain) = plain_of_name front named in
-        word_around 58 refl word some plain (plain_of_taken (behind_first 58 word) kind is_kind)
+        word_around 58 refl word some plain (plain_of_parameter_type (after_first_of 58 word) kind is_kind)
     go (Some name) None is_name_there is_kind h = cc
     go None kind is_name_there is_kind h = cc
 
@@ -185,8 +185,8 @@ word_of_field word operand h = go (base_name word) (field_name word) refl refl h
     go : (base field : Option (List ℕ)) → base_name word ≡ base → field_name word ≡ field → field_of base field ≡ Some operand → IsWord word
     go (Some base) (Some field) is_base is_field h =
         let (some, plain) = plain_of_name (before_first 46 word) (chosen_back (is_name (before_first 46 word)) (before_first 46 word) base is_base) in
-        let (_, behind) = plain_of_name (behind_first 46 word) (chosen_back (is_name (behind_first 46 word)) (behind_first 46 word) field is_field) in
-        word_around 46 refl word some plain behind
+        let (_, following) = plain_of_name (after_first_of 46 word) (chosen_back (is_name (after_first_of 46 word)) (after_first_of 46 word) field is_field) in
+        word_around 46 refl word some plain following
     go (Some base) None is_base is_field h = cc
     go None field is_base is_field h = cc
 
@@ -221,44 +221,44 @@ onto_back None rest operands h = cc
 onto_back (Some o) None operands h = cc
 onto_back (Some o) (Some os) operands h = ((o, refl), (os, refl))
 
-words_of_operands : (letters : List Letter) (words : List (List ℕ)) (operands : List (Operand (List ℕ))) → operands_of letters words ≡ Some operands → AreWords words
+words_of_operands : (operand_places : List OperandPlace) (words : List (List ℕ)) (operands : List (Operand (List ℕ))) → operands_of operand_places words ≡ Some operands → AreWords words
 words_of_operands [] [] operands h = tt
 words_of_operands [] (word ∷ words) operands h = cc
-words_of_operands (letter ∷ letters) [] operands h = cc
-words_of_operands (letter ∷ letters) (word ∷ words) operands h =
-    let ((o, is_first), (os, are_rest)) = onto_back (operand_of letter word) (operands_of letters words) operands h in
-    (word_among (word_kinds letter) word o is_first, words_of_operands letters words os are_rest)
+words_of_operands (operand_place ∷ operand_places) [] operands h = cc
+words_of_operands (operand_place ∷ operand_places) (word ∷ words) operands h =
+    let ((o, is_first), (os, are_rest)) = onto_back (operand_of operand_place word) (operands_of operand_places words) operands h in
+    (word_among (word_kinds operand_place) word o is_first, words_of_operands operand_places words os are_rest)
 
 -- lines
 
-module _ (first : List ℕ) (words : List (List ℕ)) (key : Key) (operands : List (Operand (List ℕ))) where
-  fitting : (k : Key) (found : Option (List (Operand (List ℕ)))) (rest : Form (List ℕ)) → operands_of (letters_for k (length words)) words ≡ found → IsWord first → (rest ≡ Line key operands → AreWords (first ∷ words)) → line_or k found rest ≡ Line key operands → AreWords (first ∷ words)
-  fitting k (Some found) rest is word otherwise h = (word, words_of_operands (letters_for k (length words)) words found is)
+module _ (first : List ℕ) (words : List (List ℕ)) (line_kind : LineKind) (operands : List (Operand (List ℕ))) where
+  fitting : (k : LineKind) (found : Option (List (Operand (List ℕ)))) (rest : Form (List ℕ)) → operands_of (operand_places_for k (length words)) words ≡ found → IsWord first → (rest ≡ Line line_kind operands → AreWords (first ∷ words)) → line_or k found rest ≡ Line line_kind operands → AreWords (first ∷ words)
+  fitting k (Some found) rest is word otherwise h = (word, words_of_operands (operand_places_for k (length words)) words found is)
   fitting k None rest is word otherwise h = otherwise h
 
-  one_key : (k : Key) (same : Bool) (rest : Form (List ℕ)) → is_name (text_of k) ≡ true → bytes_eq (text_of k) first ≡ same → (rest ≡ Line key operands → AreWords (first ∷ words)) → line_or k (operands_if same k words) rest ≡ Line key operands → AreWords (first ∷ words)
-  one_key k true rest named same otherwise h =
-      fitting k (operands_of (letters_for k (length words)) words) rest refl (subst IsWord (same_text (text_of k) first (sym same)) (word_of_name (text_of k) named)) otherwise h
-  one_key k false rest named same otherwise h = otherwise h
+  one_line_kind : (k : LineKind) (same : Bool) (rest : Form (List ℕ)) → is_name (text_of k) ≡ true → bytes_eq (text_of k) first ≡ same → (rest ≡ Line line_kind operands → AreWords (first ∷ words)) → line_or k (operands_if same k words) rest ≡ Line line_kind operands → AreWords (first ∷ words)
+  one_line_kind k true rest named same otherwise h =
+      fitting k (operands_of (operand_places_for k (length words)) words) rest refl (subst IsWord (same_text (text_of k) first (sym same)) (word_of_name (text_of k) named)) otherwise h
+  one_line_kind k false rest named same otherwise h = otherwise h
 
-  words_of_form : (ks : List Key) → list_all (λ k. is_name (text_of k)) ks ≡ true → form_in ks first words ≡ Line key operands → AreWords (first ∷ words)
+  words_of_form : (ks : List LineKind) → list_all (λ k. is_name (text_of k)) ks ≡ true → form_in ks first words ≡ Line line_kind operands → AreWords (first ∷ words)
   words_of_form [] named h = cc
   words_of_form (k ∷ ks) named h =
       let (here, there) = both (is_name (text_of k)) (list_all (λ k. is_name (text_of k)) ks) named in
-      one_key k (bytes_eq (text_of k) first) (form_in ks first words) here refl (words_of_form ks there) h
+      one_line_kind k (bytes_eq (text_of k) first) (form_in ks first words) here refl (words_of_form ks there) h
 
-  not_skipped : (skipped : Bool) (form : Form (List ℕ)) → skipped_or skipped form ≡ Line key operands → form ≡ Line key operands
+  not_skipped : (skipped : Bool) (form : Form (List ℕ)) → skipped_or skipped form ≡ Line line_kind operands → form ≡ Line line_kind operands
   not_skipped true form h = cc
   not_skipped false form h = h
 
-keys_are_named : list_all (λ k. is_name (text_of k)) keys ≡ true
-unfolding keys
-keys_are_named = refl
+line_kinds_are_named : list_all (λ k. is_name (text_of k)) line_kinds ≡ true
+unfolding line_kinds
+line_kinds_are_named = refl
 
-words_of_line : (words : List (List ℕ)) (key : Key) (operands : List (Operand (List ℕ))) → form_of words ≡ Line key operands → AreWords words
-words_of_line [] key operands h = tt
-words_of_line (first ∷ words) key operands h =
-    words_of_form first words key operands keys keys_are_named (not_skipped first words key operands (begins_comment first) (form_in keys first words) h)
+words_of_line : (words : List (List ℕ)) (line_kind : LineKind) (operands : List (Operand (List ℕ))) → form_of words ≡ Line line_kind operands → AreWords words
+words_of_line [] line_kind operands h = tt
+words_of_line (first ∷ words) line_kind operands h =
+    words_of_form first words line_kind operands line_kinds line_kinds_are_named (not_skipped first words line_kind operands (begins_comment first) (form_in line_kinds first words) h)
 
 pub made_of_words : (line : List ℕ) → IsMadeOfWords line
-made_of_words line = λ key operands h. words_of_line (words_of line) key operands h
+made_of_words line = λ line_kind operands h. words_of_line (words_of line) line_kind operands h

@@ -41,9 +41,9 @@ with_level p to [] = []
 with_level p to (c ∷ cs) = if is_at p c.head then record c { head = record c.head { level = to } } ∷ cs else c ∷ with_level p to cs
 
 -- the free bytes between the cell that a pointer names and the next one; none where it is the last
-abbrev pub room_behind : Ptr → List Header → Option ℕ
-room_behind p (h ∷ g ∷ hs) = if is_at p h then Some (g.place - end_of h) else room_behind p (g ∷ hs)
-room_behind p _ = None
+abbrev pub room_after : Ptr → List Header → Option ℕ
+room_after p (h ∷ g ∷ hs) = if is_at p h then Some (g.place - end_of h) else room_after p (g ∷ hs)
+room_after p _ = None
 
 -- the header is the pointer's own, or of a cell that meets none of a number of bytes from the pointer's place on
 abbrev pub Clears : Ptr → ℕ → Header → Type 0

@@ -11,7 +11,7 @@ pub mod FreeSlots
 pub mod Grammar
 pub mod Heap
 pub mod Throughout
-pub mod Keys
+pub mod LineKinds
 pub mod Kinds
 pub mod LimitedHeap
 pub mod Lines

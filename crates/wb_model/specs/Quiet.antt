@@ -6,7 +6,7 @@ use Rattle.wb_model.specs.declared.script.Script.{Script}
 use Rattle.wb_model.specs.declared.script.Body.{Body}
 use Rattle.wb_model.specs.declared.script.Local.{Local}
 use Rattle.wb_model.specs.declared.script.Local.TheVariants.{OfPointer, OfNumber}
-use Rattle.wb_model.specs.declared.script.Numbered.{Numbered}
+use Rattle.wb_model.specs.declared.script.StatementAt.{StatementAt}
 use Rattle.wb_model.specs.declared.script.Statement.{Statement}
 use Rattle.wb_model.specs.declared.script.Statement.TheOpen.{Statement-F}
 use Rattle.wb_model.specs.declared.script.Statement.TheViews.{out-Statement}
@@ -18,7 +18,7 @@ is_quiet_local OfNumber = true
 is_quiet_local _ = false
 
 -- a statement that cannot leave; `inside` says which statements may stand in a block
-abbrev pub is_quiet_statement : (List Numbered → Bool) → Statement-F Statement Numbered → Bool
+abbrev pub is_quiet_statement : (List StatementAt → Bool) → Statement-F Statement StatementAt → Bool
 is_quiet_statement inside (Statement-F.Free p) = true
 is_quiet_statement inside (Statement-F.Delete p) = true
 is_quiet_statement inside (Statement-F.Set p q) = true
@@ -39,7 +39,7 @@ is_quiet_statement inside (Statement-F.Repeat v body) = inside body
 is_quiet_statement inside _ = false
 
 -- statements with fewer blocks inside one another than this
-abbrev pub are_quiet : ℕ → List Numbered → Bool
+abbrev pub are_quiet : ℕ → List StatementAt → Bool
 are_quiet zero statements = false
 are_quiet (suc depth) statements = list_all (λ s. is_quiet_statement (are_quiet depth) (out-Statement s.statement)) statements
 

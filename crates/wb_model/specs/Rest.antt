@@ -7,7 +7,7 @@ use Rattle.wb_model.specs.declared.script.Script.{Script}
 use Rattle.wb_model.specs.Rules.{refusal_of}
 use Rattle.wb_model.specs.Space.{space_of}
 use Rattle.wb_model.specs.State.{State, Frame, number, pointer, Way, leaves, Stop, Process, ends, stops, and_then, on_plain_end, set_local}
-use Rattle.wb_model.specs.Statements.{Piece, all, Where, done, plain, release, trapped}
+use Rattle.wb_model.specs.Statements.{Todo, all, Context, done, plain, release, trapped}
 use Rattle.wb_model.specs.Meaning.{piece, meaning_of}
 use Rattle.wb_model.specs.Account.{Account, settled}
 use Rattle.wb_model.specs.Run.{main_trapped, process, WholeRun, whole_of}
@@ -23,15 +23,15 @@ pub data Afterwards : Type 0 where
 
 -- one pending piece
 pub data Pending : Type 0 where
-  doing : Where → Piece → Pending
+  doing : Context → Todo → Pending
   -- a TRAP's local, and the number of items at its entry
-  catching : Where → ℕ → ℕ → Pending
+  catching : Context → ℕ → ℕ → Pending
   -- the code that a TRAP's local gets once the items are destroyed
   caught : ℕ → ℤ → Pending
   -- the caller's frame
   calling : Frame → Afterwards → Pending
   -- `main`'s own TRAP
-  main_catching : Where → Pending
+  main_catching : Context → Pending
   -- the code with which `main` was left, once the items are destroyed
   main_caught : ℤ → Pending
 
@@ -105,4 +105,4 @@ Fits r own ended attempts = (r ≡ own) ⊎ ((ended ≡ false) × SameSoFar r ow
 -- the meaning is a solution of its own equation, wherever the budget isn't passed
 abbrev pub Unfolds : Script → ℕ → Type 0
 Unfolds script budget =
-    (at : Where) (p : Piece) (st : State) → st.steps ≤ budget → meaning_of script budget at p st ≡ piece script budget (meaning_of script budget) at p st
+    (at : Context) (p : Todo) (st : State) → st.steps ≤ budget → meaning_of script budget at p st ≡ piece script budget (meaning_of script budget) at p st

@@ -21,7 +21,7 @@ use Rattle.wb_model.specs.Rules.{never}
 use Rattle.wb_model.specs.Heap.{cells_of_all_levels}
 use Rattle.wb_model.specs.State.{State, none, require, Way, goes_on, returns, leaves, panics, is_cut, no_cleanup, Process, ends, stops, and_then, then_do, null, initial}
 use Rattle.wb_model.specs.Attempts.{allocate}
-use Rattle.wb_model.specs.Statements.{all, destroy_items, Where, Meaning, done}
+use Rattle.wb_model.specs.Statements.{all, destroy_items, Context, Meaning, done}
 use Rattle.wb_model.specs.Bodies.{procedure_at}
 use Rattle.wb_model.specs.Meaning.{meaning_of}
 use Rattle.wb_model.specs.Space.{Space, space_of}
@@ -40,13 +40,13 @@ start = record {
 }
 
 -- `main`'s own TRAP: a leave destroys the items, and its code goes on
-unfoldable pub main_trapped : Meaning → Where → Way → State → Process
+unfoldable pub main_trapped : Meaning → Context → Way → State → Process
 main_trapped rec at (leaves code) st = then_do (rec at (destroy_items (length st.items)) st) (λ st. ends (leaves code) st)
 main_trapped rec at _ st = require (nat_eq (length st.items) 0) ITEMS_LEFT st done
 
 unfoldable pub in_main : Meaning → Script → State → Process
 in_main rec script st =
-    let at : Where = record { depth = 1; floor = 0 } in
+    let at : Context = record { depth = 1; floor = 0 } in
     let main = procedure_at script script.main in
     and_then (rec at (all main.statements) (record st { frame = record { this = null; locals = map initial main.locals } })) (main_trapped rec at)
 
@@ -115,8 +115,8 @@ abbrev pub run_with_rises : RunResult → WholeRun
 run_with_rises told = record { result = record told { trace = [] }; attempts = length told.trace; rises = Some (rises_above 0 told.trace) }
 
 -- what is told of a run that keeps the rises
-abbrev pub rises_told : RunResult → RisesResult
-rises_told told = record { outcome = told.outcome; rises = rises_above 0 told.trace; steps = told.steps }
+abbrev pub rises_result_of : RunResult → RisesResult
+rises_result_of told = record { outcome = told.outcome; rises = rises_above 0 told.trace; steps = told.steps }
 
 -- what a sweep looks for: a panic, or a leak at the end; a leave alone is fine, and so is a run without its cleanup stack
 abbrev pub is_bad_outcome : Outcome → Bool

@@ -4,15 +4,15 @@ use Rattle.std.specs.Option.{option_map}
 use Rattle.wb_model.specs.declared.fault.ScriptFault.{ScriptFault}
 use Rattle.wb_model.specs.declared.fault.ScriptFault.TheVariants.{TooLong, NotAscii, Grammar, UnknownName, DoubleName, WrongKind, MayLeave, NoMain, TooMany, NoMemory}
 use Rattle.wb_model.specs.declared.script_lines.Form.{Form}
-use Rattle.wb_model.specs.declared.script_lines.Meant.{Meant}
-use Rattle.wb_model.specs.declared.script_lines.Meant.TheVariants as meant
+use Rattle.wb_model.specs.declared.script_lines.Referent.{Referent}
+use Rattle.wb_model.specs.declared.script_lines.Referent.TheVariants as referent
 use Rattle.wb_model.specs.declared.script.Script.{Script}
 use Rattle.wb_model.specs.Forms.{forms_of, role_of_form}
 use Rattle.wb_model.specs.Grammar.{IsGrammatical}
 use Rattle.wb_model.specs.Kinds.{has_wrong_kind, may_leave}
 use Rattle.wb_model.specs.Lines.{lines_of, first_foreign_line, is_too_long}
 use Rattle.wb_model.specs.Names.{Text, first_refused, declares_again, passes_limit, items_of, names_of, literals_of}
-use Rattle.wb_model.specs.Resolved.{resolved, item_meant, uses_unknown}
+use Rattle.wb_model.specs.Resolved.{resolved, item_referent, uses_unknown}
 use Rattle.wb_model.specs.Trees.{counted_from, script_lines}
 
 -- the lines are those of a script, whatever their names
@@ -32,13 +32,13 @@ pub record IsGrammarLine (lines : List Text) (n : ℕ) : Type 0 where
   pub here : n ≤ length lines → AreFirstLines (take n lines) → ⊥
   pub unfinished : n ≡ length lines + 1 → AreLines lines → ⊥
 
-abbrev pub procedure_meant : Meant → Option ℕ
-procedure_meant (meant.Procedure index) = Some index
-procedure_meant _ = None
+abbrev pub procedure_referent : Referent → Option ℕ
+procedure_referent (referent.Procedure index) = Some index
+procedure_referent _ = None
 
 -- the index of `main` among the procedures
 abbrev pub main_of : List (Form Text) → Option ℕ
-main_of forms = procedure_meant (item_meant (items_of forms) (codes "main"))
+main_of forms = procedure_referent (item_referent (items_of forms) (codes "main"))
 
 -- not too long, and of lines alone
 pub record IsPlainText (bytes : List ℕ) : Type 0 where

@@ -27,7 +27,7 @@ use Rattle.wb_model.specs.declared.script.Readable.{Readable}
 use Rattle.wb_model.specs.declared.script.Readable.TheVariants.{Of, ViewOf, Quoted}
 use Rattle.wb_model.specs.declared.script.Condition.{Condition}
 use Rattle.wb_model.specs.declared.script.Condition.TheVariants.{IsNull, NotNull, Equal, Less}
-use Rattle.wb_model.specs.declared.script.Numbered.{Numbered}
+use Rattle.wb_model.specs.declared.script.StatementAt.{StatementAt}
 use Rattle.wb_model.specs.declared.script.Statement.{Statement}
 use Rattle.wb_model.specs.declared.script.Statement.TheOpen.{Statement-F}
 use Rattle.wb_model.specs.declared.script.Statement.TheViews.{out-Statement}
@@ -73,9 +73,9 @@ class_of_local (Some (OfPointer class)) = class
 class_of_local _ = None
 
 -- the class of what a local or `self` is declared to point to
-abbrev pub class_held : Scope → Holder → Option ℕ
-class_held scope (H.Local i) = class_of_local (slice_get scope.locals i)
-class_held scope H.This = scope.this
+abbrev pub class_of_holder : Scope → Holder → Option ℕ
+class_of_holder scope (H.Local i) = class_of_local (slice_get scope.locals i)
+class_of_holder scope H.This = scope.this
 
 abbrev pub is_class : ℕ → Option ℕ → Bool
 is_class class (Some k) = nat_eq class k
@@ -90,7 +90,7 @@ is_index i None = false
 abbrev pub is_pointer : Scope → Pointer → Bool
 is_pointer scope (Held (H.Local i)) = is_pointer_local (slice_get scope.locals i)
 is_pointer scope (Held H.This) = is_some scope.this
-is_pointer scope (Field holder class i) = is_class class (class_held scope holder) && is_index i (slice_get scope.fields class)
+is_pointer scope (Field holder class i) = is_class class (class_of_holder scope holder) && is_index i (slice_get scope.fields class)
 
 -- a pointer that a statement writes: `self` is none
 abbrev pub is_target : Scope → Pointer → Bool
@@ -129,7 +129,7 @@ is_condition scope (Equal v w) = is_number scope.locals v && is_number scope.loc
 is_condition scope (Less v w) = is_number scope.locals v && is_number scope.locals w
 
 -- a statement that no other stands inside and that begins no body, but for the ends of bodies, over a scope and a number of literals
-abbrev pub is_statement : ℕ → Scope → Statement-F Statement Numbered → Bool
+abbrev pub is_statement : ℕ → Scope → Statement-F Statement StatementAt → Bool
 is_statement literals scope (Statement-F.Alloc p v refusal) = is_target scope p && is_number scope.locals v
 is_statement literals scope (Statement-F.Realloc p q v refusal) = is_target scope p && (is_pointer scope q && is_number scope.locals v)
 is_statement literals scope (Statement-F.Free p) = is_pointer scope p
@@ -176,7 +176,7 @@ is_statement literals scope Statement-F.NoteCompress = true
 is_statement literals scope _ = false
 
 -- the same and the end of a body, which doesn't stand in a TRAP
-abbrev pub is_simple : ℕ → Scope → Bool → Statement-F Statement Numbered → Bool
+abbrev pub is_simple : ℕ → Scope → Bool → Statement-F Statement StatementAt → Bool
 is_simple literals scope trapped Statement-F.Return = not trapped
 is_simple literals scope trapped (Statement-F.ReturnPointer p) = not trapped && is_pointer scope p
 is_simple literals scope trapped layer = is_statement literals scope layer
@@ -210,7 +210,7 @@ abbrev pub is_call : List (List Parameter) → Scope → ℕ → List Argument �
 is_call signatures scope index arguments = is_called scope (slice_get signatures index) arguments
 
 -- a statement with what stands inside it, in a TRAP or not; `inside` says which blocks may stand there
-abbrev pub is_nested : Declared → Scope → Bool → (Bool → List Numbered → Bool) → Statement-F Statement Numbered → Bool
+abbrev pub is_nested : Declared → Scope → Bool → (Bool → List StatementAt → Bool) → Statement-F Statement StatementAt → Bool
 is_nested declared scope trapped inside (Statement-F.Call n arguments) = is_call declared.signatures scope n arguments
 is_nested declared scope trapped inside (Statement-F.CallTo x n arguments) = is_pointer_local (slice_get scope.locals x) && is_call declared.signatures scope n arguments
 is_nested declared scope trapped inside (Statement-F.Construct p) = is_pointer scope p
@@ -223,13 +223,13 @@ is_nested declared scope trapped inside (Statement-F.Trap x body) = is_variable 
 is_nested declared scope trapped inside layer = is_simple declared.literals scope trapped layer
 
 -- statements, with fewer blocks inside one another than this
-abbrev pub are_within : Declared → Scope → ℕ → Bool → List Numbered → Bool
+abbrev pub are_within : Declared → Scope → ℕ → Bool → List StatementAt → Bool
 are_within declared scope zero trapped statements = false
 are_within declared scope (suc depth) trapped statements =
     list_all (λ s. is_nested declared scope trapped (are_within declared scope depth) (out-Statement s.statement)) statements
 
 -- the statements of a body
-abbrev pub are_statements : Declared → Scope → List Numbered → Bool
+abbrev pub are_statements : Declared → Scope → List StatementAt → Bool
 are_statements declared scope statements = are_within declared scope (suc DEEPEST_BLOCK) false statements
 
 -- a parameter is a local that its caller gives a value
@@ -246,7 +246,7 @@ abbrev pub locals_of : List Parameter → List Local → List Local
 locals_of parameters locals = map local_of_parameter parameters ++ locals
 
 -- a body over its scope
-abbrev pub is_body : Declared → Scope → List Numbered → Bool
+abbrev pub is_body : Declared → Scope → List StatementAt → Bool
 is_body declared scope statements =
     list_all (is_local (length scope.fields)) scope.locals && nat_le (length scope.locals) MOST_LOCALS && are_statements declared scope statements
 

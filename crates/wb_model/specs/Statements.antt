@@ -21,7 +21,7 @@ use Rattle.wb_model.specs.declared.script.Condition.{Condition}
 use Rattle.wb_model.specs.declared.script.Condition.TheVariants.{IsNull, NotNull, Equal, Less}
 use Rattle.wb_model.specs.declared.script.Argument.{Argument}
 use Rattle.wb_model.specs.declared.script.Argument.TheVariants.{Passed, Given}
-use Rattle.wb_model.specs.declared.script.Numbered.{Numbered}
+use Rattle.wb_model.specs.declared.script.StatementAt.{StatementAt}
 use Rattle.wb_model.specs.declared.script.Statement.{Statement}
 use Rattle.wb_model.specs.declared.script.Statement.TheOpen.{Statement-F}
 use Rattle.wb_model.specs.Row.{Cell, headers, cell_at, without, changed, usable_of, top_of, total_length}
@@ -35,24 +35,24 @@ use Rattle.wb_model.specs.Bodies.{no_body, operation_at, procedure_at, class_at}
 use Rattle.wb_model.specs.Reading.{base_of, with_writable, with_readable, with_units, with_room, write, write_view, is_same_base, is_same_pointer, printed}
 
 -- what is still to do: statements, turns of a loop, the destruction of a number of items or of an object that isn't null
-pub data Piece : Type 0 where
-  all : List Numbered → Piece
-  turns : ℕ → List Numbered → Piece
-  destroy_items : ℕ → Piece
-  destroy_object : Ptr → Piece
+pub data Todo : Type 0 where
+  all : List StatementAt → Todo
+  turns : ℕ → List StatementAt → Todo
+  destroy_items : ℕ → Todo
+  destroy_object : Ptr → Todo
 
 -- the number of frames, and of items at the entry of the innermost TRAP
-pub record Where : Type 0 where
+pub record Context : Type 0 where
   pub depth : ℕ
   pub floor : ℕ
 
 -- a meaning of pieces, which the clauses below are given for what stands inside
 abbrev pub Meaning : Type 0
-Meaning = Where → Piece → State → Process
+Meaning = Context → Todo → State → Process
 
 -- one level of a statement
 abbrev pub Layer : Type 0
-Layer = Statement-F Statement Numbered
+Layer = Statement-F Statement StatementAt
 
 abbrev pub done : State → Process
 done st = ends goes_on st
@@ -122,7 +122,7 @@ abbrev pub in_range : ℤ → Bool
 in_range z = int_le (negsuc 2147483647) z && int_le z (pos 2147483647)
 
 -- a body in a frame of its own, and the caller's frame afterwards; the 129th frame is refused
-unfoldable pub in_frame : Meaning → Where → Ptr → List Value → Body → State → (Way → State → Process) → Process
+unfoldable pub in_frame : Meaning → Context → Ptr → List Value → Body → State → (Way → State → Process) → Process
 in_frame rec at this given body st go =
     require (nat_lt at.depth MOST_FRAMES) TOO_MANY_FRAMES st (λ st.
     and_then
@@ -158,7 +158,7 @@ abbrev pub drop_newest : ℕ → State → State
 drop_newest n st = record st { items = take (length st.items - n) st.items }
 
 -- at least a number of items stand above the entry of the innermost TRAP
-abbrev pub has_above : Where → State → ℕ → Bool
+abbrev pub has_above : Context → State → ℕ → Bool
 has_above at st n = nat_le (at.floor + n) (length st.items)
 
 abbrev pub item_pointer : Item → Ptr
@@ -167,19 +167,19 @@ item_pointer (I.Delete p) = p
 item_pointer (I.Call p op) = p
 
 -- null: nothing
-unfoldable pub destroyed_object : Bool → Meaning → Where → Ptr → State → Process
+unfoldable pub destroyed_object : Bool → Meaning → Context → Ptr → State → Process
 destroyed_object true rec at p st = done st
 destroyed_object false rec at p st = rec at (destroy_object p) st
 
 -- the destruction of an item that was taken off
-unfoldable pub destroyed_item : Script → Meaning → Where → Item → State → Process
+unfoldable pub destroyed_item : Script → Meaning → Context → Item → State → Process
 destroyed_item script rec at (I.Free p) st = release p st
 destroyed_item script rec at (I.Delete p) st = destroyed_object (is_null p) rec at p st
 destroyed_item script rec at (I.Call p op) st =
     in_frame rec at null (pointer p ∷ []) (operation_at script op) st (plain (λ _ st. done st))
 
 -- what a TRAP makes of its body's end; no `return` stands inside one
-unfoldable pub trapped : Meaning → Where → ℕ → ℕ → Way → State → Process
+unfoldable pub trapped : Meaning → Context → ℕ → ℕ → Way → State → Process
 trapped rec at target entry goes_on st =
     require (nat_eq (length st.items) entry) ITEMS_LEFT st (λ st. done (set_local st target (number (pos 0))))
 trapped rec at target entry (leaves code) st =
@@ -228,7 +228,7 @@ at_least_one _ = None
 
 -- one statement that was begun; `rec` is the meaning of the pieces that it leaves to be done. Above each clause stands the call
 -- of the SDK that it is for; a line without one is this language's own.
-unfoldable pub statement : Script → Meaning → Where → Layer → State → Process
+unfoldable pub statement : Script → Meaning → Context → Layer → State → Process
 -- User::Alloc, User::AllocL
 statement script rec at (Statement-F.Alloc target bytes refusal) st =
     with_pointer st target (λ _. with_some (within LARGEST_REQUEST (number_of st bytes)) NUMBER_OUT_OF_RANGE st (λ n. alloc_raw target refusal n st))

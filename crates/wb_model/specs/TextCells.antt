@@ -26,12 +26,12 @@ abbrev pub text_words : ℕ → List ℕ → List ℕ
 text_words n t = length t ∷ joined (exactly (room_in n) t)
 
 -- the units behind the length, those past it too
-abbrev pub units_behind : List ℕ → List ℕ
-units_behind ws = halves (drop 1 ws)
+abbrev pub units_after : List ℕ → List ℕ
+units_after ws = halves (drop 1 ws)
 
 -- the text that words read as
 abbrev pub text_in : List ℕ → List ℕ
-text_in ws = take (slice_index ws 0) (units_behind ws)
+text_in ws = take (slice_index ws 0) (units_after ws)
 
 -- the words are those of the text, for which they have room
 pub record IsText (ws t : List ℕ) : Type 0 where

@@ -1,13 +1,13 @@
 -- The lines of a script's tree, with what their names and literals stand for, and with their numbers where the tree keeps them.
 use Rattle.std.specs.Prelude.{ℕ, suc, List, [], ◌∷◌, ◌++◌, Option, Some, None, length, map, fold, nat_lt, if◌then◌else◌}
 use Rattle.std.specs.List.{flat_map}
-use Rattle.wb_model.specs.declared.script_lines.Key.TheVariants as key
-use Rattle.wb_model.specs.declared.script_lines.Key.{Key}
-use Rattle.wb_model.specs.declared.script_lines.Meant.{Meant}
-use Rattle.wb_model.specs.declared.script_lines.Meant.TheVariants as meant
+use Rattle.wb_model.specs.declared.script_lines.LineKind.TheVariants as line_kind
+use Rattle.wb_model.specs.declared.script_lines.LineKind.{LineKind}
+use Rattle.wb_model.specs.declared.script_lines.Referent.{Referent}
+use Rattle.wb_model.specs.declared.script_lines.Referent.TheVariants as referent
 use Rattle.wb_model.specs.declared.script_lines.Operand.{Operand}
 use Rattle.wb_model.specs.declared.script_lines.Operand.TheVariants.{Name, Number, Size, Literal, Keyword}
-use Rattle.wb_model.specs.declared.script_lines.Taken.TheVariants as taken
+use Rattle.wb_model.specs.declared.script_lines.ParameterType.TheVariants as parameter_type
 use Rattle.wb_model.specs.declared.script_lines.Operand.TheVariants as spelled
 use Rattle.wb_model.specs.declared.script_lines.Form.{Form}
 use Rattle.wb_model.specs.declared.script_lines.Form.TheVariants.{Skip, Unknown, Line}
@@ -37,15 +37,15 @@ use Rattle.wb_model.specs.declared.script.Writable.TheVariants.{OwnBuffer, InCel
 use Rattle.wb_model.specs.declared.script.Readable.{Readable}
 use Rattle.wb_model.specs.declared.script.Readable.TheVariants.{Of, ViewOf, Quoted}
 use Rattle.wb_model.specs.declared.script.Refusal.TheVariants.{GivesNull, Leaves}
-use Rattle.wb_model.specs.declared.script.Numbered.{Numbered}
+use Rattle.wb_model.specs.declared.script.StatementAt.{StatementAt}
 use Rattle.wb_model.specs.declared.script.Statement.{Statement}
-use Rattle.wb_model.specs.declared.script.Statement.TheOpen.{Statement-F, Numbered-F}
+use Rattle.wb_model.specs.declared.script.Statement.TheOpen.{Statement-F, StatementAt-F}
 use Rattle.wb_model.specs.declared.script.Statement.TheFolds.{fold-Statement}
 use Rattle.wb_model.specs.Forms.{role_of_form}
 use Rattle.wb_model.specs.Sound.{its_parameters}
 
 abbrev pub Indexed : Type 0
-Indexed = Form Meant
+Indexed = Form Referent
 
 -- a line, with its number where a tree keeps it
 abbrev pub Marked : Type 0
@@ -76,49 +76,49 @@ counted_from number (line ∷ lines) = counted number line ++ counted_from (suc 
 
 -- The operand that spells a pointer, a number, a text, a class, a procedure or a parameter; none where no line spells it.
 abbrev pub Spelled : Type 0
-Spelled = Option (Operand Meant)
+Spelled = Option (Operand Referent)
 
 -- what a holder of a pointer is named as
-abbrev pub holder_meant : Holder → Meant
-holder_meant (H.Local i) = meant.Pointer i
-holder_meant H.This = meant.This
+abbrev pub holder_referent : Holder → Referent
+holder_referent (H.Local i) = referent.Pointer i
+holder_referent H.This = referent.This
 
 abbrev pub pointer_operand : Pointer → Spelled
-pointer_operand (Held holder) = Some (Name (holder_meant holder))
-pointer_operand (Field holder class i) = Some (spelled.Field (holder_meant holder) (meant.Field class i))
+pointer_operand (Held holder) = Some (Name (holder_referent holder))
+pointer_operand (Field holder class i) = Some (spelled.Field (holder_referent holder) (referent.Field class i))
 
 abbrev pub variable_operand : ℕ → Spelled
-variable_operand i = Some (Name (meant.Number i))
+variable_operand i = Some (Name (referent.Number i))
 
 abbrev pub number_operand : N.Number → Spelled
 number_operand (Constant z) = Some (Number z)
 number_operand (Variable i) = variable_operand i
 
 abbrev pub writable_operand : Writable → Spelled
-writable_operand (OwnBuffer i) = Some (Name (meant.Buffer i))
+writable_operand (OwnBuffer i) = Some (Name (referent.Buffer i))
 writable_operand (InCell p) = pointer_operand p
 
 abbrev pub view_operand : ℕ → Spelled
-view_operand i = Some (Name (meant.View i))
+view_operand i = Some (Name (referent.View i))
 
 abbrev pub text_operand : Readable → Spelled
 text_operand (Of w) = writable_operand w
 text_operand (ViewOf i) = view_operand i
-text_operand (Quoted i) = Some (Literal (meant.Literal i))
+text_operand (Quoted i) = Some (Literal (referent.Literal i))
 
 abbrev pub class_operand : ℕ → Spelled
-class_operand i = Some (Name (meant.Class i))
+class_operand i = Some (Name (referent.Class i))
 
 abbrev pub procedure_operand : ℕ → Spelled
-procedure_operand i = Some (Name (meant.Procedure i))
+procedure_operand i = Some (Name (referent.Procedure i))
 
 abbrev pub operation_operand : ℕ → Spelled
-operation_operand i = Some (Name (meant.Operation i))
+operation_operand i = Some (Name (referent.Operation i))
 
 abbrev pub parameter_operand : Parameter → Spelled
-parameter_operand (parameter.OfPointer None) = Some (spelled.Parameter meant.Parameter taken.Pointer)
-parameter_operand (parameter.OfPointer (Some class)) = Some (spelled.Parameter meant.Parameter (taken.OfClass (meant.Class class)))
-parameter_operand parameter.OfNumber = Some (spelled.Parameter meant.Parameter taken.Number)
+parameter_operand (parameter.OfPointer None) = Some (spelled.Parameter referent.Parameter parameter_type.Pointer)
+parameter_operand (parameter.OfPointer (Some class)) = Some (spelled.Parameter referent.Parameter (parameter_type.OfClass (referent.Class class)))
+parameter_operand parameter.OfNumber = Some (spelled.Parameter referent.Parameter parameter_type.Number)
 
 abbrev pub argument_operand : Argument → Spelled
 argument_operand (Passed p) = pointer_operand p
@@ -127,99 +127,99 @@ argument_operand (Given v) = number_operand v
 abbrev pub keyword_operand : Spelled
 keyword_operand = Some Keyword
 
-abbrev pub and_operand : Spelled → Option (List (Operand Meant)) → Option (List (Operand Meant))
+abbrev pub and_operand : Spelled → Option (List (Operand Referent)) → Option (List (Operand Referent))
 and_operand (Some operand) (Some operands) = Some (operand ∷ operands)
 and_operand _ _ = None
 
-abbrev pub all_spelled : List Spelled → Option (List (Operand Meant))
+abbrev pub all_spelled : List Spelled → Option (List (Operand Referent))
 all_spelled [] = Some []
 all_spelled (operand ∷ rest) = and_operand operand (all_spelled rest)
 
-abbrev pub line_or_unknown : Key → Option (List (Operand Meant)) → Indexed
-line_or_unknown key (Some operands) = Line key operands
-line_or_unknown key None = Unknown
+abbrev pub line_or_unknown : LineKind → Option (List (Operand Referent)) → Indexed
+line_or_unknown line_kind (Some operands) = Line line_kind operands
+line_or_unknown line_kind None = Unknown
 
-abbrev pub line : Key → List Spelled → Indexed
+abbrev pub line : LineKind → List Spelled → Indexed
 line k words = line_or_unknown k (all_spelled words)
 
--- the key of the line that sets a pointer
-abbrev pub set_key : Pointer → Key
-set_key (Held holder) = key.Set
-set_key (Field holder class i) = key.SetField
+-- the line kind of the line that sets a pointer
+abbrev pub set_line_kind : Pointer → LineKind
+set_line_kind (Held holder) = line_kind.Set
+set_line_kind (Field holder class i) = line_kind.SetField
 
 -- the line of an `if`
 abbrev pub condition_line : Condition → Indexed
-condition_line (IsNull p) = line key.IfNull (keyword_operand ∷ pointer_operand p ∷ [])
-condition_line (NotNull p) = line key.IfSome (keyword_operand ∷ pointer_operand p ∷ [])
-condition_line (Equal v w) = line key.IfEqual (keyword_operand ∷ number_operand v ∷ number_operand w ∷ [])
-condition_line (Less v w) = line key.IfLess (keyword_operand ∷ number_operand v ∷ number_operand w ∷ [])
+condition_line (IsNull p) = line line_kind.IfNull (keyword_operand ∷ pointer_operand p ∷ [])
+condition_line (NotNull p) = line line_kind.IfSome (keyword_operand ∷ pointer_operand p ∷ [])
+condition_line (Equal v w) = line line_kind.IfEqual (keyword_operand ∷ number_operand v ∷ number_operand w ∷ [])
+condition_line (Less v w) = line line_kind.IfLess (keyword_operand ∷ number_operand v ∷ number_operand w ∷ [])
 
 -- The line that a statement begins with, whatever stands inside it.
 abbrev pub statement_line : {A B : Type 0} → Statement-F A B → Indexed
-statement_line (Statement-F.Alloc p v GivesNull) = line key.Alloc (pointer_operand p ∷ number_operand v ∷ [])
-statement_line (Statement-F.Alloc p v Leaves) = line key.AllocL (pointer_operand p ∷ number_operand v ∷ [])
-statement_line (Statement-F.Realloc p q v GivesNull) = line key.Realloc (pointer_operand p ∷ pointer_operand q ∷ number_operand v ∷ [])
-statement_line (Statement-F.Realloc p q v Leaves) = line key.ReallocL (pointer_operand p ∷ pointer_operand q ∷ number_operand v ∷ [])
-statement_line (Statement-F.Free p) = line key.Free (pointer_operand p ∷ [])
-statement_line (Statement-F.AllocLen x p) = line key.AllocLen (variable_operand x ∷ pointer_operand p ∷ [])
-statement_line (Statement-F.Store p v w) = line key.Store (pointer_operand p ∷ number_operand v ∷ number_operand w ∷ [])
-statement_line (Statement-F.Load x p v) = line key.Load (variable_operand x ∷ pointer_operand p ∷ number_operand v ∷ [])
-statement_line (Statement-F.New p class GivesNull) = line key.New (pointer_operand p ∷ class_operand class ∷ [])
-statement_line (Statement-F.New p class Leaves) = line key.NewLeave (pointer_operand p ∷ class_operand class ∷ [])
-statement_line (Statement-F.Construct p) = line key.Construct (pointer_operand p ∷ [])
-statement_line (Statement-F.Delete p) = line key.Delete (pointer_operand p ∷ [])
-statement_line (Statement-F.Set p q) = line (set_key p) (pointer_operand p ∷ pointer_operand q ∷ [])
-statement_line (Statement-F.SetNumber x v) = line key.Set (variable_operand x ∷ number_operand v ∷ [])
-statement_line (Statement-F.SetNull p) = line key.Null (pointer_operand p ∷ [])
-statement_line (Statement-F.Add x v) = line key.Add (variable_operand x ∷ number_operand v ∷ [])
-statement_line (Statement-F.Push p) = line key.Push (pointer_operand p ∷ [])
-statement_line (Statement-F.PushObject p) = line key.PushObj (pointer_operand p ∷ [])
-statement_line (Statement-F.PushOperation p n) = line key.PushOp (pointer_operand p ∷ operation_operand n ∷ [])
-statement_line (Statement-F.Pop v) = line key.Pop (number_operand v ∷ [])
-statement_line (Statement-F.PopDestroy v) = line key.PopDestroy (number_operand v ∷ [])
-statement_line (Statement-F.PopCheck p) = line key.PopCheck (pointer_operand p ∷ [])
-statement_line Statement-F.Mark = line key.Mark []
-statement_line (Statement-F.MarkEnd v) = line key.MarkEnd (number_operand v ∷ [])
-statement_line (Statement-F.Check v) = line key.Check (number_operand v ∷ [])
-statement_line (Statement-F.CheckAll v) = line key.CheckAll (number_operand v ∷ [])
-statement_line (Statement-F.FailNext v) = line key.FailNext (number_operand v ∷ [])
-statement_line (Statement-F.FailEvery v) = line key.FailEvery (number_operand v ∷ [])
-statement_line Statement-F.FailNone = line key.FailNone []
-statement_line (Statement-F.NewText p v GivesNull) = line key.HNew (pointer_operand p ∷ number_operand v ∷ [])
-statement_line (Statement-F.NewText p v Leaves) = line key.HNewL (pointer_operand p ∷ number_operand v ∷ [])
-statement_line (Statement-F.ReallocText p q v) = line key.HRealloc (pointer_operand p ∷ pointer_operand q ∷ number_operand v ∷ [])
-statement_line (Statement-F.Copy d t) = line key.Copy (writable_operand d ∷ text_operand t ∷ [])
-statement_line (Statement-F.Append d t) = line key.Append (writable_operand d ∷ text_operand t ∷ [])
-statement_line (Statement-F.Insert d v t) = line key.Insert (writable_operand d ∷ number_operand v ∷ text_operand t ∷ [])
-statement_line (Statement-F.DeleteText d v w) = line key.DelText (writable_operand d ∷ number_operand v ∷ number_operand w ∷ [])
-statement_line (Statement-F.SetLength d v) = line key.SetLength (writable_operand d ∷ number_operand v ∷ [])
-statement_line (Statement-F.Left y t v) = line key.Left (view_operand y ∷ text_operand t ∷ number_operand v ∷ [])
-statement_line (Statement-F.Right y t v) = line key.Right (view_operand y ∷ text_operand t ∷ number_operand v ∷ [])
-statement_line (Statement-F.Mid y t v w) = line key.Mid (view_operand y ∷ text_operand t ∷ number_operand v ∷ number_operand w ∷ [])
-statement_line (Statement-F.GetLength x t) = line key.GetLen (variable_operand x ∷ text_operand t ∷ [])
-statement_line (Statement-F.GetMaximum x d) = line key.GetMax (variable_operand x ∷ writable_operand d ∷ [])
-statement_line (Statement-F.PrintText t) = line key.Print (text_operand t ∷ [])
-statement_line (Statement-F.PrintNumber v) = line key.Print (number_operand v ∷ [])
-statement_line Statement-F.NoteHeap = line key.Heap []
-statement_line Statement-F.NoteAvailable = line key.Available []
-statement_line Statement-F.NoteCompress = line key.Compress []
-statement_line (Statement-F.Leave v) = line key.Leave (number_operand v ∷ [])
-statement_line (Statement-F.LeaveIfError v) = line key.LeaveIfError (number_operand v ∷ [])
-statement_line (Statement-F.LeaveIfNull p) = line key.LeaveIfNull (pointer_operand p ∷ [])
-statement_line (Statement-F.Call n arguments) = line key.Call (procedure_operand n ∷ map argument_operand arguments)
-statement_line (Statement-F.CallTo x n arguments) = line key.CallTo (pointer_operand (Held (H.Local x)) ∷ procedure_operand n ∷ map argument_operand arguments)
-statement_line Statement-F.Return = line key.Return []
-statement_line (Statement-F.ReturnPointer p) = line key.ReturnPointer (pointer_operand p ∷ [])
+statement_line (Statement-F.Alloc p v GivesNull) = line line_kind.Alloc (pointer_operand p ∷ number_operand v ∷ [])
+statement_line (Statement-F.Alloc p v Leaves) = line line_kind.AllocL (pointer_operand p ∷ number_operand v ∷ [])
+statement_line (Statement-F.Realloc p q v GivesNull) = line line_kind.Realloc (pointer_operand p ∷ pointer_operand q ∷ number_operand v ∷ [])
+statement_line (Statement-F.Realloc p q v Leaves) = line line_kind.ReallocL (pointer_operand p ∷ pointer_operand q ∷ number_operand v ∷ [])
+statement_line (Statement-F.Free p) = line line_kind.Free (pointer_operand p ∷ [])
+statement_line (Statement-F.AllocLen x p) = line line_kind.AllocLen (variable_operand x ∷ pointer_operand p ∷ [])
+statement_line (Statement-F.Store p v w) = line line_kind.Store (pointer_operand p ∷ number_operand v ∷ number_operand w ∷ [])
+statement_line (Statement-F.Load x p v) = line line_kind.Load (variable_operand x ∷ pointer_operand p ∷ number_operand v ∷ [])
+statement_line (Statement-F.New p class GivesNull) = line line_kind.New (pointer_operand p ∷ class_operand class ∷ [])
+statement_line (Statement-F.New p class Leaves) = line line_kind.NewLeave (pointer_operand p ∷ class_operand class ∷ [])
+statement_line (Statement-F.Construct p) = line line_kind.Construct (pointer_operand p ∷ [])
+statement_line (Statement-F.Delete p) = line line_kind.Delete (pointer_operand p ∷ [])
+statement_line (Statement-F.Set p q) = line (set_line_kind p) (pointer_operand p ∷ pointer_operand q ∷ [])
+statement_line (Statement-F.SetNumber x v) = line line_kind.Set (variable_operand x ∷ number_operand v ∷ [])
+statement_line (Statement-F.SetNull p) = line line_kind.Null (pointer_operand p ∷ [])
+statement_line (Statement-F.Add x v) = line line_kind.Add (variable_operand x ∷ number_operand v ∷ [])
+statement_line (Statement-F.Push p) = line line_kind.Push (pointer_operand p ∷ [])
+statement_line (Statement-F.PushObject p) = line line_kind.PushObj (pointer_operand p ∷ [])
+statement_line (Statement-F.PushOperation p n) = line line_kind.PushOp (pointer_operand p ∷ operation_operand n ∷ [])
+statement_line (Statement-F.Pop v) = line line_kind.Pop (number_operand v ∷ [])
+statement_line (Statement-F.PopDestroy v) = line line_kind.PopDestroy (number_operand v ∷ [])
+statement_line (Statement-F.PopCheck p) = line line_kind.PopCheck (pointer_operand p ∷ [])
+statement_line Statement-F.Mark = line line_kind.Mark []
+statement_line (Statement-F.MarkEnd v) = line line_kind.MarkEnd (number_operand v ∷ [])
+statement_line (Statement-F.Check v) = line line_kind.Check (number_operand v ∷ [])
+statement_line (Statement-F.CheckAll v) = line line_kind.CheckAll (number_operand v ∷ [])
+statement_line (Statement-F.FailNext v) = line line_kind.FailNext (number_operand v ∷ [])
+statement_line (Statement-F.FailEvery v) = line line_kind.FailEvery (number_operand v ∷ [])
+statement_line Statement-F.FailNone = line line_kind.FailNone []
+statement_line (Statement-F.NewText p v GivesNull) = line line_kind.HNew (pointer_operand p ∷ number_operand v ∷ [])
+statement_line (Statement-F.NewText p v Leaves) = line line_kind.HNewL (pointer_operand p ∷ number_operand v ∷ [])
+statement_line (Statement-F.ReallocText p q v) = line line_kind.HRealloc (pointer_operand p ∷ pointer_operand q ∷ number_operand v ∷ [])
+statement_line (Statement-F.Copy d t) = line line_kind.Copy (writable_operand d ∷ text_operand t ∷ [])
+statement_line (Statement-F.Append d t) = line line_kind.Append (writable_operand d ∷ text_operand t ∷ [])
+statement_line (Statement-F.Insert d v t) = line line_kind.Insert (writable_operand d ∷ number_operand v ∷ text_operand t ∷ [])
+statement_line (Statement-F.DeleteText d v w) = line line_kind.DelText (writable_operand d ∷ number_operand v ∷ number_operand w ∷ [])
+statement_line (Statement-F.SetLength d v) = line line_kind.SetLength (writable_operand d ∷ number_operand v ∷ [])
+statement_line (Statement-F.Left y t v) = line line_kind.Left (view_operand y ∷ text_operand t ∷ number_operand v ∷ [])
+statement_line (Statement-F.Right y t v) = line line_kind.Right (view_operand y ∷ text_operand t ∷ number_operand v ∷ [])
+statement_line (Statement-F.Mid y t v w) = line line_kind.Mid (view_operand y ∷ text_operand t ∷ number_operand v ∷ number_operand w ∷ [])
+statement_line (Statement-F.GetLength x t) = line line_kind.GetLen (variable_operand x ∷ text_operand t ∷ [])
+statement_line (Statement-F.GetMaximum x d) = line line_kind.GetMax (variable_operand x ∷ writable_operand d ∷ [])
+statement_line (Statement-F.PrintText t) = line line_kind.Print (text_operand t ∷ [])
+statement_line (Statement-F.PrintNumber v) = line line_kind.Print (number_operand v ∷ [])
+statement_line Statement-F.NoteHeap = line line_kind.Heap []
+statement_line Statement-F.NoteAvailable = line line_kind.Available []
+statement_line Statement-F.NoteCompress = line line_kind.Compress []
+statement_line (Statement-F.Leave v) = line line_kind.Leave (number_operand v ∷ [])
+statement_line (Statement-F.LeaveIfError v) = line line_kind.LeaveIfError (number_operand v ∷ [])
+statement_line (Statement-F.LeaveIfNull p) = line line_kind.LeaveIfNull (pointer_operand p ∷ [])
+statement_line (Statement-F.Call n arguments) = line line_kind.Call (procedure_operand n ∷ map argument_operand arguments)
+statement_line (Statement-F.CallTo x n arguments) = line line_kind.CallTo (pointer_operand (Held (H.Local x)) ∷ procedure_operand n ∷ map argument_operand arguments)
+statement_line Statement-F.Return = line line_kind.Return []
+statement_line (Statement-F.ReturnPointer p) = line line_kind.ReturnPointer (pointer_operand p ∷ [])
 statement_line (Statement-F.If c first) = condition_line c
 statement_line (Statement-F.IfElse c first other) = condition_line c
-statement_line (Statement-F.Repeat v body) = line key.Repeat (number_operand v ∷ [])
-statement_line (Statement-F.Trap x body) = line key.Trap (variable_operand x ∷ [])
+statement_line (Statement-F.Repeat v body) = line line_kind.Repeat (number_operand v ∷ [])
+statement_line (Statement-F.Trap x body) = line line_kind.Trap (variable_operand x ∷ [])
 
 abbrev pub end_line : Marked
-end_line = (None, Line key.End [])
+end_line = (None, Line line_kind.End [])
 
 abbrev pub else_line : Marked
-else_line = (None, Line key.Else [])
+else_line = (None, Line line_kind.Else [])
 
 abbrev pub lines_joined : {X : Type 0} → List (List X) → List X
 lines_joined [] = []
@@ -237,24 +237,24 @@ lines_inside _ = []
 abbrev pub layer_lines : Statement-F (ℕ → List Marked) (List Marked) → ℕ → List Marked
 layer_lines layer number = (Some number, statement_line layer) ∷ lines_inside layer
 
-abbrev pub numbered_layer : Numbered-F (ℕ → List Marked) (List Marked) → List Marked
-numbered_layer s = s.statement s.line
+abbrev pub statement_at_layer : StatementAt-F (ℕ → List Marked) (List Marked) → List Marked
+statement_at_layer s = s.statement s.line
 
 abbrev pub lines_of_statement : Statement → ℕ → List Marked
-lines_of_statement = fold-Statement (ℕ → List Marked) (List Marked) layer_lines numbered_layer
+lines_of_statement = fold-Statement (ℕ → List Marked) (List Marked) layer_lines statement_at_layer
 
-abbrev pub numbered_lines : Numbered → List Marked
-numbered_lines s = lines_of_statement s.statement s.line
+abbrev pub statement_at_lines : StatementAt → List Marked
+statement_at_lines s = lines_of_statement s.statement s.line
 
-abbrev pub statement_lines : List Numbered → List Marked
-statement_lines statements = flat_map numbered_lines statements
+abbrev pub statement_lines : List StatementAt → List Marked
+statement_lines statements = flat_map statement_at_lines statements
 
 abbrev pub local_line : ℕ → Local → Indexed
-local_line index (OfPointer None) = Line key.Ptr (Name (meant.Declared index) ∷ [])
-local_line index (OfPointer (Some class)) = Line key.ClassPtr (Name (meant.Declared index) ∷ Name (meant.Class class) ∷ [])
-local_line index OfNumber = Line key.Int (Name (meant.Declared index) ∷ [])
-local_line index (OfBuffer max) = Line key.Buf (Name (meant.Declared index) ∷ Size max ∷ [])
-local_line index OfView = Line key.View (Name (meant.Declared index) ∷ [])
+local_line index (OfPointer None) = Line line_kind.Ptr (Name (referent.Declared index) ∷ [])
+local_line index (OfPointer (Some class)) = Line line_kind.ClassPtr (Name (referent.Declared index) ∷ Name (referent.Class class) ∷ [])
+local_line index OfNumber = Line line_kind.Int (Name (referent.Declared index) ∷ [])
+local_line index (OfBuffer max) = Line line_kind.Buf (Name (referent.Declared index) ∷ Size max ∷ [])
+local_line index OfView = Line line_kind.View (Name (referent.Declared index) ∷ [])
 
 -- the declarations of locals, from an index on
 abbrev pub local_lines : ℕ → List Local → List Marked
@@ -262,7 +262,7 @@ local_lines index [] = []
 local_lines index (local ∷ locals) = (None, local_line index local) ∷ local_lines (suc index) locals
 
 abbrev pub head_line : ℕ → List Parameter → Indexed
-head_line index parameters = line key.Proc (Some (Name (meant.Declared index)) ∷ map parameter_operand parameters)
+head_line index parameters = line line_kind.Proc (Some (Name (referent.Declared index)) ∷ map parameter_operand parameters)
 
 -- a body behind a number of parameters
 abbrev pub body_lines : ℕ → Body → List Marked
@@ -275,15 +275,15 @@ abbrev pub procedure_lines : ℕ → Procedure → List Marked
 procedure_lines index p = procedure_head index p ∷ (body_lines (length p.parameters) p.body ++ end_line ∷ [])
 
 abbrev pub operation_head : ℕ → Operation → Marked
-operation_head index o = (Some o.line, line key.Op (Some (Name (meant.Declared index)) ∷ map parameter_operand its_parameters))
+operation_head index o = (Some o.line, line line_kind.Op (Some (Name (referent.Declared index)) ∷ map parameter_operand its_parameters))
 
 abbrev pub operation_lines : ℕ → Operation → List Marked
 operation_lines index o = operation_head index o ∷ (body_lines (length its_parameters) o.body ++ end_line ∷ [])
 
 -- a field without a class, or with one
 abbrev pub field_line : ℕ → Option ℕ → Indexed
-field_line index None = Line key.Field (Name (meant.Declared index) ∷ [])
-field_line index (Some class) = Line key.ClassField (Name (meant.Declared index) ∷ Name (meant.Class class) ∷ [])
+field_line index None = Line line_kind.Field (Name (referent.Declared index) ∷ [])
+field_line index (Some class) = Line line_kind.ClassField (Name (referent.Declared index) ∷ Name (referent.Class class) ∷ [])
 
 -- the fields of a class, from an index on
 abbrev pub field_lines : ℕ → List (Option ℕ) → List Marked
@@ -291,17 +291,17 @@ field_lines index [] = []
 field_lines index (field ∷ fields) = (None, field_line index field) ∷ field_lines (suc index) fields
 
 -- a body of a class, under its head, where the class has it
-abbrev pub own_body_lines : Key → Option Body → List Marked
+abbrev pub own_body_lines : LineKind → Option Body → List Marked
 own_body_lines begins (Some body) = (None, Line begins []) ∷ (body_lines 0 body ++ end_line ∷ [])
 own_body_lines begins None = []
 
 abbrev pub class_head : ℕ → Class → Marked
-class_head index c = (Some c.line, Line key.Class (Name (meant.Declared index) ∷ Size c.extra ∷ []))
+class_head index c = (Some c.line, Line line_kind.Class (Name (referent.Declared index) ∷ Size c.extra ∷ []))
 
 abbrev pub class_lines : ℕ → Class → List Marked
 class_lines index c =
     class_head index c
-    ∷ (field_lines 0 c.fields ++ (own_body_lines key.Constructor c.construct ++ (own_body_lines key.Destructor c.destroy ++ end_line ∷ [])))
+    ∷ (field_lines 0 c.fields ++ (own_body_lines line_kind.Constructor c.construct ++ (own_body_lines line_kind.Destructor c.destroy ++ end_line ∷ [])))
 
 -- the lines of an item, with the number of the first of them
 pub record Lines : Type 0 where

@@ -4,9 +4,9 @@
 -- that the body declares.
 use Rattle.std.specs.Prelude.{◌≡◌, ◌⊎◌, ℕ, suc, ◌<◌, List, [], ◌∷◌, ◌++◌, Option, Some, None, Bool, true, false, not, if◌then◌else◌, length}
 use Rattle.std.specs.List.{list_all, list_any}
-use Rattle.wb_model.specs.declared.script_lines.Letter.{Letter}
-use Rattle.wb_model.specs.declared.script_lines.Letter.TheVariants as letter
-use Rattle.wb_model.specs.declared.script_lines.Taken.TheVariants.{OfClass}
+use Rattle.wb_model.specs.declared.script_lines.OperandPlace.{OperandPlace}
+use Rattle.wb_model.specs.declared.script_lines.OperandPlace.TheVariants as operand_place
+use Rattle.wb_model.specs.declared.script_lines.ParameterType.TheVariants.{OfClass}
 use Rattle.wb_model.specs.declared.script_lines.Operand.{Operand}
 use Rattle.wb_model.specs.declared.script_lines.Operand.TheVariants.{Name, Field, Parameter}
 use Rattle.wb_model.specs.declared.script_lines.Form.{Form}
@@ -14,37 +14,37 @@ use Rattle.wb_model.specs.declared.script_lines.Form.TheVariants.{Line}
 use Rattle.wb_model.specs.declared.script_lines.Role.{Role}
 use Rattle.wb_model.specs.declared.script_lines.Role.TheVariants.{Construct, Destroy}
 use Rattle.wb_model.specs.Forms.{role_of_form}
-use Rattle.wb_model.specs.Keys.{letters_for}
-use Rattle.wb_model.specs.Names.{Text, Item, Known, begins_body, is_among, items_of, known_after, names_of, nothing_known, locals_by}
+use Rattle.wb_model.specs.LineKinds.{operand_places_for}
+use Rattle.wb_model.specs.Names.{Text, Declaration, NamesSoFar, begins_body, is_among, items_of, known_after, names_of, nothing_known, locals_by}
 use Rattle.wb_model.specs.Passes.{state_after}
 use Rattle.wb_model.specs.Resolved.{class_of_base, fields_of_class, is_this}
 
 -- a name that is looked up in the space of the body
-abbrev pub local_used : Letter → Operand Text → List Text
-local_used letter (Field base field) = base ∷ []
-local_used letter.Declared operand = []
-local_used letter.Class operand = []
-local_used letter.Procedure operand = []
-local_used letter.Operation operand = []
+abbrev pub local_used : OperandPlace → Operand Text → List Text
+local_used operand_place (Field base field) = base ∷ []
+local_used operand_place.Declared operand = []
+local_used operand_place.Class operand = []
+local_used operand_place.Procedure operand = []
+local_used operand_place.Operation operand = []
 local_used _ (Name name) = name ∷ []
 local_used _ operand = []
 
 -- a name that is looked up in the script's own space
-abbrev pub item_used : Letter → Operand Text → List Text
-item_used letter (Parameter name (OfClass class)) = class ∷ []
-item_used letter.Class (Name name) = name ∷ []
-item_used letter.Procedure (Name name) = name ∷ []
-item_used letter.Operation (Name name) = name ∷ []
+abbrev pub item_used : OperandPlace → Operand Text → List Text
+item_used operand_place (Parameter name (OfClass class)) = class ∷ []
+item_used operand_place.Class (Name name) = name ∷ []
+item_used operand_place.Procedure (Name name) = name ∷ []
+item_used operand_place.Operation (Name name) = name ∷ []
 item_used _ operand = []
 
 -- what operands use, by what one uses
-abbrev pub names_used : {X : Type 0} → (Letter → Operand Text → List X) → List Letter → List (Operand Text) → List X
-names_used used (letter ∷ letters) (operand ∷ operands) = used letter operand ++ names_used used letters operands
+abbrev pub names_used : {X : Type 0} → (OperandPlace → Operand Text → List X) → List OperandPlace → List (Operand Text) → List X
+names_used used (operand_place ∷ operand_places) (operand ∷ operands) = used operand_place operand ++ names_used used operand_places operands
 names_used used _ _ = []
 
 -- what a line uses
-abbrev pub used_in : {X : Type 0} → (Letter → Operand Text → List X) → Form Text → List X
-used_in used (Line key operands) = names_used used (letters_for key (length operands)) operands
+abbrev pub used_in : {X : Type 0} → (OperandPlace → Operand Text → List X) → Form Text → List X
+used_in used (Line line_kind operands) = names_used used (operand_places_for line_kind (length operands)) operands
 used_in used _ = []
 
 -- a line that begins no body
@@ -72,14 +72,14 @@ UsesUndeclaredName forms before form = (name : Text) ×
     ⊎ ((is_among (used_in item_used form) name ≡ true) × (is_among (names_of (items_of forms)) name ≡ false)))
 
 -- A field isn't one of a class. Where there is no class it isn't looked up.
-abbrev pub is_missing : List Item → Option ℕ → Text → Bool
+abbrev pub is_missing : List Declaration → Option ℕ → Text → Bool
 is_missing items (Some class) field = not (is_among (fields_of_class items class) field)
 is_missing items None field = false
 
 -- an operand that names a field which isn't one of its base's class
-abbrev pub field_missed : List Item → Known → Letter → Operand Text → List Bool
-field_missed items known letter (Field base field) = is_missing items (class_of_base items known base) field ∷ []
-field_missed items known letter operand = []
+abbrev pub field_missed : List Declaration → NamesSoFar → OperandPlace → Operand Text → List Bool
+field_missed items known operand_place (Field base field) = is_missing items (class_of_base items known base) field ∷ []
+field_missed items known operand_place operand = []
 
 -- a line of a script, behind these, uses a field that its class doesn't declare
 abbrev pub uses_undeclared_field : List (Form Text) → List (Form Text) → Form Text → Bool

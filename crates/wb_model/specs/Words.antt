@@ -1,10 +1,10 @@
--- What a word behind the key of a line is: a name, a number, a literal, a parameter, a word of the line's own.
+-- What a word behind the line kind of a line is: a name, a number, a literal, a parameter, a word of the line's own.
 use Rattle.std.specs.Prelude.{ℕ, suc, ℤ, pos, neg_ℤ, ◌+◌, ◌-◌, ◌*◌, List, [], ◌∷◌, Bool, false, not, ◌&&◌, ◌||◌, ◌==◌, nat_le, if◌then◌else◌, Option, Some, None, codes, drop, fold, length, slice_index, slice_range, take}
 use Rattle.std.specs.List.{list_all, list_any}
 use Rattle.std.specs.Option.{option_map}
 use Rattle.std.specs.Str.{bytes_eq}
-use Rattle.wb_model.specs.declared.script_lines.Taken.{Taken}
-use Rattle.wb_model.specs.declared.script_lines.Taken.TheVariants as taken
+use Rattle.wb_model.specs.declared.script_lines.ParameterType.{ParameterType}
+use Rattle.wb_model.specs.declared.script_lines.ParameterType.TheVariants as parameter_type
 use Rattle.wb_model.specs.declared.script_lines.Keyword as model
 use Rattle.wb_model.specs.declared.script_lines.Keyword.TheVariants as keyword
 use Rattle.wb_model.specs.Sound.{is_quotable}
@@ -48,8 +48,8 @@ abbrev pub before_first : ℕ → List ℕ → List ℕ
 before_first byte word = take (length_before byte word) word
 
 -- what stands behind it
-abbrev pub behind_first : ℕ → List ℕ → List ℕ
-behind_first byte word = drop (length_before byte word + 1) word
+abbrev pub after_first_of : ℕ → List ℕ → List ℕ
+after_first_of byte word = drop (length_before byte word + 1) word
 
 abbrev pub with_digit : ℕ → ℕ → ℕ
 with_digit n byte = 10 * n + (byte - 48)
@@ -83,19 +83,19 @@ base_name word = used_name (before_first 46 word)
 
 -- the name of a field, behind the dot
 abbrev pub field_name : List ℕ → Option (List ℕ)
-field_name word = used_name (behind_first 46 word)
+field_name word = used_name (after_first_of 46 word)
 
 -- what a parameter takes, by the word behind its colon; any name but `ptr` and `int` is that of a class
-abbrev pub taken_spelled : List ℕ → Option (Taken (List ℕ))
-taken_spelled word =
-    if bytes_eq word (codes "ptr") then Some taken.Pointer else (if bytes_eq word (codes "int") then Some taken.Number else option_map taken.OfClass (used_name word))
+abbrev pub parameter_type_after_colon : List ℕ → Option (ParameterType (List ℕ))
+parameter_type_after_colon word =
+    if bytes_eq word (codes "ptr") then Some parameter_type.Pointer else (if bytes_eq word (codes "int") then Some parameter_type.Number else option_map parameter_type.OfClass (used_name word))
 
 -- a name that a line declares, before the colon
 abbrev pub parameter_name : List ℕ → Option (List ℕ)
 parameter_name word = declared_name (before_first 58 word)
 
-abbrev pub parameter_taken : List ℕ → Option (Taken (List ℕ))
-parameter_taken word = taken_spelled (behind_first 58 word)
+abbrev pub parameter_type_of_word : List ℕ → Option (ParameterType (List ℕ))
+parameter_type_of_word word = parameter_type_after_colon (after_first_of 58 word)
 
 -- the text of a line's own word
 abbrev pub text_of_keyword : model.Keyword → List ℕ

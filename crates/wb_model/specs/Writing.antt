@@ -1,7 +1,7 @@
 -- Lines, words and literals as they are written; what is written so is read as it was meant.
 use Rattle.std.specs.Prelude.{◌≡◌, ◌≢◌, ◌⊎◌, ℕ, List, [], ◌∷◌, ◌++◌, Bool, true, not, ◌&&◌, ◌==◌, Some}
 use Rattle.std.specs.List.{list_all, flat_map}
-use Rattle.wb_model.specs.declared.script_lines.Key.{Key}
+use Rattle.wb_model.specs.declared.script_lines.LineKind.{LineKind}
 use Rattle.wb_model.specs.declared.script_lines.Operand.{Operand}
 use Rattle.wb_model.specs.declared.script_lines.Form.TheVariants.{Line}
 use Rattle.wb_model.specs.Forms.{line_form}
@@ -55,4 +55,4 @@ ReadsWords words = AreWords words → words_of (flat_map spaced words) ≡ words
 
 -- A line that says something is made of words: no quote stands in it but around a literal.
 abbrev pub IsMadeOfWords : List ℕ → Type 0
-IsMadeOfWords line = (key : Key) (operands : List (Operand (List ℕ))) → line_form line ≡ Line key operands → AreWords (words_of line)
+IsMadeOfWords line = (line_kind : LineKind) (operands : List (Operand (List ℕ))) → line_form line ≡ Line line_kind operands → AreWords (words_of line)

@@ -19,7 +19,7 @@ ghost use Rattle.wb_model.specs.Meaning.{meaning_of};
 ghost use Rattle.wb_model.specs.Printable.{ArePrintable};
 ghost use Rattle.wb_model.specs.Quiet.{is_quiet};
 ghost use Rattle.wb_model.specs.State.{State};
-ghost use Rattle.wb_model.specs.Statements.{Piece, Where, destroy_items, destroy_object};
+ghost use Rattle.wb_model.specs.Statements.{Todo, Context, destroy_items, destroy_object};
 ghost use Rattle.wb_model.specs.Traces.{asked_for, AreAnsweredLines, TellsSettings};
 ghost use Rattle.wb_model.specs.declared.limits.TheConstants.{CEILING};
 ghost use Rattle.wb_model.specs.declared.failures.Failures.{Failures};
@@ -162,7 +162,7 @@ pub fn printed_lines_are_ascii()
 pub fn a_slot_stays_free()
     ensures run { (script : Script) (budget : ℕ) →
         WhereverItGoesOn HasFreeSlot (process script budget) }
-    ensures pieces { (script : Script) (budget : ℕ) (at : Where) (p : Piece) (st : State) →
+    ensures pieces { (script : Script) (budget : ℕ) (at : Context) (p : Todo) (st : State) →
         HasFreeSlot st → WhereverItGoesOn HasFreeSlot (meaning_of script budget at p st) }
 {}
 
@@ -175,8 +175,8 @@ pub fn meaning_unfolds()
 /// for no attempt, and neither leaves nor returns. It may panic, or be cut at the budget; where it goes on, the items destroyed are
 /// off the cleanup stack, and no others.
 pub fn destructions_never_leave()
-    ensures items { (script : Script) (budget : ℕ) (at : Where) (n : ℕ) (st : State) → IsTrue (is_quiet script) →
+    ensures items { (script : Script) (budget : ℕ) (at : Context) (n : ℕ) (st : State) → IsTrue (is_quiet script) →
         GoesOnWith (take (length st.items - n) st.items) (meaning_of script budget at (destroy_items n) st) }
-    ensures object { (script : Script) (budget : ℕ) (at : Where) (p : Ptr) (st : State) → IsTrue (is_quiet script) →
+    ensures object { (script : Script) (budget : ℕ) (at : Context) (p : Ptr) (st : State) → IsTrue (is_quiet script) →
         GoesOnWith st.items (meaning_of script budget at (destroy_object p) st) }
 {}

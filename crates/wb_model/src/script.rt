@@ -68,7 +68,7 @@ pub enum Refusal {
 /// A statement, with the number of its line.
 #[cycle(statements)]
 #[derive(Drop)]
-pub struct Numbered {
+pub struct StatementAt {
     pub line: u32,
     pub statement: Statement,
 }
@@ -128,10 +128,10 @@ pub enum Statement {
     NoteAvailable,
     NoteCompress,
     /// Without an `else`.
-    If(Condition, Items<Numbered>),
-    IfElse(Condition, Items<Numbered>, Items<Numbered>),
-    Repeat(Number, Items<Numbered>),
-    Trap(u8, Items<Numbered>),
+    If(Condition, Items<StatementAt>),
+    IfElse(Condition, Items<StatementAt>, Items<StatementAt>),
+    Repeat(Number, Items<StatementAt>),
+    Trap(u8, Items<StatementAt>),
 }
 
 /// How a local begins.
@@ -150,7 +150,7 @@ pub enum Local {
 pub struct Body {
     /// Those that the body declares itself. Parameters stand before them.
     pub locals: Items<Local>,
-    pub statements: Items<Numbered>,
+    pub statements: Items<StatementAt>,
 }
 
 /// A parameter of a procedure.

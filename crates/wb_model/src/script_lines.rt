@@ -1,11 +1,11 @@
 //! What a line of a script says, before its names are looked up. The tables of the language are in
-//! `specs/Keys.antt`.
+//! `specs/LineKinds.antt`.
 
 use crate::items::Items;
 
 /// What a line is, by the words that say it: the first, and what an `if` asks.
 #[derive(Clone, Copy)]
-pub enum Key {
+pub enum LineKind {
     Class,
     /// A field of no class.
     Field,
@@ -85,10 +85,10 @@ pub enum Key {
     End,
 }
 
-/// What stands in a place behind the key. Which words are grammatical there and which sorts of operands are right says
-/// one table for all letters.
+/// What stands in a place behind the line kind. Which words are grammatical there and which kinds of operands are right says
+/// one table for all operand places.
 #[derive(Clone, Copy)]
-pub enum Letter {
+pub enum OperandPlace {
     /// A name that the line declares.
     Declared,
     /// A pointer that is read: its name, or a field.
@@ -184,7 +184,7 @@ pub enum WordKind {
 
 /// What a parameter takes. `N` is the name of a class, or what it stands for.
 #[derive(Clone, Copy)]
-pub enum Taken<N> {
+pub enum ParameterType<N> {
     Pointer,
     Number,
     /// A pointer of a class.
@@ -193,7 +193,7 @@ pub enum Taken<N> {
 
 /// What a local holds. `N` is the name of a class.
 #[derive(Clone, Copy)]
-pub enum Kind<N> {
+pub enum LocalKind<N> {
     /// A pointer, with its class where it has one.
     Pointer(Option<N>),
     Number,
@@ -202,7 +202,7 @@ pub enum Kind<N> {
     View,
 }
 
-/// A word behind the key. `N` is a name or the text of a literal: the bytes, or what they stand for.
+/// A word behind the line kind. `N` is a name or the text of a literal: the bytes, or what they stand for.
 #[derive(Clone, Copy)]
 pub enum Operand<N> {
     Name(N),
@@ -214,7 +214,7 @@ pub enum Operand<N> {
     /// Without its quotes.
     Literal(N),
     /// A parameter's name, and what it takes.
-    Parameter(N, Taken<N>),
+    Parameter(N, ParameterType<N>),
     /// A word of the line's own.
     Keyword,
 }
@@ -222,7 +222,7 @@ pub enum Operand<N> {
 /// What a name or a literal stands for. Locals count from 0 in their body, fields in their class, classes, procedures,
 /// operations and literals in the script.
 #[derive(Clone, Copy)]
-pub enum Meant {
+pub enum Referent {
     /// The next one of the classes, of the procedures, of the operations, of the fields of a class, or of the locals of the
     /// body: the line declares it.
     Declared(usize),
@@ -250,9 +250,9 @@ pub enum Meant {
     Nothing,
 }
 
-/// What an operand is, whichever of its sort.
+/// What an operand is, whichever of its kind.
 #[derive(Clone, Copy)]
-pub enum Sort {
+pub enum OperandKind {
     Declared,
     /// A local that holds a pointer.
     Pointer,
@@ -285,7 +285,7 @@ pub enum Form<N> {
     Skip,
     /// What no line of any script says.
     Unknown,
-    Line(Key, Items<Operand<N>>),
+    Line(LineKind, Items<Operand<N>>),
 }
 
 /// What a line is to the grammar of blocks, whatever else it says.

@@ -84,9 +84,9 @@ field-among count i (a ∷ b ∷ ws) lt within =
 pub field-written : (i at : ℕ) (p : Ptr) (ws : List ℕ) → at ≡ 2 + 2 * i → at + 2 ≤ length ws →
     slice_set (slice_set ws at p.place) (suc at) p.number ≡ with_field i p ws
 field-written i at p ws e within =
-    let behind : suc (suc at) ≡ 4 + 2 * i = omega (arith, e) in
+    let following : suc (suc at) ≡ 4 + 2 * i = omega (arith, e) in
     pair-written at p.place p.number ws within ∙ ap (λ n. take n ws ++ p.place ∷ p.number ∷ drop (suc (suc at)) ws) e
-    ∙ ap (λ n. take (2 + 2 * i) ws ++ p.place ∷ p.number ∷ drop n ws) behind
+    ∙ ap (λ n. take (2 + 2 * i) ws ++ p.place ∷ p.number ∷ drop n ws) following
 
 -- the fields are then those from before but for this one, however many they are
 pub fields-written : (count i : ℕ) (p : Ptr) (ws : List ℕ) → 4 + 2 * i ≤ length ws → fields_in count (with_field i p ws) ≡ slice_set (fields_in count ws) i p

@@ -2,7 +2,7 @@
 
 use crate::spots::Span;
 use std::alloc::{AllocError, Global};
-use wb_lines::pieces::{add_words, is_blank};
+use wb_lines::segments::{add_words, is_blank};
 
 /// A word of a line, and the column in which it begins, counted from 0.
 #[derive(Clone, Copy)]

@@ -4,7 +4,7 @@ use Rattle.std.specs.Prelude.{nat_eq, nat_le, nat_lt}
 use Rattle.std.proofs.lemmas.Bool.{leb-true, leb-false, le-leb, lt-leb, lt-ltb, le-ltb, cond-true, cond-false, false_from_ne_true}
 use Rattle.wb_model.specs.declared.heap.Header.{Header}
 use Rattle.wb_model.specs.declared.heap.Ptr.{Ptr}
-use Rattle.wb_model.specs.CellRow.{FitsInPlace, payload_of, resized_words, with_length, content_or_nil, room_behind, IsGap}
+use Rattle.wb_model.specs.CellRow.{FitsInPlace, payload_of, resized_words, with_length, content_or_nil, room_after, IsGap}
 use Rattle.wb_model.specs.Heap.{fits_in_place}
 use Rattle.wb_model.specs.LimitedHeap.{LimitedHeap, IsSoundHeap, IsCellLength, place_in, place_to_grow, committed_grown, grown_cell, heap_grown, heap_shortened, heap_reallocated, reallocated_pointer, grown_pointer, IsFilled}
 use Rattle.wb_model.specs.Row.{Cell, IsRow, IsLeastPlace, headers, cell_at, end_of, inserted, without, pointer_to, usable_of}
@@ -41,9 +41,9 @@ own-named heap p h is e = subst (λ q. Names q heap.row h) (sym (own-pointer hea
 
 -- whether it can be longer where it stands
 pub fits-decided : (heap : LimitedHeap) (h : Header) (length : ℕ) (room : Option ℕ) → IsSoundHeap heap → Names (pointer_to h) heap.row h →
-    room ≡ room_behind (pointer_to h) (headers heap.row) → has_room room h.length length ≡ fits_in_place (headers heap.row) h length
-fits-decided heap h length room is e behind =
-    ap (λ o. has_room o h.length length) behind
+    room ≡ room_after (pointer_to h) (headers heap.row) → has_room room h.length length ≡ fits_in_place (headers heap.row) h length
+fits-decided heap h length room is e following =
+    ap (λ o. has_room o h.length length) following
     ∙ sym (fits-room (pointer_to h) (headers heap.row) 0 h length is.row.spaced
     (found-head (pointer_to h) heap.row (cell-of (pointer_to h) heap.row h) (whole-cell (pointer_to h) heap.row h e)))
 

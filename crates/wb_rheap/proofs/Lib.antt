@@ -1,7 +1,7 @@
 pub mod Counters
 pub mod Finding
 pub mod Growing
-pub mod Kept
+pub mod HeapFields
 pub mod LongestRuns
 pub mod Moving
 pub mod Numbers

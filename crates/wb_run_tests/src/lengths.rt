@@ -28,7 +28,7 @@ fn first_other(sizing: &Sizing, lengths: &[(u32, Option<u32>)]) -> Option<usize>
 }
 
 #[test]
-fn a_table_tells_what_is_refused(rt: HostRuntime) -> Result<(), Fail> {
+fn a_table_names_what_is_refused(rt: HostRuntime) -> Result<(), Fail> {
     let rises = [(1, 144), (2, 176), (3, 304)].map(|(number, top)| Rise { number, top });
     let sizing = Sizing {
         required: 304,

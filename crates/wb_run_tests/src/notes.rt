@@ -103,7 +103,7 @@ static ENDS: [(End, &[u8]); 10] = [
 ];
 
 /// Whether the text of a run with this end has these lines between the others.
-fn is_told(alloc: Global, end: End, lines: &[u8]) -> Result<bool, Fail> {
+fn is_reported(alloc: Global, end: End, lines: &[u8]) -> Result<bool, Fail> {
     let run = run(alloc, outcome(alloc, end)?)?;
     let mut text = Vec::new(alloc);
     put_run(&mut text, &run)?;
@@ -112,9 +112,9 @@ fn is_told(alloc: Global, end: End, lines: &[u8]) -> Result<bool, Fail> {
 }
 
 #[test]
-fn tells_every_part(rt: HostRuntime) -> Result<(), Fail> {
+fn reports_every_part(rt: HostRuntime) -> Result<(), Fail> {
     for (index, (end, lines)) in ENDS.iter().enumerate() {
-        assert!(rt; is_told(rt.alloc(), *end, lines)?, "row {index}");
+        assert!(rt; is_reported(rt.alloc(), *end, lines)?, "row {index}");
     }
     Ok(())
 }

@@ -97,7 +97,7 @@ impl Host for Desk {
 }
 
 /// What is to be told where the program has these words.
-struct Told {
+struct Wanted {
     words: &'static [&'static str],
     script: &'static [u8],
     /// How often a sweep begins and ends.
@@ -110,15 +110,15 @@ struct Told {
 /// A cell that nobody frees.
 const LEAKING: &[u8] = b"proc main\nptr a\nalloc a 16\nend\n";
 
-static TOLD: [Told; 10] = [
-    Told {
+static TOLD: [Wanted; 10] = [
+    Wanted {
         words: &["workbench", "sweep"],
         script: FALLBACK,
         sweeps: 1,
         last: Some(3),
         failures: &[Failing::Number(1), Failing::Number(2), Failing::Number(3)],
     },
-    Told {
+    Wanted {
         words: &["workbench", "check", "--json"],
         script: FALLBACK,
         sweeps: 1,
@@ -126,7 +126,7 @@ static TOLD: [Told; 10] = [
         failures: &[Failing::Number(1), Failing::Number(2), Failing::Number(3)],
     },
     // Rate 2 shows a leak.
-    Told {
+    Wanted {
         words: &["workbench", "check", "--every"],
         script: FALLBACK,
         sweeps: 1,
@@ -134,7 +134,7 @@ static TOLD: [Told; 10] = [
         failures: &[Failing::Every(1), Failing::Every(2)],
     },
     // The run in which attempt 1 fails makes no other, and that in which attempt 2 fails makes a fourth.
-    Told {
+    Wanted {
         words: &["workbench", "sweep", "--pairs"],
         script: FALLBACK,
         sweeps: 1,
@@ -148,7 +148,7 @@ static TOLD: [Told; 10] = [
         ],
     },
     // The run without failure leaks.
-    Told {
+    Wanted {
         words: &["workbench", "sweep"],
         script: LEAKING,
         sweeps: 1,
@@ -156,7 +156,7 @@ static TOLD: [Told; 10] = [
         failures: &[],
     },
     // It is cut.
-    Told {
+    Wanted {
         words: &["workbench", "sweep", "--budget", "2"],
         script: FALLBACK,
         sweeps: 1,
@@ -164,28 +164,28 @@ static TOLD: [Told; 10] = [
         failures: &[],
     },
     // There is nothing to sweep.
-    Told {
+    Wanted {
         words: &["workbench", "sweep"],
         script: b"",
         sweeps: 0,
         last: None,
         failures: &[],
     },
-    Told {
+    Wanted {
         words: &["workbench", "sweep", "a.oom"],
         script: FALLBACK,
         sweeps: 0,
         last: None,
         failures: &[],
     },
-    Told {
+    Wanted {
         words: &["workbench", "run", "--fail", "2"],
         script: FALLBACK,
         sweeps: 0,
         last: None,
         failures: &[],
     },
-    Told {
+    Wanted {
         words: &["workbench", "size"],
         script: FALLBACK,
         sweeps: 0,
@@ -195,10 +195,10 @@ static TOLD: [Told; 10] = [
 ];
 
 /// Whether this is told, and the sweep is over before anything is written; `is_under_way` is false.
-fn is_told<'a>(
+fn is_reported<'a>(
     alloc: Global,
     words: Vec<&'static str>,
-    wanted: &Told,
+    wanted: &Wanted,
     is_under_way: &'a Cell<bool>,
 ) -> bool {
     let mut listener: Listener<'a> = Listener {
@@ -236,13 +236,13 @@ fn is_told<'a>(
 }
 
 #[test]
-fn tells_of_each_failure_before_the_report(rt: HostRuntime) -> Result<(), Fail> {
+fn reports_each_failure_before_the_report(rt: HostRuntime) -> Result<(), Fail> {
     for (index, wanted) in TOLD.iter().enumerate() {
         let mut words = Vec::new(rt.alloc());
         words.extend_from_slice(wanted.words)?;
         let is_under_way = Cell::new(false);
         assert!(rt;
-            is_told(rt.alloc(), words, wanted, &is_under_way),
+            is_reported(rt.alloc(), words, wanted, &is_under_way),
             "row {index}"
         );
     }

@@ -30,10 +30,10 @@ const TWO_CELLS: &[u8] = b"proc main\nptr a\nrepeat 2\nalloc a 1\nfree a\nend\ne
 type Setting = (&'static [u8], Rule, u32);
 
 /// Whether the machine will make an attempt, what its turn answers, and how many attempts were made by then.
-type Told = (bool, Turn, u32);
+type TurnResult = (bool, Turn, u32);
 
 /// Runs, and what their turns tell, from the first of them past the last.
-static TURNS: [(Setting, &[Told]); 2] = [
+static TURNS: [(Setting, &[TurnResult]); 2] = [
     (
         (TWO_CELLS, Rule::Unlimited, 9),
         &[
@@ -77,7 +77,7 @@ static TURNS: [(Setting, &[Told]); 2] = [
 ];
 
 /// What a turn tells, where there is memory for it.
-fn turned(machine: &mut Machine) -> Option<Told> {
+fn next_turn(machine: &mut Machine) -> Option<TurnResult> {
     let will = machine.will_attempt();
     match machine.step() {
         Ok(turn) => Some((will, turn, machine.attempts())),
@@ -86,9 +86,9 @@ fn turned(machine: &mut Machine) -> Option<Told> {
 }
 
 /// Whether the next turns tell this.
-fn turns_tell(machine: &mut Machine, turns: &[Told]) -> bool {
+fn turns_return(machine: &mut Machine, turns: &[TurnResult]) -> bool {
     for told in turns {
-        if turned(machine) != Some(*told) {
+        if next_turn(machine) != Some(*told) {
             return false;
         }
     }
@@ -156,11 +156,11 @@ static SETTINGS: [Setting; 22] = [
 
 /// Whether a machine tells exactly before those turns that make an attempt that they do, up to the end of its run, and of
 /// none that follows the end.
-fn tells_attempts(machine: &mut Machine, budget: u32) -> bool {
+fn returns_attempts(machine: &mut Machine, budget: u32) -> bool {
     // one turn begins the run, and one more may cut it
     for _ in 0..budget.saturating_add(2) {
         let before = machine.attempts();
-        let Some((will, turn, attempts)) = turned(machine) else {
+        let Some((will, turn, attempts)) = next_turn(machine) else {
             return false;
         };
         if will != (attempts != before) {
@@ -174,29 +174,29 @@ fn tells_attempts(machine: &mut Machine, budget: u32) -> bool {
 }
 
 /// Whether the first turns of a run tell this, and those that follow tell their attempts.
-fn tells(alloc: Global, setting: &Setting, turns: &[Told]) -> Result<bool, Fail> {
+fn returns(alloc: Global, setting: &Setting, turns: &[TurnResult]) -> Result<bool, Fail> {
     let (script, rule, budget) = *setting;
     if budget == 0 || budget > 1_000_000 {
         return Ok(false);
     }
     let script = read(alloc, script)?;
     let mut machine = Machine::new(alloc, &script, rule, budget, SHAPE)?;
-    let first = turns_tell(&mut machine, turns);
-    Ok(first && tells_attempts(&mut machine, budget))
+    let first = turns_return(&mut machine, turns);
+    Ok(first && returns_attempts(&mut machine, budget))
 }
 
 #[test]
 fn turns_of_machines(rt: HostRuntime) -> Result<(), Fail> {
     for (row, (setting, turns)) in TURNS.iter().enumerate() {
-        assert!(rt; tells(rt.alloc(), setting, turns)?, "run {row}");
+        assert!(rt; returns(rt.alloc(), setting, turns)?, "run {row}");
     }
     Ok(())
 }
 
 #[test]
-fn a_machine_tells_its_attempts(rt: HostRuntime) -> Result<(), Fail> {
+fn a_machine_returns_its_attempts(rt: HostRuntime) -> Result<(), Fail> {
     for (row, setting) in SETTINGS.iter().enumerate() {
-        assert!(rt; tells(rt.alloc(), setting, &[])?, "run {row}");
+        assert!(rt; returns(rt.alloc(), setting, &[])?, "run {row}");
     }
     Ok(())
 }

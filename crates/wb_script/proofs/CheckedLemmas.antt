@@ -3,21 +3,21 @@ use Rattle.std.proofs.Common.{◌≡◌, ℕ, suc, ◌+◌, List, [], ◌∷◌,
 use Rattle.std.proofs.lemmas.Grind.{flat_map-append}
 use Rattle.wb_model.specs.declared.script_lines.Form.{Form}
 use Rattle.wb_model.specs.Kinds.{has_wrong_kind, may_leave}
-use Rattle.wb_model.specs.Names.{Text, Known, Item, names_of, nothing_known, known_after, first_refused, declares_again, passes_limit, literals_in, literals_of}
+use Rattle.wb_model.specs.Names.{Text, NamesSoFar, Declaration, names_of, nothing_known, known_after, first_refused, declares_again, passes_limit, literals_in, literals_of}
 use Rattle.wb_model.specs.Resolved.{resolved_among, resolved_line, uses_unknown}
 use Rattle.wb_model.specs.Scripts.{number_of_line}
 use Rattle.wb_script.specs.Checks.{known_in, or_here, AreChecked}
-use Rattle.wb_lines.specs.Lent.{lent_texts}
+use Rattle.wb_lines.specs.BytesOf.{bytes_of_texts}
 use Rattle.wb_script.specs.declared.checks.Checked.{Checked}
 use Rattle.wb_script.proofs.Passes.{state_last, each_last, each_length, first_last}
 
-module _ (items : List Item) (before : List (Form Text)) (form : Form Text) (old new : Checked) (number : ℕ) (checked : AreChecked items before old) (counted : number ≡ length old.lines.items + 1) where
+module _ (items : List Declaration) (before : List (Form Text)) (form : Form Text) (old new : Checked) (number : ℕ) (checked : AreChecked items before old) (counted : number ≡ length old.lines.items + 1) where
   number_is : number ≡ suc (length before)
   number_is =
       let same : length old.lines.items ≡ length before = ap length checked.lines ∙ each_length known_after (resolved_line items) before nothing_known in
       omega (arith, counted, same)
 
-  one_more_refused : (bad : Known → Form Text → Bool) (was is : Option ℕ) → was ≡ number_of_line (first_refused bad before) → is ≡ or_here was number (bad (known_in old.known) form) → is ≡ number_of_line (first_refused bad (before ++ form ∷ []))
+  one_more_refused : (bad : NamesSoFar → Form Text → Bool) (was is : Option ℕ) → was ≡ number_of_line (first_refused bad before) → is ≡ or_here was number (bad (known_in old.known) form) → is ≡ number_of_line (first_refused bad (before ++ form ∷ []))
   one_more_refused bad was is found more =
       more
       ∙ ap (λ w. or_here w number (bad (known_in old.known) form)) found
@@ -27,7 +27,7 @@ module _ (items : List Item) (before : List (Form Text)) (form : Form Text) (old
 
   pub one_more_checked : new.lines.items ≡ old.lines.items ++ resolved_line items (known_in old.known) form ∷ [] →
       known_in new.known ≡ known_after (known_in old.known) form →
-      lent_texts new.known.literals.items ≡ lent_texts old.known.literals.items ++ literals_in form →
+      bytes_of_texts new.known.literals.items ≡ bytes_of_texts old.known.literals.items ++ literals_in form →
       new.first.unknown_name ≡ or_here old.first.unknown_name number (uses_unknown items (known_in old.known) form) →
       new.first.double_name ≡ or_here old.first.double_name number (declares_again (names_of items) (known_in old.known) form) →
       new.first.wrong_kind ≡ or_here old.first.wrong_kind number (has_wrong_kind items (known_in old.known) form) →

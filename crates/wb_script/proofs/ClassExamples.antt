@@ -2,16 +2,16 @@
 use Rattle.std.proofs.Common.{refl}
 use Rattle.std.specs.Prelude.{◌≡◌, ℕ, List, [], ◌∷◌, ◌++◌, Option, Some, None, codes, map, replicate}
 use Rattle.wb_model.specs.declared.fault.ScriptFault.TheVariants.{UnknownName, DoubleName, WrongKind, MayLeave, NoMain, TooMany}
-use Rattle.wb_model.specs.declared.script_lines.Key.TheVariants.{Class, Field, ClassField, Constructor, Destructor, Proc, Ptr, ClassPtr, New, NewLeave, Construct, Delete, Free, PushObj, Set, SetField, Call, End}
-use Rattle.wb_model.specs.declared.script_lines.Meant.TheVariants as meant
+use Rattle.wb_model.specs.declared.script_lines.LineKind.TheVariants.{Class, Field, ClassField, Constructor, Destructor, Proc, Ptr, ClassPtr, New, NewLeave, Construct, Delete, Free, PushObj, Set, SetField, Call, End}
+use Rattle.wb_model.specs.declared.script_lines.Referent.TheVariants as referent
 use Rattle.wb_model.specs.declared.script_lines.Operand.TheVariants.{Name, Size, Parameter}
 use Rattle.wb_model.specs.declared.script_lines.Operand.TheVariants as spelled
-use Rattle.wb_model.specs.declared.script_lines.Taken.TheVariants.{OfClass}
+use Rattle.wb_model.specs.declared.script_lines.ParameterType.TheVariants.{OfClass}
 use Rattle.wb_model.specs.declared.script_lines.Form.{Form}
 use Rattle.wb_model.specs.declared.script_lines.Form.TheVariants.{Line}
 use Rattle.wb_model.specs.Forms.{forms_of}
 use Rattle.wb_model.specs.Grammar.{AreItems, AreFields, IsOptional, IsBody, AreStatements}
-use Rattle.wb_model.specs.Keys.{keys}
+use Rattle.wb_model.specs.LineKinds.{line_kinds}
 use Rattle.wb_model.specs.Lines.{lines_of}
 use Rattle.wb_model.specs.Names.{Text, first_refused, passes_limit}
 use Rattle.wb_model.specs.Resolved.{resolved}
@@ -42,7 +42,7 @@ two_classes =
     ++ codes "proc main\nptr p cat\nptr q\nnewleave p cat\npushobj p\nconstruct p\nset p.owner q\nset q p.tail\ncall feed p.owner\ndelete p\nend\nproc feed c:cat\nfree c.tail\nend\nclass dog 0\nfield friend cat\nend"
 
 they_are_lines : AreLines (lines_of two_classes)
-unfolding keys
+unfolding line_kinds
 they_are_lines =
     AreItems.class (AreFields.field (AreFields.field AreFields.none)) (IsOptional.present (IsBody.statements (AreStatements.plain AreStatements.none))) (IsOptional.present (IsBody.statements (AreStatements.plain AreStatements.none)))
     (AreItems.procedure (IsBody.declaration (IsBody.declaration (IsBody.statements (AreStatements.plain (AreStatements.plain (AreStatements.plain (AreStatements.plain (AreStatements.plain (AreStatements.plain (AreStatements.plain AreStatements.none))))))))))
@@ -50,35 +50,35 @@ they_are_lines =
 
 -- Classes count among themselves, and fields each in its class. Fields and the heads of bodies have no number in a tree.
 what_they_mean : counted_from 1 (resolved (forms_in two_classes)) ≡
-    (Some 1, Line Class (Name (meant.Declared 0) ∷ Size 8 ∷ [])) ∷ (None, Line Field (Name (meant.Declared 0) ∷ [])) ∷ (None, Line ClassField (Name (meant.Declared 1) ∷ Name (meant.Class 0) ∷ []))
-    ∷ (None, Line Constructor []) ∷ (Some 5, Line New (spelled.Field meant.This (meant.Field 0 1) ∷ Name (meant.Class 0) ∷ [])) ∷ (None, Line End [])
-    ∷ (None, Line Destructor []) ∷ (Some 8, Line Delete (spelled.Field meant.This (meant.Field 0 1) ∷ [])) ∷ (None, Line End []) ∷ (None, Line End [])
-    ∷ (Some 11, Line Proc (Name (meant.Declared 0) ∷ [])) ∷ (None, Line ClassPtr (Name (meant.Declared 0) ∷ Name (meant.Class 0) ∷ [])) ∷ (None, Line Ptr (Name (meant.Declared 1) ∷ []))
-    ∷ (Some 14, Line NewLeave (Name (meant.Pointer 0) ∷ Name (meant.Class 0) ∷ [])) ∷ (Some 15, Line PushObj (Name (meant.Pointer 0) ∷ [])) ∷ (Some 16, Line Construct (Name (meant.Pointer 0) ∷ []))
-    ∷ (Some 17, Line SetField (spelled.Field (meant.Pointer 0) (meant.Field 0 1) ∷ Name (meant.Pointer 1) ∷ [])) ∷ (Some 18, Line Set (Name (meant.Pointer 1) ∷ spelled.Field (meant.Pointer 0) (meant.Field 0 0) ∷ []))
-    ∷ (Some 19, Line Call (Name (meant.Procedure 1) ∷ spelled.Field (meant.Pointer 0) (meant.Field 0 1) ∷ [])) ∷ (Some 20, Line Delete (Name (meant.Pointer 0) ∷ [])) ∷ (None, Line End [])
-    ∷ (Some 22, Line Proc (Name (meant.Declared 1) ∷ Parameter meant.Parameter (OfClass (meant.Class 0)) ∷ [])) ∷ (Some 23, Line Free (spelled.Field (meant.Pointer 0) (meant.Field 0 0) ∷ [])) ∷ (None, Line End [])
-    ∷ (Some 25, Line Class (Name (meant.Declared 1) ∷ Size 0 ∷ [])) ∷ (None, Line ClassField (Name (meant.Declared 0) ∷ Name (meant.Class 0) ∷ [])) ∷ (None, Line End []) ∷ []
-unfolding keys
+    (Some 1, Line Class (Name (referent.Declared 0) ∷ Size 8 ∷ [])) ∷ (None, Line Field (Name (referent.Declared 0) ∷ [])) ∷ (None, Line ClassField (Name (referent.Declared 1) ∷ Name (referent.Class 0) ∷ []))
+    ∷ (None, Line Constructor []) ∷ (Some 5, Line New (spelled.Field referent.This (referent.Field 0 1) ∷ Name (referent.Class 0) ∷ [])) ∷ (None, Line End [])
+    ∷ (None, Line Destructor []) ∷ (Some 8, Line Delete (spelled.Field referent.This (referent.Field 0 1) ∷ [])) ∷ (None, Line End []) ∷ (None, Line End [])
+    ∷ (Some 11, Line Proc (Name (referent.Declared 0) ∷ [])) ∷ (None, Line ClassPtr (Name (referent.Declared 0) ∷ Name (referent.Class 0) ∷ [])) ∷ (None, Line Ptr (Name (referent.Declared 1) ∷ []))
+    ∷ (Some 14, Line NewLeave (Name (referent.Pointer 0) ∷ Name (referent.Class 0) ∷ [])) ∷ (Some 15, Line PushObj (Name (referent.Pointer 0) ∷ [])) ∷ (Some 16, Line Construct (Name (referent.Pointer 0) ∷ []))
+    ∷ (Some 17, Line SetField (spelled.Field (referent.Pointer 0) (referent.Field 0 1) ∷ Name (referent.Pointer 1) ∷ [])) ∷ (Some 18, Line Set (Name (referent.Pointer 1) ∷ spelled.Field (referent.Pointer 0) (referent.Field 0 0) ∷ []))
+    ∷ (Some 19, Line Call (Name (referent.Procedure 1) ∷ spelled.Field (referent.Pointer 0) (referent.Field 0 1) ∷ [])) ∷ (Some 20, Line Delete (Name (referent.Pointer 0) ∷ [])) ∷ (None, Line End [])
+    ∷ (Some 22, Line Proc (Name (referent.Declared 1) ∷ Parameter referent.Parameter (OfClass (referent.Class 0)) ∷ [])) ∷ (Some 23, Line Free (spelled.Field (referent.Pointer 0) (referent.Field 0 0) ∷ [])) ∷ (None, Line End [])
+    ∷ (Some 25, Line Class (Name (referent.Declared 1) ∷ Size 0 ∷ [])) ∷ (None, Line ClassField (Name (referent.Declared 0) ∷ Name (referent.Class 0) ∷ [])) ∷ (None, Line End []) ∷ []
+unfolding line_kinds
 what_they_mean = refl
 
 they_are_sound : (unknown two_classes ≡ None) × (again two_classes ≡ None) × (wrong two_classes ≡ None) × (leaving two_classes ≡ None) × (main_of (forms_in two_classes) ≡ Some 0) × (past_limit two_classes ≡ None)
-unfolding keys
+unfolding line_kinds
 they_are_sound = (refl, refl, refl, refl, refl, refl)
 
 -- `self` is known in the bodies of classes alone
 unknown_self : map unknown (codes "proc main\nfree self\nend" ∷ codes "op drop p\nfree self\nend" ∷ codes "class c 0\nconstruct\nfree self\nend\nend" ∷ codes "class c 0\ndestroy\nfree self\nend\nend" ∷ codes "class c 0\ndestroy\nend\nend\nproc main\nfree self\nend" ∷ []) ≡ Some 1 ∷ Some 1 ∷ None ∷ None ∷ Some 5 ∷ []
-unfolding keys
+unfolding line_kinds
 unknown_self = refl
 
 -- a class is found above its line and below, and is no local
 unknown_classes : map unknown (codes "proc main\nptr p c\nend\nclass c 0\nend" ∷ codes "proc main\nptr p c\nend" ∷ codes "class c 0\nfield a d\nend" ∷ codes "proc f a:c\nend" ∷ codes "proc main\nptr p\nnew p c\nend" ∷ codes "proc main\nptr p\nnew p p\nend" ∷ []) ≡ None ∷ Some 1 ∷ Some 1 ∷ Some 0 ∷ Some 2 ∷ Some 2 ∷ []
-unfolding keys
+unfolding line_kinds
 unknown_classes = refl
 
 -- a field is looked up in the class of what is before its dot
 unknown_fields : map unknown (codes "class c 0\nfield a\nend\nproc main\nptr p c\nfree p.a\nend" ∷ codes "class c 0\nfield a\nend\nproc main\nptr p c\nfree p.b\nend" ∷ codes "class c 0\nfield a\nend\nclass d 0\nfield b\nend\nproc main\nptr p c\nfree p.b\nend" ∷ codes "class c 0\nfield a\nconstruct\nfree self.a\nfree self.b\nend\nend" ∷ codes "class c 0\nfield a\nend\nclass d 0\nfield b\nconstruct\nfree self.b\nend\ndestroy\nfree self.a\nend\nend" ∷ codes "proc main\nfree p.a\nend" ∷ codes "proc f p:c\nfree p.a\nfree p.b\nend\nclass c 0\nfield a\nend" ∷ []) ≡ None ∷ Some 5 ∷ Some 8 ∷ Some 4 ∷ Some 9 ∷ Some 1 ∷ Some 2 ∷ []
-unfolding keys
+unfolding line_kinds
 unknown_fields = refl
 
 abbrev without_class : List (List ℕ)
@@ -86,21 +86,21 @@ without_class = codes "proc main\nptr p\nfree p.a\nend" ∷ codes "proc main\nin
 
 -- where there is no class no field is looked up, and none is right
 not_looked_up : map unknown without_class ≡ replicate 4 None
-unfolding keys
+unfolding line_kinds
 not_looked_up = refl
 
 no_class : map wrong without_class ≡ Some 2 ∷ Some 2 ∷ Some 3 ∷ Some 1 ∷ []
-unfolding keys
+unfolding line_kinds
 no_class = refl
 
 -- the two bodies of a class are two spaces
 unknown_locals : map unknown (codes "class c 0\nconstruct\nptr p\nend\ndestroy\nfree p\nend\nend" ∷ codes "class c 0\nconstruct\nptr p\nfree p\nend\nend" ∷ []) ≡ Some 5 ∷ None ∷ []
-unfolding keys
+unfolding line_kinds
 unknown_locals = refl
 
 -- classes share the space of procedures and operations; the fields of a class have one of their own, and so has each body
 declared_again : map again (codes "class f 0\nend\nproc f\nend" ∷ codes "op f p\nend\nclass f 0\nend" ∷ codes "class f 0\nend\nclass f 0\nend" ∷ codes "class c 0\nfield a\nfield a\nend" ∷ codes "class c 0\nfield a\nend\nclass d 0\nfield a\nend" ∷ codes "class c 0\nfield c\nend" ∷ codes "class c 0\nconstruct\nptr p\nend\ndestroy\nptr p\nend\nend" ∷ codes "class c 0\nconstruct\nptr p\nint p\nend\nend" ∷ codes "class c 0\nfield p\nconstruct\nptr p\nend\nend" ∷ []) ≡ Some 2 ∷ Some 2 ∷ Some 2 ∷ Some 2 ∷ None ∷ None ∷ None ∷ Some 3 ∷ None ∷ []
-unfolding keys
+unfolding line_kinds
 declared_again = refl
 
 -- of two classes with one name the first has the fields that are looked up
@@ -108,7 +108,7 @@ abbrev twice : List ℕ
 twice = codes "class c 0\nfield a\nend\nclass c 0\nfield b\nend\nproc main\nptr p c\nfree p.a\nfree p.b\nend"
 
 first_counts : (unknown twice ≡ Some 9) × (again twice ≡ Some 3)
-unfolding keys
+unfolding line_kinds
 first_counts = (refl, refl)
 
 abbrev with_class : List ℕ → List ℕ
@@ -116,11 +116,11 @@ with_class line = codes "class c 0\nfield a\nfield b c\nend\nproc f x:c n:int\ne
 
 -- a field is right wherever a pointer is
 right_fields : map (λ line. wrong (with_class line)) (codes "alloc p.a 1" ∷ codes "set p.a q" ∷ codes "set q p.a" ∷ codes "set p.a p.b" ∷ codes "null p.b" ∷ codes "push p.a" ∷ codes "call f p 1" ∷ codes "call f q n" ∷ codes "call f p.a 1" ∷ codes "callto q f p 1" ∷ codes "new p c" ∷ codes "newleave p.a c" ∷ codes "construct p.b" ∷ codes "delete p.a" ∷ codes "pushobj q" ∷ codes "if null p.a" ∷ codes "copy p.a t" ∷ codes "copy t p.a" ∷ codes "print p.a" ∷ codes "hnew p.a 1" ∷ codes "realloc p.a q 1" ∷ codes "return p.a" ∷ codes "ptr r c" ∷ []) ≡ replicate 23 None
-unfolding keys
+unfolding line_kinds
 right_fields = refl
 
 wrong_fields : map (λ line. wrong (with_class line)) (codes "set q.a p" ∷ codes "free q.a" ∷ codes "free n.a" ∷ codes "push t.a" ∷ codes "set p.a n" ∷ codes "set t p.a" ∷ codes "set n p.a" ∷ codes "callto p.a f p 1" ∷ codes "new n c" ∷ codes "new p f" ∷ codes "newleave p main" ∷ codes "ptr r f" ∷ codes "construct n" ∷ codes "delete t" ∷ codes "pushobj n" ∷ codes "call f n 1" ∷ codes "call f p p.a" ∷ codes "call c" ∷ codes "pushop p c" ∷ []) ≡ replicate 19 (Some 11)
-unfolding keys
+unfolding line_kinds
 wrong_fields = refl
 
 abbrev in_construct : List ℕ → List ℕ
@@ -128,17 +128,17 @@ in_construct line = codes "proc f\nend\nclass c 0\nfield a\nconstruct\nptr p\nin
 
 -- `self` is read as any pointer
 self_is_read : map (λ line. wrong (in_construct line)) (codes "free self" ∷ codes "set p self" ∷ codes "push self" ∷ codes "pushobj self" ∷ codes "delete self" ∷ codes "construct self" ∷ codes "alloclen n self" ∷ codes "if null self" ∷ codes "realloc p self 1" ∷ codes "set self.a self" ∷ codes "null self.a" ∷ codes "return" ∷ []) ≡ replicate 12 None
-unfolding keys
+unfolding line_kinds
 self_is_read = refl
 
 -- and never written; no body of a class returns a pointer
 self_is_not_written : map (λ line. wrong (in_construct line)) (codes "alloc self 1" ∷ codes "allocl self 1" ∷ codes "realloc self p 1" ∷ codes "reallocl self p 1" ∷ codes "new self c" ∷ codes "newleave self c" ∷ codes "set self p" ∷ codes "null self" ∷ codes "hnew self 1" ∷ codes "hnewl self 1" ∷ codes "hrealloc self p 1" ∷ codes "callto self f" ∷ codes "return p" ∷ codes "return self" ∷ []) ≡ replicate 14 (Some 7)
-unfolding keys
+unfolding line_kinds
 self_is_not_written = refl
 
 -- `main` is no class, and a class is named where one is declared with
 wrong_classes : map wrong (codes "class main 0\nend" ∷ codes "class c 0\nfield a f\nend\nproc f\nend" ∷ codes "proc f a:f\nend" ∷ codes "class c 0\ndestroy\nptr p\nreturn p\nend\nend" ∷ codes "class c 0\ndestroy\nreturn\nend\nend" ∷ []) ≡ Some 0 ∷ Some 1 ∷ Some 0 ∷ Some 3 ∷ None ∷ []
-unfolding keys
+unfolding line_kinds
 wrong_classes = refl
 
 abbrev in_destroy : List ℕ → Option ℕ
@@ -155,34 +155,34 @@ quiet = codes "delete p" ∷ codes "set p.a p" ∷ codes "ptr q c" ∷ codes "fr
 
 -- what may leave stands neither in a destructor nor in an operation
 may_not_stand : (map in_destroy loud ≡ replicate 10 (Some 5)) × (map in_operation loud ≡ replicate 10 (Some 4))
-unfolding keys
+unfolding line_kinds
 may_not_stand = (refl, refl)
 
 may_stand : (map in_destroy quiet ≡ replicate 9 None) × (map in_operation quiet ≡ replicate 9 None)
-unfolding keys
+unfolding line_kinds
 may_stand = (refl, refl)
 
-behind_and_before : map leaving (codes "class c 0\nconstruct\nptr p\nnew p c\nend\ndestroy\nend\nend" ∷ codes "op drop p\nend\nclass c 0\nfield a\nconstruct\nalloc self.a 1\nend\nend" ∷ codes "class c 0\ndestroy\nend\nend\nproc main\nmark\nend" ∷ codes "class c 0\nconstruct\nend\ndestroy\nmark\nend\nend" ∷ []) ≡ None ∷ None ∷ None ∷ Some 4 ∷ []
-unfolding keys
-behind_and_before = refl
+after_and_before : map leaving (codes "class c 0\nconstruct\nptr p\nnew p c\nend\ndestroy\nend\nend" ∷ codes "op drop p\nend\nclass c 0\nfield a\nconstruct\nalloc self.a 1\nend\nend" ∷ codes "class c 0\ndestroy\nend\nend\nproc main\nmark\nend" ∷ codes "class c 0\nconstruct\nend\ndestroy\nmark\nend\nend" ∷ []) ≡ None ∷ None ∷ None ∷ Some 4 ∷ []
+unfolding line_kinds
+after_and_before = refl
 
 -- as many classes as may be, as many fields, and as many extra bytes
 abbrev repeated : ℕ → List ℕ → List ℕ
 repeated n lines = lines_joined (replicate n lines)
 
 most_classes : (past_limit (repeated 64 (codes "class c 0\nend\n")) ≡ None) × (past_limit (repeated 65 (codes "class c 0\nend\n")) ≡ Some 128)
-unfolding keys
+unfolding line_kinds
 most_classes = (refl, refl)
 
 abbrev fields : ℕ → List ℕ
 fields n = codes "class c 0\n" ++ (repeated n (codes "field a\n") ++ codes "end\n")
 
 most_fields : (past_limit (fields 16 ++ fields 16) ≡ None) × (past_limit (fields 17) ≡ Some 17)
-unfolding keys
+unfolding line_kinds
 most_fields = (refl, refl)
 
 most_extra : (past_limit (codes "class c 65536\nend") ≡ None) × (past_limit (codes "class c 65537\nend") ≡ Some 0)
-unfolding keys
+unfolding line_kinds
 most_extra = (refl, refl)
 
 -- `self` is no local
@@ -190,7 +190,7 @@ abbrev locals : ℕ → List ℕ
 locals n = codes "class c 0\nconstruct\n" ++ (repeated n (codes "ptr p\n") ++ (codes "end\ndestroy\n" ++ repeated 32 (codes "int x\n")))
 
 most_locals : (past_limit (locals 32) ≡ None) × (past_limit (locals 33) ≡ Some 34)
-unfolding keys
+unfolding line_kinds
 most_locals = (refl, refl)
 
 -- each half of a field or of a parameter is a name by itself
@@ -202,7 +202,7 @@ just = codes "a2345678901234567890123456789012"
 
 long_names : (past_limit (codes "proc f a:" ++ just ++ codes "\nfree " ++ just ++ codes "." ++ just ++ codes "\nend") ≡ None) × (past_limit (codes "proc f a:" ++ long) ≡ Some 0)
     × (past_limit (codes "proc main\nfree " ++ long ++ codes ".a") ≡ Some 1) × (past_limit (codes "proc main\nfree a." ++ long) ≡ Some 1) × (past_limit (codes "class c 0\nfield " ++ long) ≡ Some 1)
-unfolding keys
+unfolding line_kinds
 long_names = (refl, refl, refl, refl, refl)
 
 -- an earlier check wins, whatever the lines
@@ -222,25 +222,25 @@ abbrev large_class : List ℕ
 large_class = codes "class c 70000\nend"
 
 names_first : IsLinesFault (forms_in unknown_late) (UnknownName 8)
-unfolding keys
+unfolding line_kinds
 names_first = refl
 
 doubles_next : IsLinesFault (forms_in again_early) (DoubleName 3)
-unfolding keys
+unfolding line_kinds
 doubles_next = (refl, refl)
 
 kinds_next : IsLinesFault (forms_in wrong_late) (WrongKind 9)
-unfolding keys
+unfolding line_kinds
 kinds_next = (refl, refl, refl)
 
 leaving_next : IsLinesFault (forms_in leaving_early) (MayLeave 4)
-unfolding keys
+unfolding line_kinds
 leaving_next = (refl, refl, refl, refl)
 
 main_next : IsLinesFault (forms_in large_class) NoMain
-unfolding keys
+unfolding line_kinds
 main_next = (record { known = refl; once = refl; right = refl; quiet = refl }, refl)
 
 limits_last : IsLinesFault (forms_in (large_class ++ codes "\nproc main\nend")) (TooMany 1)
-unfolding keys
+unfolding line_kinds
 limits_last = (record { known = refl; once = refl; right = refl; quiet = refl }, λ e. cc e, refl)

@@ -6,14 +6,14 @@ use Rattle.std.proofs.lemmas.List.Folds.{list_all-append}
 use Rattle.wb_model.specs.declared.limits.TheConstants.{MOST_FIELDS}
 use Rattle.wb_model.specs.declared.script.Body.{Body}
 use Rattle.wb_model.specs.declared.script.Class.{Class}
-use Rattle.wb_model.specs.declared.script_lines.Key.{Key}
-use Rattle.wb_model.specs.declared.script_lines.Key.TheVariants as key
-use Rattle.wb_model.specs.declared.script_lines.Meant.{Meant}
+use Rattle.wb_model.specs.declared.script_lines.LineKind.{LineKind}
+use Rattle.wb_model.specs.declared.script_lines.LineKind.TheVariants as line_kind
+use Rattle.wb_model.specs.declared.script_lines.Referent.{Referent}
 use Rattle.wb_model.specs.declared.script_lines.Operand.{Operand}
 use Rattle.wb_model.specs.declared.script_lines.Form.TheVariants.{Line}
 use Rattle.wb_model.specs.declared.script_lines.Role.TheVariants as role
-use Rattle.wb_model.specs.Keys.{role_of}
-use Rattle.wb_model.specs.Names.{kind_begun}
+use Rattle.wb_model.specs.LineKinds.{role_of}
+use Rattle.wb_model.specs.Names.{item_kind_of}
 use Rattle.wb_model.specs.Sound.{Declared, are_classes, fields_declared, is_class_among, is_class_of, is_own_body}
 use Rattle.wb_model.specs.Trees.{Indexed, Marked, Lines, class_head, field_line, field_lines, number_kept, own_body_lines, end_line, each_from, lines_of_class, in_order, all_lines}
 use Rattle.wb_nesting.specs.declared.open.Open.TheVariants.{Declarations, Destroyed}
@@ -21,10 +21,10 @@ use Rattle.wb_script.specs.declared.tree.whole.WholeItems.{WholeItems}
 use Rattle.wb_script.specs.declared.tree.whole.Owner.TheVariants as of
 use Rattle.wb_script.specs.declared.tree.whole.Stage.TheVariants.{InClass}
 use Rattle.wb_script.specs.Building.{Counts, counts_after, with_field}
-use Rattle.wb_script.specs.Growing.{Grows, IsBelowWhere, IsSoundWhere, class_place, counts_of_class, in_body, in_class, items_in_order, new_body, open_class_lines, outside, place_behind, with_class}
+use Rattle.wb_script.specs.Growing.{Grows, IsBelowWhere, IsSoundWhere, class_place, counts_of_class, in_body, in_class, items_in_order, new_body, open_class_lines, outside, place_after, with_class}
 use Rattle.wb_nesting.specs.Machine.{after_line, step}
 use Rattle.wb_script.proofs.Additions.{counts_as}
-use Rattle.wb_script.proofs.Beginnings.{new_sound}
+use Rattle.wb_script.proofs.HeadParameters.{new_sound}
 use Rattle.wb_script.proofs.Growth.{bodies_before, classes_before, same_step, still_below}
 use Rattle.wb_script.proofs.Nests.{flat_map-last}
 use Rattle.wb_script.proofs.Orders.{first_last, each_from-last}
@@ -41,15 +41,15 @@ with_field-last [] n = refl
 with_field-last (m ∷ []) n = refl
 with_field-last (m ∷ o ∷ counts) n = ap (λ l. m ∷ l) (with_field-last (o ∷ counts) n)
 
-no_item : (k : Key) → role_of k ≡ role.Field → kind_begun k ≡ None
-no_item key.Class is = let clash : ⊥ = cc in absurd clash
-no_item key.Proc is = let clash : ⊥ = cc in absurd clash
-no_item key.Op is = let clash : ⊥ = cc in absurd clash
+no_item : (k : LineKind) → role_of k ≡ role.Field → item_kind_of k ≡ None
+no_item line_kind.Class is = let clash : ⊥ = cc in absurd clash
+no_item line_kind.Proc is = let clash : ⊥ = cc in absurd clash
+no_item line_kind.Op is = let clash : ⊥ = cc in absurd clash
 no_item _ is = refl
 
 -- a class with one more field, before its bodies
 field_order : (head : Marked) (fields : List Marked) (field : Marked) (construct destroy : Option Body) → construct ≡ None → destroy ≡ None →
-    head ∷ ((fields ++ field ∷ []) ++ (own_body_lines key.Constructor construct ++ own_body_lines key.Destructor destroy)) ≡ (head ∷ (fields ++ (own_body_lines key.Constructor construct ++ own_body_lines key.Destructor destroy))) ++ field ∷ []
+    head ∷ ((fields ++ field ∷ []) ++ (own_body_lines line_kind.Constructor construct ++ own_body_lines line_kind.Destructor destroy)) ≡ (head ∷ (fields ++ (own_body_lines line_kind.Constructor construct ++ own_body_lines line_kind.Destructor destroy))) ++ field ∷ []
 field_order head fields field None None first second = ap (λ l. head ∷ l) (append-nil (fields ++ field ∷ [])) ∙ ap (λ l. head ∷ (l ++ field ∷ [])) (sym (append-nil fields))
 field_order head fields field (Some body) destroy first second = let clash : ⊥ = cc in absurd clash
 field_order head fields field None (Some body) first second = let clash : ⊥ = cc in absurd clash
@@ -61,7 +61,7 @@ module _ (declared : Declared) (number : ℕ) (b : WholeItems) (c : Class) (soun
   abbrev index : ℕ
   index = length b.classes
 
-  field_counts : (k : Key) (operands : List (Operand Meant)) (f : Option ℕ) (counts : Counts) → role_of k ≡ role.Field → counts ≡ counts_of_class b c counts →
+  field_counts : (k : LineKind) (operands : List (Operand Referent)) (f : Option ℕ) (counts : Counts) → role_of k ≡ role.Field → counts ≡ counts_of_class b c counts →
       counts_after counts (Line k operands) ≡ counts_of_class b (record c { fields = c.fields ++ f ∷ [] }) (counts_after counts (Line k operands))
   field_counts k operands f counts is are =
       let after = counts_after counts (Line k operands) in
@@ -72,7 +72,7 @@ module _ (declared : Declared) (number : ℕ) (b : WholeItems) (c : Class) (soun
       ∙ ap (λ l. record (counts_of_class b c counts) { classes = l }) (with_field-last (fields_declared b.classes) (length c.fields) ∙ ap (λ n. fields_declared b.classes ++ n ∷ []) (sym more)) in
       made ∙ ap (λ (q : Counts). record { classes = fields_declared b.classes ++ length (c.fields ++ f ∷ []) ∷ []; procedures = (counts_of_class b c counts).procedures; operations = (counts_of_class b c counts).operations; this = q.this; locals = q.locals; blocks = [] }) (sym made)
 
-  pub field_grows : (k : Key) (operands : List (Operand Meant)) (f : Option ℕ) → role_of k ≡ role.Field → c.construct ≡ None → c.destroy ≡ None → length c.fields < MOST_FIELDS →
+  pub field_grows : (k : LineKind) (operands : List (Operand Referent)) (f : Option ℕ) → role_of k ≡ role.Field → c.construct ≡ None → c.destroy ≡ None → length c.fields < MOST_FIELDS →
       field_line (length c.fields) f ≡ Line k operands → IsTrue (is_class_among (length declared.fields) f) →
       Grows declared number (Line k operands) (in_class b c) (in_class b (record c { fields = c.fields ++ f ∷ [] }))
   field_grows k operands f is first second room line fine = record {
@@ -82,7 +82,7 @@ module _ (declared : Declared) (number : ℕ) (b : WholeItems) (c : Class) (soun
         ∙ ap (λ i. field_lines 0 c.fields ++ (None, field_line i f) ∷ []) (zero-add (length c.fields))
         ∙ ap (λ l. field_lines 0 c.fields ++ (None, l) ∷ []) line
         ∙ ap (λ r. field_lines 0 c.fields ++ (number_kept r number, Line k operands) ∷ []) (sym is) in
-        ap (λ l. front ++ (class_head index c ∷ (l ++ (own_body_lines key.Constructor c.construct ++ own_body_lines key.Destructor c.destroy)))) line_is
+        ap (λ l. front ++ (class_head index c ∷ (l ++ (own_body_lines line_kind.Constructor c.construct ++ own_body_lines line_kind.Destructor c.destroy)))) line_is
         ∙ ap (λ l. front ++ l) (field_order (class_head index c) (field_lines 0 c.fields) (number_kept (role_of k) number, Line k operands) c.construct c.destroy first second)
         ∙ sym (append_assoc front (open_class_lines index c) ((number_kept (role_of k) number, Line k operands) ∷ []));
     sound = record {
@@ -106,10 +106,10 @@ module _ (declared : Declared) (number : ℕ) (b : WholeItems) (c : Class) (soun
     counts = λ counts are. field_counts k operands f counts is are;
     places =
         same_step k (class_place c ∷ []) ∙ ap (step (class_place c ∷ [])) is
-        ∙ ap (λ d. step (place_behind c.construct d ∷ []) role.Field) second
-        ∙ ap (λ a. step (place_behind a None ∷ []) role.Field) first
-        ∙ ap (λ a. Some (place_behind a None ∷ [])) (sym first)
-        ∙ ap (λ d. Some (place_behind c.construct d ∷ [])) (sym second);
+        ∙ ap (λ d. step (place_after c.construct d ∷ []) role.Field) second
+        ∙ ap (λ a. step (place_after a None ∷ []) role.Field) first
+        ∙ ap (λ a. Some (place_after a None ∷ [])) (sym first)
+        ∙ ap (λ d. Some (place_after c.construct d ∷ [])) (sym second);
   }
 
   -- the first line of a body
@@ -119,35 +119,35 @@ module _ (declared : Declared) (number : ℕ) (b : WholeItems) (c : Class) (soun
   last_class : length (fields_declared b.classes ++ length c.fields ∷ []) - 1 ≡ index
   last_class = omega (arith, length-append (fields_declared b.classes) (length c.fields ∷ []), length-map b.classes (λ k. length k.fields))
 
-  pub constructor_grows : c.construct ≡ None → c.destroy ≡ None → Grows declared number (Line key.Constructor []) (in_class b c) (in_body b (of.Constructor c) (new_body (Some index) []))
+  pub constructor_grows : c.construct ≡ None → c.destroy ≡ None → Grows declared number (Line line_kind.Constructor []) (in_class b c) (in_body b (of.Constructor c) (new_body (Some index) []))
   constructor_grows first second = record {
-    lines = head_order (Line key.Constructor []);
+    lines = head_order (Line line_kind.Constructor []);
     sound = record { stands = (sound.0, (sound.1, refl, refl, first, second), new_sound declared (Some index) [] refl (omega arith)) };
     below = record { stands = (below.0, omega (arith, below.1)) };
     counts = λ counts are.
-        ap (λ q. counts_after q (Line key.Constructor [])) are
+        ap (λ q. counts_after q (Line line_kind.Constructor [])) are
         ∙ ap (λ t. record (counts_of_class b c counts) { this = Some t; locals = []; blocks = [] }) last_class;
     places =
-        ap (λ d. after_line (place_behind c.construct d ∷ []) role.Construct) second
-        ∙ ap (λ a. after_line (place_behind a None ∷ []) role.Construct) first;
+        ap (λ d. after_line (place_after c.construct d ∷ []) role.Construct) second
+        ∙ ap (λ a. after_line (place_after a None ∷ []) role.Construct) first;
   }
 
-  destructor_place : (construct : Option Body) → after_line (place_behind construct None ∷ []) role.Destroy ≡ Some (Declarations ∷ (Destroyed ∷ []))
+  destructor_place : (construct : Option Body) → after_line (place_after construct None ∷ []) role.Destroy ≡ Some (Declarations ∷ (Destroyed ∷ []))
   destructor_place None = refl
   destructor_place (Some body) = refl
 
-  pub destructor_grows : c.destroy ≡ None → Grows declared number (Line key.Destructor []) (in_class b c) (in_body b (of.Destructor c) (new_body (Some index) []))
+  pub destructor_grows : c.destroy ≡ None → Grows declared number (Line line_kind.Destructor []) (in_class b c) (in_body b (of.Destructor c) (new_body (Some index) []))
   destructor_grows second = record {
-    lines = head_order (Line key.Destructor []);
+    lines = head_order (Line line_kind.Destructor []);
     sound = record { stands = (sound.0, (sound.1, refl, refl, second), new_sound declared (Some index) [] refl (omega arith)) };
     below = record { stands = (below.0, omega (arith, below.1)) };
     counts = λ counts are.
-        ap (λ q. counts_after q (Line key.Destructor [])) are
+        ap (λ q. counts_after q (Line line_kind.Destructor [])) are
         ∙ ap (λ t. record (counts_of_class b c counts) { this = Some t; locals = []; blocks = [] }) last_class;
-    places = ap (λ d. after_line (place_behind c.construct d ∷ []) role.Destroy) second ∙ destructor_place c.construct;
+    places = ap (λ d. after_line (place_after c.construct d ∷ []) role.Destroy) second ∙ destructor_place c.construct;
   }
 
-  end_place : (construct destroy : Option Body) → after_line (place_behind construct destroy ∷ []) role.End ≡ Some []
+  end_place : (construct destroy : Option Body) → after_line (place_after construct destroy ∷ []) role.End ≡ Some []
   end_place None None = refl
   end_place (Some body) None = refl
   end_place None (Some other) = refl
@@ -158,8 +158,8 @@ module _ (declared : Declared) (number : ℕ) (b : WholeItems) (c : Class) (soun
       let classes : List Lines = each_from lines_of_class 0 b.classes in
       let bodies : List Lines = in_order (each_from Rattle.wb_model.specs.Trees.lines_of_procedure 0 b.procedures) (each_from Rattle.wb_model.specs.Trees.lines_of_operation 0 b.operations) in
       let last : Lines = lines_of_class index c in
-      let made = own_body_lines key.Constructor c.construct in
-      let gone = own_body_lines key.Destructor c.destroy in
+      let made = own_body_lines line_kind.Constructor c.construct in
+      let gone = own_body_lines line_kind.Destructor c.destroy in
       let fields = field_lines 0 c.fields in
       ap (λ l. all_lines (in_order l bodies)) (each_from-last lines_of_class 0 b.classes c ∙ ap (λ i. classes ++ lines_of_class i c ∷ []) (zero-add index))
       ∙ ap all_lines (first_last classes bodies last (classes_before b c.line below.0) (bodies_before b c.line below.0))
@@ -174,7 +174,7 @@ module _ (declared : Declared) (number : ℕ) (b : WholeItems) (c : Class) (soun
       let same : suc at + length cs ≡ at + suc (length cs) = omega arith in
       together _ _ here (are_classes-last (suc at) cs rest (ap (λ i. is_class_of declared i c) same ∙ one))
 
-  pub end_grows : Grows declared number (Line key.End []) (in_class b c) (outside (with_class b c))
+  pub end_grows : Grows declared number (Line line_kind.End []) (in_class b c) (outside (with_class b c))
   end_grows = record {
     lines = append-nil (all_lines (items_in_order (with_class b c))) ∙ end_order ∙ sym (append_assoc front (open_class_lines index c) (end_line ∷ []));
     sound = record {
@@ -197,8 +197,8 @@ module _ (declared : Declared) (number : ℕ) (b : WholeItems) (c : Class) (soun
           };
     };
     counts = λ counts are.
-        let after = counts_after counts (Line key.End []) in
-        let made : after ≡ counts_of_class b c counts = ap (λ q. counts_after q (Line key.End [])) are in
+        let after = counts_after counts (Line line_kind.End []) in
+        let made : after ≡ counts_of_class b c counts = ap (λ q. counts_after q (Line line_kind.End [])) are in
         let classes : fields_declared b.classes ++ length c.fields ∷ [] ≡ fields_declared (b.classes ++ c ∷ []) = sym (map-append (λ (d : Class). length d.fields) b.classes (c ∷ [])) in
         made ∙ ap (λ l. record (counts_of_class b c counts) { classes = l }) classes
         ∙ ap (λ (q : Counts). record { classes = fields_declared (b.classes ++ c ∷ []); procedures = (counts_of_class b c counts).procedures; operations = (counts_of_class b c counts).operations; this = q.this; locals = q.locals; blocks = [] }) (sym made);

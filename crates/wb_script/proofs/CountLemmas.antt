@@ -1,6 +1,6 @@
 -- How many classes, procedures and operations lines have.
 use Rattle.std.proofs.Common.{◌≡◌, refl, ap, ℕ, suc, ◌+◌, ◌≤◌, List, [], ◌∷◌, length, length-append, arith}
-use Rattle.wb_model.specs.declared.script_lines.Key.TheVariants as key
+use Rattle.wb_model.specs.declared.script_lines.LineKind.TheVariants as line_kind
 use Rattle.wb_model.specs.declared.script_lines.Form.TheVariants.{Line}
 use Rattle.wb_model.specs.Passes.{state_after}
 use Rattle.wb_model.specs.Trees.{Indexed}
@@ -17,11 +17,11 @@ abbrev pub many : Counts → ℕ
 many counts = length counts.classes + (length counts.procedures + counts.operations)
 
 one_at_most : (line : Indexed) (counts : Counts) → many (counts_after counts line) ≤ many counts + 1
-one_at_most (Line key.Class operands) counts = omega (arith, length-append counts.classes (0 ∷ []))
-one_at_most (Line key.Field operands) counts = omega (arith, as_many_with_field counts.classes)
-one_at_most (Line key.ClassField operands) counts = omega (arith, as_many_with_field counts.classes)
-one_at_most (Line key.Proc operands) counts = omega (arith, length-append counts.procedures (parameters_of (Line key.Proc operands) ∷ []))
-one_at_most (Line key.Op operands) counts = omega arith
+one_at_most (Line line_kind.Class operands) counts = omega (arith, length-append counts.classes (0 ∷ []))
+one_at_most (Line line_kind.Field operands) counts = omega (arith, as_many_with_field counts.classes)
+one_at_most (Line line_kind.ClassField operands) counts = omega (arith, as_many_with_field counts.classes)
+one_at_most (Line line_kind.Proc operands) counts = omega (arith, length-append counts.procedures (parameters_of (Line line_kind.Proc operands) ∷ []))
+one_at_most (Line line_kind.Op operands) counts = omega arith
 one_at_most (Line _ operands) counts = omega arith
 one_at_most _ counts = omega arith
 

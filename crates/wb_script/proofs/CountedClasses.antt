@@ -3,8 +3,8 @@ use Rattle.std.proofs.Common.{◌≡◌, refl, sym, ap, subst, ◌∙◌, ℕ, z
 use Rattle.std.specs.List.{list_all}
 use Rattle.std.proofs.Math.Numerals.{one-add}
 use Rattle.std.proofs.lemmas.List.{map-append}
-use Rattle.wb_model.specs.declared.script_lines.Key.{Key}
-use Rattle.wb_model.specs.declared.script_lines.Key.TheVariants as key
+use Rattle.wb_model.specs.declared.script_lines.LineKind.{LineKind}
+use Rattle.wb_model.specs.declared.script_lines.LineKind.TheVariants as line_kind
 use Rattle.wb_model.specs.declared.script_lines.ItemKind.TheVariants as item
 use Rattle.wb_model.specs.declared.script_lines.Operand.{Operand}
 use Rattle.wb_model.specs.declared.script_lines.Operand.TheVariants.{Name}
@@ -14,21 +14,21 @@ use Rattle.wb_model.specs.declared.script_lines.Form.{Form}
 use Rattle.wb_model.specs.declared.script_lines.Form.TheVariants.{Skip, Unknown, Line}
 use Rattle.wb_model.specs.Forms.{role_of_form}
 use Rattle.wb_model.specs.Grammar.{IsGrammatical}
-use Rattle.wb_model.specs.Keys.{role_of}
-use Rattle.wb_model.specs.Names.{Text, Known, Item, first_name, of_kind, items_by, items_of, fields_with, fields_behind, known_after, nothing_known}
+use Rattle.wb_model.specs.LineKinds.{role_of}
+use Rattle.wb_model.specs.Names.{Text, NamesSoFar, Declaration, first_name, of_kind, items_by, items_of, fields_with, following_fields, known_after, nothing_known}
 use Rattle.wb_model.specs.Passes.{state_after}
 use Rattle.wb_model.specs.Resolved.{resolved}
 use Rattle.wb_script.specs.Building.{Counts, counts_after, counts_of, nothing_counted, classes_after, with_field}
-use Rattle.wb_script.specs.Lent.{fields_among}
+use Rattle.wb_script.specs.BytesOf.{fields_among}
 use Rattle.wb_nesting.specs.Machine.{step}
 use Rattle.wb_lines.specs.Typed.{is_typed, AreTyped}
 use Rattle.wb_nesting.specs.declared.open.Open.{Open}
 use Rattle.wb_nesting.specs.declared.open.Open.TheVariants.{Fields, Made, Destroyed, Declarations}
 use Rattle.wb_script.proofs.KnownLines.{never_unknown}
-use Rattle.wb_script.proofs.ResolvedLemmas.{of_kind-append, contents_of, contents_behind, lines_from, next_counts}
+use Rattle.wb_script.proofs.ResolvedLemmas.{of_kind-append, contents_of, contents_after, lines_from, next_counts}
 use Rattle.wb_nesting.proofs.Runs.{run, items_run}
 use Rattle.wb_lines.proofs.TypedLemmas.{both}
-use Rattle.wb_script.proofs.Whereabouts.{run_first, are_no_heads, is_class_role, no_heads_after, class_outside, never_in_body, one_name}
+use Rattle.wb_script.proofs.PlacesOfLines.{run_first, are_no_heads, is_class_role, no_heads_after, class_outside, never_in_body, one_name}
 
 -- the last class has so many fields more
 abbrev with_fields : ℕ → List ℕ → List ℕ
@@ -46,26 +46,26 @@ all_fields (suc n) count classes =
     let same : n + suc count ≡ suc n + count = omega arith in
     ap (with_fields n) (last_has classes count) ∙ all_fields n (suc count) classes ∙ ap (λ m. classes ++ m ∷ []) same
 
-fields-append : (items others : List Item) → fields_among (items ++ others) ≡ fields_among items ++ fields_among others
-fields-append items others = ap (map (λ (i : Item). length i.fields)) (of_kind-append item.Class items others) ∙ map-append (λ (i : Item). length i.fields) (of_kind item.Class items) (of_kind item.Class others)
+fields-append : (items others : List Declaration) → fields_among (items ++ others) ≡ fields_among items ++ fields_among others
+fields-append items others = ap (map (λ (i : Declaration). length i.fields)) (of_kind-append item.Class items others) ∙ map-append (λ (i : Declaration). length i.fields) (of_kind item.Class items) (of_kind item.Class others)
 
 -- a line that begins no class
-none_begun : (k : Key) (operands : List (Operand Text)) (behind : List (Form Text)) → is_class_role (role_of k) ≡ false → of_kind item.Class (items_by (Line k operands) behind) ≡ []
-none_begun key.Class operands behind other = let clash : ⊥ = cc in absurd clash
-none_begun key.Proc [] behind other = refl
-none_begun key.Proc (Name n ∷ os) behind other = refl
-none_begun key.Proc (_ ∷ os) behind other = refl
-none_begun key.Op [] behind other = refl
-none_begun key.Op (Name n ∷ os) behind other = refl
-none_begun key.Op (_ ∷ os) behind other = refl
-none_begun _ operands behind other = refl
+none_begun : (k : LineKind) (operands : List (Operand Text)) (following : List (Form Text)) → is_class_role (role_of k) ≡ false → of_kind item.Class (items_by (Line k operands) following) ≡ []
+none_begun line_kind.Class operands following other = let clash : ⊥ = cc in absurd clash
+none_begun line_kind.Proc [] following other = refl
+none_begun line_kind.Proc (Name n ∷ os) following other = refl
+none_begun line_kind.Proc (_ ∷ os) following other = refl
+none_begun line_kind.Op [] following other = refl
+none_begun line_kind.Op (Name n ∷ os) following other = refl
+none_begun line_kind.Op (_ ∷ os) following other = refl
+none_begun _ operands following other = refl
 
 -- and one that begins a class
-class_begun : (k : Key) (operands : List (Operand Text)) (behind : List (Form Text)) → is_typed (Line k operands) ≡ true → role_of k ≡ role.Class → fields_among (items_by (Line k operands) behind) ≡ length (fields_behind behind) ∷ []
-class_begun key.Class [] behind typed is = let clash : ⊥ = cc in absurd clash
-class_begun key.Class (Name n ∷ os) behind typed is = refl
-class_begun key.Class (_ ∷ os) behind typed is = let clash : ⊥ = cc in absurd clash
-class_begun _ operands behind typed is = let clash : ⊥ = cc in absurd clash
+class_begun : (k : LineKind) (operands : List (Operand Text)) (following : List (Form Text)) → is_typed (Line k operands) ≡ true → role_of k ≡ role.Class → fields_among (items_by (Line k operands) following) ≡ length (following_fields following) ∷ []
+class_begun line_kind.Class [] following typed is = let clash : ⊥ = cc in absurd clash
+class_begun line_kind.Class (Name n ∷ os) following typed is = refl
+class_begun line_kind.Class (_ ∷ os) following typed is = let clash : ⊥ = cc in absurd clash
+class_begun _ operands following typed is = let clash : ⊥ = cc in absurd clash
 
 -- a line that changes no class
 abbrev leaves_classes : Role → Bool
@@ -89,19 +89,19 @@ data At : List Open → Type 0 where
 
 -- the classes so far, with the fields that the last of them still has
 abbrev classes_with : {stack : List Open} → At stack → List (Form Text) → List ℕ → List ℕ
-classes_with At.heading forms classes = with_fields (length (fields_behind forms)) classes
+classes_with At.heading forms classes = with_fields (length (following_fields forms)) classes
 classes_with (At.elsewhere free) forms classes = classes
 
-module _ (own : List Item) where
+module _ (own : List Declaration) where
   -- the classes of all lines
-  abbrev classes_of : List (Form Text) → Known → Counts → List ℕ
+  abbrev classes_of : List (Form Text) → NamesSoFar → Counts → List ℕ
   classes_of forms known counts = (state_after counts_after counts (lines_from own known forms)).classes
 
   -- what is counted of lines behind these
-  abbrev Are : {stack : List Open} → At stack → List (Form Text) → Known → Counts → Type 0
+  abbrev Are : {stack : List Open} → At stack → List (Form Text) → NamesSoFar → Counts → Type 0
   Are at forms known counts = classes_of forms known counts ≡ classes_with at forms counts.classes ++ fields_among (items_of forms)
 
-  module _ (k : Key) (operands : List (Operand Text)) (forms : List (Form Text)) (known : Known) (counts : Counts) (typed : is_typed (Line k operands) ≡ true)
+  module _ (k : LineKind) (operands : List (Operand Text)) (forms : List (Form Text)) (known : NamesSoFar) (counts : Counts) (typed : is_typed (Line k operands) ≡ true)
       (later : (next : List Open) (at : At next) → run next (contents_of forms) ≡ Some [] → Are at forms (known_after known (Line k operands)) (next_counts own known counts (Line k operands))) where
     abbrev all_classes : List ℕ
     all_classes = classes_of (Line k operands ∷ forms) known counts
@@ -111,24 +111,24 @@ module _ (own : List Item) where
     left next free reads leaves =
         later next (At.elsewhere free) reads
         ∙ ap (λ l. l ++ fields_among (items_of forms)) (classes_left (role_of k) counts.classes leaves)
-        ∙ ap (λ l. counts.classes ++ (map (λ (i : Item). length i.fields) l ++ fields_among (items_of forms))) (sym (none_begun k operands forms (no_class (role_of k) leaves)))
+        ∙ ap (λ l. counts.classes ++ (map (λ (i : Declaration). length i.fields) l ++ fields_among (items_of forms))) (sym (none_begun k operands forms (no_class (role_of k) leaves)))
         ∙ ap (λ l. counts.classes ++ l) (sym (fields-append (items_by (Line k operands) forms) (items_of forms)))
 
     field_here : role_of k ≡ role.Field → run (Fields ∷ []) (contents_of forms) ≡ Some [] → all_classes ≡ classes_with At.heading (Line k operands ∷ forms) counts.classes ++ fields_among (items_of (Line k operands ∷ forms))
     field_here is reads =
-        let behind = fields_behind forms in
-        let more : length (fields_with (role_of k) (Line k operands) behind) ≡ suc (length behind) =
-        ap (λ r. length (fields_with r (Line k operands) behind)) is ∙ length-append (first_name (Line k operands)) behind ∙ ap (λ n. n + length behind) (one_name (Line k operands) typed is) ∙ one-add (length behind) in
+        let following = following_fields forms in
+        let more : length (fields_with (role_of k) (Line k operands) following) ≡ suc (length following) =
+        ap (λ r. length (fields_with r (Line k operands) following)) is ∙ length-append (first_name (Line k operands)) following ∙ ap (λ n. n + length following) (one_name (Line k operands) typed is) ∙ one-add (length following) in
         let other : is_class_role (role_of k) ≡ false = ap is_class_role is in
         later (Fields ∷ []) At.heading reads
-        ∙ ap (λ r. with_fields (length behind) (classes_after r counts.classes) ++ fields_among (items_of forms)) is
+        ∙ ap (λ r. with_fields (length following) (classes_after r counts.classes) ++ fields_among (items_of forms)) is
         ∙ ap (λ n. with_fields n counts.classes ++ fields_among (items_of forms)) (sym more)
-        ∙ ap (λ l. with_fields (length (fields_behind (Line k operands ∷ forms))) counts.classes ++ (map (λ (i : Item). length i.fields) l ++ fields_among (items_of forms))) (sym (none_begun k operands forms other))
-        ∙ ap (λ l. with_fields (length (fields_behind (Line k operands ∷ forms))) counts.classes ++ l) (sym (fields-append (items_by (Line k operands) forms) (items_of forms)))
+        ∙ ap (λ l. with_fields (length (following_fields (Line k operands ∷ forms))) counts.classes ++ (map (λ (i : Declaration). length i.fields) l ++ fields_among (items_of forms))) (sym (none_begun k operands forms other))
+        ∙ ap (λ l. with_fields (length (following_fields (Line k operands ∷ forms))) counts.classes ++ l) (sym (fields-append (items_by (Line k operands) forms) (items_of forms)))
 
     class_here : role_of k ≡ role.Class → run (Fields ∷ []) (contents_of forms) ≡ Some [] → all_classes ≡ counts.classes ++ fields_among (items_of (Line k operands ∷ forms))
     class_here is reads =
-        let count = length (fields_behind forms) in
+        let count = length (following_fields forms) in
         later (Fields ∷ []) At.heading reads
         ∙ ap (λ r. with_fields count (classes_after r counts.classes) ++ fields_among (items_of forms)) is
         ∙ ap (λ l. l ++ fields_among (items_of forms)) (all_fields count 0 counts.classes)
@@ -138,11 +138,11 @@ module _ (own : List Item) where
         ∙ ap (λ l. counts.classes ++ l) (sym (fields-append (items_by (Line k operands) forms) (items_of forms)))
 
     -- a line that leaves the head of a class, which has no more fields then
-    head_left : (next : List Open) → are_no_heads next ≡ true → run next (contents_of forms) ≡ Some [] → leaves_classes (role_of k) ≡ true → length (fields_with (role_of k) (Line k operands) (fields_behind forms)) ≡ 0 → Are At.heading (Line k operands ∷ forms) known counts
+    head_left : (next : List Open) → are_no_heads next ≡ true → run next (contents_of forms) ≡ Some [] → leaves_classes (role_of k) ≡ true → length (fields_with (role_of k) (Line k operands) (following_fields forms)) ≡ 0 → Are At.heading (Line k operands ∷ forms) known counts
     head_left next free reads leaves ends = left next free reads leaves ∙ ap (λ n. with_fields n counts.classes ++ fields_among (items_of (Line k operands ∷ forms))) (sym ends)
 
-    ends_with : (r : Role) → role_of k ≡ r → length (fields_with r (Line k operands) (fields_behind forms)) ≡ 0 → length (fields_with (role_of k) (Line k operands) (fields_behind forms)) ≡ 0
-    ends_with r is ends = ap (λ r. length (fields_with r (Line k operands) (fields_behind forms))) is ∙ ends
+    ends_with : (r : Role) → role_of k ≡ r → length (fields_with r (Line k operands) (following_fields forms)) ≡ 0 → length (fields_with (role_of k) (Line k operands) (following_fields forms)) ≡ 0
+    ends_with r is ends = ap (λ r. length (fields_with r (Line k operands) (following_fields forms))) is ∙ ends
 
     -- from the head of a class
     from_heading : (r : Role) (next : List Open) → role_of k ≡ r → step (Fields ∷ []) r ≡ Some next → run next (contents_of forms) ≡ Some [] → Are At.heading (Line k operands ∷ forms) known counts
@@ -164,7 +164,7 @@ module _ (own : List Item) where
     from_elsewhere role.Field stack next free is moves reads = absurd (never_in_body stack next role.Field refl free moves)
     from_elsewhere r stack next free is moves reads = left next (no_heads_after stack next r refl free moves) reads (ap leaves_classes is)
 
-  classes_from : (forms : List (Form Text)) (known : Known) (counts : Counts) (stack : List Open) (at : At stack) → run stack (contents_of forms) ≡ Some [] → AreTyped forms → Are at forms known counts
+  classes_from : (forms : List (Form Text)) (known : NamesSoFar) (counts : Counts) (stack : List Open) (at : At stack) → run stack (contents_of forms) ≡ Some [] → AreTyped forms → Are at forms known counts
   classes_from [] known counts stack At.heading reads typed = let clash : ⊥ = cc in absurd clash
   classes_from [] known counts stack (At.elsewhere free) reads typed = sym (append-nil counts.classes)
   classes_from (Skip ∷ forms) known counts stack At.heading reads typed = classes_from forms (known_after known Skip) (next_counts own known counts Skip) stack At.heading reads typed
@@ -176,7 +176,7 @@ module _ (own : List Item) where
   classes_from (Line k operands ∷ forms) known counts stack at reads typed =
       let form = Line k operands in
       let (here, rest) = both (is_typed form) (list_all is_typed forms) typed in
-      let (next, moves, later) = run_first stack [] (role_of k) (contents_of forms) (ap (run stack) (sym (contents_behind k operands forms)) ∙ reads) in
+      let (next, moves, later) = run_first stack [] (role_of k) (contents_of forms) (ap (run stack) (sym (contents_after k operands forms)) ∙ reads) in
       go stack at next moves later here (λ next at reads. classes_from forms (known_after known form) (next_counts own known counts form) next at reads rest)
     where
       go : (stack : List Open) (at : At stack) (next : List Open) → step stack (role_of k) ≡ Some next → run next (contents_of forms) ≡ Some [] → is_typed (Line k operands) ≡ true →

@@ -33,8 +33,8 @@ one_grammar_line lines n m a b = omega (arith, not_earlier lines n m a b, not_ea
 no_grammar_line : (lines : List Text) (n : ℕ) → AreLines lines → IsGrammarLine lines n → ⊥
 no_grammar_line lines n are line =
     let past : n ≤ length lines → ⊥ = λ le. line.here le (drop n lines, subst AreLines (sym (take-append-drop n lines)) are) in
-    let behind : n ≡ length lines + 1 → ⊥ = λ is. line.unfinished is are in
-    omega (arith, past, behind, line.within)
+    let following : n ≡ length lines + 1 → ⊥ = λ is. line.unfinished is are in
+    omega (arith, past, following, line.within)
 
 -- the fault that the checks of names, kinds and limits find
 abbrev with_main : Option ℕ → List (Form Text) → Option ScriptFault

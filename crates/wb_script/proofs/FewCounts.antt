@@ -7,22 +7,22 @@ use Rattle.wb_model.specs.declared.limits.TheConstants.{LONGEST_SCRIPT, MOST_CLA
 use Rattle.wb_model.specs.declared.script_lines.Form.TheVariants.{Skip, Unknown, Line}
 use Rattle.wb_model.specs.declared.script_lines.ItemKind.{ItemKind}
 use Rattle.wb_model.specs.declared.script_lines.ItemKind.TheVariants as item
-use Rattle.wb_model.specs.declared.script_lines.Key.{Key}
-use Rattle.wb_model.specs.declared.script_lines.Key.TheVariants as key
-use Rattle.wb_model.specs.declared.script_lines.Meant.{Meant}
+use Rattle.wb_model.specs.declared.script_lines.LineKind.{LineKind}
+use Rattle.wb_model.specs.declared.script_lines.LineKind.TheVariants as line_kind
+use Rattle.wb_model.specs.declared.script_lines.Referent.{Referent}
 use Rattle.wb_model.specs.declared.script_lines.Operand.{Operand}
 use Rattle.wb_model.specs.declared.script_lines.Role.{Role}
 use Rattle.wb_model.specs.declared.script_lines.Role.TheVariants as role
-use Rattle.wb_model.specs.Keys.{role_of}
+use Rattle.wb_model.specs.LineKinds.{role_of}
 use Rattle.wb_model.specs.Names as model
-use Rattle.wb_model.specs.Names.{count_among, kind_begun, of_kind}
+use Rattle.wb_model.specs.Names.{count_among, item_kind_of, of_kind}
 use Rattle.wb_model.specs.Passes.{first_bad, state_after}
 use Rattle.wb_model.specs.Sound.{Declared}
 use Rattle.wb_model.specs.Trees.{Indexed}
 use Rattle.wb_script.specs.Building.{AllFit, Counts, classes_after, counts_after, counts_of, declares, fits, is_due, last_count, nothing_counted, operations_after, parameters_of, procedures_after, scope_at, unfit, with_field}
 use Rattle.wb_script.specs.Fitting.{operands_fit}
-use Rattle.wb_script.specs.Lent.{declared_by, fields_among, lent_item, lent_items, parameter_named, signatures_among}
-use Rattle.wb_script.specs.declared.checks.items.Item.{Item}
+use Rattle.wb_script.specs.BytesOf.{declared_by, fields_among, bytes_of_item, bytes_of_items, parameter_named, signatures_among}
+use Rattle.wb_script.specs.declared.checks.items.Declaration.{Declaration}
 use Rattle.wb_script.proofs.Steps.{good_first}
 use Rattle.wb_script.proofs.Tests.{parts, together, below_of, within_test}
 
@@ -47,7 +47,7 @@ small_with_field (count ∷ next ∷ classes) small lt =
     let (here, rest) = parts (nat_le count 16) (are_small (next ∷ classes)) small in
     together _ _ here (small_with_field (next ∷ classes) rest lt)
 
-module _ (counts : Counts) (line : Indexed) (operands : List (Operand Meant)) (few : IsFew counts) where
+module _ (counts : Counts) (line : Indexed) (operands : List (Operand Referent)) (few : IsFew counts) where
   few_classes : (r : Role) → is_due r counts line operands ≡ true → length (classes_after r counts.classes) ≤ 64
   few_classes role.Class due =
       let (next, more) = parts (declares (length counts.classes) operands) _ due in
@@ -63,16 +63,16 @@ module _ (counts : Counts) (line : Indexed) (operands : List (Operand Meant)) (f
       small_with_field counts.classes few.fields (below_of (last_count counts.classes) 16 room)
   few_fields _ due = few.fields
 
-  few_items : (k : Key) → is_due (role_of k) counts (Line k operands) operands ≡ true → length (procedures_after (kind_begun k) (Line k operands) counts.procedures) + operations_after (kind_begun k) counts.operations ≤ 256
-  few_items key.Proc due =
+  few_items : (k : LineKind) → is_due (role_of k) counts (Line k operands) operands ≡ true → length (procedures_after (item_kind_of k) (Line k operands) counts.procedures) + operations_after (item_kind_of k) counts.operations ≤ 256
+  few_items line_kind.Proc due =
       let (next, more) = parts (declares (length counts.procedures) operands) _ due in
       let room = below_of (length counts.procedures + counts.operations) 256 (parts (nat_lt (length counts.procedures + counts.operations) 256) _ more).0 in
-      omega (arith, room, length-append counts.procedures (parameters_of (Line key.Proc operands) ∷ []))
-  few_items key.Op due =
+      omega (arith, room, length-append counts.procedures (parameters_of (Line line_kind.Proc operands) ∷ []))
+  few_items line_kind.Op due =
       let (next, more) = parts (declares counts.operations operands) _ due in
       let room = below_of (length counts.procedures + counts.operations) 256 (parts (nat_lt (length counts.procedures + counts.operations) 256) _ more).0 in
       omega (arith, room)
-  few_items key.Class due = few.items
+  few_items line_kind.Class due = few.items
   few_items _ due = few.items
 
 few_after : (declared : Declared) (counts : Counts) (line : Indexed) → IsFew counts → fits declared counts line ≡ true → IsFew (counts_after counts line)
@@ -80,7 +80,7 @@ few_after declared counts Skip few fit = few
 few_after declared counts Unknown few fit = few
 few_after declared counts (Line k operands) few fit =
     let line : Indexed = Line k operands in
-    let (letters, rest) = parts (operands_fit declared (scope_at declared counts) k operands) _ fit in
+    let (operand_places, rest) = parts (operands_fit declared (scope_at declared counts) k operands) _ fit in
     let (due, stands) = parts (is_due (role_of k) counts line operands) _ rest in
     record {
       classes = few_classes counts line operands few (role_of k) due;
@@ -88,21 +88,21 @@ few_after declared counts (Line k operands) few fit =
       items = few_items counts line operands few k due;
     }
 
-few_behind : (declared : Declared) (lines : List Indexed) (counts : Counts) → IsFew counts → first_bad counts_after (unfit declared) counts lines ≡ None → IsFew (state_after counts_after counts lines)
-few_behind declared [] counts few good = few
-few_behind declared (line ∷ lines) counts few good =
+few_following : (declared : Declared) (lines : List Indexed) (counts : Counts) → IsFew counts → first_bad counts_after (unfit declared) counts lines ≡ None → IsFew (state_after counts_after counts lines)
+few_following declared [] counts few good = few
+few_following declared (line ∷ lines) counts few good =
     let (here, rest) = good_first (unfit declared counts line) (first_bad counts_after (unfit declared) (counts_after counts line) lines) good in
-    few_behind declared lines (counts_after counts line) (few_after declared counts line few (is_fit (fits declared counts line) here)) rest
+    few_following declared lines (counts_after counts line) (few_after declared counts line few (is_fit (fits declared counts line) here)) rest
   where
     is_fit : (b : Bool) → not b ≡ false → b ≡ true
     is_fit true e = refl
     is_fit false e = let clash : ⊥ = cc in absurd clash
 
 pub few_counted : (declared : Declared) (lines : List Indexed) → AllFit declared lines → IsFew (counts_of lines)
-few_counted declared lines all = few_behind declared lines nothing_counted (record { classes = omega arith; fields = refl; items = omega arith }) all
+few_counted declared lines all = few_following declared lines nothing_counted (record { classes = omega arith; fields = refl; items = omega arith }) all
 
 -- each item is of one kind, of which there are as many as are declared
-each_of_a_kind : (items : List model.Item) → length items ≡ count_among item.Class items + (count_among item.Procedure items + count_among item.Operation items)
+each_of_a_kind : (items : List model.Declaration) → length items ≡ count_among item.Class items + (count_among item.Procedure items + count_among item.Operation items)
 each_of_a_kind [] = omega arith
 each_of_a_kind (i ∷ items) = one_more i.kind (each_of_a_kind items)
   where
@@ -112,16 +112,16 @@ each_of_a_kind (i ∷ items) = one_more i.kind (each_of_a_kind items)
     one_more item.Procedure rest = omega (arith, rest)
     one_more item.Operation rest = omega (arith, rest)
 
-as_many_items : (items : List model.Item) → length items ≡ length (fields_among items) + (length (signatures_among items) + count_among item.Operation items)
+as_many_items : (items : List model.Declaration) → length items ≡ length (fields_among items) + (length (signatures_among items) + count_among item.Operation items)
 as_many_items items =
     omega (arith, each_of_a_kind items, length-map (of_kind item.Class items) (λ i. length i.fields), length-map (of_kind item.Procedure items) (λ i. map (parameter_named items) i.parameters))
 
 -- so a script's own space has no more lines than a script, and no more classes than it may
-pub few_declared : (literals : ℕ) (items : List Item) (lines : List Indexed) → AllFit (declared_by literals items) lines →
+pub few_declared : (literals : ℕ) (items : List Declaration) (lines : List Indexed) → AllFit (declared_by literals items) lines →
     (counts_of lines).classes ≡ (declared_by literals items).fields → (counts_of lines).procedures ≡ (declared_by literals items).signatures → (counts_of lines).operations ≡ (declared_by literals items).operations →
     (length items ≤ LONGEST_SCRIPT) × (length (declared_by literals items).fields ≤ MOST_CLASSES)
 few_declared literals items lines fit classes procedures operations =
     let few = few_counted (declared_by literals items) lines fit in (
-      omega (arith, as_many_items (lent_items items), length-map items lent_item, ap length classes, ap length procedures, operations, few.classes, few.items),
+      omega (arith, as_many_items (bytes_of_items items), length-map items bytes_of_item, ap length classes, ap length procedures, operations, few.classes, few.items),
       omega (arith, ap length classes, few.classes),
     )

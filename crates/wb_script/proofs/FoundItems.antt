@@ -7,7 +7,7 @@ use Rattle.std.proofs.lemmas.Option.{slice_get_within}
 use Rattle.wb_model.specs.declared.script_lines.ItemKind.{ItemKind}
 use Rattle.wb_model.specs.declared.script_lines.ItemKind.TheVariants as item
 use Rattle.wb_model.specs.Kinds.{same}
-use Rattle.wb_model.specs.Names.{Text, Item, is_same_kind, of_kind, item_of_kind, count_among, first_declaration_of}
+use Rattle.wb_model.specs.Names.{Text, Declaration, is_same_kind, of_kind, item_of_kind, count_among, first_declaration_of}
 use Rattle.wb_model.specs.Passes.{first_where}
 
 -- a name that is declared has an index
@@ -29,11 +29,11 @@ same_as_itself item.Procedure = refl
 same_as_itself item.Operation = refl
 
 -- an item stands among those of its kind, behind the ones of the items before it
-pub item_here : (kind : ItemKind) (items : List Item) (n : ℕ) (i : Item) → slice_get items n ≡ Some i → is_same_kind i.kind kind ≡ true → item_of_kind kind items (count_among kind (take n items)) ≡ Some i
+pub item_here : (kind : ItemKind) (items : List Declaration) (n : ℕ) (i : Declaration) → slice_get items n ≡ Some i → is_same_kind i.kind kind ≡ true → item_of_kind kind items (count_among kind (take n items)) ≡ Some i
 item_here kind [] n i is same = let clash : ⊥ = cc in absurd clash
 item_here kind (x ∷ xs) zero i is same =
     let here : x ≡ i = cc in
-    ap (λ (b : Bool). slice_get (if b then (x ∷ of_kind kind xs) else of_kind kind xs) 0) (ap (λ (y : Item). is_same_kind y.kind kind) here ∙ same) ∙ ap (λ (y : Item). Some y) here
+    ap (λ (b : Bool). slice_get (if b then (x ∷ of_kind kind xs) else of_kind kind xs) 0) (ap (λ (y : Declaration). is_same_kind y.kind kind) here ∙ same) ∙ ap (λ (y : Declaration). Some y) here
 item_here kind (x ∷ xs) (suc n) i is same = go (is_same_kind x.kind kind) (item_here kind xs n i is same)
   where
     go : (b : Bool) → slice_get (of_kind kind xs) (count_among kind (take n xs)) ≡ Some i →
@@ -42,5 +42,5 @@ item_here kind (x ∷ xs) (suc n) i is same = go (is_same_kind x.kind kind) (ite
     go false later = later
 
 -- so its index is one of its kind
-pub index_within : (items : List Item) (index : ℕ) (i : Item) → slice_get items index ≡ Some i → count_among i.kind (take index items) < count_among i.kind items
+pub index_within : (items : List Declaration) (index : ℕ) (i : Declaration) → slice_get items index ≡ Some i → count_among i.kind (take index items) < count_among i.kind items
 index_within items index i is = slice_get_within (of_kind i.kind items) (count_among i.kind (take index items)) i (item_here i.kind items index i is (same_as_itself i.kind))

@@ -8,12 +8,12 @@ use Rattle.wb_model.specs.declared.script.Class.{Class}
 use Rattle.wb_model.specs.declared.script.Parameter.{Parameter}
 use Rattle.wb_model.specs.declared.script.Procedure.{Procedure}
 use Rattle.wb_model.specs.declared.script.Operation.{Operation}
-use Rattle.wb_model.specs.declared.script_lines.Key.{Key}
-use Rattle.wb_model.specs.declared.script_lines.Key.TheVariants as key
-use Rattle.wb_model.specs.declared.script_lines.Meant.{Meant}
+use Rattle.wb_model.specs.declared.script_lines.LineKind.{LineKind}
+use Rattle.wb_model.specs.declared.script_lines.LineKind.TheVariants as line_kind
+use Rattle.wb_model.specs.declared.script_lines.Referent.{Referent}
 use Rattle.wb_model.specs.declared.script_lines.Operand.{Operand}
 use Rattle.wb_model.specs.declared.script_lines.Form.TheVariants.{Skip, Line}
-use Rattle.wb_model.specs.Keys.{role_of}
+use Rattle.wb_model.specs.LineKinds.{role_of}
 use Rattle.wb_model.specs.Sound.{Declared, is_body, is_own_body, is_procedure, is_operation, its_parameters, scope_of}
 use Rattle.wb_model.specs.Trees.{Marked, Lines, mark, class_head, field_lines, own_body_lines, end_line, body_lines, each_from, lines_of_class, lines_of_procedure, lines_of_operation, in_order, all_lines}
 use Rattle.wb_nesting.specs.declared.open.Open.TheVariants.{Made}
@@ -24,18 +24,18 @@ use Rattle.wb_script.specs.declared.tree.whole.Stage.{Stage}
 use Rattle.wb_script.specs.declared.tree.whole.Stage.TheVariants.{Outside, InClass, InBody}
 use Rattle.wb_script.specs.declared.tree.whole.Building.{Building}
 use Rattle.wb_script.specs.declared.tree.bodies.OpenBody.{OpenBody}
-use Rattle.wb_script.specs.declared.tree.bodies.Left.TheVariants.{Inside, Done}
-use Rattle.wb_script.specs.Building.{Counts, counts_after, fits, nest_places}
-use Rattle.wb_script.specs.Growing.{Adds, AddsWhereFit, AreBelow, AreCounts, AreSound, Grows, GrowsWhereFit, IsBelow, IsBelowWhere, IsOwned, IsSound, IsSoundClass, IsSoundWhere, building_lines, building_places, class_place, counts_in, counts_owned, counts_whole, finished, has_room, if_added, in_body, in_class, inside_lines, items_in_order, left_counts, line_of_owner, outside, owner_lines, owner_places, with_operation, with_procedure}
+use Rattle.wb_script.specs.declared.tree.bodies.BodyProgress.TheVariants.{Inside, Done}
+use Rattle.wb_script.specs.Building.{Counts, counts_after, fits, block_stack_places}
+use Rattle.wb_script.specs.Growing.{Adds, AddsWhereFit, AreBelow, AreCounts, AreSound, Grows, GrowsWhereFit, IsBelow, IsBelowWhere, IsOwned, IsSound, IsSoundClass, IsSoundWhere, building_lines, building_places, class_place, counts_in, counts_owned, counts_whole, with_whole_body, has_room, if_added, in_body, in_class, inside_lines, items_in_order, progress_counts, line_of_owner, outside, owner_lines, owner_places, with_operation, with_procedure}
 use Rattle.wb_nesting.specs.Machine.{step, after_line}
 use Rattle.wb_script.proofs.Nests.{flat_map-last}
 use Rattle.wb_script.proofs.OpenPlaces.{inner_step, inner_stuck}
 use Rattle.wb_script.proofs.Orders.{are_before, first_last, second_last, in_order_below, each_from-last, each_below, all_below}
 use Rattle.wb_script.proofs.Tests.{parts, together, below_of, below_test}
 
-pub same_step : (k : Key) (stack : List Rattle.wb_nesting.specs.declared.open.Open.Open) → after_line stack (role_of k) ≡ step stack (role_of k)
-same_step key.Proc stack = refl
-same_step key.Ptr stack = refl
+pub same_step : (k : LineKind) (stack : List Rattle.wb_nesting.specs.declared.open.Open.Open) → after_line stack (role_of k) ≡ step stack (role_of k)
+same_step line_kind.Proc stack = refl
+same_step line_kind.Ptr stack = refl
 same_step _ stack = refl
 
 -- the counts in an open body don't look at the locals before it
@@ -45,7 +45,7 @@ same_owned b (of.Operation number) ps before after p = refl
 same_owned b (of.Constructor c) ps before after p = refl
 same_owned b (of.Destructor c) ps before after p = refl
 
-module _ (declared : Declared) (number : ℕ) (k : Key) (operands : List (Operand Meant)) (b : WholeItems) (owner : Owner) (p : OpenBody) (sound : IsSoundWhere declared b (InBody owner p)) (below : IsBelowWhere number b (InBody owner p)) where
+module _ (declared : Declared) (number : ℕ) (k : LineKind) (operands : List (Operand Referent)) (b : WholeItems) (owner : Owner) (p : OpenBody) (sound : IsSoundWhere declared b (InBody owner p)) (below : IsBelowWhere number b (InBody owner p)) where
   abbrev line : Marked
   line = mark number (Line k operands)
 
@@ -74,15 +74,15 @@ module _ (declared : Declared) (number : ℕ) (k : Key) (operands : List (Operan
         ∙ sym (adds.counts (counts_owned b owner p.parameters counts))
         ∙ ap (λ ps. counts_in (counts_owned b owner ps counts) next) (sym adds.same.0)
         ∙ same_owned b owner next.parameters counts after next;
-    places = same_step k (nest_places p.nest ++ owner_places owner) ∙ inner_step p.nest (owner_places owner) (role_of k) (nest_places next.nest) adds.places;
+    places = same_step k (block_stack_places p.block_stack ++ owner_places owner) ∙ inner_step p.block_stack (owner_places owner) (role_of k) (block_stack_places next.block_stack) adds.places;
   }
 
   -- the same, where a line that fits has no place
   pub added_grows : (added : Bool) (next : OpenBody) → AddsWhereFit declared number (Line k operands) p (if_added added (Inside next)) → GrowsWhereFit declared number (Line k operands) (in_body b owner p) (if_added added (in_body b owner next))
   added_grows true next adds = inside_grows next adds
   added_grows false next none = λ counts are fit.
-      same_step k (nest_places p.nest ++ owner_places owner)
-      ∙ inner_stuck p.nest (owner_places owner) (role_of k) (none (counts_owned b owner p.parameters counts) (subst (λ n. IsTrue (fits declared n (Line k operands))) are fit))
+      same_step k (block_stack_places p.block_stack ++ owner_places owner)
+      ∙ inner_stuck p.block_stack (owner_places owner) (role_of k) (none (counts_owned b owner p.parameters counts) (subst (λ n. IsTrue (fits declared n (Line k operands))) are fit))
 
   pub result_grows : {E : Type 0} (result : Result Bool E) (next : OpenBody) → IfOk result (λ added. AddsWhereFit declared number (Line k operands) p (if_added added (Inside next))) →
       IfOk result (λ added. GrowsWhereFit declared number (Line k operands) (in_body b owner p) (if_added added (in_body b owner next)))
@@ -95,7 +95,7 @@ closed_lines ps body = body_lines (length ps) body ++ end_line ∷ []
 
 -- A class with one more body.
 constructor_lines : (head : Marked) (fields : List Marked) (begins : Marked) (inner : List Marked) (construct destroy : Option Body) → construct ≡ None → destroy ≡ None →
-    head ∷ (fields ++ ((begins ∷ inner) ++ own_body_lines key.Destructor destroy)) ≡ ((head ∷ (fields ++ (own_body_lines key.Constructor construct ++ own_body_lines key.Destructor destroy))) ++ begins ∷ []) ++ inner
+    head ∷ (fields ++ ((begins ∷ inner) ++ own_body_lines line_kind.Destructor destroy)) ≡ ((head ∷ (fields ++ (own_body_lines line_kind.Constructor construct ++ own_body_lines line_kind.Destructor destroy))) ++ begins ∷ []) ++ inner
 constructor_lines head fields begins inner None None first second =
     ap (λ l. head ∷ (fields ++ l)) (append-nil (begins ∷ inner))
     ∙ sym (append_assoc (head ∷ fields) (begins ∷ []) inner)
@@ -104,7 +104,7 @@ constructor_lines head fields begins inner (Some body) destroy first second = le
 constructor_lines head fields begins inner None (Some body) first second = let clash : ⊥ = cc in absurd clash
 
 destructor_lines : (head : Marked) (fields made : List Marked) (begins : Marked) (inner : List Marked) (destroy : Option Body) → destroy ≡ None →
-    head ∷ (fields ++ (made ++ (begins ∷ inner))) ≡ ((head ∷ (fields ++ (made ++ own_body_lines key.Destructor destroy))) ++ begins ∷ []) ++ inner
+    head ∷ (fields ++ (made ++ (begins ∷ inner))) ≡ ((head ∷ (fields ++ (made ++ own_body_lines line_kind.Destructor destroy))) ++ begins ∷ []) ++ inner
 destructor_lines head fields made begins inner None is =
     ap (λ l. head ∷ l) (sym (append_assoc fields made (begins ∷ inner)))
     ∙ sym (append_assoc (head ∷ (fields ++ made)) (begins ∷ []) inner)
@@ -158,27 +158,27 @@ module _ (b : WholeItems) (number : ℕ) where
 -- What a whole body leaves.
 module _ (declared : Declared) (b : WholeItems) (body : Body) (ps : List Parameter) where
   done_lines : (owner : Owner) (this : Option ℕ) → IsOwned declared b owner this ps → AreBelow (line_of_owner owner) b →
-      building_lines (finished b owner ps body) ≡ all_lines (items_in_order b) ++ (owner_lines b owner ps ++ closed_lines ps body)
+      building_lines (with_whole_body b owner ps body) ≡ all_lines (items_in_order b) ++ (owner_lines b owner ps ++ closed_lines ps body)
   done_lines (of.Procedure number) this owned below = append-nil (all_lines (items_in_order (with_procedure b number ps body))) ∙ procedure_order b number ps body below
   done_lines (of.Operation number) this owned below = append-nil (all_lines (items_in_order (with_operation b number body))) ∙ operation_order b number ps body below owned.2
   done_lines (of.Constructor c) this owned below =
       let head = class_head (length b.classes) c in
       let fields = field_lines 0 c.fields in
-      let begins : Marked = (None, Line key.Constructor []) in
+      let begins : Marked = (None, Line line_kind.Constructor []) in
       ap (λ l. all_lines (items_in_order b) ++ l) (constructor_lines head fields begins (body_lines 0 body ++ end_line ∷ []) c.construct c.destroy owned.3 owned.4)
       ∙ ap (λ l. all_lines (items_in_order b) ++ (owner_lines b (of.Constructor c) ps ++ closed_lines l body)) (sym owned.2)
   done_lines (of.Destructor c) this owned below =
       let head = class_head (length b.classes) c in
       let fields = field_lines 0 c.fields in
-      let begins : Marked = (None, Line key.Destructor []) in
-      ap (λ l. all_lines (items_in_order b) ++ l) (destructor_lines head fields (own_body_lines key.Constructor c.construct) begins (body_lines 0 body ++ end_line ∷ []) c.destroy owned.3)
+      let begins : Marked = (None, Line line_kind.Destructor []) in
+      ap (λ l. all_lines (items_in_order b) ++ l) (destructor_lines head fields (own_body_lines line_kind.Constructor c.construct) begins (body_lines 0 body ++ end_line ∷ []) c.destroy owned.3)
       ∙ ap (λ l. all_lines (items_in_order b) ++ (owner_lines b (of.Destructor c) ps ++ closed_lines l body)) (sym owned.2)
 
   own_sound : (index : ℕ) (this : Option ℕ) → this ≡ Some index → ps ≡ [] → IsTrue (is_body declared (scope_of declared this ps body) body.statements) → IsTrue (is_own_body declared index (Some body))
   own_sound index this same own inside = subst (λ l. IsTrue (is_body declared (scope_of declared (Some index) l body) body.statements)) own (subst (λ t. IsTrue (is_body declared (scope_of declared t ps body) body.statements)) same inside)
 
   done_sound : (owner : Owner) (this : Option ℕ) → AreSound declared b → IsOwned declared b owner this ps → IsTrue (is_body declared (scope_of declared this ps body) body.statements) →
-      IsSoundWhere declared (finished b owner ps body).whole (finished b owner ps body).stage
+      IsSoundWhere declared (with_whole_body b owner ps body).whole (with_whole_body b owner ps body).stage
   done_sound (of.Procedure number) this sound owned inside =
       let p : Procedure = record { line = number; parameters = ps; body = body } in
       let here = subst (λ t. IsTrue (is_body declared (scope_of declared t ps body) body.statements)) owned.1 inside in
@@ -220,7 +220,7 @@ still_below b number later le below = record {
   operations = all_below (λ (o : Operation). o.line) number later le b.operations below.operations;
 }
 
-done_below : (b : WholeItems) (body : Body) (ps : List Parameter) (owner : Owner) (later : ℕ) → line_of_owner owner < later → AreBelow (line_of_owner owner) b → IsBelowWhere later (finished b owner ps body).whole (finished b owner ps body).stage
+done_below : (b : WholeItems) (body : Body) (ps : List Parameter) (owner : Owner) (later : ℕ) → line_of_owner owner < later → AreBelow (line_of_owner owner) b → IsBelowWhere later (with_whole_body b owner ps body).whole (with_whole_body b owner ps body).stage
 done_below b body ps (of.Procedure number) later lt below =
     let still = still_below b number later (omega (arith, lt)) below in
     let p : Procedure = record { line = number; parameters = ps; body = body } in
@@ -241,30 +241,30 @@ done_below b body ps (of.Constructor c) later lt below = (below, lt)
 done_below b body ps (of.Destructor c) later lt below = (below, lt)
 
 -- the counts behind a whole body
-done_counts : (b : WholeItems) (body : Body) (p : OpenBody) (owner : Owner) (before : Counts) → AreCounts (finished b owner p.parameters body) (left_counts (counts_owned b owner p.parameters before) p (Done p.parameters body))
+done_counts : (b : WholeItems) (body : Body) (p : OpenBody) (owner : Owner) (before : Counts) → AreCounts (with_whole_body b owner p.parameters body) (progress_counts (counts_owned b owner p.parameters before) p (Done p.parameters body))
 done_counts b body p (of.Procedure number) before =
     let q : Procedure = record { line = number; parameters = p.parameters; body = body } in
-    let left = left_counts (counts_owned b (of.Procedure number) p.parameters before) p (Done p.parameters body) in
+    let left = progress_counts (counts_owned b (of.Procedure number) p.parameters before) p (Done p.parameters body) in
     ap (λ l. record left { procedures = l }) (sym (map-append (λ (q : Procedure). q.parameters) b.procedures (q ∷ [])))
 done_counts b body p (of.Operation number) before =
     let o : Operation = record { line = number; body = body } in
-    let left = left_counts (counts_owned b (of.Operation number) p.parameters before) p (Done p.parameters body) in
+    let left = progress_counts (counts_owned b (of.Operation number) p.parameters before) p (Done p.parameters body) in
     ap (λ n. record left { operations = n }) (sym (length-append b.operations (o ∷ [])))
 done_counts b body p (of.Constructor c) before = refl
 done_counts b body p (of.Destructor c) before = refl
 
-behind_destroy : (construct : Option Body) (body : Body) → Rattle.wb_script.specs.Growing.place_behind construct (Some body) ≡ Rattle.wb_nesting.specs.declared.open.Open.TheVariants.Destroyed
-behind_destroy None body = refl
-behind_destroy (Some construct) body = refl
+after_destroy : (construct : Option Body) (body : Body) → Rattle.wb_script.specs.Growing.place_after construct (Some body) ≡ Rattle.wb_nesting.specs.declared.open.Open.TheVariants.Destroyed
+after_destroy None body = refl
+after_destroy (Some construct) body = refl
 
-done_places : (declared : Declared) (b : WholeItems) (body : Body) (ps : List Parameter) (owner : Owner) (this : Option ℕ) → IsOwned declared b owner this ps → owner_places owner ≡ building_places (finished b owner ps body)
+done_places : (declared : Declared) (b : WholeItems) (body : Body) (ps : List Parameter) (owner : Owner) (this : Option ℕ) → IsOwned declared b owner this ps → owner_places owner ≡ building_places (with_whole_body b owner ps body)
 done_places declared b body ps (of.Procedure number) this owned = refl
 done_places declared b body ps (of.Operation number) this owned = refl
-done_places declared b body ps (of.Constructor c) this owned = ap (λ d. Rattle.wb_script.specs.Growing.place_behind (Some body) d ∷ []) (sym owned.4)
-done_places declared b body ps (of.Destructor c) this owned = ap (λ place. place ∷ []) (sym (behind_destroy c.construct body))
+done_places declared b body ps (of.Constructor c) this owned = ap (λ d. Rattle.wb_script.specs.Growing.place_after (Some body) d ∷ []) (sym owned.4)
+done_places declared b body ps (of.Destructor c) this owned = ap (λ place. place ∷ []) (sym (after_destroy c.construct body))
 
-module _ (declared : Declared) (number : ℕ) (k : Key) (operands : List (Operand Meant)) (b : WholeItems) (owner : Owner) (p : OpenBody) (sound : IsSoundWhere declared b (InBody owner p)) (below : IsBelowWhere number b (InBody owner p)) where
-  pub done_grows : (ps : List Parameter) (body : Body) → Adds declared number (Line k operands) p (Done ps body) → Grows declared number (Line k operands) (in_body b owner p) (finished b owner ps body)
+module _ (declared : Declared) (number : ℕ) (k : LineKind) (operands : List (Operand Referent)) (b : WholeItems) (owner : Owner) (p : OpenBody) (sound : IsSoundWhere declared b (InBody owner p)) (below : IsBelowWhere number b (InBody owner p)) where
+  pub done_grows : (ps : List Parameter) (body : Body) → Adds declared number (Line k operands) p (Done ps body) → Grows declared number (Line k operands) (in_body b owner p) (with_whole_body b owner ps body)
   done_grows ps body adds =
       let line : Marked = mark number (Line k operands) in
       let front : List Marked = all_lines (items_in_order b) in
@@ -278,15 +278,15 @@ module _ (declared : Declared) (number : ℕ) (k : Key) (operands : List (Operan
         sound = record { stands = done_sound declared b body ps owner p.this sound.0 owned adds.sound };
         below = record { stands = done_below b body ps owner (number + 1) (omega (arith, below.1)) below.0 };
         counts = λ counts are.
-            let after : counts_after counts (Line k operands) ≡ left_counts (counts_owned b owner p.parameters counts) p (Done ps body) =
+            let after : counts_after counts (Line k operands) ≡ progress_counts (counts_owned b owner p.parameters counts) p (Done ps body) =
             ap (λ c. counts_after c (Line k operands)) are ∙ sym (adds.counts (counts_owned b owner p.parameters counts)) in
-            let same : left_counts (counts_owned b owner p.parameters counts) p (Done ps body) ≡ left_counts (counts_owned b owner p.parameters counts) p (Done p.parameters body) =
-            ap (λ l. left_counts (counts_owned b owner p.parameters counts) p (Done l body)) adds.same in
-            subst (λ l. AreCounts (finished b owner l body) (counts_after counts (Line k operands))) (sym adds.same)
-            (subst (AreCounts (finished b owner p.parameters body)) (sym (after ∙ same)) (done_counts b body p owner counts));
+            let same : progress_counts (counts_owned b owner p.parameters counts) p (Done ps body) ≡ progress_counts (counts_owned b owner p.parameters counts) p (Done p.parameters body) =
+            ap (λ l. progress_counts (counts_owned b owner p.parameters counts) p (Done l body)) adds.same in
+            subst (λ l. AreCounts (with_whole_body b owner l body) (counts_after counts (Line k operands))) (sym adds.same)
+            (subst (AreCounts (with_whole_body b owner p.parameters body)) (sym (after ∙ same)) (done_counts b body p owner counts));
         places =
-            same_step k (nest_places p.nest ++ owner_places owner)
-            ∙ inner_step p.nest (owner_places owner) (role_of k) [] adds.places
+            same_step k (block_stack_places p.block_stack ++ owner_places owner)
+            ∙ inner_step p.block_stack (owner_places owner) (role_of k) [] adds.places
             ∙ ap Some (done_places declared b body ps owner p.this owned);
       }
 

@@ -5,10 +5,10 @@ use Rattle.wb_model.specs.declared.script_lines.ItemKind.{ItemKind}
 use Rattle.wb_model.specs.declared.script_lines.ItemKind.TheVariants as kind
 use Rattle.wb_model.specs.Names as model
 use Rattle.wb_model.specs.Names.{of_kind, item_of_kind, count_among}
-use Rattle.wb_script.specs.declared.checks.items.Item.{Item}
-use Rattle.wb_script.specs.Lent.{lent_item, lent_items, fields_among}
+use Rattle.wb_script.specs.declared.checks.items.Declaration.{Declaration}
+use Rattle.wb_script.specs.BytesOf.{bytes_of_item, bytes_of_items, fields_among}
 
-all_kinds : (items : List model.Item) → length items ≡ count_among kind.Class items + (count_among kind.Procedure items + count_among kind.Operation items)
+all_kinds : (items : List model.Declaration) → length items ≡ count_among kind.Class items + (count_among kind.Procedure items + count_among kind.Operation items)
 all_kinds [] = omega arith
 all_kinds (i ∷ items) = on i.kind (all_kinds items)
   where
@@ -19,9 +19,9 @@ all_kinds (i ∷ items) = on i.kind (all_kinds items)
     on kind.Operation rest = omega (arith, rest)
 
 -- each item is of one kind
-pub all_items : (items : List Item) → length items ≡ count_among kind.Class (lent_items items) + (count_among kind.Procedure (lent_items items) + count_among kind.Operation (lent_items items))
-all_items items = sym (length-map items lent_item) ∙ all_kinds (lent_items items)
+pub all_items : (items : List Declaration) → length items ≡ count_among kind.Class (bytes_of_items items) + (count_among kind.Procedure (bytes_of_items items) + count_among kind.Operation (bytes_of_items items))
+all_items items = sym (length-map items bytes_of_item) ∙ all_kinds (bytes_of_items items)
 
 -- each class has its number of fields
-pub as_many_classes : (items : List model.Item) → length (fields_among items) ≡ count_among kind.Class items
+pub as_many_classes : (items : List model.Declaration) → length (fields_among items) ≡ count_among kind.Class items
 as_many_classes items = length-map (of_kind kind.Class items) (λ i. length i.fields)

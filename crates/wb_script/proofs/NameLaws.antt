@@ -12,7 +12,7 @@ use Rattle.wb_model.specs.declared.script.Script.{Script}
 use Rattle.wb_model.specs.Forms.{forms_of}
 use Rattle.wb_model.specs.Lines.{lines_of, is_too_long}
 use Rattle.wb_model.specs.Scripts.{IsScriptOf, IsFaultOf, number_of_line, first_unknown}
-use Rattle.wb_model.specs.Names.{Text, Known, Item, known_after, nothing_known, is_among, items_of, names_of, first_refused}
+use Rattle.wb_model.specs.Names.{Text, NamesSoFar, Declaration, known_after, nothing_known, is_among, items_of, names_of, first_refused}
 use Rattle.wb_model.specs.Passes.{first_bad, state_after}
 use Rattle.wb_model.specs.Resolved.{uses_unknown}
 use Rattle.wb_model.specs.Undeclared.{local_used, item_used, used_in, IsDeclared, uses_undeclared_field, UsesUndeclared, UsesDeclaredUpTo, IsFirstUndeclaredLine}
@@ -23,7 +23,7 @@ use Rattle.wb_lines.proofs.Foreign.{at_most}
 use Rattle.wb_lines.proofs.TypedLemmas.{both, lines_typed}
 use Rattle.wb_script.proofs.ResolvedLemmas.{names_and_kinds}
 use Rattle.wb_script.proofs.AbsentNames.{absent, is_known_here, absent_here, unknown_is_absent}
-use Rattle.wb_script.proofs.DeclaredHere.{either_true, known_behind, declared_is, is_declared}
+use Rattle.wb_script.proofs.DeclaredHere.{either_true, known_following, declared_is, is_declared}
 
 -- one of the names passes a test, and it is among them
 some_name : (p : Text → Bool) (names : List Text) → list_any p names ≡ true → (name : Text) × (is_among names name ≡ true) × (p name ≡ true)
@@ -64,11 +64,11 @@ is_false true never = absurd (never refl)
 is_false false never = refl
 
 module _ (forms before : List (Form Text)) (form : Form Text) (typed : AreTyped before) where
-  abbrev items : List Item
+  abbrev items : List Declaration
   items = items_of forms
 
-  abbrev here : Known
-  here = known_behind before
+  abbrev here : NamesSoFar
+  here = known_following before
 
   -- what the line uses of each space, that isn't in it
   abbrev local_absent : Bool
@@ -131,7 +131,7 @@ front_typed : (before after : List (Form Text)) → AreTyped (before ++ after) �
 front_typed before after typed = (both (list_all is_typed before) (list_all is_typed after) (sym (list_all-append is_typed before after) ∙ typed)).0
 
 -- a line that uses a name of no space
-abbrev unknown_in : List (Form Text) → Known → Form Text → Bool
+abbrev unknown_in : List (Form Text) → NamesSoFar → Form Text → Bool
 unknown_in forms = uses_unknown (items_of forms)
 
 -- nothing is found before what is found, and nothing at all where nothing is

@@ -2,12 +2,12 @@
 use Rattle.std.proofs.Common.{◌≡◌, refl, sym, ap, subst, ◌∙◌, ℕ, List, [], ◌∷◌, ◌++◌, Option, Some, None, map, append-nil}
 use Rattle.std.specs.List.{flat_map}
 use Rattle.std.proofs.lemmas.List.{map-append}
-use Rattle.wb_model.specs.declared.script_lines.Meant.{Meant}
-use Rattle.wb_model.specs.declared.script_lines.Meant.TheVariants as meant
+use Rattle.wb_model.specs.declared.script_lines.Referent.{Referent}
+use Rattle.wb_model.specs.declared.script_lines.Referent.TheVariants as referent
 use Rattle.wb_model.specs.declared.script_lines.Operand.{Operand}
 use Rattle.wb_model.specs.declared.script_lines.Operand.TheVariants.{Name, Number, Literal}
 use Rattle.wb_model.specs.declared.script_lines.Operand.TheVariants as spelled
-use Rattle.wb_model.specs.declared.script_lines.Taken.TheVariants as taken
+use Rattle.wb_model.specs.declared.script_lines.ParameterType.TheVariants as parameter_type
 use Rattle.wb_model.specs.declared.script.Parameter.{Parameter}
 use Rattle.wb_model.specs.declared.script.Parameter.TheVariants as parameter
 use Rattle.wb_model.specs.declared.script.Argument.{Argument}
@@ -21,149 +21,149 @@ use Rattle.wb_model.specs.declared.script.Writable.{Writable}
 use Rattle.wb_model.specs.declared.script.Writable.TheVariants.{OwnBuffer, InCell}
 use Rattle.wb_model.specs.declared.script.Readable.{Readable}
 use Rattle.wb_model.specs.declared.script.Readable.TheVariants.{Of, ViewOf, Quoted}
-use Rattle.wb_model.specs.Names.{taken_by}
+use Rattle.wb_model.specs.Names.{parameter_type_of}
 use Rattle.wb_model.specs.Trees.{Spelled, pointer_operand, variable_operand, number_operand, writable_operand, view_operand, text_operand, class_operand, procedure_operand, operation_operand, parameter_operand, argument_operand, and_operand, all_spelled}
 use Rattle.wb_script.specs.Building.{parameter_taking}
 
 -- the pointer, the number or the local that an operand spells
-abbrev pub pointer_in : Operand Meant → Pointer
-pointer_in (Name (meant.Pointer i)) = P.Held (H.Local i)
-pointer_in (spelled.Field (meant.Pointer i) (meant.Field class index)) = P.Field (H.Local i) class index
-pointer_in (spelled.Field meant.This (meant.Field class index)) = P.Field H.This class index
+abbrev pub pointer_in : Operand Referent → Pointer
+pointer_in (Name (referent.Pointer i)) = P.Held (H.Local i)
+pointer_in (spelled.Field (referent.Pointer i) (referent.Field class index)) = P.Field (H.Local i) class index
+pointer_in (spelled.Field referent.This (referent.Field class index)) = P.Field H.This class index
 pointer_in _ = P.Held H.This
 
-abbrev pub variable_in : Operand Meant → ℕ
-variable_in (Name (meant.Number i)) = i
+abbrev pub variable_in : Operand Referent → ℕ
+variable_in (Name (referent.Number i)) = i
 variable_in _ = 0
 
-abbrev pub number_in : Operand Meant → N.Number
+abbrev pub number_in : Operand Referent → N.Number
 number_in (Number z) = Constant z
 number_in operand = Variable (variable_in operand)
 
 -- the text that an operand spells
-abbrev pub writable_in : Operand Meant → Writable
-writable_in (Name (meant.Buffer i)) = OwnBuffer i
+abbrev pub writable_in : Operand Referent → Writable
+writable_in (Name (referent.Buffer i)) = OwnBuffer i
 writable_in operand = InCell (pointer_in operand)
 
-abbrev pub view_in : Operand Meant → ℕ
-view_in (Name (meant.View i)) = i
+abbrev pub view_in : Operand Referent → ℕ
+view_in (Name (referent.View i)) = i
 view_in _ = 0
 
-abbrev pub text_in : Operand Meant → Readable
-text_in (Literal (meant.Literal i)) = Quoted i
-text_in (Name (meant.View i)) = ViewOf i
+abbrev pub text_in : Operand Referent → Readable
+text_in (Literal (referent.Literal i)) = Quoted i
+text_in (Name (referent.View i)) = ViewOf i
 text_in operand = Of (writable_in operand)
 
-abbrev pub argument_in : Operand Meant → Argument
+abbrev pub argument_in : Operand Referent → Argument
 argument_in (Number z) = Given (Constant z)
-argument_in (Name (meant.Number i)) = Given (Variable i)
+argument_in (Name (referent.Number i)) = Given (Variable i)
 argument_in operand = Passed (pointer_in operand)
 
-abbrev pub local_in : Operand Meant → ℕ
-local_in (Name (meant.Pointer i)) = i
+abbrev pub local_in : Operand Referent → ℕ
+local_in (Name (referent.Pointer i)) = i
 local_in _ = 0
 
-abbrev pub class_in : Operand Meant → ℕ
-class_in (Name (meant.Class i)) = i
+abbrev pub class_in : Operand Referent → ℕ
+class_in (Name (referent.Class i)) = i
 class_in _ = 0
 
-abbrev pub procedure_in : Operand Meant → ℕ
-procedure_in (Name (meant.Procedure i)) = i
+abbrev pub procedure_in : Operand Referent → ℕ
+procedure_in (Name (referent.Procedure i)) = i
 procedure_in _ = 0
 
-abbrev pub operation_in : Operand Meant → ℕ
-operation_in (Name (meant.Operation i)) = i
+abbrev pub operation_in : Operand Referent → ℕ
+operation_in (Name (referent.Operation i)) = i
 operation_in _ = 0
 
 -- an operand that is spelled tells what it spells
-pub pointer_back : (p : Pointer) (a : Operand Meant) → pointer_operand p ≡ Some a → pointer_in a ≡ p
-pointer_back (P.Held (H.Local i)) a is = let same : Name (meant.Pointer i) ≡ a = cc in subst (λ o. pointer_in o ≡ P.Held (H.Local i)) same refl
-pointer_back (P.Held H.This) a is = let same : Name meant.This ≡ a = cc in subst (λ o. pointer_in o ≡ P.Held H.This) same refl
+pub pointer_back : (p : Pointer) (a : Operand Referent) → pointer_operand p ≡ Some a → pointer_in a ≡ p
+pointer_back (P.Held (H.Local i)) a is = let same : Name (referent.Pointer i) ≡ a = cc in subst (λ o. pointer_in o ≡ P.Held (H.Local i)) same refl
+pointer_back (P.Held H.This) a is = let same : Name referent.This ≡ a = cc in subst (λ o. pointer_in o ≡ P.Held H.This) same refl
 pointer_back (P.Field (H.Local i) class index) a is =
-    let same : spelled.Field (meant.Pointer i) (meant.Field class index) ≡ a = cc in
+    let same : spelled.Field (referent.Pointer i) (referent.Field class index) ≡ a = cc in
     subst (λ o. pointer_in o ≡ P.Field (H.Local i) class index) same refl
 pointer_back (P.Field H.This class index) a is =
-    let same : spelled.Field meant.This (meant.Field class index) ≡ a = cc in
+    let same : spelled.Field referent.This (referent.Field class index) ≡ a = cc in
     subst (λ o. pointer_in o ≡ P.Field H.This class index) same refl
 
 -- a pointer is spelled neither as a number nor as a text of the body's own
-spelled_otherwise : {A : Type 0} (read : Operand Meant → A) (make : Pointer → A) → ((i : ℕ) → read (Name (meant.Pointer i)) ≡ make (P.Held (H.Local i))) → read (Name meant.This) ≡ make (P.Held H.This) →
-    ((base field : Meant) → read (spelled.Field base field) ≡ make (pointer_in (spelled.Field base field))) → (p : Pointer) (a : Operand Meant) → pointer_operand p ≡ Some a → read a ≡ make p
-spelled_otherwise read make local this field (P.Held (H.Local i)) a is = let same : Name (meant.Pointer i) ≡ a = cc in subst (λ o. read o ≡ make (P.Held (H.Local i))) same (local i)
-spelled_otherwise read make local this field (P.Held H.This) a is = let same : Name meant.This ≡ a = cc in subst (λ o. read o ≡ make (P.Held H.This)) same this
+spelled_otherwise : {A : Type 0} (read : Operand Referent → A) (make : Pointer → A) → ((i : ℕ) → read (Name (referent.Pointer i)) ≡ make (P.Held (H.Local i))) → read (Name referent.This) ≡ make (P.Held H.This) →
+    ((base field : Referent) → read (spelled.Field base field) ≡ make (pointer_in (spelled.Field base field))) → (p : Pointer) (a : Operand Referent) → pointer_operand p ≡ Some a → read a ≡ make p
+spelled_otherwise read make local this field (P.Held (H.Local i)) a is = let same : Name (referent.Pointer i) ≡ a = cc in subst (λ o. read o ≡ make (P.Held (H.Local i))) same (local i)
+spelled_otherwise read make local this field (P.Held H.This) a is = let same : Name referent.This ≡ a = cc in subst (λ o. read o ≡ make (P.Held H.This)) same this
 spelled_otherwise read make local this field (P.Field (H.Local i) class index) a is =
-    let same : spelled.Field (meant.Pointer i) (meant.Field class index) ≡ a = cc in
-    subst (λ o. read o ≡ make (P.Field (H.Local i) class index)) same (field (meant.Pointer i) (meant.Field class index))
+    let same : spelled.Field (referent.Pointer i) (referent.Field class index) ≡ a = cc in
+    subst (λ o. read o ≡ make (P.Field (H.Local i) class index)) same (field (referent.Pointer i) (referent.Field class index))
 spelled_otherwise read make local this field (P.Field H.This class index) a is =
-    let same : spelled.Field meant.This (meant.Field class index) ≡ a = cc in
-    subst (λ o. read o ≡ make (P.Field H.This class index)) same (field meant.This (meant.Field class index))
+    let same : spelled.Field referent.This (referent.Field class index) ≡ a = cc in
+    subst (λ o. read o ≡ make (P.Field H.This class index)) same (field referent.This (referent.Field class index))
 
-pub variable_back : (x : ℕ) (a : Operand Meant) → variable_operand x ≡ Some a → variable_in a ≡ x
-variable_back x a is = let same : Name (meant.Number x) ≡ a = cc in subst (λ o. variable_in o ≡ x) same refl
+pub variable_back : (x : ℕ) (a : Operand Referent) → variable_operand x ≡ Some a → variable_in a ≡ x
+variable_back x a is = let same : Name (referent.Number x) ≡ a = cc in subst (λ o. variable_in o ≡ x) same refl
 
-pub number_back : (v : N.Number) (a : Operand Meant) → number_operand v ≡ Some a → number_in a ≡ v
+pub number_back : (v : N.Number) (a : Operand Referent) → number_operand v ≡ Some a → number_in a ≡ v
 number_back (Constant z) a is = let same : Number z ≡ a = cc in subst (λ o. number_in o ≡ Constant z) same refl
-number_back (Variable i) a is = let same : Name (meant.Number i) ≡ a = cc in subst (λ o. number_in o ≡ Variable i) same refl
+number_back (Variable i) a is = let same : Name (referent.Number i) ≡ a = cc in subst (λ o. number_in o ≡ Variable i) same refl
 
-pub writable_back : (d : Writable) (a : Operand Meant) → writable_operand d ≡ Some a → writable_in a ≡ d
-writable_back (OwnBuffer i) a is = let same : Name (meant.Buffer i) ≡ a = cc in subst (λ o. writable_in o ≡ OwnBuffer i) same refl
+pub writable_back : (d : Writable) (a : Operand Referent) → writable_operand d ≡ Some a → writable_in a ≡ d
+writable_back (OwnBuffer i) a is = let same : Name (referent.Buffer i) ≡ a = cc in subst (λ o. writable_in o ≡ OwnBuffer i) same refl
 writable_back (InCell p) a is = spelled_otherwise writable_in InCell (λ i. refl) refl (λ base field. refl) p a is
 
-pub view_back : (y : ℕ) (a : Operand Meant) → view_operand y ≡ Some a → view_in a ≡ y
-view_back y a is = let same : Name (meant.View y) ≡ a = cc in subst (λ o. view_in o ≡ y) same refl
+pub view_back : (y : ℕ) (a : Operand Referent) → view_operand y ≡ Some a → view_in a ≡ y
+view_back y a is = let same : Name (referent.View y) ≡ a = cc in subst (λ o. view_in o ≡ y) same refl
 
-pub text_back : (t : Readable) (a : Operand Meant) → text_operand t ≡ Some a → text_in a ≡ t
-text_back (Of (OwnBuffer i)) a is = let same : Name (meant.Buffer i) ≡ a = cc in subst (λ o. text_in o ≡ Of (OwnBuffer i)) same refl
+pub text_back : (t : Readable) (a : Operand Referent) → text_operand t ≡ Some a → text_in a ≡ t
+text_back (Of (OwnBuffer i)) a is = let same : Name (referent.Buffer i) ≡ a = cc in subst (λ o. text_in o ≡ Of (OwnBuffer i)) same refl
 text_back (Of (InCell p)) a is = spelled_otherwise text_in (λ p. Of (InCell p)) (λ i. refl) refl (λ base field. refl) p a is
-text_back (ViewOf i) a is = let same : Name (meant.View i) ≡ a = cc in subst (λ o. text_in o ≡ ViewOf i) same refl
-text_back (Quoted i) a is = let same : Literal (meant.Literal i) ≡ a = cc in subst (λ o. text_in o ≡ Quoted i) same refl
+text_back (ViewOf i) a is = let same : Name (referent.View i) ≡ a = cc in subst (λ o. text_in o ≡ ViewOf i) same refl
+text_back (Quoted i) a is = let same : Literal (referent.Literal i) ≡ a = cc in subst (λ o. text_in o ≡ Quoted i) same refl
 
-pub local_back : (x : ℕ) (a : Operand Meant) → pointer_operand (P.Held (H.Local x)) ≡ Some a → local_in a ≡ x
-local_back x a is = let same : Name (meant.Pointer x) ≡ a = cc in subst (λ o. local_in o ≡ x) same refl
+pub local_back : (x : ℕ) (a : Operand Referent) → pointer_operand (P.Held (H.Local x)) ≡ Some a → local_in a ≡ x
+local_back x a is = let same : Name (referent.Pointer x) ≡ a = cc in subst (λ o. local_in o ≡ x) same refl
 
-pub class_back : (n : ℕ) (a : Operand Meant) → class_operand n ≡ Some a → class_in a ≡ n
-class_back n a is = let same : Name (meant.Class n) ≡ a = cc in subst (λ o. class_in o ≡ n) same refl
+pub class_back : (n : ℕ) (a : Operand Referent) → class_operand n ≡ Some a → class_in a ≡ n
+class_back n a is = let same : Name (referent.Class n) ≡ a = cc in subst (λ o. class_in o ≡ n) same refl
 
-pub procedure_back : (n : ℕ) (a : Operand Meant) → procedure_operand n ≡ Some a → procedure_in a ≡ n
-procedure_back n a is = let same : Name (meant.Procedure n) ≡ a = cc in subst (λ o. procedure_in o ≡ n) same refl
+pub procedure_back : (n : ℕ) (a : Operand Referent) → procedure_operand n ≡ Some a → procedure_in a ≡ n
+procedure_back n a is = let same : Name (referent.Procedure n) ≡ a = cc in subst (λ o. procedure_in o ≡ n) same refl
 
-pub operation_back : (n : ℕ) (a : Operand Meant) → operation_operand n ≡ Some a → operation_in a ≡ n
-operation_back n a is = let same : Name (meant.Operation n) ≡ a = cc in subst (λ o. operation_in o ≡ n) same refl
+pub operation_back : (n : ℕ) (a : Operand Referent) → operation_operand n ≡ Some a → operation_in a ≡ n
+operation_back n a is = let same : Name (referent.Operation n) ≡ a = cc in subst (λ o. operation_in o ≡ n) same refl
 
 -- how operands that are spelled begin
-begun : (s : Spelled) (rest : Option (List (Operand Meant))) (operands : List (Operand Meant)) → and_operand s rest ≡ Some operands → (a : Operand Meant) × (more : List (Operand Meant)) × (s ≡ Some a) × (rest ≡ Some more) × (a ∷ more ≡ operands)
+begun : (s : Spelled) (rest : Option (List (Operand Referent))) (operands : List (Operand Referent)) → and_operand s rest ≡ Some operands → (a : Operand Referent) × (more : List (Operand Referent)) × (s ≡ Some a) × (rest ≡ Some more) × (a ∷ more ≡ operands)
 begun (Some a) (Some more) operands is = (a, more, refl, refl, cc)
 begun (Some a) None operands is = let clash : ⊥ = cc in absurd clash
 begun None rest operands is = let clash : ⊥ = cc in absurd clash
 
-pub argument_back : (argument : Argument) (a : Operand Meant) → argument_operand argument ≡ Some a → argument_in a ≡ argument
+pub argument_back : (argument : Argument) (a : Operand Referent) → argument_operand argument ≡ Some a → argument_in a ≡ argument
 argument_back (Given (Constant z)) a is = let e : Number z ≡ a = cc in subst (λ o. argument_in o ≡ Given (Constant z)) e refl
-argument_back (Given (Variable i)) a is = let e : Name (meant.Number i) ≡ a = cc in subst (λ o. argument_in o ≡ Given (Variable i)) e refl
+argument_back (Given (Variable i)) a is = let e : Name (referent.Number i) ≡ a = cc in subst (λ o. argument_in o ≡ Given (Variable i)) e refl
 argument_back (Passed p) a is = spelled_otherwise argument_in Passed (λ i. refl) refl (λ base field. refl) p a is
 
-pub arguments_back : (arguments : List Argument) (operands : List (Operand Meant)) → all_spelled (map argument_operand arguments) ≡ Some operands → map argument_in operands ≡ arguments
+pub arguments_back : (arguments : List Argument) (operands : List (Operand Referent)) → all_spelled (map argument_operand arguments) ≡ Some operands → map argument_in operands ≡ arguments
 arguments_back [] operands is = let same : [] ≡ operands = cc in subst (λ l. map argument_in l ≡ []) same refl
 arguments_back (argument ∷ arguments) operands is =
     let (a, more, first, rest, parts) = begun (argument_operand argument) (all_spelled (map argument_operand arguments)) operands is in
     subst (λ l. map argument_in l ≡ argument ∷ arguments) parts (ap (λ z. z ∷ map argument_in more) (argument_back argument a first) ∙ ap (λ l. argument ∷ l) (arguments_back arguments more rest))
 
 -- the parameters that operands declare
-abbrev pub parameters_in : List (Operand Meant) → List Parameter
-parameters_in operands = map parameter_taking (flat_map taken_by operands)
+abbrev pub parameters_in : List (Operand Referent) → List Parameter
+parameters_in operands = map parameter_taking (flat_map parameter_type_of operands)
 
-parameter_back : (p : Parameter) (a : Operand Meant) → parameter_operand p ≡ Some a → parameters_in (a ∷ []) ≡ p ∷ []
-parameter_back (parameter.OfPointer None) a is = let e : spelled.Parameter meant.Parameter taken.Pointer ≡ a = cc in subst (λ o. parameters_in (o ∷ []) ≡ parameter.OfPointer None ∷ []) e refl
+parameter_back : (p : Parameter) (a : Operand Referent) → parameter_operand p ≡ Some a → parameters_in (a ∷ []) ≡ p ∷ []
+parameter_back (parameter.OfPointer None) a is = let e : spelled.Parameter referent.Parameter parameter_type.Pointer ≡ a = cc in subst (λ o. parameters_in (o ∷ []) ≡ parameter.OfPointer None ∷ []) e refl
 parameter_back (parameter.OfPointer (Some class)) a is =
-    let e : spelled.Parameter meant.Parameter (taken.OfClass (meant.Class class)) ≡ a = cc in
+    let e : spelled.Parameter referent.Parameter (parameter_type.OfClass (referent.Class class)) ≡ a = cc in
     subst (λ o. parameters_in (o ∷ []) ≡ parameter.OfPointer (Some class) ∷ []) e refl
-parameter_back parameter.OfNumber a is = let e : spelled.Parameter meant.Parameter taken.Number ≡ a = cc in subst (λ o. parameters_in (o ∷ []) ≡ parameter.OfNumber ∷ []) e refl
+parameter_back parameter.OfNumber a is = let e : spelled.Parameter referent.Parameter parameter_type.Number ≡ a = cc in subst (λ o. parameters_in (o ∷ []) ≡ parameter.OfNumber ∷ []) e refl
 
-parameters-append : (a : Operand Meant) (more : List (Operand Meant)) → parameters_in (a ∷ more) ≡ parameters_in (a ∷ []) ++ parameters_in more
+parameters-append : (a : Operand Referent) (more : List (Operand Referent)) → parameters_in (a ∷ more) ≡ parameters_in (a ∷ []) ++ parameters_in more
 parameters-append a more =
-    map-append parameter_taking (taken_by a) (flat_map taken_by more) ∙ ap (λ l. map parameter_taking l ++ parameters_in more) (sym (append-nil (taken_by a)))
+    map-append parameter_taking (parameter_type_of a) (flat_map parameter_type_of more) ∙ ap (λ l. map parameter_taking l ++ parameters_in more) (sym (append-nil (parameter_type_of a)))
 
 -- a head tells its parameters
-pub parameters_back : (parameters : List Parameter) (operands : List (Operand Meant)) → all_spelled (map parameter_operand parameters) ≡ Some operands → parameters_in operands ≡ parameters
+pub parameters_back : (parameters : List Parameter) (operands : List (Operand Referent)) → all_spelled (map parameter_operand parameters) ≡ Some operands → parameters_in operands ≡ parameters
 parameters_back [] operands is = let same : [] ≡ operands = cc in subst (λ l. parameters_in l ≡ []) same refl
 parameters_back (p ∷ ps) operands is =
     let (a, more, first, rest, parts) = begun (parameter_operand p) (all_spelled (map parameter_operand ps)) operands is in

@@ -6,7 +6,7 @@ use Rattle.wb_model.specs.declared.script_lines.BodyKind.TheVariants as of
 use Rattle.wb_model.specs.declared.script_lines.Form.{Form}
 use Rattle.wb_model.specs.declared.script_lines.Form.TheVariants.{Skip, Unknown, Line}
 use Rattle.wb_model.specs.Kinds.{may_leave_in, may_leave}
-use Rattle.wb_model.specs.Names.{Text, Known, Item, nothing_known, known_after, key_in, body_in, body_after, items_of}
+use Rattle.wb_model.specs.Names.{Text, NamesSoFar, Declaration, nothing_known, known_after, line_kind_in, body_in, body_after, items_of}
 use Rattle.wb_model.specs.Passes.{first_bad, each_with}
 use Rattle.wb_model.specs.Resolved.{resolved_line, resolved}
 use Rattle.wb_model.specs.Scripts.{first_leaving}
@@ -14,16 +14,16 @@ use Rattle.wb_model.specs.Trees.{Indexed, Marked, counted_from}
 
 -- a line cannot leave in a body of a kind
 abbrev pub is_quiet_in : BodyKind → Indexed → Bool
-is_quiet_in body form = not (list_any (may_leave_in body) (key_in form))
+is_quiet_in body form = not (list_any (may_leave_in body) (line_kind_in form))
 
 -- the kind of the body that is open behind a line, or was the last
-abbrev pub body_behind : BodyKind → Indexed → BodyKind
-body_behind body form = body_after (body_in form) body
+abbrev pub following_body : BodyKind → Indexed → BodyKind
+following_body body form = body_after (body_in form) body
 
 -- none of the lines may leave, where the first stands in a body of this kind or behind it
 abbrev pub are_quiet_from : BodyKind → List Marked → Bool
 are_quiet_from body [] = true
-are_quiet_from body (m ∷ lines) = is_quiet_in body m.1 && are_quiet_from (body_behind body m.1) lines
+are_quiet_from body (m ∷ lines) = is_quiet_in body m.1 && are_quiet_from (following_body body m.1) lines
 
 abbrev pub QuietFrom : BodyKind → List Marked → Type 0
 QuietFrom body lines = are_quiet_from body lines ≡ true
@@ -43,24 +43,24 @@ both_hold false b p q = p
 pub quiet_parts : (lines rest : List Marked) (body : BodyKind) → QuietFrom body (lines ++ rest) → QuietFrom body lines × QuietSomewhere rest
 quiet_parts [] rest body is = (refl, (body, is))
 quiet_parts (m ∷ lines) rest body is =
-    let (here, more) = both (is_quiet_in body m.1) (are_quiet_from (body_behind body m.1) (lines ++ rest)) is in
-    let (first, behind) = quiet_parts lines rest (body_behind body m.1) more in
-    (both_hold (is_quiet_in body m.1) (are_quiet_from (body_behind body m.1) lines) here first, behind)
+    let (here, more) = both (is_quiet_in body m.1) (are_quiet_from (following_body body m.1) (lines ++ rest)) is in
+    let (first, following) = quiet_parts lines rest (following_body body m.1) more in
+    (both_hold (is_quiet_in body m.1) (are_quiet_from (following_body body m.1) lines) here first, following)
 
 unrefused : (b : Bool) (o : Option ℕ) → (if b then Some 0 else option_map suc o) ≡ None → (not b ≡ true) × (o ≡ None)
 unrefused true o e = let clash : ⊥ = cc in absurd clash
 unrefused false None e = (refl, refl)
 unrefused false (Some n) e = let clash : ⊥ = cc in absurd clash
 
-module _ (items : List Item) where
-  none_leaves : (forms : List (Form Text)) (known : Known) (number : ℕ) → first_bad known_after may_leave known forms ≡ None → QuietFrom known.body (counted_from number (each_with known_after (resolved_line items) known forms))
+module _ (items : List Declaration) where
+  none_leaves : (forms : List (Form Text)) (known : NamesSoFar) (number : ℕ) → first_bad known_after may_leave known forms ≡ None → QuietFrom known.body (counted_from number (each_with known_after (resolved_line items) known forms))
   none_leaves [] known number none = refl
   none_leaves (Skip ∷ forms) known number none =
       none_leaves forms (known_after known Skip) (suc number) (unrefused false (first_bad known_after may_leave (known_after known Skip) forms) none).1
   none_leaves (Unknown ∷ forms) known number none =
       none_leaves forms (known_after known Unknown) (suc number) (unrefused false (first_bad known_after may_leave (known_after known Unknown) forms) none).1
-  none_leaves (Line key operands ∷ forms) known number none =
-      let form : Form Text = Line key operands in
+  none_leaves (Line line_kind operands ∷ forms) known number none =
+      let form : Form Text = Line line_kind operands in
       let (here, more) = unrefused (may_leave known form) (first_bad known_after may_leave (known_after known form) forms) none in
       both_hold (not (may_leave known form)) (are_quiet_from (known_after known form).body (counted_from (suc number) (each_with known_after (resolved_line items) (known_after known form) forms))) here (none_leaves forms (known_after known form) (suc number) more)
 

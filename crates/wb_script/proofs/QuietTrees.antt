@@ -5,9 +5,9 @@ use Rattle.wb_model.specs.declared.limits.TheConstants.{DEEPEST_BLOCK, MOST_LOCA
 use Rattle.wb_model.specs.declared.script_lines.BodyKind.{BodyKind}
 use Rattle.wb_model.specs.declared.script_lines.BodyKind.TheVariants as of
 use Rattle.wb_model.specs.declared.script_lines.Form.{Form}
-use Rattle.wb_model.specs.declared.script_lines.Meant.TheVariants as meant
+use Rattle.wb_model.specs.declared.script_lines.Referent.TheVariants as referent
 use Rattle.wb_model.specs.declared.script_lines.Operand.TheVariants.{Name, Size}
-use Rattle.wb_model.specs.declared.script_lines.Key.TheVariants as key
+use Rattle.wb_model.specs.declared.script_lines.LineKind.TheVariants as line_kind
 use Rattle.wb_model.specs.declared.script.Script.{Script}
 use Rattle.wb_model.specs.declared.script.Body.{Body}
 use Rattle.wb_model.specs.declared.script.Class.{Class}
@@ -21,7 +21,7 @@ use Rattle.wb_model.specs.Scripts.{IsTreeOf}
 use Rattle.wb_model.specs.Sound.{Declared, Scope, declared_in, scope_of, its_parameters, is_sound_script, are_few, are_classes, is_class_of, is_own_body, is_operation, is_procedure, is_body, is_local, are_statements, is_literal_text, is_class_among}
 use Rattle.wb_model.specs.Trees.{Spelled, Marked, class_operand, Lines, local_lines, body_lines, statement_lines, end_line, class_head, field_lines, own_body_lines, class_lines, operation_lines, lines_of_class, lines_of_procedure, lines_of_operation, each_from, in_place, in_order, all_lines, bodies_in_order}
 use Rattle.wb_script.proofs.QuietLines.{are_quiet_from, QuietFrom, QuietSomewhere, both, both_hold, quiet_parts, quiet_lines}
-use Rattle.wb_script.proofs.QuietStatements.{Closed, behind, loud, quiet_statements}
+use Rattle.wb_script.proofs.QuietStatements.{Closed, following, loud, quiet_statements}
 
 operation_closed : Closed of.Operation
 operation_closed k = refl
@@ -31,22 +31,22 @@ destructor_closed k = refl
 
 -- the word that a declaration names
 abbrev declared_word : ℕ → Spelled
-declared_word index = Some (Name (meant.Declared index))
+declared_word index = Some (Name (referent.Declared index))
 
 module _ (body : BodyKind) (closed : Closed body) where
   -- the locals that a body declares, and the lines behind them
   quiet_locals : (index : ℕ) (locals : List Local) (rest : List Marked) → QuietFrom body (local_lines index locals ++ rest) → IsTrue (list_all is_quiet_local locals) × QuietFrom body rest
   quiet_locals index [] rest is = (refl, is)
   quiet_locals index (OfPointer None ∷ locals) rest is =
-      quiet_locals (suc index) locals rest (behind body closed key.Ptr refl (declared_word index ∷ []) None (local_lines (suc index) locals ++ rest) is)
+      quiet_locals (suc index) locals rest (following body closed line_kind.Ptr refl (declared_word index ∷ []) None (local_lines (suc index) locals ++ rest) is)
   quiet_locals index (OfPointer (Some class) ∷ locals) rest is =
-      quiet_locals (suc index) locals rest (behind body closed key.ClassPtr refl (declared_word index ∷ class_operand class ∷ []) None (local_lines (suc index) locals ++ rest) is)
+      quiet_locals (suc index) locals rest (following body closed line_kind.ClassPtr refl (declared_word index ∷ class_operand class ∷ []) None (local_lines (suc index) locals ++ rest) is)
   quiet_locals index (OfNumber ∷ locals) rest is =
-      quiet_locals (suc index) locals rest (behind body closed key.Int refl (declared_word index ∷ []) None (local_lines (suc index) locals ++ rest) is)
+      quiet_locals (suc index) locals rest (following body closed line_kind.Int refl (declared_word index ∷ []) None (local_lines (suc index) locals ++ rest) is)
   quiet_locals index (OfBuffer max ∷ locals) rest is =
-      absurd (loud body closed key.Buf refl (declared_word index ∷ Some (Size max) ∷ []) (refl, (refl, tt)) None (local_lines (suc index) locals ++ rest) is)
+      absurd (loud body closed line_kind.Buf refl (declared_word index ∷ Some (Size max) ∷ []) (refl, (refl, tt)) None (local_lines (suc index) locals ++ rest) is)
   quiet_locals index (OfView ∷ locals) rest is =
-      absurd (loud body closed key.View refl (declared_word index ∷ []) (refl, tt) None (local_lines (suc index) locals ++ rest) is)
+      absurd (loud body closed line_kind.View refl (declared_word index ∷ []) (refl, tt) None (local_lines (suc index) locals ++ rest) is)
 
   -- a body, with the lines behind it
   quiet_body : (declared : Declared) (scope : Scope) (parameters : ℕ) (b : Body) (rest : List Marked) → IsTrue (is_body declared scope b.statements) → QuietFrom body (body_lines parameters b ++ rest) → IsTrue (is_quiet_body b)
@@ -60,14 +60,14 @@ module _ (body : BodyKind) (closed : Closed body) where
 operation_quiet : (declared : Declared) (index : ℕ) (o : Operation) → IsTrue (is_operation declared o) → QuietSomewhere (operation_lines index o) → IsTrue (is_quiet_body o.body)
 operation_quiet declared index o sound (before, is) =
     let lines = body_lines (length its_parameters) o.body ++ end_line ∷ [] in
-    let (head, inside) = both (not (may_leave_in before key.Op || false)) (are_quiet_from of.Operation lines) is in
+    let (head, inside) = both (not (may_leave_in before line_kind.Op || false)) (are_quiet_from of.Operation lines) is in
     quiet_body of.Operation operation_closed declared (scope_of declared None its_parameters o.body) (length its_parameters) o.body (end_line ∷ []) sound inside
 
-destructor_quiet : (declared : Declared) (class : ℕ) (b : Option Body) → IsTrue (is_own_body declared class b) → QuietSomewhere (own_body_lines key.Destructor b) → IsTrue (is_quiet_if_there b)
+destructor_quiet : (declared : Declared) (class : ℕ) (b : Option Body) → IsTrue (is_own_body declared class b) → QuietSomewhere (own_body_lines line_kind.Destructor b) → IsTrue (is_quiet_if_there b)
 destructor_quiet declared class None sound is = refl
 destructor_quiet declared class (Some b) sound (before, is) =
     let lines = body_lines 0 b ++ end_line ∷ [] in
-    let (head, inside) = both (not (may_leave_in before key.Destructor || false)) (are_quiet_from of.Destructor lines) is in
+    let (head, inside) = both (not (may_leave_in before line_kind.Destructor || false)) (are_quiet_from of.Destructor lines) is in
     quiet_body of.Destructor destructor_closed declared (scope_of declared (Some class) [] b) 0 b (end_line ∷ []) sound inside
 
 class_quiet : (declared : Declared) (index : ℕ) (c : Class) → IsTrue (is_class_of declared index c) → QuietSomewhere (class_lines index c) → IsTrue (is_quiet_if_there c.destroy)
@@ -75,12 +75,12 @@ class_quiet declared index c sound (before, is) =
     let few = (nat_le (length c.fields) MOST_FIELDS && nat_le c.extra MOST_EXTRA) && list_all (is_class_among (length declared.fields)) c.fields in
     let (fields_sound, bodies) = both few (is_own_body declared index c.construct && is_own_body declared index c.destroy) sound in
     let (construct_sound, destroy_sound) = both (is_own_body declared index c.construct) (is_own_body declared index c.destroy) bodies in
-    let destroy = own_body_lines key.Destructor c.destroy ++ end_line ∷ [] in
-    let construct = own_body_lines key.Constructor c.construct ++ destroy in
-    let (head, (a, behind_head)) = quiet_parts (class_head index c ∷ []) (field_lines 0 c.fields ++ construct) before is in
-    let (fields, (b, behind_fields)) = quiet_parts (field_lines 0 c.fields) construct a behind_head in
-    let (constructs, (d, behind_construct)) = quiet_parts (own_body_lines key.Constructor c.construct) destroy b behind_fields in
-    let (destroys, end) = quiet_parts (own_body_lines key.Destructor c.destroy) (end_line ∷ []) d behind_construct in
+    let destroy = own_body_lines line_kind.Destructor c.destroy ++ end_line ∷ [] in
+    let construct = own_body_lines line_kind.Constructor c.construct ++ destroy in
+    let (head, (a, after_head)) = quiet_parts (class_head index c ∷ []) (field_lines 0 c.fields ++ construct) before is in
+    let (fields, (b, after_fields)) = quiet_parts (field_lines 0 c.fields) construct a after_head in
+    let (constructs, (d, after_construct)) = quiet_parts (own_body_lines line_kind.Constructor c.construct) destroy b after_fields in
+    let (destroys, end) = quiet_parts (own_body_lines line_kind.Destructor c.destroy) (end_line ∷ []) d after_construct in
     destructor_quiet declared index c.destroy destroy_sound (d, destroys)
 
 abbrev AllQuiet : List Lines → Type 0

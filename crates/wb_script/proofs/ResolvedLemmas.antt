@@ -4,13 +4,13 @@ use Rattle.std.specs.Prelude.{if◌then◌else◌}
 use Rattle.std.specs.Option.{option_map}
 use Rattle.std.specs.List.{list_all, list_any, flat_map}
 use Rattle.std.proofs.lemmas.List.{map-append, length-map}
-use Rattle.wb_model.specs.declared.script_lines.Key.{Key}
-use Rattle.wb_model.specs.declared.script_lines.Key.TheVariants as key
+use Rattle.wb_model.specs.declared.script_lines.LineKind.{LineKind}
+use Rattle.wb_model.specs.declared.script_lines.LineKind.TheVariants as line_kind
 use Rattle.wb_model.specs.declared.script_lines.Role.{Role}
 use Rattle.wb_model.specs.declared.script_lines.Role.TheVariants as role
 use Rattle.wb_model.specs.declared.script_lines.Form.{Form}
 use Rattle.wb_model.specs.declared.script_lines.Form.TheVariants.{Skip, Unknown, Line}
-use Rattle.wb_model.specs.declared.script_lines.Meant.{Meant}
+use Rattle.wb_model.specs.declared.script_lines.Referent.{Referent}
 use Rattle.wb_model.specs.declared.script_lines.Operand.{Operand}
 use Rattle.wb_model.specs.declared.script_lines.Operand.TheVariants.{Name}
 use Rattle.wb_model.specs.declared.script_lines.ItemKind.{ItemKind}
@@ -18,13 +18,13 @@ use Rattle.wb_model.specs.declared.script_lines.ItemKind.TheVariants as item
 use Rattle.wb_model.specs.declared.script.Parameter.{Parameter}
 use Rattle.wb_model.specs.Forms.{role_of_form}
 use Rattle.wb_model.specs.Grammar.{IsGrammatical, content}
-use Rattle.wb_model.specs.Keys.{role_of}
+use Rattle.wb_model.specs.LineKinds.{role_of}
 use Rattle.wb_model.specs.Kinds.{has_wrong_kind, misuses_main, returns_in_trap, returns_outside, is_right_line, ends_body, is_trap}
 use Rattle.wb_model.specs.Passes.{first_bad, state_after, each_with}
-use Rattle.wb_model.specs.Names.{Text, Known, Item, nothing_known, literals_in, literals_of, is_same_kind, of_kind, count_among, items_by, items_of, known_after, passes_limit, first_refused}
+use Rattle.wb_model.specs.Names.{Text, NamesSoFar, Declaration, nothing_known, literals_in, literals_of, is_same_kind, of_kind, count_among, items_by, items_of, known_after, passes_limit, first_refused}
 use Rattle.wb_model.specs.Resolved.{class_of_this, resolved_line, resolved_among, resolved}
 use Rattle.wb_script.specs.Building.{Counts, nothing_counted, counts_after, counts_of, last_count, may_stand, fits, unfit, scope_at, AllFit}
-use Rattle.wb_script.specs.Lent.{parameter_named, signatures_among}
+use Rattle.wb_script.specs.BytesOf.{parameter_named, signatures_among}
 use Rattle.wb_lines.specs.Typed.{is_typed, AreTyped}
 use Rattle.wb_nesting.specs.declared.open.Open.{Open}
 use Rattle.wb_nesting.specs.Machine.{step}
@@ -35,20 +35,20 @@ use Rattle.wb_script.proofs.LineFits.{operands_fit_resolved}
 use Rattle.wb_nesting.proofs.Runs.{run, items_run}
 use Rattle.wb_script.proofs.Steps.{good_first}
 use Rattle.wb_lines.proofs.TypedLemmas.{both}
-use Rattle.wb_script.proofs.Whereabouts.{IsWhere, run_first, role_needs_body, this_known, fields_known, where_next, where_skipped}
+use Rattle.wb_script.proofs.PlacesOfLines.{IsWhere, run_first, role_needs_body, this_known, fields_known, where_next, where_skipped}
 
-resolved_role : (own : List Item) (known : Known) (form : Form Text) → role_of_form (resolved_line own known form) ≡ role_of_form form
+resolved_role : (own : List Declaration) (known : NamesSoFar) (form : Form Text) → role_of_form (resolved_line own known form) ≡ role_of_form form
 resolved_role own known Skip = refl
 resolved_role own known Unknown = refl
-resolved_role own known (Line key operands) = refl
+resolved_role own known (Line line_kind operands) = refl
 
-roles_from : (own : List Item) (known : Known) (forms : List (Form Text)) → map role_of_form (each_with known_after (resolved_line own) known forms) ≡ map role_of_form forms
+roles_from : (own : List Declaration) (known : NamesSoFar) (forms : List (Form Text)) → map role_of_form (each_with known_after (resolved_line own) known forms) ≡ map role_of_form forms
 roles_from own known [] = refl
 roles_from own known (form ∷ forms) =
     ap (λ r. r ∷ map role_of_form (each_with known_after (resolved_line own) (known_after known form) forms)) (resolved_role own known form)
     ∙ ap (λ l. role_of_form form ∷ l) (roles_from own (known_after known form) forms)
 
-pub roles-among : (own : List Item) (forms : List (Form Text)) → map role_of_form (resolved_among own forms) ≡ map role_of_form forms
+pub roles-among : (own : List Declaration) (forms : List (Form Text)) → map role_of_form (resolved_among own forms) ≡ map role_of_form forms
 roles-among own forms = roles_from own nothing_known forms
 
 pub roles-resolved : (forms : List (Form Text)) → map role_of_form (resolved forms) ≡ map role_of_form forms
@@ -62,18 +62,18 @@ none_wrong true false true d e = let clash : ⊥ = cc in absurd clash
 none_wrong true false false true e = let clash : ⊥ = cc in absurd clash
 none_wrong false b c d e = let clash : ⊥ = cc in absurd clash
 
-stands : (known counted : List Key) (k : Key) → counted ≡ known → ((ends_body k || false) && list_any is_trap known) ≡ false → may_stand counted k ≡ true
+stands : (known counted : List LineKind) (k : LineKind) → counted ≡ known → ((ends_body k || false) && list_any is_trap known) ≡ false → may_stand counted k ≡ true
 stands known counted k same e = go (ends_body k) e
   where
     none : list_any is_trap known ≡ false → not (list_any is_trap counted) ≡ true
-    none no_trap = ap (λ (b : List Key). not (list_any is_trap b)) same ∙ ap not no_trap
+    none no_trap = ap (λ (b : List LineKind). not (list_any is_trap b)) same ∙ ap not no_trap
 
     go : (b : Bool) → ((b || false) && list_any is_trap known) ≡ false → not (b && list_any is_trap counted) ≡ true
     go true no_trap = none no_trap
     go false no_trap = refl
 
 -- a line that is neither wrong nor past a limit fits where it stands
-line_fits : (literals : ℕ) (items : List Item) (known : Known) (counts : Counts) (k : Key) (operands : List (Operand Text)) → Counted items known counts → (stands_apart k ≡ false → counts.this ≡ class_of_this known) →
+line_fits : (literals : ℕ) (items : List Declaration) (known : NamesSoFar) (counts : Counts) (k : LineKind) (operands : List (Operand Text)) → Counted items known counts → (stands_apart k ≡ false → counts.this ≡ class_of_this known) →
     (role_of k ≡ role.Field → last_count counts.classes ≡ length known.fields) → is_typed (Line k operands) ≡ true → has_wrong_kind items known (Line k operands) ≡ false → passes_limit known (Line k operands) ≡ false →
     known.literals + length (literals_in (Line k operands)) ≤ literals → fits (declared_among literals items) counts (resolved_line items known (Line k operands)) ≡ true
 line_fits literals items known counts k operands counted this_is fields typed wrong within room =
@@ -85,22 +85,22 @@ line_fits literals items known counts k operands counted this_is fields typed wr
 abbrev pub contents_of : List (Form Text) → List Role
 contents_of forms = flat_map content (map role_of_form forms)
 
-content_of : (k : Key) → content (role_of k) ≡ role_of k ∷ []
-content_of key.Class = refl
+content_of : (k : LineKind) → content (role_of k) ≡ role_of k ∷ []
+content_of line_kind.Class = refl
 content_of _ = refl
 
-pub contents_behind : (k : Key) (operands : List (Operand Text)) (forms : List (Form Text)) → contents_of (Line k operands ∷ forms) ≡ role_of k ∷ contents_of forms
-contents_behind k operands forms = ap (λ l. l ++ contents_of forms) (content_of k)
+pub contents_after : (k : LineKind) (operands : List (Operand Text)) (forms : List (Form Text)) → contents_of (Line k operands ∷ forms) ≡ role_of k ∷ contents_of forms
+contents_after k operands forms = ap (λ l. l ++ contents_of forms) (content_of k)
 
-module _ (items : List Item) where
-  abbrev pub lines_from : Known → List (Form Text) → List (Form Meant)
+module _ (items : List Declaration) where
+  abbrev pub lines_from : NamesSoFar → List (Form Text) → List (Form Referent)
   lines_from known forms = each_with known_after (resolved_line items) known forms
 
   -- what each step of a pass keeps
-  abbrev pub next_counts : Known → Counts → Form Text → Counts
+  abbrev pub next_counts : NamesSoFar → Counts → Form Text → Counts
   next_counts known counts form = counts_after counts (resolved_line items known form)
 
-  fits_from : (literals : ℕ) (forms : List (Form Text)) (known : Known) (counts : Counts) (stack last : List Open) → Counted items known counts → IsWhere known counts stack → run stack (contents_of forms) ≡ Some last → AreTyped forms →
+  fits_from : (literals : ℕ) (forms : List (Form Text)) (known : NamesSoFar) (counts : Counts) (stack last : List Open) → Counted items known counts → IsWhere known counts stack → run stack (contents_of forms) ≡ Some last → AreTyped forms →
       first_bad known_after (has_wrong_kind items) known forms ≡ None → first_bad known_after passes_limit known forms ≡ None →
       known.literals + length (literals_of forms) ≤ literals → first_bad counts_after (unfit (declared_among literals items)) counts (lines_from known forms) ≡ None
   fits_from literals [] known counts stack last counted place reads typed right within room = refl
@@ -121,7 +121,7 @@ module _ (items : List Item) where
       let (right_here, right_later) = good_first (has_wrong_kind items known form) (first_bad known_after (has_wrong_kind items) next forms) right in
       let (within_here, within_later) = good_first (passes_limit known form) (first_bad known_after passes_limit next forms) within in
       let parts : length (literals_of (form ∷ forms)) ≡ length (literals_in form) + length (literals_of forms) = simp length-append in
-      let (after, moves, later) = run_first stack last (role_of k) (contents_of forms) (ap (run stack) (sym (contents_behind k operands forms)) ∙ reads) in
+      let (after, moves, later) = run_first stack last (role_of k) (contents_of forms) (ap (run stack) (sym (contents_after k operands forms)) ∙ reads) in
       let this_is : stands_apart k ≡ false → counts.this ≡ class_of_this known = λ e. this_known known counts stack after (role_of k) place (role_needs_body k e) moves in
       let fields : role_of k ≡ role.Field → last_count counts.classes ≡ length known.fields = λ e. fields_known known counts stack after place (ap (step stack) (sym e) ∙ moves) in
       let fit = line_fits literals items known counts k operands counted this_is fields here right_here within_here (omega arith) in
@@ -129,7 +129,7 @@ module _ (items : List Item) where
       (ap (option_map suc)
       (fits_from literals forms next (next_counts known counts form) after last (line_counts items known counts counted form here) (where_next items known counts counted form stack after here place moves) later rest right_later within_later (omega arith)))
 
-  counted_from : (forms : List (Form Text)) (known : Known) (counts : Counts) → Counted items known counts → AreTyped forms → Counted items (state_after known_after known forms) (state_after counts_after counts (lines_from known forms))
+  counted_from : (forms : List (Form Text)) (known : NamesSoFar) (counts : Counts) → Counted items known counts → AreTyped forms → Counted items (state_after known_after known forms) (state_after counts_after counts (lines_from known forms))
   counted_from [] known counts counted typed = counted
   counted_from (form ∷ forms) known counts counted typed =
       let (here, rest) = both (is_typed form) (list_all is_typed forms) typed in
@@ -151,7 +151,7 @@ names_and_kinds forms typed =
     ∙ sym counted.locals
 
 -- those of a kind, one after the other
-pub of_kind-append : (kind : ItemKind) (items others : List Item) → of_kind kind (items ++ others) ≡ of_kind kind items ++ of_kind kind others
+pub of_kind-append : (kind : ItemKind) (items others : List Declaration) → of_kind kind (items ++ others) ≡ of_kind kind items ++ of_kind kind others
 of_kind-append kind [] others = refl
 of_kind-append kind (i ∷ items) others = go (is_same_kind i.kind kind) (of_kind-append kind items others)
   where
@@ -161,29 +161,29 @@ of_kind-append kind (i ∷ items) others = go (is_same_kind i.kind kind) (of_kin
     go false rest = rest
 
 -- a line adds its procedure, by its parameters, or counts its operation
-module _ (own : List Item) where
-  abbrev signatures_by : List Item → List (List Parameter)
-  signatures_by items = map (λ (i : Item). map (parameter_named own) i.parameters) (of_kind item.Procedure items)
+module _ (own : List Declaration) where
+  abbrev signatures_by : List Declaration → List (List Parameter)
+  signatures_by items = map (λ (i : Declaration). map (parameter_named own) i.parameters) (of_kind item.Procedure items)
 
-  signatures-append : (items others : List Item) → signatures_by (items ++ others) ≡ signatures_by items ++ signatures_by others
+  signatures-append : (items others : List Declaration) → signatures_by (items ++ others) ≡ signatures_by items ++ signatures_by others
   signatures-append items others =
-      ap (map (λ (i : Item). map (parameter_named own) i.parameters)) (of_kind-append item.Procedure items others)
-      ∙ map-append (λ (i : Item). map (parameter_named own) i.parameters) (of_kind item.Procedure items) (of_kind item.Procedure others)
+      ap (map (λ (i : Declaration). map (parameter_named own) i.parameters)) (of_kind-append item.Procedure items others)
+      ∙ map-append (λ (i : Declaration). map (parameter_named own) i.parameters) (of_kind item.Procedure items) (of_kind item.Procedure others)
 
-  line_procedures : (known : Known) (counts : Counts) (form : Form Text) (behind : List (Form Text)) → is_typed form ≡ true → (counts_after counts (resolved_line own known form)).procedures ≡ counts.procedures ++ signatures_by (items_by form behind)
-  line_procedures known counts (Line key.Class []) behind typed = let clash : ⊥ = cc in absurd clash
-  line_procedures known counts (Line key.Class (Name n ∷ os)) behind typed = sym (append-nil counts.procedures)
-  line_procedures known counts (Line key.Class (_ ∷ os)) behind typed = let clash : ⊥ = cc in absurd clash
-  line_procedures known counts (Line key.Proc []) behind typed = let clash : ⊥ = cc in absurd clash
-  line_procedures known counts (Line key.Proc (Name n ∷ os)) behind typed = ap (λ p. counts.procedures ++ p ∷ []) (line_parameters own known (Line key.Proc (Name n ∷ os)) typed)
-  line_procedures known counts (Line key.Proc (_ ∷ os)) behind typed = let clash : ⊥ = cc in absurd clash
-  line_procedures known counts (Line key.Op []) behind typed = let clash : ⊥ = cc in absurd clash
-  line_procedures known counts (Line key.Op (Name n ∷ os)) behind typed = sym (append-nil counts.procedures)
-  line_procedures known counts (Line key.Op (_ ∷ os)) behind typed = let clash : ⊥ = cc in absurd clash
-  line_procedures known counts (Line k operands) behind typed = sym (append-nil counts.procedures)
-  line_procedures known counts _ behind typed = sym (append-nil counts.procedures)
+  line_procedures : (known : NamesSoFar) (counts : Counts) (form : Form Text) (following : List (Form Text)) → is_typed form ≡ true → (counts_after counts (resolved_line own known form)).procedures ≡ counts.procedures ++ signatures_by (items_by form following)
+  line_procedures known counts (Line line_kind.Class []) following typed = let clash : ⊥ = cc in absurd clash
+  line_procedures known counts (Line line_kind.Class (Name n ∷ os)) following typed = sym (append-nil counts.procedures)
+  line_procedures known counts (Line line_kind.Class (_ ∷ os)) following typed = let clash : ⊥ = cc in absurd clash
+  line_procedures known counts (Line line_kind.Proc []) following typed = let clash : ⊥ = cc in absurd clash
+  line_procedures known counts (Line line_kind.Proc (Name n ∷ os)) following typed = ap (λ p. counts.procedures ++ p ∷ []) (line_parameters own known (Line line_kind.Proc (Name n ∷ os)) typed)
+  line_procedures known counts (Line line_kind.Proc (_ ∷ os)) following typed = let clash : ⊥ = cc in absurd clash
+  line_procedures known counts (Line line_kind.Op []) following typed = let clash : ⊥ = cc in absurd clash
+  line_procedures known counts (Line line_kind.Op (Name n ∷ os)) following typed = sym (append-nil counts.procedures)
+  line_procedures known counts (Line line_kind.Op (_ ∷ os)) following typed = let clash : ⊥ = cc in absurd clash
+  line_procedures known counts (Line k operands) following typed = sym (append-nil counts.procedures)
+  line_procedures known counts _ following typed = sym (append-nil counts.procedures)
 
-  procedures_from : (forms : List (Form Text)) (known : Known) (counts : Counts) → AreTyped forms → (state_after counts_after counts (lines_from own known forms)).procedures ≡ counts.procedures ++ signatures_by (items_of forms)
+  procedures_from : (forms : List (Form Text)) (known : NamesSoFar) (counts : Counts) → AreTyped forms → (state_after counts_after counts (lines_from own known forms)).procedures ≡ counts.procedures ++ signatures_by (items_of forms)
   procedures_from [] known counts typed = sym (append-nil counts.procedures)
   procedures_from (form ∷ forms) known counts typed =
       let (here, rest) = both (is_typed form) (list_all is_typed forms) typed in
@@ -193,20 +193,20 @@ module _ (own : List Item) where
       ∙ append_assoc counts.procedures (signatures_by items) (signatures_by (items_of forms))
       ∙ ap (λ l. counts.procedures ++ l) (sym (signatures-append items (items_of forms)))
 
-  line_operations : (known : Known) (counts : Counts) (form : Form Text) (behind : List (Form Text)) → is_typed form ≡ true → (counts_after counts (resolved_line own known form)).operations ≡ counts.operations + count_among item.Operation (items_by form behind)
-  line_operations known counts (Line key.Class []) behind typed = let clash : ⊥ = cc in absurd clash
-  line_operations known counts (Line key.Class (Name n ∷ os)) behind typed = sym (add-zero counts.operations)
-  line_operations known counts (Line key.Class (_ ∷ os)) behind typed = let clash : ⊥ = cc in absurd clash
-  line_operations known counts (Line key.Proc []) behind typed = let clash : ⊥ = cc in absurd clash
-  line_operations known counts (Line key.Proc (Name n ∷ os)) behind typed = sym (add-zero counts.operations)
-  line_operations known counts (Line key.Proc (_ ∷ os)) behind typed = let clash : ⊥ = cc in absurd clash
-  line_operations known counts (Line key.Op []) behind typed = let clash : ⊥ = cc in absurd clash
-  line_operations known counts (Line key.Op (Name n ∷ os)) behind typed = refl
-  line_operations known counts (Line key.Op (_ ∷ os)) behind typed = let clash : ⊥ = cc in absurd clash
-  line_operations known counts (Line k operands) behind typed = sym (add-zero counts.operations)
-  line_operations known counts _ behind typed = sym (add-zero counts.operations)
+  line_operations : (known : NamesSoFar) (counts : Counts) (form : Form Text) (following : List (Form Text)) → is_typed form ≡ true → (counts_after counts (resolved_line own known form)).operations ≡ counts.operations + count_among item.Operation (items_by form following)
+  line_operations known counts (Line line_kind.Class []) following typed = let clash : ⊥ = cc in absurd clash
+  line_operations known counts (Line line_kind.Class (Name n ∷ os)) following typed = sym (add-zero counts.operations)
+  line_operations known counts (Line line_kind.Class (_ ∷ os)) following typed = let clash : ⊥ = cc in absurd clash
+  line_operations known counts (Line line_kind.Proc []) following typed = let clash : ⊥ = cc in absurd clash
+  line_operations known counts (Line line_kind.Proc (Name n ∷ os)) following typed = sym (add-zero counts.operations)
+  line_operations known counts (Line line_kind.Proc (_ ∷ os)) following typed = let clash : ⊥ = cc in absurd clash
+  line_operations known counts (Line line_kind.Op []) following typed = let clash : ⊥ = cc in absurd clash
+  line_operations known counts (Line line_kind.Op (Name n ∷ os)) following typed = refl
+  line_operations known counts (Line line_kind.Op (_ ∷ os)) following typed = let clash : ⊥ = cc in absurd clash
+  line_operations known counts (Line k operands) following typed = sym (add-zero counts.operations)
+  line_operations known counts _ following typed = sym (add-zero counts.operations)
 
-  operations_from : (forms : List (Form Text)) (known : Known) (counts : Counts) → AreTyped forms → (state_after counts_after counts (lines_from own known forms)).operations ≡ counts.operations + count_among item.Operation (items_of forms)
+  operations_from : (forms : List (Form Text)) (known : NamesSoFar) (counts : Counts) → AreTyped forms → (state_after counts_after counts (lines_from own known forms)).operations ≡ counts.operations + count_among item.Operation (items_of forms)
   operations_from [] known counts typed = sym (add-zero counts.operations)
   operations_from (form ∷ forms) known counts typed =
       let (here, rest) = both (is_typed form) (list_all is_typed forms) typed in

@@ -9,7 +9,7 @@ use Rattle.wb_model.specs.declared.script_lines.Role.TheVariants as role
 use Rattle.wb_model.specs.declared.script.Script.{Script}
 use Rattle.wb_model.specs.Forms.{role_of_form, line_form, forms_of}
 use Rattle.wb_model.specs.Grammar.{IsGrammatical, IsFirstMisfit}
-use Rattle.wb_model.specs.Keys.{keys}
+use Rattle.wb_model.specs.LineKinds.{line_kinds}
 use Rattle.wb_model.specs.Lines.{lines_of, is_too_long, ends_line, pieces_from, onto_first, quoted_after}
 use Rattle.wb_model.specs.Names.{Text}
 use Rattle.wb_model.specs.Scripts.{IsGrammarLine, IsPlainText, IsTreeOf, IsScriptOf, IsFaultOf}
@@ -18,7 +18,7 @@ use Rattle.wb_lines.proofs.Foreign.{at_most}
 
 -- the text `end` is the line that ends a block
 end_role : role_of_form (line_form (codes "end")) ≡ role.End
-unfolding keys
+unfolding line_kinds
 end_role = refl
 
 roles-append : (lines more : List Text) → roles_of (forms_of (lines ++ more)) ≡ roles_of (forms_of lines) ++ roles_of (forms_of more)

@@ -4,14 +4,14 @@ use Rattle.std.specs.List.{list_any, flat_map}
 use Rattle.wb_model.specs.declared.limits.TheConstants.{LARGEST_BUFFER, MOST_CLASSES, MOST_FIELDS, MOST_EXTRA, MOST_LOCALS, MOST_PARAMETERS, MOST_PROCEDURES, DEEPEST_BLOCK}
 use Rattle.wb_model.specs.declared.script_lines.ItemKind.{ItemKind}
 use Rattle.wb_model.specs.declared.script_lines.ItemKind.TheVariants as item
-use Rattle.wb_model.specs.declared.script_lines.Key.{Key}
-use Rattle.wb_model.specs.declared.script_lines.Key.TheVariants as key
-use Rattle.wb_model.specs.declared.script_lines.Meant.{Meant}
-use Rattle.wb_model.specs.declared.script_lines.Meant.TheVariants as meant
+use Rattle.wb_model.specs.declared.script_lines.LineKind.{LineKind}
+use Rattle.wb_model.specs.declared.script_lines.LineKind.TheVariants as line_kind
+use Rattle.wb_model.specs.declared.script_lines.Referent.{Referent}
+use Rattle.wb_model.specs.declared.script_lines.Referent.TheVariants as referent
 use Rattle.wb_model.specs.declared.script_lines.Operand.{Operand}
 use Rattle.wb_model.specs.declared.script_lines.Operand.TheVariants.{Name, Size}
-use Rattle.wb_model.specs.declared.script_lines.Taken.{Taken}
-use Rattle.wb_model.specs.declared.script_lines.Taken.TheVariants as taken
+use Rattle.wb_model.specs.declared.script_lines.ParameterType.{ParameterType}
+use Rattle.wb_model.specs.declared.script_lines.ParameterType.TheVariants as parameter_type
 use Rattle.wb_model.specs.declared.script_lines.Form.TheVariants.{Line}
 use Rattle.wb_model.specs.declared.script_lines.Role.{Role}
 use Rattle.wb_model.specs.declared.script_lines.Role.TheVariants.{Class, Field, Construct, Destroy, Procedure, Declaration, Loop, If, Else}
@@ -21,14 +21,14 @@ use Rattle.wb_model.specs.declared.script.Parameter as kinds
 use Rattle.wb_model.specs.declared.script.Parameter.TheVariants as parameter
 use Rattle.wb_model.specs.declared.script.Local.{Local}
 use Rattle.wb_model.specs.declared.script.Local.TheVariants.{OfPointer, OfNumber, OfBuffer, OfView}
-use Rattle.wb_model.specs.declared.script.Numbered.{Numbered}
+use Rattle.wb_model.specs.declared.script.StatementAt.{StatementAt}
 use Rattle.wb_model.specs.declared.script.Statement.{Statement}
 use Rattle.wb_model.specs.declared.script.Statement.TheViews.{out-Statement}
 use Rattle.wb_model.specs.Forms.{role_of_form}
-use Rattle.wb_model.specs.Keys.{role_of}
+use Rattle.wb_model.specs.LineKinds.{role_of}
 use Rattle.wb_model.specs.Kinds.{ends_body, is_trap}
 use Rattle.wb_model.specs.Resolved.{class_in}
-use Rattle.wb_model.specs.Names.{with_one, item_begun, parameters_in, blocks_after}
+use Rattle.wb_model.specs.Names.{with_one, item_kind_in, parameters_in, blocks_after}
 use Rattle.wb_model.specs.Passes.{first_bad, state_after}
 use Rattle.wb_model.specs.Sound.{Declared, Scope, is_condition, is_number, is_variable, is_nested, are_within, local_of_parameter}
 use Rattle.wb_model.specs.Trees.{Indexed, Marked, lines_of_statement, line, number_operand, variable_operand, condition_line, statement_lines, else_line, end_line}
@@ -37,37 +37,37 @@ use Rattle.wb_nesting.specs.declared.open.Open.TheVariants.{Declarations, Statem
 use Rattle.wb_script.specs.declared.tree.blocks.Head.{Head}
 use Rattle.wb_script.specs.declared.tree.blocks.Head.TheVariants as head
 use Rattle.wb_script.specs.declared.tree.blocks.OpenBlock.{OpenBlock}
-use Rattle.wb_script.specs.declared.tree.blocks.Nest.{Nest}
-use Rattle.wb_script.specs.declared.tree.blocks.Around.{Around}
-use Rattle.wb_script.specs.declared.tree.blocks.Around.TheVariants as around
+use Rattle.wb_script.specs.declared.tree.blocks.BlockStack.{BlockStack}
+use Rattle.wb_script.specs.declared.tree.blocks.Enclosing.{Enclosing}
+use Rattle.wb_script.specs.declared.tree.blocks.Enclosing.TheVariants as around
 use Rattle.wb_script.specs.Fitting.{operands_fit}
 use Rattle.wb_nesting.specs.Machine.{step}
 
--- the local that a line of a key declares
-abbrev pub local_of : Key → List (Operand Meant) → Option Local
-local_of key.Ptr operands = Some (OfPointer None)
-local_of key.ClassPtr (name ∷ Name class ∷ []) = Some (OfPointer (class_in class))
-local_of key.Int operands = Some OfNumber
-local_of key.Buf (name ∷ Size max ∷ []) = Some (OfBuffer max)
-local_of key.View operands = Some OfView
+-- the local that a line of a line kind declares
+abbrev pub local_of : LineKind → List (Operand Referent) → Option Local
+local_of line_kind.Ptr operands = Some (OfPointer None)
+local_of line_kind.ClassPtr (name ∷ Name class ∷ []) = Some (OfPointer (class_in class))
+local_of line_kind.Int operands = Some OfNumber
+local_of line_kind.Buf (name ∷ Size max ∷ []) = Some (OfBuffer max)
+local_of line_kind.View operands = Some OfView
 local_of _ operands = None
 
 abbrev pub local_in : Indexed → Option Local
-local_in (Line key operands) = local_of key operands
+local_in (Line line_kind operands) = local_of line_kind operands
 local_in _ = None
 
 -- the parameter that takes this
-abbrev pub parameter_taking : Taken Meant → kinds.Parameter
-parameter_taking taken.Pointer = parameter.OfPointer None
-parameter_taking taken.Number = parameter.OfNumber
-parameter_taking (taken.OfClass class) = parameter.OfPointer (class_in class)
+abbrev pub parameter_taking : ParameterType Referent → kinds.Parameter
+parameter_taking parameter_type.Pointer = parameter.OfPointer None
+parameter_taking parameter_type.Number = parameter.OfNumber
+parameter_taking (parameter_type.OfClass class) = parameter.OfPointer (class_in class)
 
 -- the parameters that a line declares
 abbrev pub parameters_of : Indexed → List kinds.Parameter
 parameters_of line = map parameter_taking (parameters_in line)
 
 -- The classes so far, each by how many fields it has so far, the procedures, each by its parameters, and how many operations; the
--- class of `self` in the body that stands open or was the last, its locals, its parameters first; and the keys of the blocks that
+-- class of `self` in the body that stands open or was the last, its locals, its parameters first; and the line kinds of the blocks that
 -- stand open in it, the innermost last.
 pub record Counts : Type 0 where
   pub classes : List ℕ
@@ -75,7 +75,7 @@ pub record Counts : Type 0 where
   pub operations : ℕ
   pub this : Option ℕ
   pub locals : List Local
-  pub blocks : List Key
+  pub blocks : List LineKind
 
 abbrev pub nothing_counted : Counts
 nothing_counted = record { classes = []; procedures = []; operations = 0; this = None; locals = []; blocks = [] }
@@ -126,8 +126,8 @@ locals_after _ line locals = locals
 abbrev pub counts_with : Role → Indexed → Counts → Counts
 counts_with role line counts = record {
   classes = classes_after role counts.classes;
-  procedures = procedures_after (item_begun line) line counts.procedures;
-  operations = operations_after (item_begun line) counts.operations;
+  procedures = procedures_after (item_kind_in line) line counts.procedures;
+  operations = operations_after (item_kind_in line) counts.operations;
   this = this_after role counts.classes counts.this;
   locals = locals_after role line counts.locals;
   blocks = blocks_after role line counts.blocks;
@@ -137,12 +137,12 @@ abbrev pub counts_after : Counts → Indexed → Counts
 counts_after counts line = counts_with (role_of_form line) line counts
 
 -- the first operand declares what has this index
-abbrev pub declares : ℕ → List (Operand Meant) → Bool
-declares index (Name (meant.Declared name) ∷ operands) = nat_eq name index
+abbrev pub declares : ℕ → List (Operand Referent) → Bool
+declares index (Name (referent.Declared name) ∷ operands) = nat_eq name index
 declares index _ = false
 
 -- a size within a greatest one, where a size is told
-abbrev pub is_small : ℕ → List (Operand Meant) → Bool
+abbrev pub is_small : ℕ → List (Operand Referent) → Bool
 is_small greatest (name ∷ Size size ∷ []) = nat_le size greatest
 is_small greatest _ = true
 
@@ -158,25 +158,25 @@ takes_its (Some item.Operation) _ = false
 takes_its _ parameters = true
 
 -- a declaration is the next of its kind, and neither it nor a block is one more than there may be
-abbrev pub is_due : Role → Counts → Indexed → List (Operand Meant) → Bool
+abbrev pub is_due : Role → Counts → Indexed → List (Operand Referent) → Bool
 is_due Class counts line operands = declares (length counts.classes) operands && (nat_lt (length counts.classes) MOST_CLASSES && is_small MOST_EXTRA operands)
 is_due Field counts line operands = declares (last_count counts.classes) operands && nat_lt (last_count counts.classes) MOST_FIELDS
 is_due Procedure counts line operands =
-    declares (next_index (item_begun line) counts) operands
-    && (nat_lt (length counts.procedures + counts.operations) MOST_PROCEDURES && (nat_le (length (parameters_of line)) MOST_PARAMETERS && takes_its (item_begun line) (parameters_of line)))
+    declares (next_index (item_kind_in line) counts) operands
+    && (nat_lt (length counts.procedures + counts.operations) MOST_PROCEDURES && (nat_le (length (parameters_of line)) MOST_PARAMETERS && takes_its (item_kind_in line) (parameters_of line)))
 is_due Declaration counts line operands = declares (length counts.locals) operands && (nat_lt (length counts.locals) MOST_LOCALS && is_small LARGEST_BUFFER operands)
 is_due Loop counts line operands = nat_lt (length counts.blocks) DEEPEST_BLOCK
 is_due If counts line operands = nat_lt (length counts.blocks) DEEPEST_BLOCK
 is_due _ counts line operands = true
 
 -- no `return` stands in a TRAP
-abbrev pub may_stand : List Key → Key → Bool
+abbrev pub may_stand : List LineKind → LineKind → Bool
 may_stand blocks k = not (ends_body k && list_any is_trap blocks)
 
--- a line has the operands of its key and keeps the limits, behind lines with these counts
+-- a line has the operands of its line kind and keeps the limits, behind lines with these counts
 abbrev pub fits : Declared → Counts → Indexed → Bool
-fits declared counts (Line key operands) =
-    operands_fit declared (scope_at declared counts) key operands && (is_due (role_of key) counts (Line key operands) operands && may_stand counts.blocks key)
+fits declared counts (Line line_kind operands) =
+    operands_fit declared (scope_at declared counts) line_kind operands && (is_due (role_of line_kind) counts (Line line_kind operands) operands && may_stand counts.blocks line_kind)
 fits declared counts _ = true
 
 abbrev pub unfit : Declared → Counts → Indexed → Bool
@@ -189,25 +189,25 @@ AllFit declared lines = first_bad counts_after (unfit declared) nothing_counted 
 abbrev pub counts_of : List Indexed → Counts
 counts_of lines = state_after counts_after nothing_counted lines
 
--- the key of a block
-abbrev pub condition_key : Condition → Key
-condition_key (IsNull p) = key.IfNull
-condition_key (NotNull p) = key.IfSome
-condition_key (Equal v w) = key.IfEqual
-condition_key (Less v w) = key.IfLess
+-- the line kind of a block
+abbrev pub condition_line_kind : Condition → LineKind
+condition_line_kind (IsNull p) = line_kind.IfNull
+condition_line_kind (NotNull p) = line_kind.IfSome
+condition_line_kind (Equal v w) = line_kind.IfEqual
+condition_line_kind (Less v w) = line_kind.IfLess
 
-abbrev pub head_key : Head → Key
-head_key (head.If c) = condition_key c
-head_key (head.Else c first) = condition_key c
-head_key (head.Repeat v) = key.Repeat
-head_key (head.Trap x) = key.Trap
+abbrev pub head_line_kind : Head → LineKind
+head_line_kind (head.If c) = condition_line_kind c
+head_line_kind (head.Else c first) = condition_line_kind c
+head_line_kind (head.Repeat v) = line_kind.Repeat
+head_line_kind (head.Trap x) = line_kind.Trap
 
 -- the line that a block begins with
 abbrev pub head_form : Head → Indexed
 head_form (head.If c) = condition_line c
 head_form (head.Else c first) = condition_line c
-head_form (head.Repeat v) = line key.Repeat (number_operand v ∷ [])
-head_form (head.Trap x) = line key.Trap (variable_operand x ∷ [])
+head_form (head.Repeat v) = line line_kind.Repeat (number_operand v ∷ [])
+head_form (head.Trap x) = line line_kind.Trap (variable_operand x ∷ [])
 
 -- what stands before the `else` of a block, and that line
 abbrev pub first_part : Head → List Marked
@@ -221,33 +221,33 @@ head_lines number head = (Some number, head_form head) ∷ first_part head
 abbrev pub block_lines : OpenBlock → List Marked
 block_lines b = statement_lines b.before ++ head_lines b.line b.head
 
-abbrev pub nest_lines : Nest → List Marked
-nest_lines nest = flat_map block_lines nest.blocks ++ statement_lines nest.statements
+abbrev pub block_stack_lines : BlockStack → List Marked
+block_stack_lines block_stack = flat_map block_lines block_stack.blocks ++ statement_lines block_stack.statements
 
-abbrev pub keys_of_blocks : List OpenBlock → List Key
-keys_of_blocks blocks = map (λ b. head_key b.head) blocks
+abbrev pub line_kinds_of_blocks : List OpenBlock → List LineKind
+line_kinds_of_blocks blocks = map (λ b. head_line_kind b.head) blocks
 
 -- the place in a block
 abbrev pub place_in_block : OpenBlock → Open
-place_in_block b = place_behind b.head
+place_in_block b = place_after b.head
   where
-    place_behind : Head → Open
-    place_behind (head.If c) = Branch
-    place_behind _ = Block
+    place_after : Head → Open
+    place_after (head.If c) = Branch
+    place_after _ = Block
 
 -- the place in a body that begins with these statements, or with a block
-abbrev pub place_in_body : List OpenBlock → List Numbered → Open
+abbrev pub place_in_body : List OpenBlock → List StatementAt → Open
 place_in_body [] [] = Declarations
 place_in_body _ _ = Statements
 
 -- the places, the innermost first
-abbrev pub nest_places : Nest → List Open
-nest_places nest = fold (λ below b. place_in_block b ∷ below) (place_in_body nest.blocks nest.statements ∷ []) nest.blocks
+abbrev pub block_stack_places : BlockStack → List Open
+block_stack_places block_stack = fold (λ below b. place_in_block b ∷ below) (place_in_body block_stack.blocks block_stack.statements ∷ []) block_stack.blocks
 
 -- in a TRAP, where these blocks stand in one or not
 abbrev pub in_trap : Bool → List OpenBlock → Bool
 in_trap trapped [] = trapped
-in_trap trapped (b ∷ blocks) = in_trap (trapped || is_trap (head_key b.head)) blocks
+in_trap trapped (b ∷ blocks) = in_trap (trapped || is_trap (head_line_kind b.head)) blocks
 
 -- what a block begins with is sound, with fewer blocks inside one another than this
 abbrev pub is_head : Declared → Scope → ℕ → Bool → Head → Bool
@@ -257,50 +257,50 @@ is_head declared scope depth trapped (head.Repeat v) = is_number scope.locals v
 is_head declared scope depth trapped (head.Trap x) = is_variable scope.locals x
 
 -- statements and the blocks around them are sound, with fewer blocks inside one another than this
-abbrev pub AreOpen : Declared → Scope → ℕ → Bool → List OpenBlock → List Numbered → Type 0
+abbrev pub AreOpen : Declared → Scope → ℕ → Bool → List OpenBlock → List StatementAt → Type 0
 AreOpen declared scope depth trapped [] statements = IsTrue (are_within declared scope depth trapped statements)
 AreOpen declared scope zero trapped (b ∷ blocks) statements = ⊥
 AreOpen declared scope (suc depth) trapped (b ∷ blocks) statements =
     IsTrue (are_within declared scope (suc depth) trapped b.before) × IsTrue (is_head declared scope depth trapped b.head)
-    × AreOpen declared scope depth (trapped || is_trap (head_key b.head)) blocks statements
+    × AreOpen declared scope depth (trapped || is_trap (head_line_kind b.head)) blocks statements
 
 abbrev pub begins : Role → Bool
 begins Loop = true
 begins If = true
 begins _ = false
 
-abbrev pub begins_block : Key → Bool
+abbrev pub begins_block : LineKind → Bool
 begins_block k = begins (role_of k)
 
 -- the statement of a block: it has the block's lines, and is sound where the block is
-pub record IsWhole (head : Head) (statements : List Numbered) (statement : Statement) : Type 0 where
+pub record IsWhole (head : Head) (statements : List StatementAt) (statement : Statement) : Type 0 where
   pub lines : (number : ℕ) → lines_of_statement statement number ≡ head_lines number head ++ (statement_lines statements ++ end_line ∷ [])
-  pub sound : (declared : Declared) (scope : Scope) (depth : ℕ) (trapped : Bool) → IsTrue (is_head declared scope depth trapped head) → IsTrue (are_within declared scope depth (trapped || is_trap (head_key head)) statements) →
+  pub sound : (declared : Declared) (scope : Scope) (depth : ℕ) (trapped : Bool) → IsTrue (is_head declared scope depth trapped head) → IsTrue (are_within declared scope depth (trapped || is_trap (head_line_kind head)) statements) →
       IsTrue (is_nested declared scope trapped (are_within declared scope depth) (out-Statement statement))
 
 -- the innermost block is a statement of what is around it
-pub record ClosesBlock (nest next : Nest) : Type 0 where
+pub record ClosesBlock (block_stack next : BlockStack) : Type 0 where
   pub block : OpenBlock
   pub statement : Statement
-  pub blocks : nest.blocks ≡ next.blocks ++ block ∷ []
+  pub blocks : block_stack.blocks ≡ next.blocks ++ block ∷ []
   pub statements : next.statements ≡ block.before ++ (record { line = block.line; statement = statement }) ∷ []
-  pub whole : IsWhole block.head nest.statements statement
+  pub whole : IsWhole block.head block_stack.statements statement
 
 -- what an `end` leaves
-abbrev pub IsClosed : Nest → Around → Type 0
-IsClosed nest (around.Block next) = ClosesBlock nest next
-IsClosed nest (around.Body statements) = (nest.blocks ≡ []) × (statements ≡ nest.statements)
+abbrev pub IsClosed : BlockStack → Enclosing → Type 0
+IsClosed block_stack (around.Block next) = ClosesBlock block_stack next
+IsClosed block_stack (around.Body statements) = (block_stack.blocks ≡ []) × (statements ≡ block_stack.statements)
 
 -- the innermost block is an `if` whose first part these statements are
-pub record BecomesElse (nest next : Nest) : Type 0 where
+pub record BecomesElse (block_stack next : BlockStack) : Type 0 where
   pub below : List OpenBlock
-  pub before : List Numbered
+  pub before : List StatementAt
   pub line : ℕ
   pub condition : Condition
-  pub blocks : nest.blocks ≡ below ++ (record { before = before; line = line; head = head.If condition }) ∷ []
-  pub next_blocks : next.blocks ≡ below ++ (record { before = before; line = line; head = head.Else condition nest.statements }) ∷ []
+  pub blocks : block_stack.blocks ≡ below ++ (record { before = before; line = line; head = head.If condition }) ∷ []
+  pub next_blocks : next.blocks ≡ below ++ (record { before = before; line = line; head = head.Else condition block_stack.statements }) ∷ []
   pub statements : next.statements ≡ []
 
 -- what an `else` leaves; none where no `if` without one is the innermost block
-abbrev pub TurnsToElse : Nest → Option Nest → Type 0
-TurnsToElse nest next = MatchOption next (step (nest_places nest) Else ≡ None) (BecomesElse nest)
+abbrev pub TurnsToElse : BlockStack → Option BlockStack → Type 0
+TurnsToElse block_stack next = MatchOption next (step (block_stack_places block_stack) Else ≡ None) (BecomesElse block_stack)

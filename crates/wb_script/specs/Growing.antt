@@ -2,22 +2,22 @@
 use Rattle.std.specs.Prelude.{◌≡◌, ℕ, suc, ◌+◌, List, [], ◌∷◌, ◌++◌, Bool, true, false, ◌&&◌, ◌<◌, ◌≤◌, nat_eq, nat_lt, nat_le, Option, Some, None, IsTrue, MatchOption, length, map}
 use Rattle.std.specs.List.{list_all, flat_map}
 use Rattle.wb_model.specs.declared.limits.TheConstants.{MOST_CLASSES, MOST_LOCALS, MOST_PARAMETERS, MOST_PROCEDURES, DEEPEST_BLOCK}
-use Rattle.wb_model.specs.declared.script_lines.Key.{Key}
-use Rattle.wb_model.specs.declared.script_lines.Key.TheVariants as key
-use Rattle.wb_model.specs.declared.script_lines.Meant.{Meant}
-use Rattle.wb_model.specs.declared.script_lines.Meant.TheVariants as meant
+use Rattle.wb_model.specs.declared.script_lines.LineKind.{LineKind}
+use Rattle.wb_model.specs.declared.script_lines.LineKind.TheVariants as line_kind
+use Rattle.wb_model.specs.declared.script_lines.Referent.{Referent}
+use Rattle.wb_model.specs.declared.script_lines.Referent.TheVariants as referent
 use Rattle.wb_model.specs.declared.script_lines.Operand.{Operand}
 use Rattle.wb_model.specs.declared.script_lines.Operand.TheVariants.{Name, Parameter}
-use Rattle.wb_model.specs.declared.script_lines.Taken.TheVariants as taken
+use Rattle.wb_model.specs.declared.script_lines.ParameterType.TheVariants as parameter_type
 use Rattle.wb_model.specs.declared.script_lines.Form.TheVariants.{Line}
 use Rattle.wb_model.specs.declared.script_lines.Role.TheVariants.{Declaration}
 use Rattle.wb_model.specs.declared.script.Body.{Body}
 use Rattle.wb_model.specs.declared.script.Class.{Class}
 use Rattle.wb_model.specs.declared.script.Parameter as kinds
 use Rattle.wb_model.specs.declared.script.Local.{Local}
-use Rattle.wb_model.specs.declared.script.Numbered.{Numbered}
+use Rattle.wb_model.specs.declared.script.StatementAt.{StatementAt}
 use Rattle.wb_model.specs.Forms.{role_of_form}
-use Rattle.wb_model.specs.Names.{taken_by}
+use Rattle.wb_model.specs.Names.{parameter_type_of}
 use Rattle.wb_model.specs.Sound.{Declared, Scope, is_local, is_parameter, is_body, is_class_of, are_classes, is_procedure, is_operation, its_parameters, local_of_parameter, locals_of, scope_of, fields_declared, signatures_of}
 use Rattle.wb_model.specs.Trees.{Indexed, Marked, Lines, mark, counted, line, head_line, local_line, local_lines, field_lines, own_body_lines, class_head, end_line, body_lines, parameter_operand, each_from, lines_of_class, lines_of_procedure, lines_of_operation, in_order, all_lines}
 use Rattle.wb_nesting.specs.declared.open.Open.{Open}
@@ -32,10 +32,10 @@ use Rattle.wb_script.specs.declared.tree.whole.Building.{Building}
 use Rattle.wb_script.specs.declared.tree.classes.ClassLine.{ClassLine}
 use Rattle.wb_script.specs.declared.tree.classes.ClassLine.TheVariants as says
 use Rattle.wb_script.specs.declared.tree.bodies.OpenBody.{OpenBody}
-use Rattle.wb_script.specs.declared.tree.bodies.Left.{Left}
-use Rattle.wb_script.specs.declared.tree.bodies.Left.TheVariants.{Inside, Done}
-use Rattle.wb_script.specs.Building.{Counts, AreOpen, counts_after, fits, keys_of_blocks, local_of, nest_lines, nest_places, parameter_taking}
-use Rattle.wb_script.specs.Lent.{declared_by}
+use Rattle.wb_script.specs.declared.tree.bodies.BodyProgress.{BodyProgress}
+use Rattle.wb_script.specs.declared.tree.bodies.BodyProgress.TheVariants.{Inside, Done}
+use Rattle.wb_script.specs.Building.{Counts, AreOpen, counts_after, fits, line_kinds_of_blocks, local_of, block_stack_lines, block_stack_places, parameter_taking}
+use Rattle.wb_script.specs.BytesOf.{declared_by}
 use Rattle.wb_nesting.specs.Machine.{step, after_line}
 
 -- what the statements of a script may name, whichever body they stand in
@@ -49,74 +49,74 @@ scope_in_body declared p = record { locals = p.scope; this = p.this; fields = de
 
 -- the lines of an open body behind its first
 abbrev pub inside_lines : OpenBody → List Marked
-inside_lines p = local_lines (length p.parameters) p.locals ++ nest_lines p.nest
+inside_lines p = local_lines (length p.parameters) p.locals ++ block_stack_lines p.block_stack
 
 -- with one more statement in the innermost block, or in the body where no block is open
-abbrev pub with_statement : OpenBody → Numbered → OpenBody
-with_statement p s = record p { nest = record p.nest { statements = p.nest.statements ++ s ∷ [] } }
+abbrev pub with_statement : OpenBody → StatementAt → OpenBody
+with_statement p s = record p { block_stack = record p.block_stack { statements = p.block_stack.statements ++ s ∷ [] } }
 
 -- the counts in an open body, by those of what is whole and around it
 abbrev pub counts_in : Counts → OpenBody → Counts
-counts_in before p = record before { this = p.this; locals = p.scope; blocks = keys_of_blocks p.nest.blocks }
+counts_in before p = record before { this = p.this; locals = p.scope; blocks = line_kinds_of_blocks p.block_stack.blocks }
 
 -- what an open body keeps
 pub record IsSoundOpen (declared : Declared) (p : OpenBody) : Type 0 where
   pub scope : p.scope ≡ locals_of p.parameters p.locals
   pub locals : IsTrue (list_all (is_local (length declared.fields)) p.scope)
   pub most : length p.scope ≤ MOST_LOCALS
-  pub nest : AreOpen declared (scope_in_body declared p) (suc DEEPEST_BLOCK) false p.nest.blocks p.nest.statements
+  pub block_stack : AreOpen declared (scope_in_body declared p) (suc DEEPEST_BLOCK) false p.block_stack.blocks p.block_stack.statements
 
 -- a body takes one more local by this line: before its first statement, by its index, and below the limit
-pub record TakesLocal (declared : Declared) (p : OpenBody) (key : Key) (operands : List (Operand Meant)) (local : Local) : Type 0 where
-  pub outside : p.nest.blocks ≡ []
-  pub first : p.nest.statements ≡ []
-  pub line : local_line (length p.scope) local ≡ Line key operands
-  pub declared_as : local_of key operands ≡ Some local
+pub record TakesLocal (declared : Declared) (p : OpenBody) (line_kind : LineKind) (operands : List (Operand Referent)) (local : Local) : Type 0 where
+  pub outside : p.block_stack.blocks ≡ []
+  pub first : p.block_stack.statements ≡ []
+  pub line : local_line (length p.scope) local ≡ Line line_kind operands
+  pub declared_as : local_of line_kind operands ≡ Some local
   pub sound : IsTrue (is_local (length declared.fields) local)
   pub room : length p.scope < MOST_LOCALS
 
 -- the next local, or none, where a line that fits has no place
-abbrev pub TakesWhereFit : Declared → OpenBody → Key → List (Operand Meant) → Option Local → Type 0
-TakesWhereFit declared p key operands result =
+abbrev pub TakesWhereFit : Declared → OpenBody → LineKind → List (Operand Referent) → Option Local → Type 0
+TakesWhereFit declared p line_kind operands result =
     MatchOption result
-    ((before : Counts) → IsTrue (fits declared (counts_in before p) (Line key operands)) → step (nest_places p.nest) Declaration ≡ None)
-    (TakesLocal declared p key operands)
+    ((before : Counts) → IsTrue (fits declared (counts_in before p) (Line line_kind operands)) → step (block_stack_places p.block_stack) Declaration ≡ None)
+    (TakesLocal declared p line_kind operands)
 
 -- what a line of an open body leaves: the body, open or whole
-abbrev pub left_lines : Left → List Marked
-left_lines (Inside p) = inside_lines p
-left_lines (Done parameters body) = body_lines (length parameters) body ++ end_line ∷ []
+abbrev pub progress_lines : BodyProgress → List Marked
+progress_lines (Inside p) = inside_lines p
+progress_lines (Done parameters body) = body_lines (length parameters) body ++ end_line ∷ []
 
-abbrev pub left_places : Left → List Open
-left_places (Inside p) = nest_places p.nest
-left_places (Done parameters body) = []
+abbrev pub progress_places : BodyProgress → List Open
+progress_places (Inside p) = block_stack_places p.block_stack
+progress_places (Done parameters body) = []
 
-abbrev pub left_counts : Counts → OpenBody → Left → Counts
-left_counts before p (Inside next) = counts_in before next
-left_counts before p (Done parameters body) = record before { this = p.this; locals = locals_of parameters body.locals; blocks = [] }
+abbrev pub progress_counts : Counts → OpenBody → BodyProgress → Counts
+progress_counts before p (Inside next) = counts_in before next
+progress_counts before p (Done parameters body) = record before { this = p.this; locals = locals_of parameters body.locals; blocks = [] }
 
 -- a body of the same parameters, in the same class
-abbrev pub IsOfSame : OpenBody → Left → Type 0
+abbrev pub IsOfSame : OpenBody → BodyProgress → Type 0
 IsOfSame p (Inside next) = (next.parameters ≡ p.parameters) × (next.this ≡ p.this)
 IsOfSame p (Done parameters body) = parameters ≡ p.parameters
 
-abbrev pub IsSoundLeft : Declared → OpenBody → Left → Type 0
+abbrev pub IsSoundLeft : Declared → OpenBody → BodyProgress → Type 0
 IsSoundLeft declared p (Inside next) = IsSoundOpen declared next
 IsSoundLeft declared p (Done parameters body) = IsTrue (is_body declared (scope_of declared p.this parameters body) body.statements)
 
 -- an open body with one more line
-pub record Adds (declared : Declared) (number : ℕ) (line : Indexed) (p : OpenBody) (left : Left) : Type 0 where
-  pub lines : left_lines left ≡ inside_lines p ++ mark number line ∷ []
+pub record Adds (declared : Declared) (number : ℕ) (line : Indexed) (p : OpenBody) (left : BodyProgress) : Type 0 where
+  pub lines : progress_lines left ≡ inside_lines p ++ mark number line ∷ []
   pub same : IsOfSame p left
   pub sound : IsSoundLeft declared p left
-  pub counts : (before : Counts) → left_counts before p left ≡ counts_after (counts_in before p) line
-  pub places : step (nest_places p.nest) (role_of_form line) ≡ Some (left_places left)
+  pub counts : (before : Counts) → progress_counts before p left ≡ counts_after (counts_in before p) line
+  pub places : step (block_stack_places p.block_stack) (role_of_form line) ≡ Some (progress_places left)
 
 -- the same, or nothing, where a line that fits has no place
-abbrev pub AddsWhereFit : Declared → ℕ → Indexed → OpenBody → Option Left → Type 0
+abbrev pub AddsWhereFit : Declared → ℕ → Indexed → OpenBody → Option BodyProgress → Type 0
 AddsWhereFit declared number line p next =
     MatchOption next
-    ((before : Counts) → IsTrue (fits declared (counts_in before p) line) → step (nest_places p.nest) (role_of_form line) ≡ None)
+    ((before : Counts) → IsTrue (fits declared (counts_in before p) line) → step (block_stack_places p.block_stack) (role_of_form line) ≡ None)
     (Adds declared number line p)
 
 -- what is left where something was added, or nothing
@@ -127,51 +127,51 @@ if_added false x = None
 -- the body behind its first line
 abbrev pub new_body : Option ℕ → List kinds.Parameter → OpenBody
 new_body this parameters =
-    record { parameters = parameters; this = this; locals = []; scope = map local_of_parameter parameters; nest = record { blocks = []; statements = [] } }
+    record { parameters = parameters; this = this; locals = []; scope = map local_of_parameter parameters; block_stack = record { blocks = []; statements = [] } }
 
 -- The first lines of items.
 
 -- a parameter as trees have them
-abbrev pub is_parameter_operand : ℕ → Operand Meant → Bool
-is_parameter_operand classes (Parameter meant.Parameter taken.Pointer) = true
-is_parameter_operand classes (Parameter meant.Parameter taken.Number) = true
-is_parameter_operand classes (Parameter meant.Parameter (taken.OfClass (meant.Class class))) = nat_lt class classes
+abbrev pub is_parameter_operand : ℕ → Operand Referent → Bool
+is_parameter_operand classes (Parameter referent.Parameter parameter_type.Pointer) = true
+is_parameter_operand classes (Parameter referent.Parameter parameter_type.Number) = true
+is_parameter_operand classes (Parameter referent.Parameter (parameter_type.OfClass (referent.Class class))) = nat_lt class classes
 is_parameter_operand classes _ = false
 
-abbrev pub are_parameters : ℕ → List (Operand Meant) → Bool
+abbrev pub are_parameters : ℕ → List (Operand Referent) → Bool
 are_parameters classes operands = list_all (is_parameter_operand classes) operands
 
-abbrev pub parameters_taken : List (Operand Meant) → List kinds.Parameter
-parameters_taken operands = map parameter_taking (flat_map taken_by operands)
+abbrev pub parameters_of_operands : List (Operand Referent) → List kinds.Parameter
+parameters_of_operands operands = map parameter_taking (flat_map parameter_type_of operands)
 
 -- the parameter that an operand declares
-abbrev pub IsTaken : ℕ → Operand Meant → Option kinds.Parameter → Type 0
+abbrev pub IsTaken : ℕ → Operand Referent → Option kinds.Parameter → Type 0
 IsTaken classes operand result =
     MatchOption result
     (is_parameter_operand classes operand ≡ false)
-    (λ one. (is_parameter_operand classes operand ≡ true) × (parameters_taken (operand ∷ []) ≡ one ∷ []))
+    (λ one. (is_parameter_operand classes operand ≡ true) × (parameters_of_operands (operand ∷ []) ≡ one ∷ []))
 
 -- the parameters that operands declare
-abbrev pub AreTaken : ℕ → List (Operand Meant) → Option (List kinds.Parameter) → Type 0
+abbrev pub AreTaken : ℕ → List (Operand Referent) → Option (List kinds.Parameter) → Type 0
 AreTaken classes operands result =
     MatchOption result
     (are_parameters classes operands ≡ false)
-    (λ found. (are_parameters classes operands ≡ true) × (found ≡ parameters_taken operands))
+    (λ found. (are_parameters classes operands ≡ true) × (found ≡ parameters_of_operands operands))
 
 -- operands that declare the procedure with an index
-abbrev pub is_procedure_head : ℕ → ℕ → List (Operand Meant) → Bool
-is_procedure_head classes index (Name (meant.Declared name) ∷ operands) = nat_eq name index && (nat_le (length operands) MOST_PARAMETERS && are_parameters classes operands)
+abbrev pub is_procedure_head : ℕ → ℕ → List (Operand Referent) → Bool
+is_procedure_head classes index (Name (referent.Declared name) ∷ operands) = nat_eq name index && (nat_le (length operands) MOST_PARAMETERS && are_parameters classes operands)
 is_procedure_head classes index _ = false
 
-abbrev pub AreParametersOf : ℕ → ℕ → List (Operand Meant) → Option (List kinds.Parameter) → Type 0
+abbrev pub AreParametersOf : ℕ → ℕ → List (Operand Referent) → Option (List kinds.Parameter) → Type 0
 AreParametersOf classes index operands result =
     MatchOption result
     (is_procedure_head classes index operands ≡ false)
-    (λ found. (is_procedure_head classes index operands ≡ true) × (found ≡ parameters_taken operands))
+    (λ found. (is_procedure_head classes index operands ≡ true) × (found ≡ parameters_of_operands operands))
 
 -- the operation
-abbrev pub is_operation_head : ℕ → List (Operand Meant) → Bool
-is_operation_head index (Name (meant.Declared name) ∷ Parameter meant.Parameter taken.Pointer ∷ []) = nat_eq name index
+abbrev pub is_operation_head : ℕ → List (Operand Referent) → Bool
+is_operation_head index (Name (referent.Declared name) ∷ Parameter referent.Parameter parameter_type.Pointer ∷ []) = nat_eq name index
 is_operation_head index _ = false
 
 -- What is whole.
@@ -195,11 +195,11 @@ abbrev pub in_body : WholeItems → Owner → OpenBody → Building
 in_body b owner p = record { whole = b; stage = InBody owner p }
 
 -- a body is whole
-abbrev pub finished : WholeItems → Owner → List kinds.Parameter → Body → Building
-finished b (of.Procedure line) parameters body = outside (with_procedure b line parameters body)
-finished b (of.Operation line) parameters body = outside (with_operation b line body)
-finished b (of.Constructor c) parameters body = in_class b (record c { construct = Some body })
-finished b (of.Destructor c) parameters body = in_class b (record c { destroy = Some body })
+abbrev pub with_whole_body : WholeItems → Owner → List kinds.Parameter → Body → Building
+with_whole_body b (of.Procedure line) parameters body = outside (with_procedure b line parameters body)
+with_whole_body b (of.Operation line) parameters body = outside (with_operation b line body)
+with_whole_body b (of.Constructor c) parameters body = in_class b (record c { construct = Some body })
+with_whole_body b (of.Destructor c) parameters body = in_class b (record c { destroy = Some body })
 
 -- whole items in the order of their lines
 abbrev pub items_in_order : WholeItems → List Lines
@@ -207,14 +207,14 @@ items_in_order b = in_order (each_from lines_of_class 0 b.classes) (in_order (ea
 
 -- a class without its end
 abbrev pub open_class_lines : ℕ → Class → List Marked
-open_class_lines index c = class_head index c ∷ (field_lines 0 c.fields ++ (own_body_lines key.Constructor c.construct ++ own_body_lines key.Destructor c.destroy))
+open_class_lines index c = class_head index c ∷ (field_lines 0 c.fields ++ (own_body_lines line_kind.Constructor c.construct ++ own_body_lines line_kind.Destructor c.destroy))
 
 -- what stands before an open body, its first line among them
 abbrev pub owner_lines : WholeItems → Owner → List kinds.Parameter → List Marked
 owner_lines b (of.Procedure number) parameters = (Some number, head_line (length b.procedures) parameters) ∷ []
-owner_lines b (of.Operation number) parameters = (Some number, line key.Op (Some (Name (meant.Declared (length b.operations))) ∷ map parameter_operand its_parameters)) ∷ []
-owner_lines b (of.Constructor c) parameters = open_class_lines (length b.classes) c ++ (None, Line key.Constructor []) ∷ []
-owner_lines b (of.Destructor c) parameters = open_class_lines (length b.classes) c ++ (None, Line key.Destructor []) ∷ []
+owner_lines b (of.Operation number) parameters = (Some number, line line_kind.Op (Some (Name (referent.Declared (length b.operations))) ∷ map parameter_operand its_parameters)) ∷ []
+owner_lines b (of.Constructor c) parameters = open_class_lines (length b.classes) c ++ (None, Line line_kind.Constructor []) ∷ []
+owner_lines b (of.Destructor c) parameters = open_class_lines (length b.classes) c ++ (None, Line line_kind.Destructor []) ∷ []
 
 -- The tree so far.
 abbrev pub stage_lines : WholeItems → Stage → List Marked
@@ -226,13 +226,13 @@ abbrev pub building_lines : Building → List Marked
 building_lines b = all_lines (items_in_order b.whole) ++ stage_lines b.whole b.stage
 
 -- the place behind these bodies of a class
-abbrev pub place_behind : Option Body → Option Body → Open
-place_behind construct (Some destroy) = Destroyed
-place_behind (Some construct) None = Made
-place_behind None None = Fields
+abbrev pub place_after : Option Body → Option Body → Open
+place_after construct (Some destroy) = Destroyed
+place_after (Some construct) None = Made
+place_after None None = Fields
 
 abbrev pub class_place : Class → Open
-class_place c = place_behind c.construct c.destroy
+class_place c = place_after c.construct c.destroy
 
 abbrev pub owner_places : Owner → List Open
 owner_places (of.Procedure number) = []
@@ -243,7 +243,7 @@ owner_places (of.Destructor c) = Destroyed ∷ []
 abbrev pub stage_places : Stage → List Open
 stage_places Outside = []
 stage_places (InClass c) = class_place c ∷ []
-stage_places (InBody owner p) = nest_places p.nest ++ owner_places owner
+stage_places (InBody owner p) = block_stack_places p.block_stack ++ owner_places owner
 
 abbrev pub building_places : Building → List Open
 building_places b = stage_places b.stage
@@ -351,15 +351,15 @@ OpensWhereFit declared number line b next =
     (λ stage. Grows declared number line (outside b) (record { whole = b; stage = stage }))
 
 -- the tree behind what a line of an open class says
-abbrev pub behind : WholeItems → Class → ClassLine → Building
-behind b c (says.Field field) = in_class b (record c { fields = c.fields ++ field ∷ [] })
-behind b c (says.Constructor p) = in_body b (of.Constructor c) p
-behind b c (says.Destructor p) = in_body b (of.Destructor c) p
-behind b c says.End = outside (with_class b c)
+abbrev pub building_after : WholeItems → Class → ClassLine → Building
+building_after b c (says.Field field) = in_class b (record c { fields = c.fields ++ field ∷ [] })
+building_after b c (says.Constructor p) = in_body b (of.Constructor c) p
+building_after b c (says.Destructor p) = in_body b (of.Destructor c) p
+building_after b c says.End = outside (with_class b c)
 
 -- what a line says to an open class, or nothing, where a line that fits has no place
 abbrev pub SaysWhereFit : Declared → ℕ → Indexed → WholeItems → Class → Option ClassLine → Type 0
 SaysWhereFit declared number line b c said =
     MatchOption said
     ((counts : Counts) → AreCounts (in_class b c) counts → IsTrue (fits declared counts line) → after_line (building_places (in_class b c)) (role_of_form line) ≡ None)
-    (λ s. Grows declared number line (in_class b c) (behind b c s))
+    (λ s. Grows declared number line (in_class b c) (building_after b c s))

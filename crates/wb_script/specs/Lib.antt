@@ -2,6 +2,6 @@ pub mod Building
 pub mod Growing
 pub mod Checks
 pub mod Fitting
-pub mod Lent
+pub mod BytesOf
 pub mod Reads
 pub mod Stated

@@ -2,10 +2,10 @@
 
 pub(crate) mod items;
 pub(crate) mod kinds;
-pub(crate) mod known;
 pub(crate) mod leaving;
 pub(crate) mod limits;
 pub(crate) mod names;
+pub(crate) mod names_so_far;
 pub(crate) mod resolved;
 
 ghost use Rattle.std.specs.Prelude.{◌≡◌, ◌+◌, ◌<◌, ◌≤◌, [], ◌∷◌, ◌++◌, List, length, IfOk, OnOk};
@@ -14,21 +14,21 @@ ghost use Rattle.wb_model.specs.Kinds.{has_wrong_kind, may_leave};
 ghost use Rattle.wb_model.specs.Names as space;
 ghost use Rattle.wb_model.specs.Names.{Text, declares_again, items_before, names_of, passes_limit};
 ghost use Rattle.wb_model.specs.Resolved.{uses_unknown, resolved_line};
-ghost use Rattle.wb_lines.specs.Lent.{lent_form, lent_forms};
-ghost use Rattle.wb_script.specs.Lent.{lent_items};
+ghost use Rattle.wb_lines.specs.BytesOf.{bytes_of_form, bytes_of_forms};
+ghost use Rattle.wb_script.specs.BytesOf.{bytes_of_items};
 ghost use Rattle.wb_script.specs.Checks.{known_in, or_here, AreChecked, IsFew};
 
-use crate::checks::items::Item;
+use crate::checks::items::Declaration;
 use crate::checks::kinds::has_wrong_kind;
-use crate::checks::known::Known;
 use crate::checks::leaving::may_leave;
 use crate::checks::limits::passes_limit;
 use crate::checks::names::{declares_again, has_unknown};
+use crate::checks::names_so_far::NamesSoFar;
 use crate::checks::resolved::resolved_line;
 use std::alloc::{AllocError, Global};
 use wb_lines::lists::add;
 use wb_model::limits::LONGEST_SCRIPT;
-use wb_model::script_lines::{Form, Meant};
+use wb_model::script_lines::{Form, Referent};
 
 /// The number of the first line that a check refuses, with one more line.
 fn or_here(found: Option<u32>, line: u32, refused: bool) -> Option<u32>
@@ -54,19 +54,19 @@ impl FirstLines {
     /// With one more line, by its number: its form, and what its names stand for.
     fn with(
         self,
-        items: &[Item],
-        known: &Known,
+        items: &[Declaration],
+        known: &NamesSoFar,
         number: u32,
         form: &Form<&[u8]>,
-        line: &Form<Meant>,
+        line: &Form<Referent>,
     ) -> FirstLines
         requires few { IsFew known.now }
-        requires line { line.now ≡ resolved_line (lent_items items.now) (known_in known.now) (lent_form form.now) }
-        ensures unknown_name { result.unknown_name ≡ or_here self.unknown_name number (uses_unknown (lent_items items.now) (known_in known.now) (lent_form form.now)) }
-        ensures double_name { result.double_name ≡ or_here self.double_name number (declares_again (names_of (lent_items items.now)) (known_in known.now) (lent_form form.now)) }
-        ensures wrong_kind { result.wrong_kind ≡ or_here self.wrong_kind number (has_wrong_kind (lent_items items.now) (known_in known.now) (lent_form form.now)) }
-        ensures may_leave { result.may_leave ≡ or_here self.may_leave number (may_leave (known_in known.now) (lent_form form.now)) }
-        ensures too_many { result.too_many ≡ or_here self.too_many number (passes_limit (known_in known.now) (lent_form form.now)) }
+        requires line { line.now ≡ resolved_line (bytes_of_items items.now) (known_in known.now) (bytes_of_form form.now) }
+        ensures unknown_name { result.unknown_name ≡ or_here self.unknown_name number (uses_unknown (bytes_of_items items.now) (known_in known.now) (bytes_of_form form.now)) }
+        ensures double_name { result.double_name ≡ or_here self.double_name number (declares_again (names_of (bytes_of_items items.now)) (known_in known.now) (bytes_of_form form.now)) }
+        ensures wrong_kind { result.wrong_kind ≡ or_here self.wrong_kind number (has_wrong_kind (bytes_of_items items.now) (known_in known.now) (bytes_of_form form.now)) }
+        ensures may_leave { result.may_leave ≡ or_here self.may_leave number (may_leave (known_in known.now) (bytes_of_form form.now)) }
+        ensures too_many { result.too_many ≡ or_here self.too_many number (passes_limit (known_in known.now) (bytes_of_form form.now)) }
     {
         let double = declares_again(items, known, form);
         let wrong = has_wrong_kind(items, known, form, line);
@@ -84,20 +84,20 @@ impl FirstLines {
 #[derive(Drop)]
 pub(crate) struct Checked<'a> {
     /// The lines with what their names and literals stand for.
-    pub lines: Vec<Form<Meant>>,
-    pub known: Known<'a>,
+    pub lines: Vec<Form<Referent>>,
+    pub known: NamesSoFar<'a>,
     pub first: FirstLines,
 }
 
 impl<'a> Checked<'a> {
     fn nothing(alloc: Global) -> Checked<'a>
-        ensures checked { (items : List space.Item) → AreChecked items [] result }
+        ensures checked { (items : List space.Declaration) → AreChecked items [] result }
         ensures items { items_before (known_in result.known) ≤ length result.lines.items }
         ensures lines { length result.lines.items ≡ 0 }
     {
         Checked {
             lines: Vec::new(alloc),
-            known: Known::nothing(alloc),
+            known: NamesSoFar::nothing(alloc),
             first: FirstLines {
                 unknown_name: None,
                 double_name: None,
@@ -112,12 +112,12 @@ impl<'a> Checked<'a> {
     fn add_line(
         &mut self,
         alloc: Global,
-        items: &[Item],
+        items: &[Declaration],
         form: &Form<&'a [u8]>,
     ) -> Result<(), AllocError>
         requires few { length self.now.lines.items < LONGEST_SCRIPT }
         requires items { items_before (known_in self.now.known) ≤ length self.now.lines.items }
-        ensures checked { OnOk result ((before : List (model.Form Text)) → AreChecked (lent_items items.now) before self.old → AreChecked (lent_items items.now) (before ++ lent_form form.now ∷ []) self.new) }
+        ensures checked { OnOk result ((before : List (model.Form Text)) → AreChecked (bytes_of_items items.now) before self.old → AreChecked (bytes_of_items items.now) (before ++ bytes_of_form form.now ∷ []) self.new) }
         ensures items { OnOk result (items_before (known_in self.new.known) ≤ length self.new.lines.items) }
         ensures lines { OnOk result (length self.new.lines.items ≡ length self.old.lines.items + 1) }
     {
@@ -133,11 +133,11 @@ impl<'a> Checked<'a> {
 /// What the lines of a script are found to be.
 pub(crate) fn checked_lines<'a>(
     alloc: Global,
-    items: &[Item],
+    items: &[Declaration],
     forms: &[Form<&'a [u8]>],
 ) -> Result<Checked<'a>, AllocError>
     requires { length forms.now ≤ LONGEST_SCRIPT }
-    ensures { IfOk result (AreChecked (lent_items items.now) (lent_forms forms.now)) }
+    ensures { IfOk result (AreChecked (bytes_of_items items.now) (bytes_of_forms forms.now)) }
 {
     let mut checked = Checked::nothing(alloc);
     for form in forms {

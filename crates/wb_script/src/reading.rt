@@ -9,25 +9,25 @@ ghost use Rattle.wb_model.specs.Sound.{is_script, is_sound_script, is_entry, is_
 ghost use Rattle.wb_model.specs.Trees.{script_lines, counted_from};
 ghost use Rattle.wb_script.specs.Building.{AllFit, counts_of};
 ghost use Rattle.wb_script.specs.Checks.{IsMain, IsFirstFault};
-ghost use Rattle.wb_lines.specs.Lent.{lent_texts, lent_forms};
-ghost use Rattle.wb_script.specs.Lent.{declared_by, lent_items};
+ghost use Rattle.wb_lines.specs.BytesOf.{bytes_of_texts, bytes_of_forms};
+ghost use Rattle.wb_script.specs.BytesOf.{declared_by, bytes_of_items};
 ghost use Rattle.wb_script.specs.Reads.{roles_of, IsFormsFault};
 ghost use Rattle.wb_lines.specs.Typed.{AreTyped};
 
-use crate::checks::items::{Item, items_of};
-use crate::checks::resolved::item_meant;
+use crate::checks::items::{Declaration, items_of};
+use crate::checks::resolved::item_referent;
 use crate::checks::{FirstLines, checked_lines};
 use crate::tree::bodies_of;
 use std::alloc::{AllocError, Global};
 use wb_lines::bytes::{first_foreign_line, is_too_long};
 use wb_lines::forms::{forms, role};
 use wb_lines::lists::add;
-use wb_lines::pieces::lines;
+use wb_lines::segments::lines;
 use wb_model::fault::ScriptFault;
 use wb_model::items::Items;
 use wb_model::limits::LONGEST_SCRIPT;
 use wb_model::script::{Chars, Script};
-use wb_model::script_lines::{Form, Meant, Role};
+use wb_model::script_lines::{Form, Referent, Role};
 use wb_nesting::first_misfit;
 
 fn roles<N>(alloc: Global, forms: &[Form<N>]) -> Result<Vec<Role>, AllocError>
@@ -43,8 +43,8 @@ fn roles<N>(alloc: Global, forms: &[Form<N>]) -> Result<Vec<Role>, AllocError>
 /// The index of the first line that no script has in its place.
 fn misfit(alloc: Global, forms: &[Form<&[u8]>]) -> Result<Option<usize>, AllocError>
     ensures { IfOk result (λ found. MatchOption found
-        (IsGrammatical (roles_of (lent_forms forms.now)))
-        (IsFirstMisfit (roles_of (lent_forms forms.now)))) }
+        (IsGrammatical (roles_of (bytes_of_forms forms.now)))
+        (IsFirstMisfit (roles_of (bytes_of_forms forms.now)))) }
 {
     let roles = roles(alloc, forms)?;
     first_misfit(alloc, &roles)
@@ -65,7 +65,7 @@ fn add_text(alloc: Global, literals: &mut Vec<Chars>, text: &[u8]) -> Result<(),
 }
 
 fn literals_of(alloc: Global, texts: &[&[u8]]) -> Result<Items<Chars>, AllocError>
-    ensures { IfOk result (λ literals. literals ≡ lent_texts texts.now) }
+    ensures { IfOk result (λ literals. literals ≡ bytes_of_texts texts.now) }
 {
     let mut literals = Vec::new(alloc);
     for text in texts {
@@ -77,8 +77,8 @@ fn literals_of(alloc: Global, texts: &[&[u8]]) -> Result<Items<Chars>, AllocErro
 /// The script of lines that have no fault, with these literals and the index of its `main`.
 fn script_of(
     alloc: Global,
-    items: &[Item],
-    lines: &[Form<Meant>],
+    items: &[Declaration],
+    lines: &[Form<Referent>],
     literals: &[&[u8]],
     main: usize,
 ) -> Result<Script, AllocError>
@@ -88,10 +88,10 @@ fn script_of(
     requires procedures { (counts_of lines.now).procedures ≡ (declared_by (length literals.now) items.now).signatures }
     requires operations { (counts_of lines.now).operations ≡ (declared_by (length literals.now) items.now).operations }
     requires few { (length literals.now < 2 ^ 32) × (length lines.now ≤ LONGEST_SCRIPT) }
-    requires quotable { IsTrue (list_all is_literal_text (lent_texts literals.now)) }
+    requires quotable { IsTrue (list_all is_literal_text (bytes_of_texts literals.now)) }
     requires main { is_entry (slice_get (counts_of lines.now).procedures main) ≡ true }
     ensures tree { IfOk result (λ s. script_lines s ≡ counted_from 1 lines.now) }
-    ensures literals { IfOk result (λ s. s.literals ≡ lent_texts literals.now) }
+    ensures literals { IfOk result (λ s. s.literals ≡ bytes_of_texts literals.now) }
     ensures main { IfOk result (λ s. s.main ≡ main) }
     ensures sound { IfOk result (λ s. IsTrue (is_sound_script s)) }
 {
@@ -106,9 +106,9 @@ fn script_of(
 }
 
 /// The index of `main` among the procedures, or the first fault, by the first lines that the checks refuse.
-fn place_of_main(items: &[Item], first: FirstLines) -> Result<usize, ScriptFault>
-    ensures found { IfOk result (IsMain (lent_items items.now) first) }
-    ensures fault { IfErr result (IsFirstFault (lent_items items.now) first) }
+fn place_of_main(items: &[Declaration], first: FirstLines) -> Result<usize, ScriptFault>
+    ensures found { IfOk result (IsMain (bytes_of_items items.now) first) }
+    ensures fault { IfErr result (IsFirstFault (bytes_of_items items.now) first) }
 {
     if let Some(line) = first.unknown_name {
         return Err(ScriptFault::UnknownName { line });
@@ -122,7 +122,7 @@ fn place_of_main(items: &[Item], first: FirstLines) -> Result<usize, ScriptFault
     if let Some(line) = first.may_leave {
         return Err(ScriptFault::MayLeave { line });
     }
-    let Meant::Procedure(main) = item_meant(items, b"main") else {
+    let Referent::Procedure(main) = item_referent(items, b"main") else {
         return Err(ScriptFault::NoMain);
     };
     match first.too_many {
@@ -132,13 +132,16 @@ fn place_of_main(items: &[Item], first: FirstLines) -> Result<usize, ScriptFault
 }
 
 /// The script of lines that are grammatical, or the first fault of their names, kinds and limits.
-fn checked(alloc: Global, forms: &[Form<&[u8]>]) -> Result<Result<Script, ScriptFault>, AllocError>
+fn check_and_build(
+    alloc: Global,
+    forms: &[Form<&[u8]>],
+) -> Result<Result<Script, ScriptFault>, AllocError>
     requires few { length forms.now ≤ LONGEST_SCRIPT }
-    requires typed { AreTyped (lent_forms forms.now) }
-    requires grammar { IsGrammatical (roles_of (lent_forms forms.now)) }
-    ensures tree { IfOk result (λ answer. IfOk answer (IsTreeOf (lent_forms forms.now))) }
+    requires typed { AreTyped (bytes_of_forms forms.now) }
+    requires grammar { IsGrammatical (roles_of (bytes_of_forms forms.now)) }
+    ensures tree { IfOk result (λ answer. IfOk answer (IsTreeOf (bytes_of_forms forms.now))) }
     ensures sound { IfOk result (λ answer. IfOk answer (λ s. IsTrue (is_script s))) }
-    ensures fault { IfOk result (λ answer. IfErr answer (IsLinesFault (lent_forms forms.now))) }
+    ensures fault { IfOk result (λ answer. IfErr answer (IsLinesFault (bytes_of_forms forms.now))) }
 {
     let items = items_of(alloc, forms)?;
     let found = checked_lines(alloc, &items, forms)?;
@@ -157,17 +160,17 @@ fn read_forms(
     forms: &[Form<&[u8]>],
 ) -> Result<Result<Script, ScriptFault>, AllocError>
     requires few { length forms.now ≤ LONGEST_SCRIPT }
-    requires typed { AreTyped (lent_forms forms.now) }
-    ensures grammar { IfOk result (λ answer. IfOk answer (λ _. IsGrammatical (roles_of (lent_forms forms.now)))) }
-    ensures tree { IfOk result (λ answer. IfOk answer (IsTreeOf (lent_forms forms.now))) }
+    requires typed { AreTyped (bytes_of_forms forms.now) }
+    ensures grammar { IfOk result (λ answer. IfOk answer (λ _. IsGrammatical (roles_of (bytes_of_forms forms.now)))) }
+    ensures tree { IfOk result (λ answer. IfOk answer (IsTreeOf (bytes_of_forms forms.now))) }
     ensures sound { IfOk result (λ answer. IfOk answer (λ s. IsTrue (is_script s))) }
-    ensures fault { IfOk result (λ answer. IfErr answer (IsFormsFault (lent_forms forms.now))) }
+    ensures fault { IfOk result (λ answer. IfErr answer (IsFormsFault (bytes_of_forms forms.now))) }
 {
     match misfit(alloc, forms)? {
         Some(index) => Ok(Err(ScriptFault::Grammar {
             line: index as u32 + 1,
         })),
-        None => checked(alloc, forms),
+        None => check_and_build(alloc, forms),
     }
 }
 

@@ -23,83 +23,83 @@ ghost use Rattle.wb_model.specs.Sound.{fields_declared, signatures_of};
 ghost use Rattle.wb_model.specs.Trees.{counted_from, all_lines};
 ghost use Rattle.wb_script.specs.Building.{AllFit, counts_of};
 ghost use Rattle.wb_script.specs.Growing.{AreSound, GrowsWhereFit, IsBelow, IsSound, OpensWhereFit, declared_in_space, if_added, in_body, items_in_order, outside};
-ghost use Rattle.wb_script.specs.Lent.{declared_by};
+ghost use Rattle.wb_script.specs.BytesOf.{declared_by};
 
-use crate::checks::items::Item;
-use crate::tree::bodies::{Left, OpenBody, add_stated, inside};
-use crate::tree::classes::{begun_class, in_class};
-use crate::tree::openings::{begun_operation, begun_procedure};
+use crate::checks::items::Declaration;
+use crate::tree::bodies::{BodyProgress, OpenBody, add_statement_in_place, add_to_body};
+use crate::tree::classes::{add_to_class, begin_class};
+use crate::tree::openings::{begin_operation, begin_procedure};
 use crate::tree::space::{Space, field_counts};
-use crate::tree::whole::{Building, Owner, Stage, WholeItems, finished};
+use crate::tree::whole::{Building, Owner, Stage, WholeItems, finish_body};
 use std::alloc::{AllocError, Global};
 use std::mem::replace;
-use wb_lines::keys::role_of;
+use wb_lines::line_kinds::role_of;
 use wb_model::limits::LONGEST_SCRIPT;
-use wb_model::script_lines::{Form, Key, Meant, Operand, Role};
+use wb_model::script_lines::{Form, LineKind, Operand, Referent, Role};
 
 /// What a line opens where nothing is open, with its number; none where it has no place there.
-fn begun(
+fn begin_item(
     alloc: Global,
     space: Space,
     whole: &WholeItems,
     number: u32,
-    key: Key,
-    operands: &[Operand<Meant>],
+    line_kind: LineKind,
+    operands: &[Operand<Referent>],
 ) -> Result<Option<Stage>, AllocError>
     requires sound { IsSound (declared_in_space space) (outside whole.now) }
     requires below { IsBelow number (outside whole.now) }
-    ensures { IfOk result (OpensWhereFit (declared_in_space space.entry) number (Line key operands.now) whole.now) }
+    ensures { IfOk result (OpensWhereFit (declared_in_space space.entry) number (Line line_kind operands.now) whole.now) }
 {
-    match key {
-        Key::Class => Ok(begun_class(alloc, space, whole, number, operands)),
-        Key::Proc => begun_procedure(alloc, space, whole, number, operands),
-        Key::Op => begun_operation(alloc, space, whole, number, operands),
+    match line_kind {
+        LineKind::Class => Ok(begin_class(alloc, space, whole, number, operands)),
+        LineKind::Proc => begin_procedure(alloc, space, whole, number, operands),
+        LineKind::Op => begin_operation(alloc, space, whole, number, operands),
         _ => Ok(None),
     }
 }
 
 /// Adds a line where nothing is open, with its number; none where it has no place.
-fn with_begun(
+fn add_outside(
     alloc: Global,
     space: Space,
     whole: WholeItems,
     number: u32,
-    key: Key,
-    operands: &[Operand<Meant>],
+    line_kind: LineKind,
+    operands: &[Operand<Referent>],
 ) -> Result<Option<Building>, AllocError>
     requires sound { IsSound (declared_in_space space) (outside whole) }
     requires below { IsBelow number (outside whole) }
-    ensures { IfOk result (GrowsWhereFit (declared_in_space space.entry) number (Line key operands.now) (outside whole)) }
+    ensures { IfOk result (GrowsWhereFit (declared_in_space space.entry) number (Line line_kind operands.now) (outside whole)) }
 {
-    match begun(alloc, space, &whole, number, key, operands)? {
+    match begin_item(alloc, space, &whole, number, line_kind, operands)? {
         Some(stage) => Ok(Some(Building { whole, stage })),
         None => Ok(None),
     }
 }
 
 /// Adds a line to the body that is open, with its number; none where it has no place there.
-fn continued(
+fn add_inside(
     alloc: Global,
     space: Space,
     whole: WholeItems,
     owner: Owner,
     current: OpenBody,
     number: u32,
-    key: Key,
-    operands: &[Operand<Meant>],
+    line_kind: LineKind,
+    operands: &[Operand<Referent>],
 ) -> Result<Option<Building>, AllocError>
     requires sound { IsSound (declared_in_space space) (in_body whole owner current) }
     requires below { IsBelow number (in_body whole owner current) }
-    ensures { IfOk result (GrowsWhereFit (declared_in_space space.entry) number (Line key operands.now) (in_body whole owner current)) }
+    ensures { IfOk result (GrowsWhereFit (declared_in_space space.entry) number (Line line_kind operands.now) (in_body whole owner current)) }
 {
-    match inside(alloc, space, current, number, key, operands)? {
+    match add_to_body(alloc, space, current, number, line_kind, operands)? {
         None => Ok(None),
-        Some(Left::Inside(next)) => {
+        Some(BodyProgress::Inside(next)) => {
             let stage = Stage::InBody(owner, next);
             Ok(Some(Building { whole, stage }))
         }
-        Some(Left::Done(parameters, body)) => {
-            Ok(Some(finished(whole, owner, parameters, body)?))
+        Some(BodyProgress::Done(parameters, body)) => {
+            Ok(Some(finish_body(whole, owner, parameters, body)?))
         }
     }
 }
@@ -110,19 +110,23 @@ fn add_line(
     space: Space,
     building: Building,
     number: u32,
-    key: Key,
-    operands: &[Operand<Meant>],
+    line_kind: LineKind,
+    operands: &[Operand<Referent>],
 ) -> Result<Option<Building>, AllocError>
     requires sound { IsSound (declared_in_space space) building }
     requires below { IsBelow number building }
-    ensures { IfOk result (GrowsWhereFit (declared_in_space space.entry) number (Line key operands.now) building) }
+    ensures { IfOk result (GrowsWhereFit (declared_in_space space.entry) number (Line line_kind operands.now) building) }
 {
     let whole = building.whole;
     match building.stage {
-        Stage::Outside => with_begun(alloc, space, whole, number, key, operands),
-        Stage::InClass(class) => in_class(alloc, space, whole, class, number, key, operands),
+        Stage::Outside => add_outside(alloc, space, whole, number, line_kind, operands),
+        Stage::InClass(class) => add_to_class(
+            alloc, space, whole, class, number, line_kind, operands,
+        ),
         Stage::InBody(owner, current) => {
-            continued(alloc, space, whole, owner, current, number, key, operands)
+            add_inside(
+                alloc, space, whole, owner, current, number, line_kind, operands,
+            )
         }
     }
 }
@@ -133,7 +137,7 @@ fn add_form(
     space: Space,
     building: Building,
     number: u32,
-    line: &Form<Meant>,
+    line: &Form<Referent>,
 ) -> Result<Option<Building>, AllocError>
     requires sound { IsSound (declared_in_space space) building }
     requires below { IsBelow number building }
@@ -143,8 +147,15 @@ fn add_form(
     match line {
         Form::Skip => Ok(Some(building)),
         Form::Unknown => unreachable!(),
-        Form::Line(key, operands) => {
-            add_line(alloc, space, building, number, *key, operands.as_slice())
+        Form::Line(line_kind, operands) => {
+            add_line(
+                alloc,
+                space,
+                building,
+                number,
+                *line_kind,
+                operands.as_slice(),
+            )
         }
     }
 }
@@ -156,7 +167,7 @@ fn add_next(
     space: Space,
     building: &mut Building,
     number: u32,
-    line: &Form<Meant>,
+    line: &Form<Referent>,
 ) -> Result<bool, AllocError>
     requires sound { IsSound (declared_in_space space) building.old }
     requires below { IsBelow number building.old }
@@ -164,10 +175,17 @@ fn add_next(
     ensures { IfOk result (λ added. GrowsWhereFit (declared_in_space space.entry) number line.now
         building.old (if_added added building.new)) }
 {
-    if let Form::Line(key, operands) = line {
-        if let Role::Plain = role_of(*key) {
+    if let Form::Line(line_kind, operands) = line {
+        if let Role::Plain = role_of(*line_kind) {
             if let Stage::InBody(_, body) = &mut building.stage {
-                return add_stated(alloc, space, body, number, *key, operands.as_slice());
+                return add_statement_in_place(
+                    alloc,
+                    space,
+                    body,
+                    number,
+                    *line_kind,
+                    operands.as_slice(),
+                );
             }
         }
     }
@@ -182,7 +200,11 @@ fn add_next(
 }
 
 /// What is whole of a script behind all its lines.
-fn items_from(alloc: Global, space: Space, lines: &[Form<Meant>]) -> Result<WholeItems, AllocError>
+fn items_from(
+    alloc: Global,
+    space: Space,
+    lines: &[Form<Referent>],
+) -> Result<WholeItems, AllocError>
     requires grammar { IsGrammatical (map role_of_form lines.now) }
     requires fit { AllFit (declared_in_space space) lines.now }
     requires few { length lines.now ≤ LONGEST_SCRIPT }
@@ -212,8 +234,8 @@ fn items_from(alloc: Global, space: Space, lines: &[Form<Meant>]) -> Result<Whol
 pub(crate) fn bodies_of(
     alloc: Global,
     literals: u32,
-    items: &[Item],
-    lines: &[Form<Meant>],
+    items: &[Declaration],
+    lines: &[Form<Referent>],
 ) -> Result<WholeItems, AllocError>
     requires grammar { IsGrammatical (map role_of_form lines.now) }
     requires fit { AllFit (declared_by literals items.now) lines.now }

@@ -34,12 +34,12 @@ pub fn size(alloc: Global, script: &Script, budget: u32, shape: Shape) -> Result
     ensures cut { (number : ℕ) (why : Why) → result ≡ Err (SizeFault.Cut number why) → (number ≡ 0) × ((run script.now Unlimited budget shape).outcome ≡ outcomes.Cut why) }
     ensures shape { (result ≡ Err SizeFault.BadShape) ↔ (is_shape shape ≡ false) }
 {
-    let told = run_rises(alloc, script, budget, shape)?;
-    if let Outcome::Cut(why) = &told.outcome {
+    let run_result = run_rises(alloc, script, budget, shape)?;
+    if let Outcome::Cut(why) = &run_result.outcome {
         return Err(SizeFault::Cut {
             number: 0,
             why: *why,
         });
     }
-    Ok(sizing_of(told.rises))
+    Ok(sizing_of(run_result.rises))
 }

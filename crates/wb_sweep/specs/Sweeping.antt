@@ -17,10 +17,10 @@ abbrev pub IsNumbered : List Attempt → Type 0
 IsNumbered trace = (k : ℕ) (t : Attempt) → slice_get trace k ≡ Some t → t.number ≡ k + 1
 
 -- what is found of a bad run
-pub record IsBadAt (at : Failing) (told : RunResult) (found : Found) : Type 0 where
-  pub bad : is_bad told ≡ true
+pub record IsBadAt (at : Failing) (run_result : RunResult) (found : Found) : Type 0 where
+  pub bad : is_bad run_result ≡ true
   pub failing : found.at ≡ at
-  pub result : found.result ≡ told
+  pub result : found.result ≡ run_result
 
 -- All failures are spoken of, also those past the last attempt.
 pub record IsSweep (failures : Failures) (script : Script) (budget : ℕ) (shape : Shape) (sweep : Sweep) : Type 0 where

@@ -13,7 +13,7 @@ use crate::fault::SweepFault;
 use crate::found::{Found, Sweep};
 use crate::pairs::find_pair;
 use crate::progress::Progress;
-use crate::walk::{attempts_in, find_among, found_at};
+use crate::walk::{attempts_in, find_among, judge_run};
 use std::alloc::Global;
 use wb_machine::{Machine, run};
 use wb_model::failures::{Failing, Failures};
@@ -103,7 +103,7 @@ fn find_least<P: Progress>(
     let none = failures.at(0);
     let first = run(alloc, script, none.rule(), budget, shape)?;
     let attempts = attempts_in(first.trace.as_slice());
-    if let Some(found) = found_at(none, first)? {
+    if let Some(found) = judge_run(none, first)? {
         return Ok(Sweep {
             attempts,
             found: Some(found),

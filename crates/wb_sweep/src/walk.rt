@@ -19,19 +19,22 @@ use wb_model::run::{Outcome, RunResult};
 
 /// What the run under a failure amounts to: found where it is bad, `Cut` where it is cut, and `None` if it is fine. A
 /// leave alone is fine, and so is a run without its cleanup stack.
-pub(crate) fn found_at(at: Failing, told: RunResult) -> Result<Option<Found>, SweepFault>
-    ensures fine { IfOk result (λ found. found ≡ None → is_fine told ≡ true) }
-    ensures bad { IfOk result (λ found. IfSome found (IsBadAt at told)) }
+pub(crate) fn judge_run(at: Failing, run_result: RunResult) -> Result<Option<Found>, SweepFault>
+    ensures fine { IfOk result (λ found. found ≡ None → is_fine run_result ≡ true) }
+    ensures bad { IfOk result (λ found. IfSome found (IsBadAt at run_result)) }
     ensures cut { IfErr result (λ fault.
-        (why : Why) × (fault ≡ SweepFault.Cut at why) × (told.outcome ≡ outcomes.Cut why)) }
+        (why : Why) × (fault ≡ SweepFault.Cut at why) × (run_result.outcome ≡ outcomes.Cut why)) }
 {
-    let is_bad = match &told.outcome {
+    let is_bad = match &run_result.outcome {
         Outcome::Ended { leaks, .. } => leaks.len() > 0,
         Outcome::Panicked(_) => true,
         Outcome::NoCleanup => false,
         Outcome::Cut(why) => return Err(SweepFault::Cut { at, why: *why }),
     };
-    Ok(is_bad.then_some(Found { at, result: told }))
+    Ok(is_bad.then_some(Found {
+        at,
+        result: run_result,
+    }))
 }
 
 /// How many attempts a trace has: the number of the last.
@@ -70,8 +73,8 @@ fn try_next<P: Progress>(
     }
     let failing = family.at(number);
     progress.begin_failure(failing);
-    let told = result_under(lead, failing.rule(), spare)?;
-    found_at(failing, told)
+    let run_result = result_under(lead, failing.rule(), spare)?;
+    judge_run(failing, run_result)
 }
 
 /// The least failure of a family whose run is bad, among those up to the last attempt of the lead's own run, which is under

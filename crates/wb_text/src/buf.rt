@@ -179,11 +179,11 @@ fn put_in<U: Units>(units: &mut ArrayVec<u16, 256>, at: usize, source: &U)
     ensures items { units.new.items ≡ take at units.old.items ++ U.units source.now ++ drop at units.old.items }
     ensures are_units { AreUnits units.old.items → AreUnits units.new.items }
 {
-    let mut behind = ArrayVec::new();
-    append_units(&mut behind, &units.as_slice()[at..]);
+    let mut following = ArrayVec::new();
+    append_units(&mut following, &units.as_slice()[at..]);
     units.truncate(at);
     source.append_to(units);
-    append_units(units, behind.as_slice());
+    append_units(units, following.as_slice());
 }
 
 /// Takes out `count` units from a place on.

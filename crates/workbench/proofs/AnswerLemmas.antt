@@ -11,7 +11,7 @@ use Rattle.wb_model.specs.Run.{run}
 use Rattle.wb_command_line.specs.declared.command.Command.{Command}
 use Rattle.wb_command_line.specs.declared.command.Task.{Task}
 use Rattle.wb_command_line.specs.declared.command.Task.TheVariants as T
-use Rattle.workbench.specs.declared.figures.Figures.{Figures}
+use Rattle.workbench.specs.declared.report_values.ReportValues.{ReportValues}
 use Rattle.workbench.specs.Answer.{AreFirst, IsAnswer, IsAnyMessage, IsMessage, IsPartWritten, IsReported, IsReportWritten, IsSaid}
 use Rattle.workbench.specs.JsonReport.{laid_out}
 use Rattle.workbench.specs.Report.{IsReport, IsTaskReport, no_memory}
@@ -28,46 +28,46 @@ outcome_status_le (Panicked panic) = lit≤ tt
 outcome_status_le NoCleanup = lit≤ tt
 outcome_status_le (Cut why) = lit≤ tt
 
-size_status_le : (script : Script) (budget : ℕ) (shape : Shape) (text : List ℕ) (figures : Figures) (status : ℕ) → IsSizeReport script budget shape text figures status → status ≤ 3
-size_status_le script budget shape text figures status (inl r) = omega (arith, r.1)
-size_status_le script budget shape text figures status (inr r) = omega (arith, r.1)
+size_status_le : (script : Script) (budget : ℕ) (shape : Shape) (text : List ℕ) (values : ReportValues) (status : ℕ) → IsSizeReport script budget shape text values status → status ≤ 3
+size_status_le script budget shape text values status (inl r) = omega (arith, r.1)
+size_status_le script budget shape text values status (inr r) = omega (arith, r.1)
 
-sweep_status_le : (failures : Failures) (script : Script) (budget : ℕ) (shape : Shape) (text : List ℕ) (figures : Figures)
-    (status : ℕ) → IsSweepReport failures script budget shape text figures status → status ≤ 3
-sweep_status_le failures script budget shape text figures status (inl r) = omega (arith, r.1)
-sweep_status_le failures script budget shape text figures status (inr (inl r)) = omega (arith, r.1)
-sweep_status_le failures script budget shape text figures status (inr (inr r)) = omega (arith, r.1)
+sweep_status_le : (failures : Failures) (script : Script) (budget : ℕ) (shape : Shape) (text : List ℕ) (values : ReportValues)
+    (status : ℕ) → IsSweepReport failures script budget shape text values status → status ≤ 3
+sweep_status_le failures script budget shape text values status (inl r) = omega (arith, r.1)
+sweep_status_le failures script budget shape text values status (inr (inl r)) = omega (arith, r.1)
+sweep_status_le failures script budget shape text values status (inr (inr r)) = omega (arith, r.1)
 
-check_status_le : (failures : Failures) (script : Script) (budget : ℕ) (shape : Shape) (text : List ℕ) (figures : Figures)
-    (status : ℕ) → IsCheckReport failures script budget shape text figures status → status ≤ 3
-check_status_le failures script budget shape text figures status (inl r) =
+check_status_le : (failures : Failures) (script : Script) (budget : ℕ) (shape : Shape) (text : List ℕ) (values : ReportValues)
+    (status : ℕ) → IsCheckReport failures script budget shape text values status → status ≤ 3
+check_status_le failures script budget shape text values status (inl r) =
     sweep_status_le failures script budget shape r.second r.sweep status r.swept
-check_status_le failures script budget shape text figures status (inr r) = omega (arith, r.1)
+check_status_le failures script budget shape text values status (inr r) = omega (arith, r.1)
 
-task_status_le : (task : Task) (script : Script) (budget : ℕ) (shape : Shape) (text : List ℕ) (figures : Figures) (status : ℕ) → IsTaskReport task script budget shape text figures status → status ≤ 3
-task_status_le (T.Run rule) script budget shape text figures status r = subst (λ n. n ≤ 3) (sym r.status_is) (outcome_status_le (run script rule budget shape).outcome)
-task_status_le T.Size script budget shape text figures status r = size_status_le script budget shape text figures status r
-task_status_le (T.Sweep failures) script budget shape text figures status r =
-    sweep_status_le failures script budget shape text figures status r
-task_status_le (T.Check failures) script budget shape text figures status r =
-    check_status_le failures script budget shape text figures status r
+task_status_le : (task : Task) (script : Script) (budget : ℕ) (shape : Shape) (text : List ℕ) (values : ReportValues) (status : ℕ) → IsTaskReport task script budget shape text values status → status ≤ 3
+task_status_le (T.Run rule) script budget shape text values status r = subst (λ n. n ≤ 3) (sym r.status_is) (outcome_status_le (run script rule budget shape).outcome)
+task_status_le T.Size script budget shape text values status r = size_status_le script budget shape text values status r
+task_status_le (T.Sweep failures) script budget shape text values status r =
+    sweep_status_le failures script budget shape text values status r
+task_status_le (T.Check failures) script budget shape text values status r =
+    check_status_le failures script budget shape text values status r
 
-report_status_le : (command : Command) (bytes text : List ℕ) (figures : Figures) (status : ℕ) → IsReport command bytes text figures status → status ≤ 3
-report_status_le command bytes text figures status (inl r) = task_status_le command.task r.script command.budget command.shape text figures status r.told
-report_status_le command bytes text figures status (inr r) = omega (arith, r.status_is)
+report_status_le : (command : Command) (bytes text : List ℕ) (values : ReportValues) (status : ℕ) → IsReport command bytes text values status → status ≤ 3
+report_status_le command bytes text values status (inl r) = task_status_le command.task r.script command.budget command.shape text values status r.told
+report_status_le command bytes text values status (inr r) = omega (arith, r.status_is)
 
 -- ---- what was read is reported on, and laid out
 
-pub laid_out_is_reported : (command : Command) (told : Option (List ℕ)) (bytes seen lines text : List ℕ) (figures : Figures) (status own : ℕ)
-    → AreFirst (LONGEST_SCRIPT + 1) told bytes → seen ≡ bytes → IsReport command seen lines figures own → text ≡ laid_out command lines figures own → status ≡ own
+pub laid_out_is_reported : (command : Command) (told : Option (List ℕ)) (bytes seen lines text : List ℕ) (values : ReportValues) (status own : ℕ)
+    → AreFirst (LONGEST_SCRIPT + 1) told bytes → seen ≡ bytes → IsReport command seen lines values own → text ≡ laid_out command lines values own → status ≡ own
     → IsReported command told text status
-laid_out_is_reported command told bytes seen lines text figures status own first same report laid is =
+laid_out_is_reported command told bytes seen lines text values status own first same report laid is =
     subst (IsReported command told text) (sym is) (record {
       bytes = bytes;
       read = first;
       lines = lines;
-      figures = figures;
-      report = subst (λ read. IsReport command read lines figures own) same report;
+      values = values;
+      report = subst (λ read. IsReport command read lines values own) same report;
       text_is = laid;
     })
 
@@ -80,7 +80,7 @@ module _ (command : Command) (told held held' : Option (List ℕ)) where
   by_status true false text own status m s =
       (omega (arith, s.1, m.1), λ low. absurd (omega (arith, s.1, m.1, low)), λ four. absurd (omega (arith, s.1, m.1, four)))
   by_status false false text own status (inl r) s =
-      let small = report_status_le command r.bytes r.lines r.figures own r.report in (
+      let small = report_status_le command r.bytes r.lines r.values own r.report in (
         omega (arith, s.1, small),
         λ low. record { text = text; reported = subst (IsReported command told text) (sym s.1) r; written = s.0 },
         λ four. absurd (omega (arith, s.1, small, four)),

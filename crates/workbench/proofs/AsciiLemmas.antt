@@ -40,7 +40,7 @@ use Rattle.wb_model.proofs.ThroughoutLemmas.{run-prints}
 use Rattle.wb_command_line.specs.declared.command.Command.{Command}
 use Rattle.wb_command_line.specs.declared.command.Task.{Task}
 use Rattle.wb_command_line.specs.declared.command.Task.TheVariants as T
-use Rattle.workbench.specs.declared.figures.Figures.{Figures}
+use Rattle.workbench.specs.declared.report_values.ReportValues.{ReportValues}
 use Rattle.workbench.specs.Ascii.{HasPrintableLines, IsPrintableText, IsTextByte}
 use Rattle.workbench.specs.Report.{IsReport, IsTaskReport, fault_line, no_memory, read_fault, refused, refused_at}
 use Rattle.workbench.specs.RunText.{answer_word, attempt_line, cut_line, eight_digits, end_line, leak_line, leaks_text, line, note_line, outcome_text, panic_line, print_line, run_text}
@@ -245,45 +245,45 @@ module _ (script : Script) (budget : ℕ) (shape : Shape) where
   run_lines : (rule : Rule) → All ArePrintable (run script rule budget shape).lines
   run_lines rule = run-prints script budget shape rule
 
-  of_sized : (text : List ℕ) (figures : Figures) → IsSized script budget shape text figures → IsPrintableText text
-  of_sized text figures is = subst IsPrintableText (sym is.text_is) (of_size is.required is.rises)
+  of_sized : (text : List ℕ) (values : ReportValues) → IsSized script budget shape text values → IsPrintableText text
+  of_sized text values is = subst IsPrintableText (sym is.text_is) (of_size is.required is.rises)
 
-  of_size_report : (text : List ℕ) (figures : Figures) (status : ℕ) → IsSizeReport script budget shape text figures status → IsPrintableText text
-  of_size_report text figures status (inl is) = of_sized text figures is.0
-  of_size_report text figures status (inr is) = subst IsPrintableText (sym is.0.text_is) (of_cut_at (Number 0) is.0.why)
+  of_size_report : (text : List ℕ) (values : ReportValues) (status : ℕ) → IsSizeReport script budget shape text values status → IsPrintableText text
+  of_size_report text values status (inl is) = of_sized text values is.0
+  of_size_report text values status (inr is) = subst IsPrintableText (sym is.0.text_is) (of_cut_at (Number 0) is.0.why)
 
-  of_failing : (failures : Failures) (text : List ℕ) (figures : Figures) → IsFailing failures script budget shape text figures
+  of_failing : (failures : Failures) (text : List ℕ) (values : ReportValues) → IsFailing failures script budget shape text values
       → IsPrintableText text
-  of_failing failures text figures is =
+  of_failing failures text values is =
       let ran = found-run script budget shape failures is.at is.result is.found in
       let lines : All ArePrintable is.result.lines =
       subst (λ (r : RunResult). All ArePrintable r.lines) (sym ran) (run_lines (rule_for is.at)) in
       subst IsPrintableText (sym is.text_is)
       (both (attempts_line _) (found_text is.at is.result) (of_attempts _) (of_found is.at is.result lines))
 
-  of_sweep_report : (failures : Failures) (text : List ℕ) (figures : Figures) (status : ℕ)
-      → IsSweepReport failures script budget shape text figures status → IsPrintableText text
-  of_sweep_report failures text figures status (inl is) = of_failing failures text figures is.0
-  of_sweep_report failures text figures status (inr (inl is)) =
+  of_sweep_report : (failures : Failures) (text : List ℕ) (values : ReportValues) (status : ℕ)
+      → IsSweepReport failures script budget shape text values status → IsPrintableText text
+  of_sweep_report failures text values status (inl is) = of_failing failures text values is.0
+  of_sweep_report failures text values status (inr (inl is)) =
       subst IsPrintableText (sym is.0.text_is) (both (attempts_line _) (none_line failures) (of_attempts _) (of_none failures))
-  of_sweep_report failures text figures status (inr (inr is)) = subst IsPrintableText (sym is.0.text_is) (of_cut_at is.0.at is.0.why)
+  of_sweep_report failures text values status (inr (inr is)) = subst IsPrintableText (sym is.0.text_is) (of_cut_at is.0.at is.0.why)
 
-  of_check_report : (failures : Failures) (text : List ℕ) (figures : Figures) (status : ℕ)
-      → IsCheckReport failures script budget shape text figures status → IsPrintableText text
-  of_check_report failures text figures status (inl is) =
+  of_check_report : (failures : Failures) (text : List ℕ) (values : ReportValues) (status : ℕ)
+      → IsCheckReport failures script budget shape text values status → IsPrintableText text
+  of_check_report failures text values status (inl is) =
       subst IsPrintableText (sym is.text_is)
       (both is.first is.second (of_sized is.first is.size is.sized) (of_sweep_report failures is.second is.sweep status is.swept))
-  of_check_report failures text figures status (inr is) = subst IsPrintableText (sym is.0.text_is) (of_cut_at (Number 0) is.0.why)
+  of_check_report failures text values status (inr is) = subst IsPrintableText (sym is.0.text_is) (of_cut_at (Number 0) is.0.why)
 
-  of_task : (task : Task) (text : List ℕ) (figures : Figures) (status : ℕ) → IsTaskReport task script budget shape text figures status → IsPrintableText text
-  of_task (T.Run rule) text figures status is = subst IsPrintableText (sym is.text_is) (of_run (run script rule budget shape) (run_lines rule))
-  of_task T.Size text figures status is = of_size_report text figures status is
-  of_task (T.Sweep failures) text figures status is = of_sweep_report failures text figures status is
-  of_task (T.Check failures) text figures status is = of_check_report failures text figures status is
+  of_task : (task : Task) (text : List ℕ) (values : ReportValues) (status : ℕ) → IsTaskReport task script budget shape text values status → IsPrintableText text
+  of_task (T.Run rule) text values status is = subst IsPrintableText (sym is.text_is) (of_run (run script rule budget shape) (run_lines rule))
+  of_task T.Size text values status is = of_size_report text values status is
+  of_task (T.Sweep failures) text values status is = of_sweep_report failures text values status is
+  of_task (T.Check failures) text values status is = of_check_report failures text values status is
 
-pub report-printable : (command : Command) (bytes text : List ℕ) (figures : Figures) (status : ℕ) → IsReport command bytes text figures status → IsPrintableText text
-report-printable command bytes text figures status (inl is) = of_task is.script command.budget command.shape command.task text figures status is.told
-report-printable command bytes text figures status (inr is) = subst IsPrintableText (sym is.text_is) (of_fault is.fault)
+pub report-printable : (command : Command) (bytes text : List ℕ) (values : ReportValues) (status : ℕ) → IsReport command bytes text values status → IsPrintableText text
+report-printable command bytes text values status (inl is) = of_task is.script command.budget command.shape command.task text values status is.told
+report-printable command bytes text values status (inr is) = subst IsPrintableText (sym is.text_is) (of_fault is.fault)
 
 -- ---- the lines of a text
 
@@ -307,9 +307,9 @@ lines_from quoted (byte ∷ text) are =
     by true is lines more = All-cons ArePrintable [] (pieces_from ends_line false text) (All-nil IsPrintable) lines
     by false isnt lines more = one_more byte (pieces_from ends_line (quoted_after quoted byte) text) (printable_unless byte (All-head IsTextByte byte text are) isnt) more
 
-pub report_lines : (command : Command) (bytes text : List ℕ) (figures : Figures) (status : ℕ) → IsReport command bytes text figures status → HasPrintableLines text
+pub report_lines : (command : Command) (bytes text : List ℕ) (values : ReportValues) (status : ℕ) → IsReport command bytes text values status → HasPrintableLines text
 unfolding HasPrintableLines
-report_lines command bytes text figures status is = lines_from false text (report-printable command bytes text figures status is)
+report_lines command bytes text values status is = lines_from false text (report-printable command bytes text values status is)
 
 -- ---- the lossy reading of such a line is the line itself
 

@@ -12,9 +12,9 @@ use Rattle.wb_model.specs.declared.failures.Failures.{Failures}
 use Rattle.wb_model.specs.declared.failures.Failures.TheVariants.{Single, Every, Pairs}
 use Rattle.wb_model.specs.declared.size.Rise.{Rise}
 use Rattle.wb_model.specs.Lines.{ends_line, lines_of, onto_first, pieces_from, quoted_after}
-use Rattle.workbench.specs.declared.figures.FailingNumber.{FailingNumber}
-use Rattle.workbench.specs.declared.figures.FailingNumber.TheVariants.{At, Never}
-use Rattle.workbench.specs.declared.figures.Figures.{Figures}
+use Rattle.workbench.specs.declared.report_values.FailingNumber.{FailingNumber}
+use Rattle.workbench.specs.declared.report_values.FailingNumber.TheVariants.{At, Never}
+use Rattle.workbench.specs.declared.report_values.ReportValues.{ReportValues}
 use Rattle.workbench.specs.JsonReport.{count_or_null, failing_number, failures_kind, kind_of, line_string, line_strings, report_object, rise_pair, rise_pairs}
 
 -- ---- no fractions
@@ -52,17 +52,17 @@ rises_have_none : (rises : Option (List Rise)) → has_float (rise_pairs rises) 
 rises_have_none None = refl
 rises_have_none (Some rises) = each_has_none rise_pair (λ rise. refl) rises
 
-pub report_has_none : (task : Task) (text : List ℕ) (figures : Figures) (status : ℕ)
-    → has_float (report_object task text figures status) ≡ false
+pub report_has_none : (task : Task) (text : List ℕ) (values : ReportValues) (status : ℕ)
+    → has_float (report_object task text values status) ≡ false
 unfolding report_object
-report_has_none task text figures status =
+report_has_none task text values status =
     rw (
-      count_has_none figures.attempts,
+      count_has_none values.attempts,
       kind_has_none task,
       lines_have_none text,
-      number_has_none figures.number,
-      count_has_none figures.required,
-      rises_have_none figures.rises,
+      number_has_none values.number,
+      count_has_none values.required,
+      rises_have_none values.rises,
     ) refl
 
 -- ---- lines

@@ -18,15 +18,15 @@ use Rattle.wb_command_line.specs.declared.command.Task.{Task}
 use Rattle.wb_command_line.specs.declared.command.Task.TheVariants as T
 use Rattle.wb_script.proofs.FaultLaws.{fault_once, no_fault}
 use Rattle.wb_script.proofs.ScriptLaws.{script_once}
-use Rattle.workbench.specs.declared.figures.Figures.{Figures}
-use Rattle.workbench.specs.declared.figures.FailingNumber.TheVariants.{At}
-use Rattle.workbench.specs.Figures.{both_figures, size_figures, sweep_figures}
+use Rattle.workbench.specs.declared.report_values.ReportValues.{ReportValues}
+use Rattle.workbench.specs.declared.report_values.FailingNumber.TheVariants.{At}
+use Rattle.workbench.specs.ReportValues.{both_values, size_values, sweep_values}
 use Rattle.workbench.specs.Report.{IsReport, IsReportOfFault, IsReportOfScript, IsTaskReport, fault_line}
 use Rattle.workbench.specs.TwoNumbers.{IsBoth, IsCheckReport, IsFailing, IsSized, IsSizeReport, IsSweepReport, IsUnsized, IsUnswept, attempts_line, attempts_of, cut_at_line, found_text, size_text}
 
--- the same text and the same figures
-abbrev Alike : List ℕ → Figures → List ℕ → Figures → Type 0
-Alike text figures text' figures' = (text ≡ text') × (figures ≡ figures')
+-- the same text and the same values
+abbrev Alike : List ℕ → ReportValues → List ℕ → ReportValues → Type 0
+Alike text values text' figures' = (text ≡ text') × (values ≡ figures')
 
 one_why : (a b : Why) (outcome : Outcome) → outcome ≡ Cut a → outcome ≡ Cut b → a ≡ b
 one_why a b outcome e f = cc
@@ -45,123 +45,123 @@ module _ (script : Script) (budget : ℕ) (shape : Shape) where
       by (inr (inl less)) = absurd (enough_here m n rs ss one other less)
       by (inr (inr less)) = absurd (enough_here n m ss rs other one less)
 
-  one_size : (text text' : List ℕ) (figures figures' : Figures) → IsSized script budget shape text figures → IsSized script budget shape text' figures'
-      → Alike text figures text' figures'
-  one_size text text' figures figures' s t =
+  one_size : (text text' : List ℕ) (values figures' : ReportValues) → IsSized script budget shape text values → IsSized script budget shape text' figures'
+      → Alike text values text' figures'
+  one_size text text' values figures' s t =
       let same : s.required ≡ t.required = one_length s.required t.required s.rises t.rises s.needed t.needed in
       let rows : s.rises ≡ t.rises = s.rises_are ∙ sym t.rises_are in (
         s.text_is ∙ ap (λ n. size_text n s.rises) same ∙ ap (size_text t.required) rows ∙ sym t.text_is,
-        s.figures_are ∙ ap (λ n. size_figures n s.rises) same ∙ ap (size_figures t.required) rows ∙ sym t.figures_are,
+        s.values_are ∙ ap (λ n. size_values n s.rises) same ∙ ap (size_values t.required) rows ∙ sym t.values_are,
       )
 
-  one_cut : (text text' : List ℕ) (figures figures' : Figures) → IsUnsized script budget shape text figures → IsUnsized script budget shape text' figures'
-      → Alike text figures text' figures'
-  one_cut text text' figures figures' s t =
+  one_cut : (text text' : List ℕ) (values figures' : ReportValues) → IsUnsized script budget shape text values → IsUnsized script budget shape text' figures'
+      → Alike text values text' figures'
+  one_cut text text' values figures' s t =
       let why = one_why s.why t.why _ s.cut t.cut in
-      (s.text_is ∙ ap (cut_at_line (Number 0)) why ∙ sym t.text_is, s.figures_are ∙ sym t.figures_are)
+      (s.text_is ∙ ap (cut_at_line (Number 0)) why ∙ sym t.text_is, s.values_are ∙ sym t.values_are)
 
-  never_both : (text text' : List ℕ) (figures figures' : Figures) → IsSized script budget shape text figures → IsUnsized script budget shape text' figures' → ⊥
-  never_both text text' figures figures' s t = s.uncut t.why t.cut
+  never_both : (text text' : List ℕ) (values figures' : ReportValues) → IsSized script budget shape text values → IsUnsized script budget shape text' figures' → ⊥
+  never_both text text' values figures' s t = s.uncut t.why t.cut
 
-  one_sizing : (text text' : List ℕ) (figures figures' : Figures) (status status' : ℕ) → IsSizeReport script budget shape text figures status
-      → IsSizeReport script budget shape text' figures' status' → Alike text figures text' figures' × (status ≡ status')
-  one_sizing text text' figures figures' status status' (inl (s, e)) (inl (t, f)) = (one_size text text' figures figures' s t, e ∙ sym f)
-  one_sizing text text' figures figures' status status' (inl (s, e)) (inr (t, f)) = absurd (never_both text text' figures figures' s t)
-  one_sizing text text' figures figures' status status' (inr (s, e)) (inl (t, f)) = absurd (never_both text' text figures' figures t s)
-  one_sizing text text' figures figures' status status' (inr (s, e)) (inr (t, f)) = (one_cut text text' figures figures' s t, e ∙ sym f)
+  one_sizing : (text text' : List ℕ) (values figures' : ReportValues) (status status' : ℕ) → IsSizeReport script budget shape text values status
+      → IsSizeReport script budget shape text' figures' status' → Alike text values text' figures' × (status ≡ status')
+  one_sizing text text' values figures' status status' (inl (s, e)) (inl (t, f)) = (one_size text text' values figures' s t, e ∙ sym f)
+  one_sizing text text' values figures' status status' (inl (s, e)) (inr (t, f)) = absurd (never_both text text' values figures' s t)
+  one_sizing text text' values figures' status status' (inr (s, e)) (inl (t, f)) = absurd (never_both text' text figures' values t s)
+  one_sizing text text' values figures' status status' (inr (s, e)) (inr (t, f)) = (one_cut text text' values figures' s t, e ∙ sym f)
 
 -- ---- which failure shows a leak or a panic
 
 module _ (failures : Failures) (script : Script) (budget : ℕ) (shape : Shape) where
-  one_failing : (text text' : List ℕ) (figures figures' : Figures) → IsFailing failures script budget shape text figures → IsFailing failures script budget shape text' figures'
-      → Alike text figures text' figures'
-  one_failing text text' figures figures' s t =
+  one_failing : (text text' : List ℕ) (values figures' : ReportValues) → IsFailing failures script budget shape text values → IsFailing failures script budget shape text' figures'
+      → Alike text values text' figures'
+  one_failing text text' values figures' s t =
       let (same, results) = once-found script budget shape failures s.at t.at s.result t.result s.found t.found in
       let words : found_text s.at s.result ≡ found_text t.at t.result = ap (λ f. found_text f s.result) same ∙ ap (found_text t.at) results in
       let attempts : ℕ = attempts_of failures script budget shape in (
         s.text_is ∙ ap (λ l. attempts_line attempts ++ l) words ∙ sym t.text_is,
-        s.figures_are ∙ ap (λ f. sweep_figures attempts (At f)) same ∙ sym t.figures_are,
+        s.values_are ∙ ap (λ f. sweep_values attempts (At f)) same ∙ sym t.values_are,
       )
 
-  one_unswept : (text text' : List ℕ) (figures figures' : Figures) → IsUnswept failures script budget shape text figures → IsUnswept failures script budget shape text' figures'
-      → Alike text figures text' figures'
-  one_unswept text text' figures figures' s t =
+  one_unswept : (text text' : List ℕ) (values figures' : ReportValues) → IsUnswept failures script budget shape text values → IsUnswept failures script budget shape text' figures'
+      → Alike text values text' figures'
+  one_unswept text text' values figures' s t =
       let (same, why) = once-cut script budget shape failures s.at t.at s.why t.why s.cut t.cut in
-      (s.text_is ∙ ap (λ f. cut_at_line f s.why) same ∙ ap (cut_at_line t.at) why ∙ sym t.text_is, s.figures_are ∙ sym t.figures_are)
+      (s.text_is ∙ ap (λ f. cut_at_line f s.why) same ∙ ap (cut_at_line t.at) why ∙ sym t.text_is, s.values_are ∙ sym t.values_are)
 
-  failing_or_cut : (text text' : List ℕ) (figures figures' : Figures) → IsFailing failures script budget shape text figures → IsUnswept failures script budget shape text' figures' → ⊥
-  failing_or_cut text text' figures figures' s t = found-uncut script budget shape failures s.at t.at s.result t.why s.found t.cut
+  failing_or_cut : (text text' : List ℕ) (values figures' : ReportValues) → IsFailing failures script budget shape text values → IsUnswept failures script budget shape text' figures' → ⊥
+  failing_or_cut text text' values figures' s t = found-uncut script budget shape failures s.at t.at s.result t.why s.found t.cut
 
-  failing_or_none : (text : List ℕ) (figures : Figures) → IsFailing failures script budget shape text figures → IsNoneFound failures script budget shape → ⊥
-  failing_or_none text figures s none = found-some script budget shape failures s.at s.result s.found none
+  failing_or_none : (text : List ℕ) (values : ReportValues) → IsFailing failures script budget shape text values → IsNoneFound failures script budget shape → ⊥
+  failing_or_none text values s none = found-some script budget shape failures s.at s.result s.found none
 
-  cut_or_none : (text : List ℕ) (figures : Figures) → IsUnswept failures script budget shape text figures → IsNoneFound failures script budget shape → ⊥
-  cut_or_none text figures s none = cut-some script budget shape failures s.at s.why s.cut none
+  cut_or_none : (text : List ℕ) (values : ReportValues) → IsUnswept failures script budget shape text values → IsNoneFound failures script budget shape → ⊥
+  cut_or_none text values s none = cut-some script budget shape failures s.at s.why s.cut none
 
-  one_sweep : (text text' : List ℕ) (figures figures' : Figures) (status status' : ℕ) → IsSweepReport failures script budget shape text figures status
-      → IsSweepReport failures script budget shape text' figures' status' → Alike text figures text' figures' × (status ≡ status')
-  one_sweep text text' figures figures' status status' (inl (s, e)) (inl (t, f)) = (one_failing text text' figures figures' s t, e ∙ sym f)
-  one_sweep text text' figures figures' status status' (inl (s, e)) (inr (inl (t, f))) = absurd (failing_or_none text figures s t.none)
-  one_sweep text text' figures figures' status status' (inl (s, e)) (inr (inr (t, f))) = absurd (failing_or_cut text text' figures figures' s t)
-  one_sweep text text' figures figures' status status' (inr (inl (s, e))) (inl (t, f)) = absurd (failing_or_none text' figures' t s.none)
-  one_sweep text text' figures figures' status status' (inr (inl (s, e))) (inr (inl (t, f))) =
-      ((s.text_is ∙ sym t.text_is, s.figures_are ∙ sym t.figures_are), e ∙ sym f)
-  one_sweep text text' figures figures' status status' (inr (inl (s, e))) (inr (inr (t, f))) = absurd (cut_or_none text' figures' t s.none)
-  one_sweep text text' figures figures' status status' (inr (inr (s, e))) (inl (t, f)) = absurd (failing_or_cut text' text figures' figures t s)
-  one_sweep text text' figures figures' status status' (inr (inr (s, e))) (inr (inl (t, f))) = absurd (cut_or_none text figures s t.none)
-  one_sweep text text' figures figures' status status' (inr (inr (s, e))) (inr (inr (t, f))) = (one_unswept text text' figures figures' s t, e ∙ sym f)
+  one_sweep : (text text' : List ℕ) (values figures' : ReportValues) (status status' : ℕ) → IsSweepReport failures script budget shape text values status
+      → IsSweepReport failures script budget shape text' figures' status' → Alike text values text' figures' × (status ≡ status')
+  one_sweep text text' values figures' status status' (inl (s, e)) (inl (t, f)) = (one_failing text text' values figures' s t, e ∙ sym f)
+  one_sweep text text' values figures' status status' (inl (s, e)) (inr (inl (t, f))) = absurd (failing_or_none text values s t.none)
+  one_sweep text text' values figures' status status' (inl (s, e)) (inr (inr (t, f))) = absurd (failing_or_cut text text' values figures' s t)
+  one_sweep text text' values figures' status status' (inr (inl (s, e))) (inl (t, f)) = absurd (failing_or_none text' figures' t s.none)
+  one_sweep text text' values figures' status status' (inr (inl (s, e))) (inr (inl (t, f))) =
+      ((s.text_is ∙ sym t.text_is, s.values_are ∙ sym t.values_are), e ∙ sym f)
+  one_sweep text text' values figures' status status' (inr (inl (s, e))) (inr (inr (t, f))) = absurd (cut_or_none text' figures' t s.none)
+  one_sweep text text' values figures' status status' (inr (inr (s, e))) (inl (t, f)) = absurd (failing_or_cut text' text figures' values t s)
+  one_sweep text text' values figures' status status' (inr (inr (s, e))) (inr (inl (t, f))) = absurd (cut_or_none text values s t.none)
+  one_sweep text text' values figures' status status' (inr (inr (s, e))) (inr (inr (t, f))) = (one_unswept text text' values figures' s t, e ∙ sym f)
 
   -- ---- both
 
-  one_both : (text text' : List ℕ) (figures figures' : Figures) (status status' : ℕ) → IsBoth failures script budget shape text figures status
-      → IsBoth failures script budget shape text' figures' status' → Alike text figures text' figures' × (status ≡ status')
-  one_both text text' figures figures' status status' s t =
+  one_both : (text text' : List ℕ) (values figures' : ReportValues) (status status' : ℕ) → IsBoth failures script budget shape text values status
+      → IsBoth failures script budget shape text' figures' status' → Alike text values text' figures' × (status ≡ status')
+  one_both text text' values figures' status status' s t =
       let (first, size) = one_size script budget shape s.first t.first s.size t.size s.sized t.sized in
       let ((second, sweep), same) = one_sweep s.second t.second s.sweep t.sweep status status' s.swept t.swept in (
         (
           s.text_is ∙ ap (λ l. l ++ s.second) first ∙ ap (λ l. t.first ++ l) second ∙ sym t.text_is,
-          s.figures_are ∙ ap (λ f. both_figures f s.sweep) size ∙ ap (both_figures t.size) sweep ∙ sym t.figures_are,
+          s.values_are ∙ ap (λ f. both_values f s.sweep) size ∙ ap (both_values t.size) sweep ∙ sym t.values_are,
         ),
         same,
       )
 
-  one_check : (text text' : List ℕ) (figures figures' : Figures) (status status' : ℕ) → IsCheckReport failures script budget shape text figures status
-      → IsCheckReport failures script budget shape text' figures' status' → Alike text figures text' figures' × (status ≡ status')
-  one_check text text' figures figures' status status' (inl s) (inl t) = one_both text text' figures figures' status status' s t
-  one_check text text' figures figures' status status' (inl s) (inr (t, f)) = absurd (never_both script budget shape s.first text' s.size figures' s.sized t)
-  one_check text text' figures figures' status status' (inr (s, e)) (inl t) = absurd (never_both script budget shape t.first text t.size figures t.sized s)
-  one_check text text' figures figures' status status' (inr (s, e)) (inr (t, f)) = (one_cut script budget shape text text' figures figures' s t, e ∙ sym f)
+  one_check : (text text' : List ℕ) (values figures' : ReportValues) (status status' : ℕ) → IsCheckReport failures script budget shape text values status
+      → IsCheckReport failures script budget shape text' figures' status' → Alike text values text' figures' × (status ≡ status')
+  one_check text text' values figures' status status' (inl s) (inl t) = one_both text text' values figures' status status' s t
+  one_check text text' values figures' status status' (inl s) (inr (t, f)) = absurd (never_both script budget shape s.first text' s.size figures' s.sized t)
+  one_check text text' values figures' status status' (inr (s, e)) (inl t) = absurd (never_both script budget shape t.first text t.size values t.sized s)
+  one_check text text' values figures' status status' (inr (s, e)) (inr (t, f)) = (one_cut script budget shape text text' values figures' s t, e ∙ sym f)
 
 -- ---- by the task
 
 module _ (script : Script) (budget : ℕ) (shape : Shape) where
-  one_task : (task : Task) (text text' : List ℕ) (figures figures' : Figures) (status status' : ℕ) → IsTaskReport task script budget shape text figures status
-      → IsTaskReport task script budget shape text' figures' status' → Alike text figures text' figures' × (status ≡ status')
-  one_task (T.Run rule) text text' figures figures' status status' s t =
-      ((s.text_is ∙ sym t.text_is, s.figures_are ∙ sym t.figures_are), s.status_is ∙ sym t.status_is)
-  one_task T.Size text text' figures figures' status status' s t =
-      one_sizing script budget shape text text' figures figures' status status' s t
-  one_task (T.Sweep failures) text text' figures figures' status status' s t =
-      one_sweep failures script budget shape text text' figures figures' status status' s t
-  one_task (T.Check failures) text text' figures figures' status status' s t =
-      one_check failures script budget shape text text' figures figures' status status' s t
+  one_task : (task : Task) (text text' : List ℕ) (values figures' : ReportValues) (status status' : ℕ) → IsTaskReport task script budget shape text values status
+      → IsTaskReport task script budget shape text' figures' status' → Alike text values text' figures' × (status ≡ status')
+  one_task (T.Run rule) text text' values figures' status status' s t =
+      ((s.text_is ∙ sym t.text_is, s.values_are ∙ sym t.values_are), s.status_is ∙ sym t.status_is)
+  one_task T.Size text text' values figures' status status' s t =
+      one_sizing script budget shape text text' values figures' status status' s t
+  one_task (T.Sweep failures) text text' values figures' status status' s t =
+      one_sweep failures script budget shape text text' values figures' status status' s t
+  one_task (T.Check failures) text text' values figures' status status' s t =
+      one_check failures script budget shape text text' values figures' status status' s t
 
 -- ---- of a script, or of a fault
 
-module _ (command : Command) (bytes text text' : List ℕ) (figures figures' : Figures) (status status' : ℕ) where
-  of_script : IsReportOfScript command bytes text figures status → IsReportOfScript command bytes text' figures' status'
-      → Alike text figures text' figures' × (status ≡ status')
+module _ (command : Command) (bytes text text' : List ℕ) (values figures' : ReportValues) (status status' : ℕ) where
+  of_script : IsReportOfScript command bytes text values status → IsReportOfScript command bytes text' figures' status'
+      → Alike text values text' figures' × (status ≡ status')
   of_script s t =
       let same : s.script ≡ t.script = script_once bytes s.script t.script s.spelled t.spelled in
-      one_task t.script command.budget command.shape command.task text text' figures figures' status status'
-      (subst (λ script. IsTaskReport command.task script command.budget command.shape text figures status) same s.told) t.told
+      one_task t.script command.budget command.shape command.task text text' values figures' status status'
+      (subst (λ script. IsTaskReport command.task script command.budget command.shape text values status) same s.told) t.told
 
-  of_fault : IsReportOfFault bytes text figures status → IsReportOfFault bytes text' figures' status' → Alike text figures text' figures' × (status ≡ status')
+  of_fault : IsReportOfFault bytes text values status → IsReportOfFault bytes text' figures' status' → Alike text values text' figures' × (status ≡ status')
   of_fault s t =
       let same : s.fault ≡ t.fault = fault_once bytes s.fault t.fault s.found t.found in
-      ((s.text_is ∙ ap fault_line same ∙ sym t.text_is, s.figures_are ∙ sym t.figures_are), s.status_is ∙ sym t.status_is)
+      ((s.text_is ∙ ap fault_line same ∙ sym t.text_is, s.values_are ∙ sym t.values_are), s.status_is ∙ sym t.status_is)
 
-  pub report_once : IsReport command bytes text figures status → IsReport command bytes text' figures' status' → (text ≡ text') × (figures ≡ figures') × (status ≡ status')
+  pub report_once : IsReport command bytes text values status → IsReport command bytes text' figures' status' → (text ≡ text') × (values ≡ figures') × (status ≡ status')
   report_once (inl s) (inl t) = let ((words, values), same) = of_script s t in (words, values, same)
   report_once (inl s) (inr t) = absurd (no_fault bytes s.script t.fault s.spelled t.found)
   report_once (inr s) (inl t) = absurd (no_fault bytes t.script s.fault t.spelled s.found)

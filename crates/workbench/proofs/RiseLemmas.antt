@@ -46,8 +46,8 @@ listed_rise low (t ∷ ts) k r e = by (nat_lt low end) refl k e (λ l k e. liste
     by true c (suc k) e rest = let past : low < end = ltb-true _ _ c in later_rise end low t ts r (omega (arith, past)) (omega arith) (rest end k e)
     by false c k e rest = later_rise low low t ts r (omega arith) (ltb-false _ _ c) (rest low k e)
 
-listed_behind : (r s : Rise) (rs : List Rise) → IsListed rs s → IsListed (r ∷ rs) s
-listed_behind r s rs is = record { at = suc is.at; there = is.there }
+listed_after : (r s : Rise) (rs : List Rise) → IsListed rs s → IsListed (r ∷ rs) s
+listed_after r s rs is = record { at = suc is.at; there = is.there }
 
 rise_listed : (low : ℕ) (ts : List Attempt) (at : ℕ) (line : Attempt) (r : Rise) → slice_get ts at ≡ Some line → r.number ≡ line.number → r.top ≡ end_of_line line
     → low < r.top → ((k : ℕ) (t : Attempt) → k < at → slice_get ts k ≡ Some t → end_of_line t < r.top) → IsListed (rises_above low ts) r
@@ -74,7 +74,7 @@ rise_listed low (t ∷ ts) (suc at) line r there numbered ends above highest =
 
     by : (b : Bool) → ((l : ℕ) → l < r.top → IsListed (rises_above l ts) r)
         → IsListed (cond b (record { number = t.number; top = end_of_line t } ∷ rises_above (end_of_line t) ts) (rises_above low ts)) r
-    by true rest = listed_behind _ r _ (rest (end_of_line t) first)
+    by true rest = listed_after _ r _ (rest (end_of_line t) first)
     by false rest = rest low above
 
 rises_ascend : (low : ℕ) (ts : List Attempt) (j k : ℕ) (r s : Rise) → j < k → slice_get (rises_above low ts) j ≡ Some r → slice_get (rises_above low ts) k ≡ Some s → r.top < s.top

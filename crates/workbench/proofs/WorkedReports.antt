@@ -16,8 +16,8 @@ use Rattle.wb_model.specs.declared.run.Note.TheVariants.{Heap, Available, Compre
 use Rattle.wb_model.specs.declared.run.Outcome.TheVariants.{Ended, Panicked, NoCleanup, Cut}
 use Rattle.wb_model.specs.declared.run.RunResult.{RunResult}
 use Rattle.wb_model.specs.declared.run.Why.TheVariants.{Budget, Ceiling}
-use Rattle.workbench.specs.declared.figures.FailingNumber.TheVariants.{At, Never}
-use Rattle.workbench.specs.Figures.{both_figures, no_figures, size_figures, sweep_figures}
+use Rattle.workbench.specs.declared.report_values.FailingNumber.TheVariants.{At, Never}
+use Rattle.workbench.specs.ReportValues.{both_values, no_values, size_values, sweep_values}
 use Rattle.workbench.specs.JsonReport.{json_text, line_string, line_strings, report_object}
 use Rattle.workbench.specs.Report.{fault_line}
 use Rattle.workbench.specs.RunText.{run_text, run_status, outcome_text, outcome_status, note_line, attempt_line, leak_line}
@@ -173,35 +173,35 @@ pair_none-text = refl
 text-lines : line_strings (codes "print \"a\"\nprint \n\nsteps 2\n") ≡ array (items_of (map line_string (codes "print \"a\"" ∷ codes "print " ∷ [] ∷ codes "steps 2" ∷ [])))
 text-lines = refl
 
--- the figures of a check whose sweep found nothing, beside no lines
-check-json : json_text (T.Check Single) [] (both_figures (size_figures 176 (record { number = 1; top = 144 } ∷ record { number = 2; top = 176 } ∷ [])) (sweep_figures 2 Never)) 0
+-- the values of a check whose sweep found nothing, beside no lines
+check-json : json_text (T.Check Single) [] (both_values (size_values 176 (record { number = 1; top = 144 } ∷ record { number = 2; top = 176 } ∷ [])) (sweep_values 2 Never)) 0
     ≡ codes "{\"attempts\":2,\"kind\":\"single\",\"lines\":[],\"number\":\"none\",\"required\":176,\"rises\":[[1,144],[2,176]],\"status\":0,\"version\":2}\n"
 unfolding serde_json_on_literals digits report_object
 check-json = refl
 
 -- those of sweeps that found a number and a rate
-sweep-json : json_text (T.Sweep Single) [] (sweep_figures 3 (At (failings.Number 0))) 1
+sweep-json : json_text (T.Sweep Single) [] (sweep_values 3 (At (failings.Number 0))) 1
     ≡ codes "{\"attempts\":3,\"kind\":\"single\",\"lines\":[],\"number\":0,\"required\":null,\"rises\":null,\"status\":1,\"version\":2}\n"
 unfolding serde_json_on_literals digits report_object
 sweep-json = refl
 
-rate-json : json_text (T.Sweep Every) [] (sweep_figures 4 (At (failings.Every 2))) 1
+rate-json : json_text (T.Sweep Every) [] (sweep_values 4 (At (failings.Every 2))) 1
     ≡ codes "{\"attempts\":4,\"kind\":\"every\",\"lines\":[],\"number\":2,\"required\":null,\"rises\":null,\"status\":1,\"version\":2}\n"
 unfolding serde_json_on_literals digits report_object
 rate-json = refl
 
-pair-json : json_text (T.Sweep Pairs) [] (sweep_figures 4 (At (failings.Pair 2 4))) 1
+pair-json : json_text (T.Sweep Pairs) [] (sweep_values 4 (At (failings.Pair 2 4))) 1
     ≡ codes "{\"attempts\":4,\"kind\":\"pairs\",\"lines\":[],\"number\":[2,4],\"required\":null,\"rises\":null,\"status\":1,\"version\":2}\n"
 unfolding serde_json_on_literals digits report_object
 pair-json = refl
 
 -- those of a refused script or a cut, by what was asked for
-plain-json : json_text (T.Run Unlimited) [] no_figures 2
+plain-json : json_text (T.Run Unlimited) [] no_values 2
     ≡ codes "{\"attempts\":null,\"kind\":null,\"lines\":[],\"number\":null,\"required\":null,\"rises\":null,\"status\":2,\"version\":2}\n"
 unfolding serde_json_on_literals digits report_object
 plain-json = refl
 
-cut-json : json_text (T.Check Every) [] no_figures 3
+cut-json : json_text (T.Check Every) [] no_values 3
     ≡ codes "{\"attempts\":null,\"kind\":\"every\",\"lines\":[],\"number\":null,\"required\":null,\"rises\":null,\"status\":3,\"version\":2}\n"
 unfolding serde_json_on_literals digits report_object
 cut-json = refl

@@ -5,7 +5,7 @@ use Rattle.workbench.specs.declared.answer.ReportFault.{ReportFault}
 use Rattle.workbench.specs.declared.answer.ReportFault.TheVariants.{Read}
 use Rattle.wb_model.specs.declared.limits.TheConstants.{LONGEST_SCRIPT}
 use Rattle.wb_command_line.specs.declared.command.Command.{Command}
-use Rattle.workbench.specs.declared.figures.Figures.{Figures}
+use Rattle.workbench.specs.declared.report_values.ReportValues.{ReportValues}
 use Rattle.workbench.specs.JsonReport.{laid_out}
 use Rattle.workbench.specs.Report.{IsReport, no_memory, read_fault}
 use Rattle.wb_streams.specs.Streams.{AppendsFirst, Came, Reads, Writes}
@@ -20,9 +20,9 @@ pub record IsReported (command : Command) (told : Option (List ℕ)) (text : Lis
   pub bytes : List ℕ
   pub read : AreFirst (LONGEST_SCRIPT + 1) told bytes
   pub lines : List ℕ
-  pub figures : Figures
-  pub report : IsReport command bytes lines figures status
-  pub text_is : text ≡ laid_out command lines figures status
+  pub values : ReportValues
+  pub report : IsReport command bytes lines values status
+  pub text_is : text ≡ laid_out command lines values status
 
 -- a read failed; the workbench's memory may have run out in its place
 abbrev pub is_read_fault : {A : Type 0} → Result A ReportFault → Bool

@@ -1,4 +1,4 @@
--- The report as one JSON object: its lines and its figures, and which failures were tried, under
+-- The report as one JSON object: its lines and its values, and which failures were tried, under
 -- the keys that version 2 of this form has.
 use Rattle.std.specs.Prelude.{ℕ, List, Option, Some, None, codes, if◌then◌else◌, map}
 use Rattle.serde_json.specs.Data.{Data, null, number, string, array, object, item, no_items, member, no_members, unsigned}
@@ -14,9 +14,9 @@ use Rattle.wb_model.specs.declared.failures.Failures.{Failures}
 use Rattle.wb_model.specs.declared.failures.Failures.TheVariants.{Single, Every, Pairs}
 use Rattle.wb_model.specs.declared.size.Rise.{Rise}
 use Rattle.wb_model.specs.Lines.{lines_of}
-use Rattle.workbench.specs.declared.figures.FailingNumber.{FailingNumber}
-use Rattle.workbench.specs.declared.figures.FailingNumber.TheVariants.{At, Never}
-use Rattle.workbench.specs.declared.figures.Figures.{Figures}
+use Rattle.workbench.specs.declared.report_values.FailingNumber.{FailingNumber}
+use Rattle.workbench.specs.declared.report_values.FailingNumber.TheVariants.{At, Never}
+use Rattle.workbench.specs.declared.report_values.ReportValues.{ReportValues}
 use Rattle.workbench.specs.RunText.{line}
 
 abbrev pub count : ℕ → Data
@@ -69,23 +69,23 @@ abbrev pub rise_pairs : Option (List Rise) → Data
 rise_pairs None = null
 rise_pairs (Some rises) = array (items_of (map rise_pair rises))
 
--- the object, by the task, the text report, its figures and its status
-unfoldable pub report_object : Task → List ℕ → Figures → ℕ → Data
-report_object task text figures status = object (
-    member (codes "attempts") (count_or_null figures.attempts) (
+-- the object, by the task, the text report, its values and its status
+unfoldable pub report_object : Task → List ℕ → ReportValues → ℕ → Data
+report_object task text values status = object (
+    member (codes "attempts") (count_or_null values.attempts) (
     member (codes "kind") (kind_of task) (
     member (codes "lines") (line_strings text) (
-    member (codes "number") (failing_number figures.number) (
-    member (codes "required") (count_or_null figures.required) (
-    member (codes "rises") (rise_pairs figures.rises) (
+    member (codes "number") (failing_number values.number) (
+    member (codes "required") (count_or_null values.required) (
+    member (codes "rises") (rise_pairs values.rises) (
     member (codes "status") (count status) (
     member (codes "version") (count 2) no_members))))))))
 
 -- the object as `serde_json` writes it, without blanks, and a line feed
-abbrev pub json_text : Task → List ℕ → Figures → ℕ → List ℕ
-json_text task text figures status = line (compact_text (report_object task text figures status))
+abbrev pub json_text : Task → List ℕ → ReportValues → ℕ → List ℕ
+json_text task text values status = line (compact_text (report_object task text values status))
 
 -- a report as a command wants it: its lines, or JSON
-abbrev pub laid_out : Command → List ℕ → Figures → ℕ → List ℕ
-laid_out command text figures status =
-    if command.json then json_text command.task text figures status else text
+abbrev pub laid_out : Command → List ℕ → ReportValues → ℕ → List ℕ
+laid_out command text values status =
+    if command.json then json_text command.task text values status else text

@@ -1,6 +1,6 @@
 pub mod Answer
 pub mod Ascii
-pub mod Figures
+pub mod ReportValues
 pub mod JsonReport
 pub mod Program
 pub mod Report

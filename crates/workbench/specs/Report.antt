@@ -1,4 +1,4 @@
--- Which report a command has: the text, the figures and the status that its task comes to on a script, the one-line answers, and why a
+-- Which report a command has: the text, the values and the status that its task comes to on a script, the one-line answers, and why a
 -- script was refused.
 use Rattle.std.specs.Prelude.{◌≡◌, ◌≢◌, ℕ, List, ◌++◌, ◌⊎◌, codes}
 use Rattle.std.specs.Fmt.{decimal}
@@ -12,8 +12,8 @@ use Rattle.wb_model.specs.Scripts.{IsScriptOf, IsFaultOf}
 use Rattle.wb_command_line.specs.declared.command.Command.{Command}
 use Rattle.wb_command_line.specs.declared.command.Task.{Task}
 use Rattle.wb_command_line.specs.declared.command.Task.TheVariants as T
-use Rattle.workbench.specs.declared.figures.Figures.{Figures}
-use Rattle.workbench.specs.Figures.{no_figures, run_figures}
+use Rattle.workbench.specs.declared.report_values.ReportValues.{ReportValues}
+use Rattle.workbench.specs.ReportValues.{no_values, run_values}
 use Rattle.workbench.specs.RunText.{line, run_text, run_status}
 use Rattle.workbench.specs.TwoNumbers.{IsSizeReport, IsSweepReport, IsCheckReport}
 
@@ -44,38 +44,38 @@ fault_line NoMemory = no_memory
 
 -- ---- which report a command has
 
--- the text, the figures and the status of one run
-pub record IsRunReport (r : RunResult) (text : List ℕ) (figures : Figures) (status : ℕ) : Type 0 where
+-- the text, the values and the status of one run
+pub record IsRunReport (r : RunResult) (text : List ℕ) (values : ReportValues) (status : ℕ) : Type 0 where
   pub text_is : text ≡ run_text r
-  pub figures_are : figures ≡ run_figures r
+  pub values_are : values ≡ run_values r
   pub status_is : status ≡ run_status r
 
 -- what a task comes to on a script
-abbrev pub IsTaskReport : Task → Script → ℕ → Shape → List ℕ → Figures → ℕ → Type 0
-IsTaskReport (T.Run rule) script budget shape text figures status =
-    IsRunReport (run script rule budget shape) text figures status
-IsTaskReport T.Size script budget shape text figures status =
-    IsSizeReport script budget shape text figures status
-IsTaskReport (T.Sweep failures) script budget shape text figures status =
-    IsSweepReport failures script budget shape text figures status
-IsTaskReport (T.Check failures) script budget shape text figures status =
-    IsCheckReport failures script budget shape text figures status
+abbrev pub IsTaskReport : Task → Script → ℕ → Shape → List ℕ → ReportValues → ℕ → Type 0
+IsTaskReport (T.Run rule) script budget shape text values status =
+    IsRunReport (run script rule budget shape) text values status
+IsTaskReport T.Size script budget shape text values status =
+    IsSizeReport script budget shape text values status
+IsTaskReport (T.Sweep failures) script budget shape text values status =
+    IsSweepReport failures script budget shape text values status
+IsTaskReport (T.Check failures) script budget shape text values status =
+    IsCheckReport failures script budget shape text values status
 
 -- the bytes spell a script, and this is what the command's task comes to on it
-pub record IsReportOfScript (command : Command) (bytes text : List ℕ) (figures : Figures) (status : ℕ) : Type 0 where
+pub record IsReportOfScript (command : Command) (bytes text : List ℕ) (values : ReportValues) (status : ℕ) : Type 0 where
   pub script : Script
   pub spelled : IsScriptOf bytes script
-  pub told : IsTaskReport command.task script command.budget command.shape text figures status
+  pub told : IsTaskReport command.task script command.budget command.shape text values status
 
 -- the bytes have a fault, and this is its line
-pub record IsReportOfFault (bytes text : List ℕ) (figures : Figures) (status : ℕ) : Type 0 where
+pub record IsReportOfFault (bytes text : List ℕ) (values : ReportValues) (status : ℕ) : Type 0 where
   pub fault : ScriptFault
   pub is_none_of_memory : fault ≢ NoMemory
   pub found : IsFaultOf bytes fault
   pub text_is : text ≡ fault_line fault
-  pub figures_are : figures ≡ no_figures
+  pub values_are : values ≡ no_values
   pub status_is : status ≡ 2
 
--- Report: the text, the figures and the status of a command for the bytes that were read
-abbrev pub IsReport : Command → List ℕ → List ℕ → Figures → ℕ → Type 0
-IsReport command bytes text figures status = IsReportOfScript command bytes text figures status ⊎ IsReportOfFault bytes text figures status
+-- Report: the text, the values and the status of a command for the bytes that were read
+abbrev pub IsReport : Command → List ℕ → List ℕ → ReportValues → ℕ → Type 0
+IsReport command bytes text values status = IsReportOfScript command bytes text values status ⊎ IsReportOfFault bytes text values status

@@ -1,4 +1,4 @@
--- What `size`, `sweep` and `check` say, as lines and as figures, and what that means of runs: how
+-- What `size`, `sweep` and `check` say, as lines and as values, and what that means of runs: how
 -- long the heap must be, which attempt each shorter heap refuses first, and the least number of an
 -- attempt whose simulated failure leaks or panics, the least rate of attempts whose failures do, or the
 -- least pair of attempts.
@@ -23,9 +23,9 @@ use Rattle.wb_model.specs.Sizes.{IsHeapLength}
 use Rattle.wb_model.specs.SweepAnswers.{IsCutShort, IsFound, IsNoneFound}
 use Rattle.wb_model.specs.Sweeps.{runs_of}
 use Rattle.wb_sweep.specs.declared.found.Sweep.{Sweep}
-use Rattle.workbench.specs.declared.figures.FailingNumber.TheVariants.{At, Never}
-use Rattle.workbench.specs.declared.figures.Figures.{Figures}
-use Rattle.workbench.specs.Figures.{both_figures, no_figures, size_figures, sweep_figures}
+use Rattle.workbench.specs.declared.report_values.FailingNumber.TheVariants.{At, Never}
+use Rattle.workbench.specs.declared.report_values.ReportValues.{ReportValues}
+use Rattle.workbench.specs.ReportValues.{both_values, no_values, size_values, sweep_values}
 use Rattle.workbench.specs.RunText.{line, run_text}
 
 -- ---- how long the heap must be
@@ -56,26 +56,26 @@ cut_at_line at Ceiling = line (codes "cut " ++ failing_text at ++ codes " ceilin
 -- The length is told. It is the least at which the run meets no refusal of the heap, and for each smaller one the line of the
 -- table whose range holds it names the first attempt that the heap refuses (`IsHeapLength`). The rows of the table are the rises of
 -- the run without a limit, which isn't cut (`AreRises` says in words what rises are).
-pub record IsSized (script : Script) (budget : ℕ) (shape : Shape) (text : List ℕ) (figures : Figures) : Type 0 where
+pub record IsSized (script : Script) (budget : ℕ) (shape : Shape) (text : List ℕ) (values : ReportValues) : Type 0 where
   pub required : ℕ
   pub rises : List Rise
   pub uncut : (why : Why) → (run script Unlimited budget shape).outcome ≢ Cut why
   pub needed : IsHeapLength script budget shape required rises
   pub rises_are : rises ≡ rises_of script budget shape
   pub text_is : text ≡ size_text required rises
-  pub figures_are : figures ≡ size_figures required rises
+  pub values_are : values ≡ size_values required rises
 
 -- no length is told: the run without a limit is cut
-pub record IsUnsized (script : Script) (budget : ℕ) (shape : Shape) (text : List ℕ) (figures : Figures) : Type 0 where
+pub record IsUnsized (script : Script) (budget : ℕ) (shape : Shape) (text : List ℕ) (values : ReportValues) : Type 0 where
   pub why : Why
   pub cut : (run script Unlimited budget shape).outcome ≡ Cut why
   pub text_is : text ≡ cut_at_line (Number 0) why
-  pub figures_are : figures ≡ no_figures
+  pub values_are : values ≡ no_values
 
 -- the report of `size`
-abbrev pub IsSizeReport : Script → ℕ → Shape → List ℕ → Figures → ℕ → Type 0
-IsSizeReport script budget shape text figures status =
-    (IsSized script budget shape text figures × (status ≡ 0)) ⊎ (IsUnsized script budget shape text figures × (status ≡ 3))
+abbrev pub IsSizeReport : Script → ℕ → Shape → List ℕ → ReportValues → ℕ → Type 0
+IsSizeReport script budget shape text values status =
+    (IsSized script budget shape text values × (status ≡ 0)) ⊎ (IsUnsized script budget shape text values × (status ≡ 3))
 
 -- ---- which failure shows a leak or a panic
 
@@ -110,54 +110,54 @@ sweep_text failures sweep =
 -- A number, a rate or a pair is printed, and the run under that failure. It is the least whose run leaks
 -- or panics; no smaller one's run is cut (`IsFound`).
 pub record IsFailing (failures : Failures) (script : Script) (budget : ℕ) (shape : Shape)
-    (text : List ℕ) (figures : Figures) : Type 0 where
+    (text : List ℕ) (values : ReportValues) : Type 0 where
   pub at : Failing
   pub result : RunResult
   pub found : IsFound failures script budget shape at result
   pub text_is : text ≡ attempts_line (attempts_of failures script budget shape) ++ found_text at result
-  pub figures_are : figures ≡ sweep_figures (attempts_of failures script budget shape) (At at)
+  pub values_are : values ≡ sweep_values (attempts_of failures script budget shape) (At at)
 
 -- the run leaks or panics under no failure of all that there are, and is cut under none of them
 pub record IsNeverFailing (failures : Failures) (script : Script) (budget : ℕ) (shape : Shape)
-    (text : List ℕ) (figures : Figures) : Type 0 where
+    (text : List ℕ) (values : ReportValues) : Type 0 where
   pub none : IsNoneFound failures script budget shape
   pub text_is :
       text ≡ attempts_line (attempts_of failures script budget shape) ++ none_line failures
-  pub figures_are : figures ≡ sweep_figures (attempts_of failures script budget shape) Never
+  pub values_are : values ≡ sweep_values (attempts_of failures script budget shape) Never
 
 -- there is no answer: the run under a failure is cut, and no smaller one's run leaks, panics or is cut
 -- (`IsCutShort`)
 pub record IsUnswept (failures : Failures) (script : Script) (budget : ℕ) (shape : Shape)
-    (text : List ℕ) (figures : Figures) : Type 0 where
+    (text : List ℕ) (values : ReportValues) : Type 0 where
   pub at : Failing
   pub why : Why
   pub cut : IsCutShort failures script budget shape at why
   pub text_is : text ≡ cut_at_line at why
-  pub figures_are : figures ≡ no_figures
+  pub values_are : values ≡ no_values
 
 -- the report of `sweep`
-abbrev pub IsSweepReport : Failures → Script → ℕ → Shape → List ℕ → Figures → ℕ → Type 0
-IsSweepReport failures script budget shape text figures status =
-    (IsFailing failures script budget shape text figures × (status ≡ 1))
-    ⊎ ((IsNeverFailing failures script budget shape text figures × (status ≡ 0))
-    ⊎ (IsUnswept failures script budget shape text figures × (status ≡ 3)))
+abbrev pub IsSweepReport : Failures → Script → ℕ → Shape → List ℕ → ReportValues → ℕ → Type 0
+IsSweepReport failures script budget shape text values status =
+    (IsFailing failures script budget shape text values × (status ≡ 1))
+    ⊎ ((IsNeverFailing failures script budget shape text values × (status ≡ 0))
+    ⊎ (IsUnswept failures script budget shape text values × (status ≡ 3)))
 
 -- ---- both
 
 -- the length, and then the failure that was found, or that there is none
 pub record IsBoth (failures : Failures) (script : Script) (budget : ℕ) (shape : Shape)
-    (text : List ℕ) (figures : Figures) (status : ℕ) : Type 0 where
+    (text : List ℕ) (values : ReportValues) (status : ℕ) : Type 0 where
   pub first : List ℕ
   pub second : List ℕ
-  pub size : Figures
-  pub sweep : Figures
+  pub size : ReportValues
+  pub sweep : ReportValues
   pub sized : IsSized script budget shape first size
   pub swept : IsSweepReport failures script budget shape second sweep status
   pub text_is : text ≡ first ++ second
-  pub figures_are : figures ≡ both_figures size sweep
+  pub values_are : values ≡ both_values size sweep
 
 -- the report of `check`; where there is no length, the sweep isn't made
-abbrev pub IsCheckReport : Failures → Script → ℕ → Shape → List ℕ → Figures → ℕ → Type 0
-IsCheckReport failures script budget shape text figures status =
-    IsBoth failures script budget shape text figures status
-    ⊎ (IsUnsized script budget shape text figures × (status ≡ 3))
+abbrev pub IsCheckReport : Failures → Script → ℕ → Shape → List ℕ → ReportValues → ℕ → Type 0
+IsCheckReport failures script budget shape text values status =
+    IsBoth failures script budget shape text values status
+    ⊎ (IsUnsized script budget shape text values × (status ≡ 3))

@@ -194,7 +194,7 @@ fn lay_out(
 ) -> Result<Message, NoMemory>
     requires { HasPrintableLines report.text.items }
     ensures text { IfOk result (λ m. m.text.items
-        ≡ laid_out command.now report.text.items report.figures report.status) }
+        ≡ laid_out command.now report.text.items report.values report.status) }
     ensures status { IfOk result (λ m. m.status ≡ report.status) }
 {
     let json = if command.json {
@@ -204,11 +204,11 @@ fn lay_out(
     };
     let Report {
         text,
-        figures,
+        values,
         status,
         at,
     } = report;
-    let rises = figures.rises;
+    let rises = values.rises;
     Ok(Message {
         text: json.unwrap_or(text),
         status,

@@ -7,8 +7,8 @@ ghost use Rattle.wb_model.specs.Printable.{ArePrintable};
 ghost use Rattle.workbench.specs.Ascii.{HasPrintableLines};
 ghost use Rattle.workbench.specs.JsonReport.{count_or_null, count_pair, failing_number, failing_value, failures_kind, json_text, kind_of, line_string, line_strings, report_object, rise_pair, rise_pairs};
 
-use crate::figures::FailingNumber;
 use crate::report::Report;
+use crate::report_values::FailingNumber;
 use serde_json::{Map, Value, put};
 use std::alloc::{AllocError, Global};
 use wb_command_line::command::Task;
@@ -25,7 +25,7 @@ const VERSION: u32 = 2;
 pub fn json_text(alloc: Global, task: Task, report: &Report) -> Result<Vec<u8>, NoMemory>
     requires { HasPrintableLines report.now.text.items }
     ensures { IfOk result (λ text. text.items
-        ≡ json_text task report.now.text.items report.now.figures report.now.status) }
+        ≡ json_text task report.now.text.items report.now.values report.now.status) }
 {
     let mut text = report_object(alloc, task, report)?.to_vec(alloc)?;
     text.extend_from_slice(b"\n")?;
@@ -37,21 +37,21 @@ pub fn json_text(alloc: Global, task: Task, report: &Report) -> Result<Vec<u8>, 
 fn report_object(alloc: Global, task: Task, report: &Report) -> Result<Value, AllocError>
     requires { HasPrintableLines report.now.text.items }
     ensures { IfOk result (λ object. view object
-        ≡ report_object task report.now.text.items report.now.figures report.now.status) }
+        ≡ report_object task report.now.text.items report.now.values report.now.status) }
 {
-    let figures = &report.figures;
+    let values = &report.values;
     let mut members = Map::new(alloc);
-    let attempts = count_or_null(figures.attempts);
+    let attempts = count_or_null(values.attempts);
     put(&mut members, alloc, "attempts", attempts)?;
     let kind = kind_of(alloc, task)?;
     put(&mut members, alloc, "kind", kind)?;
     let lines = line_strings(alloc, report.text.as_slice())?;
     put(&mut members, alloc, "lines", lines)?;
-    let number = failing_number(alloc, figures.number)?;
+    let number = failing_number(alloc, values.number)?;
     put(&mut members, alloc, "number", number)?;
-    let required = count_or_null(figures.required);
+    let required = count_or_null(values.required);
     put(&mut members, alloc, "required", required)?;
-    let rises = rise_pairs(alloc, &figures.rises)?;
+    let rises = rise_pairs(alloc, &values.rises)?;
     put(&mut members, alloc, "rises", rises)?;
     put(&mut members, alloc, "status", Value::from(report.status))?;
     put(&mut members, alloc, "version", Value::from(VERSION))?;

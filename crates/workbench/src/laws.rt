@@ -14,7 +14,7 @@ ghost use Rattle.workbench.specs.Ascii.{HasPrintableLines, IsPrintableText};
 ghost use Rattle.workbench.specs.Program.{IsWordsFault};
 ghost use Rattle.workbench.specs.Report.{IsReport, no_memory, read_fault};
 ghost use Rattle.workbench.specs.Rises.{AreRises};
-ghost use Rattle.workbench.specs.declared.figures.Figures.{Figures};
+ghost use Rattle.workbench.specs.declared.report_values.ReportValues.{ReportValues};
 ghost use Rattle.workbench.specs.declared.host.WordsFault.{WordsFault};
 ghost use Rattle.workbench.specs.declared.host.WordsFault.TheVariants.{Refused};
 
@@ -27,26 +27,26 @@ pub fn rises_are()
 
 /// The bytes and the command determine the report: any two reports of them have one text, one status and the same values.
 pub fn one_report()
-    ensures { (command : Command) (bytes text other_text : List ℕ) (figures other_figures : Figures)
-        (status other_status : ℕ) → IsReport command bytes text figures status
-        → IsReport command bytes other_text other_figures other_status
-        → (text ≡ other_text) × (figures ≡ other_figures) × (status ≡ other_status) }
+    ensures { (command : Command) (bytes text other_text : List ℕ) (values other_values : ReportValues)
+        (status other_status : ℕ) → IsReport command bytes text values status
+        → IsReport command bytes other_text other_values other_status
+        → (text ≡ other_text) × (values ≡ other_values) × (status ≡ other_status) }
 {}
 
 /// The text of a report is printable ASCII and line feeds, so that each of its lines has bytes from 32 to 126 alone. The lines
 /// that come in a report's place, `no memory` and `read fault`, have no others either.
 pub fn reports_are_ascii()
-    ensures text { (command : Command) (bytes text : List ℕ) (figures : Figures) (status : ℕ) →
-        IsReport command bytes text figures status → IsPrintableText text }
-    ensures lines { (command : Command) (bytes text : List ℕ) (figures : Figures) (status : ℕ) →
-        IsReport command bytes text figures status → HasPrintableLines text }
+    ensures text { (command : Command) (bytes text : List ℕ) (values : ReportValues) (status : ℕ) →
+        IsReport command bytes text values status → IsPrintableText text }
+    ensures lines { (command : Command) (bytes text : List ℕ) (values : ReportValues) (status : ℕ) →
+        IsReport command bytes text values status → HasPrintableLines text }
     ensures no_memory { IsPrintableText no_memory }
     ensures read_fault { IsPrintableText read_fault }
 {}
 
 /// No words spell a command with its numbers in their ranges and have a fault as well, but that memory ran out, which says
 /// nothing of words. So what `program` does with words is one of two things, and not both.
-pub fn obeyed_or_blamed()
+pub fn words_are_obeyed_or_blamed()
     ensures { (words : List Text) (command : Command) (fault : WordsFault)
         → IsSpelledBy words command → IsTrue (is_answerable command) → IsWordsFault words fault
         → fault ≡ Refused NoMemory }

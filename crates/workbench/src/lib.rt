@@ -5,7 +5,6 @@
 
 pub mod answer;
 mod appending;
-mod figures;
 pub mod findings;
 pub mod host;
 mod json_report;
@@ -14,6 +13,7 @@ mod line;
 mod numbers_text;
 pub mod program;
 mod report;
+mod report_values;
 pub mod run_text;
 mod tasks;
 

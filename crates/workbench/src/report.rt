@@ -1,13 +1,13 @@
-//! What a command comes to on the bytes that were read: the whole text, its figures, and the exit status. Nothing
+//! What a command comes to on the bytes that were read: the whole text, its values, and the exit status. Nothing
 //! is read or written here. What its task comes to on a script stands in `tasks`.
 
 ghost use Rattle.std.specs.Prelude.{◌≡◌, ◌≢◌, ◌++◌, OnOk, IfOk, IsTrue};
 ghost use Rattle.wb_command_line.specs.Command.{is_answerable};
-ghost use Rattle.workbench.specs.Figures.{no_figures};
+ghost use Rattle.workbench.specs.ReportValues.{no_values};
 ghost use Rattle.workbench.specs.Report.{IsReport, fault_line, refused, refused_at};
 
 use crate::appending::or_no_memory;
-use crate::figures::Figures;
+use crate::report_values::ReportValues;
 use crate::tasks::carry_out;
 use std::alloc::Global;
 use std::io::Write;
@@ -17,11 +17,11 @@ use wb_model::fault::ScriptFault;
 use wb_model::memory::NoMemory;
 use wb_sweep::Progress;
 
-/// A report as lines, its figures, and the exit status that goes with it.
+/// A report as lines, its values, and the exit status that goes with it.
 #[derive(Debug, Drop)]
 pub struct Report {
     pub text: Vec<u8>,
-    pub figures: Figures,
+    pub values: ReportValues,
     pub status: u8,
     /// The failure whose run it shows, or under which a run was cut. No contract speaks of it.
     pub at: Option<Failing>,
@@ -36,7 +36,7 @@ pub fn report_on<P: Progress>(
     progress: &mut P,
 ) -> Result<Report, NoMemory>
     requires { IsTrue (is_answerable command.now) }
-    ensures { IfOk result (λ r. IsReport command.now bytes.now r.text.items r.figures r.status) }
+    ensures { IfOk result (λ r. IsReport command.now bytes.now r.text.items r.values r.status) }
 {
     match wb_script::read(alloc, bytes) {
         Ok(script) => carry_out(alloc, command, &script, progress),
@@ -49,14 +49,14 @@ pub fn report_on<P: Progress>(
 fn refusal(alloc: Global, fault: ScriptFault) -> Result<Report, NoMemory>
     requires { fault ≢ ScriptFault.NoMemory }
     ensures text { IfOk result (λ r. r.text.items ≡ fault_line fault) }
-    ensures figures { IfOk result (λ r. r.figures ≡ no_figures) }
+    ensures values { IfOk result (λ r. r.values ≡ no_values) }
     ensures status { IfOk result (λ r. r.status ≡ 2) }
 {
     let mut text = Vec::new(alloc);
     put_fault(&mut text, fault)?;
     Ok(Report {
         text,
-        figures: Figures::none(),
+        values: ReportValues::none(),
         status: 2,
         at: None,
     })

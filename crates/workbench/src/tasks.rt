@@ -1,18 +1,18 @@
-//! What each task comes to on a script: the text, its figures, and the exit status. Nothing is read or written here.
+//! What each task comes to on a script: the text, its values, and the exit status. Nothing is read or written here.
 
 ghost use Rattle.std.specs.Prelude.{◌≡◌, ◌≤◌, IfOk, IsTrue};
 ghost use Rattle.wb_model.specs.Run.{run};
 ghost use Rattle.wb_model.specs.Sound.{is_script};
 ghost use Rattle.wb_model.specs.Space.{is_shape};
 ghost use Rattle.wb_command_line.specs.Command.{is_answerable};
-ghost use Rattle.workbench.specs.Figures.{no_figures};
+ghost use Rattle.workbench.specs.ReportValues.{no_values};
 ghost use Rattle.workbench.specs.Report.{IsRunReport, IsTaskReport};
 ghost use Rattle.workbench.specs.RunText.{outcome_status};
 ghost use Rattle.workbench.specs.TwoNumbers.{IsSizeReport, IsSweepReport, IsCheckReport};
 
-use crate::figures::{FailingNumber, Figures};
 use crate::numbers_text::{put_cut_at, put_sizing, put_sweep};
 use crate::report::Report;
+use crate::report_values::{FailingNumber, ReportValues};
 use crate::run_text::put_run;
 use std::alloc::Global;
 use wb_command_line::command::{Command, Task};
@@ -45,7 +45,7 @@ pub fn carry_out<P: Progress>(
     requires ranges { IsTrue (is_answerable command.now) }
     requires sound { IsTrue (is_script script.now) }
     ensures { IfOk result (λ r. IsTaskReport command.now.task script.now
-        command.now.budget command.now.shape r.text.items r.figures r.status) }
+        command.now.budget command.now.shape r.text.items r.values r.status) }
 {
     let (budget, shape) = (command.budget, command.shape);
     match command.task {
@@ -69,7 +69,7 @@ fn run_report(
     requires greatest { budget ≤ LARGEST_BUDGET }
     requires shape { IsTrue (is_shape shape) }
     ensures { IfOk result (λ r. IsRunReport (run script.now rule budget shape)
-        r.text.items r.figures r.status) }
+        r.text.items r.values r.status) }
 {
     match wb_machine::run(alloc, script, rule, budget, shape) {
         Ok(run) => {
@@ -77,7 +77,7 @@ fn run_report(
             put_run(&mut text, &run)?;
             Ok(Report {
                 text,
-                figures: Figures::of_run(&run),
+                values: ReportValues::of_run(&run),
                 status: status_of(&run.outcome),
                 at: None,
             })
@@ -112,7 +112,7 @@ fn size_report(
     requires greatest { budget ≤ LARGEST_BUDGET }
     requires shape { IsTrue (is_shape shape) }
     ensures { IfOk result (λ r. IsSizeReport script.now budget shape
-        r.text.items r.figures r.status) }
+        r.text.items r.values r.status) }
 {
     let mut text = Vec::new(alloc);
     match size(alloc, script, budget, shape) {
@@ -120,7 +120,7 @@ fn size_report(
             put_sizing(&mut text, &sizing)?;
             Ok(Report {
                 text,
-                figures: Figures::of_size(sizing),
+                values: ReportValues::of_size(sizing),
                 status: NOTHING_FOUND,
                 at: None,
             })
@@ -149,7 +149,7 @@ fn sweep_report<P: Progress>(
     requires greatest { budget ≤ LARGEST_BUDGET }
     requires shape { IsTrue (is_shape shape) }
     ensures { IfOk result (λ r. IsSweepReport failures script.now budget shape
-        r.text.items r.figures r.status) }
+        r.text.items r.values r.status) }
 {
     let mut text = Vec::new(alloc);
     match sweep(alloc, script, failures, budget, shape, progress) {
@@ -161,7 +161,7 @@ fn sweep_report<P: Progress>(
             };
             Ok(Report {
                 text,
-                figures: Figures::of_sweep(sweep.attempts, number),
+                values: ReportValues::of_sweep(sweep.attempts, number),
                 status,
                 at: sweep.found.map(|found| found.at),
             })
@@ -179,12 +179,12 @@ fn sweep_report<P: Progress>(
 /// The report of a run that was cut under a failure, whose line is the text.
 fn cut_report(text: Vec<u8>, at: Failing) -> Report
     ensures text { result.text ≡ text }
-    ensures figures { result.figures ≡ no_figures }
+    ensures values { result.values ≡ no_values }
     ensures status { result.status ≡ 3 }
 {
     Report {
         text,
-        figures: Figures::none(),
+        values: ReportValues::none(),
         status: CUT,
         at: Some(at),
     }
@@ -204,7 +204,7 @@ fn check_report<P: Progress>(
     requires greatest { budget ≤ LARGEST_BUDGET }
     requires shape { IsTrue (is_shape shape) }
     ensures { IfOk result (λ r. IsCheckReport failures script.now budget shape
-        r.text.items r.figures r.status) }
+        r.text.items r.values r.status) }
 {
     let mut report = size_report(alloc, script, budget, shape)?;
     if report.status == CUT {
@@ -212,7 +212,7 @@ fn check_report<P: Progress>(
     }
     let sweep = sweep_report(alloc, script, failures, budget, shape, progress)?;
     report.text.extend_from_slice(sweep.text.as_slice())?;
-    report.figures = Figures::of_both(report.figures, sweep.figures);
+    report.values = ReportValues::of_both(report.values, sweep.values);
     report.status = sweep.status;
     report.at = sweep.at;
     Ok(report)

@@ -6,15 +6,15 @@ ghost use Rattle.wb_model.specs.declared.heap.Rule.{Rule};
 ghost use Rattle.wb_model.specs.declared.script.Statement.TheOpen.{Statement-F};
 ghost use Rattle.wb_machine.specs.declared.pieces.Ending.TheVariants.{GoesOn};
 ghost use Rattle.wb_machine.specs.PointerOperands.{first_refusal, of_arguments};
-ghost use Rattle.wb_machine.specs.Flow.{where_of, AreSound, rest_from, rest_of_statement};
+ghost use Rattle.wb_machine.specs.Flow.{context_of, AreSound, rest_from, rest_of_statement};
 ghost use Rattle.wb_machine.specs.SlotInvariant.{slots_for_all};
 ghost use Rattle.wb_machine.specs.Owed.{IsQuiet};
 
-use crate::arguments::Handed;
-use crate::bodies::lines_of;
+use crate::arguments::CallArguments;
+use crate::bodies::content_of;
 use crate::control::{Control, procedure_at};
 use crate::locals::NULL;
-use crate::pieces::{After, Standing};
+use crate::pieces::{After, Context};
 use crate::state::State;
 use wb_model::memory::NoMemory;
 use wb_model::script::{Argument, Script};
@@ -25,7 +25,7 @@ impl<'a> Control<'a> {
     pub fn begin_call(
         &mut self,
         script: &'a Script,
-        at: Standing,
+        at: Context,
         index: u16,
         arguments: &[Argument],
         state: &mut State,
@@ -35,7 +35,7 @@ impl<'a> Control<'a> {
         requires there { index < length script.now.procedures }
         ensures kept { OnOk result ((r : Rule) (budget : ℕ) → first_refusal state.old (of_arguments arguments.now) ≡ None →
             rest_from script.now budget r self.new.ending self.new.pieces.items state.new
-            ≡ rest_of_statement script.now budget r (where_of at) (Statement-F.Call index arguments.now) self.old.pieces.items state.old) }
+            ≡ rest_of_statement script.now budget r (context_of at) (Statement-F.Call index arguments.now) self.old.pieces.items state.old) }
         ensures sound { OnOk result (AreSound script.now self.old.pieces.items →
             AreSound script.now self.new.pieces.items) }
         ensures quiet { IsQuiet state.old state.new }
@@ -43,9 +43,17 @@ impl<'a> Control<'a> {
             ≤ slots_for_all self.old.pieces.items) }
         ensures line { self.new.line ≡ self.old.line }
     {
-        let body = lines_of(procedure_at(script, index));
-        let handed = Handed::Arguments(arguments);
-        self.begin_body(script, at, NULL, handed, body, After::Nothing, state)
+        let body = content_of(procedure_at(script, index));
+        let call_arguments = CallArguments::Arguments(arguments);
+        self.begin_body(
+            script,
+            at,
+            NULL,
+            call_arguments,
+            body,
+            After::Nothing,
+            state,
+        )
     }
 
     /// The body of a procedure, whose result a local of the caller gets.
@@ -53,7 +61,7 @@ impl<'a> Control<'a> {
     pub fn begin_call_to(
         &mut self,
         script: &'a Script,
-        at: Standing,
+        at: Context,
         target: u8,
         index: u16,
         arguments: &[Argument],
@@ -64,7 +72,7 @@ impl<'a> Control<'a> {
         requires there { index < length script.now.procedures }
         ensures kept { OnOk result ((r : Rule) (budget : ℕ) → first_refusal state.old (of_arguments arguments.now) ≡ None →
             rest_from script.now budget r self.new.ending self.new.pieces.items state.new
-            ≡ rest_of_statement script.now budget r (where_of at) (Statement-F.CallTo target index arguments.now) self.old.pieces.items state.old) }
+            ≡ rest_of_statement script.now budget r (context_of at) (Statement-F.CallTo target index arguments.now) self.old.pieces.items state.old) }
         ensures sound { OnOk result (AreSound script.now self.old.pieces.items →
             AreSound script.now self.new.pieces.items) }
         ensures quiet { IsQuiet state.old state.new }
@@ -72,8 +80,16 @@ impl<'a> Control<'a> {
             ≤ slots_for_all self.old.pieces.items) }
         ensures line { self.new.line ≡ self.old.line }
     {
-        let body = lines_of(procedure_at(script, index));
-        let handed = Handed::Arguments(arguments);
-        self.begin_body(script, at, NULL, handed, body, After::Gives(target), state)
+        let body = content_of(procedure_at(script, index));
+        let call_arguments = CallArguments::Arguments(arguments);
+        self.begin_body(
+            script,
+            at,
+            NULL,
+            call_arguments,
+            body,
+            After::Gives(target),
+            state,
+        )
     }
 }

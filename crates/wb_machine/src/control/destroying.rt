@@ -11,18 +11,18 @@ ghost use Rattle.wb_model.specs.declared.script.Body.{Body};
 ghost use Rattle.wb_model.specs.declared.script.Script.{Script};
 ghost use Rattle.wb_machine.specs.declared.pieces.Ending.TheVariants.{GoesOn};
 ghost use Rattle.wb_machine.specs.Bodies.{IsBody};
-ghost use Rattle.wb_machine.specs.LocalValues.{values_handed};
+ghost use Rattle.wb_machine.specs.LocalValues.{values_of_arguments};
 ghost use Rattle.wb_machine.specs.RunState.{Values, RunState, state_of};
-ghost use Rattle.wb_machine.specs.Flow.{where_of, afterwards, frame_with, pending_in, AreOwn, AreSound, rest_from, rest_after, rest_of_piece, rest_of_body};
+ghost use Rattle.wb_machine.specs.Flow.{context_of, afterwards, frame_with, pending_in, AreOwn, AreSound, rest_from, rest_after, rest_of_piece, rest_of_body};
 ghost use Rattle.wb_machine.specs.ObjectInvariant.{StaysWhole};
 ghost use Rattle.wb_machine.specs.Owed.{IsQuiet, Stays};
 ghost use Rattle.wb_machine.specs.SlotInvariant.{slots_for_all, IsFree, IsFreeAfter, HasRoom};
 
-use crate::arguments::Handed;
+use crate::arguments::CallArguments;
 use crate::bodies::{destroy_at, operation_at};
 use crate::control::Control;
 use crate::locals::NULL;
-use crate::pieces::{After, Ending, Piece, Standing};
+use crate::pieces::{After, Context, Ending, PendingPiece};
 use crate::raiser::Raiser;
 use crate::state::State;
 use wb_model::heap::{Item, Panic, Ptr};
@@ -31,18 +31,18 @@ use wb_model::script::Script;
 
 impl<'a> Control<'a> {
     /// The destruction of an object; null is nothing.
-    pub fn begin_delete(&mut self, at: Standing, ptr: Ptr) -> Result<(), NoMemory>
+    pub fn begin_delete(&mut self, at: Context, ptr: Ptr) -> Result<(), NoMemory>
         requires { self.old.ending ≡ GoesOn }
         ensures kept { OnOk result ((script : Script) (r : Rule) (budget : ℕ) (h : RunState) →
             rest_from script budget r self.new.ending self.new.pieces.items h
-            ≡ rest_after script budget r (destroyed_object (is_null ptr) (meaning_of script budget) (where_of at) ptr (state_of script h)) self.old.pieces.items h) }
+            ≡ rest_after script budget r (destroyed_object (is_null ptr) (meaning_of script budget) (context_of at) ptr (state_of script h)) self.old.pieces.items h) }
         ensures sound { OnOk result ((script : Script) → AreSound script self.old.pieces.items → AreSound script self.new.pieces.items) }
         ensures slots { OnOk result (slots_for_all self.new.pieces.items
             ≤ slots_for_all self.old.pieces.items) }
         ensures line { self.new.line ≡ self.old.line }
     {
         if ptr.number != 0 {
-            self.push(Piece::Object(at, ptr))?;
+            self.push(PendingPiece::Object(at, ptr))?;
         }
         Ok(())
     }
@@ -51,7 +51,7 @@ impl<'a> Control<'a> {
     fn begin_item(
         &mut self,
         script: &'a Script,
-        at: Standing,
+        at: Context,
         item: Item,
         state: &mut State,
     ) -> Result<(), NoMemory>
@@ -59,7 +59,7 @@ impl<'a> Control<'a> {
         requires going { self.old.ending ≡ GoesOn }
         ensures kept { OnOk result ((r : Rule) (budget : ℕ) →
             rest_from script.now budget r self.new.ending self.new.pieces.items state.new
-            ≡ rest_after script.now budget r (destroyed_item script.now (meaning_of script.now budget) (where_of at) item (state_of script.now state.old)) self.old.pieces.items state.old) }
+            ≡ rest_after script.now budget r (destroyed_item script.now (meaning_of script.now budget) (context_of at) item (state_of script.now state.old)) self.old.pieces.items state.old) }
         ensures sound { OnOk result (AreSound script.now self.old.pieces.items → AreSound script.now self.new.pieces.items) }
         ensures quiet { IsQuiet state.old state.new }
         ensures slots { OnOk result (slots_for_all self.new.pieces.items
@@ -78,7 +78,7 @@ impl<'a> Control<'a> {
                     script,
                     at,
                     NULL,
-                    Handed::Item(ptr),
+                    CallArguments::Item(ptr),
                     body,
                     After::Nothing,
                     state,
@@ -92,7 +92,7 @@ impl<'a> Control<'a> {
     pub fn step_items(
         &mut self,
         script: &'a Script,
-        at: Standing,
+        at: Context,
         left: u32,
         state: &mut State,
     ) -> Result<(), NoMemory>
@@ -103,7 +103,7 @@ impl<'a> Control<'a> {
         requires steps { state.old.steps + 1 < 2 ^ 32 }
         ensures kept { OnOk result ((r : Rule) (budget : ℕ) → state.old.steps < budget →
             rest_from script.now budget r self.new.ending self.new.pieces.items state.new
-            ≡ rest_of_piece script.now budget r (doing (where_of at) (destroy_items left)) self.old.pieces.items state.old) }
+            ≡ rest_of_piece script.now budget r (doing (context_of at) (destroy_items left)) self.old.pieces.items state.old) }
         ensures sound { OnOk result (AreSound script.now self.old.pieces.items → AreSound script.now self.new.pieces.items) }
         ensures stays { Stays state.old state.new }
         ensures whole { OnOk result (StaysWhole script.now state.old state.new) }
@@ -113,7 +113,7 @@ impl<'a> Control<'a> {
     {
         state.tick();
         self.raiser = Raiser::Item;
-        self.push(Piece::Items(at, left - 1))?;
+        self.push(PendingPiece::Items(at, left - 1))?;
         match state.take_newest() {
             Some(item) => self.begin_item(script, at, item, state),
             None => {
@@ -129,7 +129,7 @@ impl<'a> Control<'a> {
     pub fn step_object(
         &mut self,
         script: &'a Script,
-        at: Standing,
+        at: Context,
         ptr: Ptr,
         state: &mut State,
     ) -> Result<(), NoMemory>
@@ -139,7 +139,7 @@ impl<'a> Control<'a> {
         requires steps { state.old.steps + 1 < 2 ^ 32 }
         ensures kept { OnOk result ((r : Rule) (budget : ℕ) → state.old.steps < budget →
             rest_from script.now budget r self.new.ending self.new.pieces.items state.new
-            ≡ rest_of_piece script.now budget r (doing (where_of at) (destroy_object ptr)) self.old.pieces.items state.old) }
+            ≡ rest_of_piece script.now budget r (doing (context_of at) (destroy_object ptr)) self.old.pieces.items state.old) }
         ensures sound { OnOk result (AreSound script.now self.old.pieces.items → AreSound script.now self.new.pieces.items) }
         ensures stays { Stays state.old state.new }
         ensures whole { OnOk result (StaysWhole script.now state.old state.new) }
@@ -155,7 +155,7 @@ impl<'a> Control<'a> {
                     script,
                     at,
                     ptr,
-                    Handed::Arguments(&[]),
+                    CallArguments::Arguments(&[]),
                     body,
                     After::Releases(ptr),
                     state,

@@ -10,41 +10,41 @@ ghost use Rattle.wb_model.specs.declared.script.Statement.TheOpen.{Statement-F};
 ghost use Rattle.wb_model.specs.declared.script.Statement.TheViews.{out-Statement};
 ghost use Rattle.wb_machine.specs.declared.pieces.Ending.TheVariants.{GoesOn};
 ghost use Rattle.wb_machine.specs.Bodies.{IsBody};
-ghost use Rattle.wb_machine.specs.LocalValues.{is_small, values_handed};
-ghost use Rattle.wb_machine.specs.PointerOperands.{first_refusal, of_condition, operands_refused};
-ghost use Rattle.wb_machine.specs.Flow.{where_of, afterwards, AreOwn, IsOwn, AreSound, FitsStep, rest_from, rest_of_statement, rest_of_body};
+ghost use Rattle.wb_machine.specs.LocalValues.{is_small, values_of_arguments};
+ghost use Rattle.wb_machine.specs.PointerOperands.{first_refusal, of_condition, operands_refusal};
+ghost use Rattle.wb_machine.specs.Flow.{context_of, afterwards, AreOwn, IsOwn, AreSound, FitsStep, rest_from, rest_of_statement, rest_of_body};
 ghost use Rattle.wb_machine.specs.ObjectInvariant.{StaysWhole};
 ghost use Rattle.wb_machine.specs.SlotInvariant.{slots_for_all, IsFree, HasRoom};
 ghost use Rattle.wb_machine.specs.Owed.{HasStack, MayAttempt, KeepsSteps, IsQuiet};
 
-use crate::arguments::Handed;
-use crate::bodies::{Lines, construct_at};
+use crate::arguments::CallArguments;
+use crate::bodies::{BodyContent, construct_at};
 use crate::control::Control;
 use crate::operands::{not_negative, number_within};
-use crate::pieces::{After, Ending, Piece, Standing};
+use crate::pieces::{After, Context, Ending, PendingPiece};
 use crate::raiser::Raiser;
 use crate::state::State;
 use wb_model::heap::{Panic, Ptr};
 use wb_model::limits::{MOST_FRAMES, MOST_TURNS};
 use wb_model::memory::NoMemory;
-use wb_model::script::{Condition, Number, Numbered, Pointer, Script, Statement};
+use wb_model::script::{Condition, Number, Pointer, Script, Statement, StatementAt};
 
 impl<'a> Control<'a> {
     /// The part of an `if` that its condition chooses, where there is one.
     #[inline(always)]
     fn begin_if(
         &mut self,
-        at: Standing,
+        at: Context,
         condition: &Condition,
-        first: &'a [Numbered],
-        other: &'a [Numbered],
+        first: &'a [StatementAt],
+        other: &'a [StatementAt],
         script: &Script,
         state: &State,
     ) -> Result<(), NoMemory>
         requires { self.old.ending ≡ GoesOn }
         ensures kept { OnOk result ((r : Rule) (budget : ℕ) → first_refusal state.now (of_condition condition.now) ≡ None →
             rest_from script.now budget r self.new.ending self.new.pieces.items state.now
-            ≡ rest_of_statement script.now budget r (where_of at) (Statement-F.IfElse condition.now first.now other.now) self.old.pieces.items state.now) }
+            ≡ rest_of_statement script.now budget r (context_of at) (Statement-F.IfElse condition.now first.now other.now) self.old.pieces.items state.now) }
         ensures sound { OnOk result ((script : Script) → AreOwn script first.now → AreOwn script other.now → AreSound script self.old.pieces.items → AreSound script self.new.pieces.items) }
         ensures ending { OnOk result (self.new.ending ≡ GoesOn) }
         ensures slots { OnOk result (slots_for_all self.new.pieces.items
@@ -59,7 +59,7 @@ impl<'a> Control<'a> {
         if part.is_empty() {
             return Ok(());
         }
-        self.push(Piece::Code(at, part))?;
+        self.push(PendingPiece::Code(at, part))?;
         Ok(())
     }
 
@@ -67,22 +67,22 @@ impl<'a> Control<'a> {
     #[inline(never)]
     fn begin_repeat(
         &mut self,
-        at: Standing,
+        at: Context,
         count: &Number,
-        body: &'a [Numbered],
+        body: &'a [StatementAt],
         state: &State,
     ) -> Result<(), NoMemory>
         requires { self.old.ending ≡ GoesOn }
         ensures kept { OnOk result ((script : Script) (r : Rule) (budget : ℕ) →
             rest_from script budget r self.new.ending self.new.pieces.items state.now
-            ≡ rest_of_statement script budget r (where_of at) (Statement-F.Repeat count.now body.now) self.old.pieces.items state.now) }
+            ≡ rest_of_statement script budget r (context_of at) (Statement-F.Repeat count.now body.now) self.old.pieces.items state.now) }
         ensures sound { OnOk result ((script : Script) → AreOwn script body.now → AreSound script self.old.pieces.items → AreSound script self.new.pieces.items) }
         ensures slots { OnOk result (slots_for_all self.new.pieces.items
             ≤ slots_for_all self.old.pieces.items) }
         ensures line { self.new.line ≡ self.old.line }
     {
         match number_within(MOST_TURNS, state.number(*count)) {
-            Some(turns) => self.push(Piece::Turns(at, turns, body))?,
+            Some(turns) => self.push(PendingPiece::Turns(at, turns, body))?,
             None => self.ending = Ending::Panics(Panic::NUMBER_OUT_OF_RANGE),
         }
         Ok(())
@@ -92,15 +92,15 @@ impl<'a> Control<'a> {
     #[inline(never)]
     fn begin_trap(
         &mut self,
-        at: Standing,
+        at: Context,
         local: u8,
-        body: &'a [Numbered],
+        body: &'a [StatementAt],
         state: &State,
     ) -> Result<(), NoMemory>
         requires { self.old.ending ≡ GoesOn }
         ensures kept { OnOk result ((script : Script) (r : Rule) (budget : ℕ) →
             rest_from script budget r self.new.ending self.new.pieces.items state.now
-            ≡ rest_of_statement script budget r (where_of at) (Statement-F.Trap local body.now) self.old.pieces.items state.now) }
+            ≡ rest_of_statement script budget r (context_of at) (Statement-F.Trap local body.now) self.old.pieces.items state.now) }
         ensures sound { OnOk result ((script : Script) → AreOwn script body.now → AreSound script self.old.pieces.items → AreSound script self.new.pieces.items) }
         ensures ending { OnOk result (self.new.ending ≡ GoesOn) }
         ensures slots { OnOk result (slots_for_all self.new.pieces.items
@@ -108,20 +108,20 @@ impl<'a> Control<'a> {
         ensures line { self.new.line ≡ self.old.line }
     {
         let entry = state.items();
-        self.push(Piece::Trap(at, local, entry))?;
-        let inside = Standing { floor: entry, ..at };
-        self.push(Piece::Code(inside, body))?;
+        self.push(PendingPiece::Trap(at, local, entry))?;
+        let inside = Context { floor: entry, ..at };
+        self.push(PendingPiece::Code(inside, body))?;
         Ok(())
     }
 
     /// The destruction of the newest items. As many must stand above the entry of the innermost TRAP, which is asked before the
     /// first is destroyed.
     #[inline(never)]
-    fn begin_pop(&mut self, at: Standing, count: &Number, state: &State) -> Result<(), NoMemory>
+    fn begin_pop(&mut self, at: Context, count: &Number, state: &State) -> Result<(), NoMemory>
         requires { self.old.ending ≡ GoesOn }
         ensures kept { OnOk result ((script : Script) (r : Rule) (budget : ℕ) →
             rest_from script budget r self.new.ending self.new.pieces.items state.now
-            ≡ rest_of_statement script budget r (where_of at) (Statement-F.PopDestroy count.now) self.old.pieces.items state.now) }
+            ≡ rest_of_statement script budget r (context_of at) (Statement-F.PopDestroy count.now) self.old.pieces.items state.now) }
         ensures sound { OnOk result ((script : Script) → AreSound script self.old.pieces.items → AreSound script self.new.pieces.items) }
         ensures slots { OnOk result (slots_for_all self.new.pieces.items
             ≤ slots_for_all self.old.pieces.items) }
@@ -132,7 +132,7 @@ impl<'a> Control<'a> {
             return Ok(());
         };
         if u64::from(at.floor) + u64::from(count) <= u64::from(state.items()) {
-            self.push(Piece::Items(at, count))?;
+            self.push(PendingPiece::Items(at, count))?;
         } else {
             self.ending = Ending::Panics(Panic::POP_BELOW_TRAP);
         }
@@ -144,7 +144,7 @@ impl<'a> Control<'a> {
     fn begin_construct(
         &mut self,
         script: &'a Script,
-        at: Standing,
+        at: Context,
         object: &Pointer,
         state: &mut State,
     ) -> Result<(), NoMemory>
@@ -152,7 +152,7 @@ impl<'a> Control<'a> {
         requires going { self.old.ending ≡ GoesOn }
         ensures kept { OnOk result ((r : Rule) (budget : ℕ) → first_refusal state.old (object.now ∷ []) ≡ None →
             rest_from script.now budget r self.new.ending self.new.pieces.items state.new
-            ≡ rest_of_statement script.now budget r (where_of at) (Statement-F.Construct object.now) self.old.pieces.items state.old) }
+            ≡ rest_of_statement script.now budget r (context_of at) (Statement-F.Construct object.now) self.old.pieces.items state.old) }
         ensures sound { OnOk result (AreSound script.now self.old.pieces.items →
             AreSound script.now self.new.pieces.items) }
         ensures quiet { IsQuiet state.old state.new }
@@ -168,7 +168,7 @@ impl<'a> Control<'a> {
                     script,
                     at,
                     this,
-                    Handed::Arguments(&[]),
+                    CallArguments::Arguments(&[]),
                     body,
                     After::Nothing,
                     state,
@@ -186,7 +186,7 @@ impl<'a> Control<'a> {
     fn begin_delete_of(
         &mut self,
         script: &Script,
-        at: Standing,
+        at: Context,
         object: &Pointer,
         state: &State,
     ) -> Result<(), NoMemory>
@@ -194,7 +194,7 @@ impl<'a> Control<'a> {
         ensures kept { OnOk result ((r : Rule) (budget : ℕ) →
             first_refusal state.now (object.now ∷ []) ≡ None →
             rest_from script.now budget r self.new.ending self.new.pieces.items state.now
-            ≡ rest_of_statement script.now budget r (where_of at) (Statement-F.Delete object.now) self.old.pieces.items state.now) }
+            ≡ rest_of_statement script.now budget r (context_of at) (Statement-F.Delete object.now) self.old.pieces.items state.now) }
         ensures sound { OnOk result (AreSound script.now self.old.pieces.items →
             AreSound script.now self.new.pieces.items) }
         ensures room { OnOk result (IsFree self.old.pieces.items state.now →
@@ -210,10 +210,10 @@ impl<'a> Control<'a> {
     pub fn begin_body(
         &mut self,
         script: &Script,
-        at: Standing,
+        at: Context,
         this: Ptr,
-        handed: Handed,
-        body: Lines<'a>,
+        call_arguments: CallArguments,
+        body: BodyContent<'a>,
         after: After,
         state: &mut State,
     ) -> Result<(), NoMemory>
@@ -221,7 +221,7 @@ impl<'a> Control<'a> {
         requires locals { IsTrue (list_all is_small body.locals.now) }
         ensures kept { OnOk result ((r : Rule) (budget : ℕ) (b : Body) → IsBody body.entry b →
             rest_from script.now budget r self.new.ending self.new.pieces.items state.new
-            ≡ rest_of_body script.now budget r (where_of at) this (values_handed script.now state.old handed.entry) b (afterwards after) self.old.pieces.items state.old) }
+            ≡ rest_of_body script.now budget r (context_of at) this (values_of_arguments script.now state.old call_arguments.entry) b (afterwards after) self.old.pieces.items state.old) }
         ensures sound { OnOk result ((script : Script) → AreOwn script body.entry.statements.now → AreSound script self.old.pieces.items → AreSound script self.new.pieces.items) }
         ensures quiet { IsQuiet state.old state.new }
         ensures slots { OnOk result (slots_for_all self.new.pieces.items
@@ -233,13 +233,13 @@ impl<'a> Control<'a> {
             return Ok(());
         }
         let caller = state.this();
-        let base = state.call(script, this, handed, body.locals)?;
-        self.push(Piece::Call(base, caller, after))?;
-        let inside = Standing {
+        let base = state.call(script, this, call_arguments, body.locals)?;
+        self.push(PendingPiece::Call(base, caller, after))?;
+        let inside = Context {
             depth: at.depth + 1,
             ..at
         };
-        self.push(Piece::Code(inside, body.statements))?;
+        self.push(PendingPiece::Code(inside, body.statements))?;
         Ok(())
     }
 
@@ -249,14 +249,14 @@ impl<'a> Control<'a> {
     pub fn begin_statement(
         &mut self,
         script: &'a Script,
-        at: Standing,
+        at: Context,
         statement: &'a Statement,
         state: &mut State,
     ) -> Result<(), NoMemory>
         requires script { IsTrue (is_script script.now) }
         requires going { self.old.ending ≡ GoesOn }
         requires own { IsOwn script.now (out-Statement statement.now) }
-        requires operands { operands_refused state.old (out-Statement statement.now) ≡ None }
+        requires operands { operands_refusal state.old (out-Statement statement.now) ≡ None }
         requires sound { AreSound script.now self.old.pieces.items }
         requires number { MayAttempt state.old }
         requires level { state.old.debug.heap.level + 1 < 2 ^ 32 }
@@ -264,7 +264,7 @@ impl<'a> Control<'a> {
         requires stack { HasStack state.old }
         ensures kept { OnOk result ((r : Rule) (budget : ℕ) → FitsStep r state.old self.new.ending state.new →
             rest_from script.now budget r self.new.ending self.new.pieces.items state.new
-            ≡ rest_of_statement script.now budget r (where_of at) (out-Statement statement.now) self.old.pieces.items state.old) }
+            ≡ rest_of_statement script.now budget r (context_of at) (out-Statement statement.now) self.old.pieces.items state.old) }
         ensures sound { OnOk result (AreSound script.now self.new.pieces.items) }
         ensures keeps { KeepsSteps state.old state.new }
         ensures whole { OnOk result (StaysWhole script.now state.old state.new) }
@@ -310,7 +310,7 @@ impl<'a> Control<'a> {
     pub fn begin_unless_refused(
         &mut self,
         script: &'a Script,
-        at: Standing,
+        at: Context,
         statement: &'a Statement,
         state: &mut State,
     ) -> Result<(), NoMemory>
@@ -324,14 +324,14 @@ impl<'a> Control<'a> {
         requires stack { HasStack state.old }
         ensures kept { OnOk result ((r : Rule) (budget : ℕ) → FitsStep r state.old self.new.ending state.new →
             rest_from script.now budget r self.new.ending self.new.pieces.items state.new
-            ≡ rest_of_statement script.now budget r (where_of at) (out-Statement statement.now) self.old.pieces.items state.old) }
+            ≡ rest_of_statement script.now budget r (context_of at) (out-Statement statement.now) self.old.pieces.items state.old) }
         ensures sound { OnOk result (AreSound script.now self.new.pieces.items) }
         ensures keeps { KeepsSteps state.old state.new }
         ensures whole { OnOk result (StaysWhole script.now state.old state.new) }
         ensures room { OnOk result (HasRoom self.new.ending self.new.pieces.items state.new) }
         ensures line { self.new.line ≡ self.old.line }
     {
-        match state.operands_refused(statement) {
+        match state.operands_refusal(statement) {
             Some(panic) => {
                 self.raiser = Raiser::Holder;
                 self.ending = Ending::Panics(panic);

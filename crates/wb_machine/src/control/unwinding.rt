@@ -5,17 +5,17 @@ ghost use Rattle.wb_model.specs.Statements.{destroy_items};
 ghost use Rattle.wb_model.specs.Rest.{doing, catching, caught, calling, main_catching, main_caught};
 ghost use Rattle.wb_model.specs.declared.heap.Rule.{Rule};
 ghost use Rattle.wb_model.specs.declared.script.Script.{Script};
-ghost use Rattle.wb_machine.specs.declared.pieces.Piece.{Piece};
+ghost use Rattle.wb_machine.specs.declared.pieces.PendingPiece.{PendingPiece};
 ghost use Rattle.wb_machine.specs.declared.pieces.Ending.TheVariants.{GoesOn};
 ghost use Rattle.wb_machine.specs.RunState.{Values, RunState};
-ghost use Rattle.wb_machine.specs.Flow.{where_of, in_main_frame, frame_with, afterwards, pending_of, callers_under, pending_in, needs_step, weight, weight_of, is_stop, is_over, IsSoundPiece, AreSound, IsReady, rest_from, rest_under};
-ghost use Rattle.wb_machine.specs.Bodies.{followed_carried};
+ghost use Rattle.wb_machine.specs.Flow.{context_of, in_main_frame, frame_with, afterwards, pending_of, callers_under, pending_in, needs_step, weight, weight_of, is_stop, is_over, IsSoundPiece, AreSound, IsReady, rest_from, rest_under};
+ghost use Rattle.wb_machine.specs.Bodies.{followed_effect};
 ghost use Rattle.wb_machine.specs.Owed.{CarriesOut, IsQuiet};
 ghost use Rattle.wb_machine.specs.SlotInvariant.{slots_for, slots_for_all, to_destroy_first, HasRoom, HasRoomUnder};
 
 use crate::control::Control;
 use crate::locals::{NULL, Slot};
-use crate::pieces::{After, Ending, IN_MAIN, Piece, Standing, needs_step};
+use crate::pieces::{After, Context, Ending, IN_MAIN, PendingPiece, needs_step};
 use crate::raiser::Raiser;
 use crate::state::State;
 use std::alloc::AllocError;
@@ -26,7 +26,7 @@ impl<'a> Control<'a> {
     /// Whether the piece on top takes how the one above it ended: the run isn't stopped, and no step is to come.
     #[inline(always)]
     fn is_done(&self) -> bool
-        ensures yes { IsTrue result → (is_stop self.now.ending ≡ false) × (0 < vec_len self.now.pieces) × ((below : List Piece) (p : Piece) → self.now.pieces.items ≡ below ++ p ∷ [] → self.now.ending ≡ GoesOn → needs_step p ≡ false) }
+        ensures yes { IsTrue result → (is_stop self.now.ending ≡ false) × (0 < vec_len self.now.pieces) × ((below : List PendingPiece) (p : PendingPiece) → self.now.pieces.items ≡ below ++ p ∷ [] → self.now.ending ≡ GoesOn → needs_step p ≡ false) }
         ensures no { result ≡ false → (is_over self.now.ending self.now.pieces.items ≡ true) ⊎ IsReady self.now.ending self.now.pieces.items }
     {
         match (self.ending, self.pieces.last()) {
@@ -40,13 +40,13 @@ impl<'a> Control<'a> {
     /// The items above the `entry` first ones are to be destroyed, and a piece stands under that.
     fn destroy_to(
         &mut self,
-        at: Standing,
+        at: Context,
         entry: u32,
-        then: Piece<'a>,
+        then: PendingPiece<'a>,
         state: &State,
     ) -> Result<(), AllocError>
         ensures pieces { OnOk result ((callers : Values) → pending_in callers self.new.pieces.items
-            ≡ doing (where_of at) (destroy_items (length state.now.items - entry)) ∷ pending_of callers then.entry ∷ pending_in (callers_under callers then.entry) self.old.pieces.items) }
+            ≡ doing (context_of at) (destroy_items (length state.now.items - entry)) ∷ pending_of callers then.entry ∷ pending_in (callers_under callers then.entry) self.old.pieces.items) }
         ensures weight { OnOk result (weight_of self.new.pieces.items ≡ weight_of self.old.pieces.items + weight then.entry + 1) }
         ensures sound { OnOk result ((script : Script) → IsSoundPiece script then.entry → AreSound script self.old.pieces.items → AreSound script self.new.pieces.items) }
         ensures slots { OnOk result (slots_for_all self.new.pieces.items
@@ -58,7 +58,7 @@ impl<'a> Control<'a> {
     {
         let left = state.items().saturating_sub(entry);
         self.push(then)?;
-        self.push(Piece::Items(at, left))?;
+        self.push(PendingPiece::Items(at, left))?;
         Ok(())
     }
 
@@ -66,9 +66,9 @@ impl<'a> Control<'a> {
     /// left, the items above those of its entry are to be destroyed, and then the local gets the code. No body returns out
     /// of one.
     #[inline(never)]
-    fn fall_trap(
+    fn unwind_trap(
         &mut self,
-        at: Standing,
+        at: Context,
         local: u8,
         entry: u32,
         state: &mut State,
@@ -76,7 +76,7 @@ impl<'a> Control<'a> {
         requires { is_stop self.old.ending ≡ false }
         ensures kept { OnOk result ((script : Script) (r : Rule) (budget : ℕ) → state.old.steps ≤ budget →
             rest_from script budget r self.new.ending self.new.pieces.items state.new
-            ≡ rest_under script budget r self.old.ending (catching (where_of at) local entry ∷ pending_in state.old.callers self.old.pieces.items) state.old) }
+            ≡ rest_under script budget r self.old.ending (catching (context_of at) local entry ∷ pending_in state.old.callers self.old.pieces.items) state.old) }
         ensures lighter { OnOk result (weight_of self.new.pieces.items < weight_of self.old.pieces.items + 3) }
         ensures sound { OnOk result ((script : Script) → AreSound script self.old.pieces.items → AreSound script self.new.pieces.items) }
         ensures quiet { IsQuiet state.old state.new }
@@ -93,7 +93,7 @@ impl<'a> Control<'a> {
             }
             Ending::Leaves(code) => {
                 self.ending = Ending::GoesOn;
-                self.destroy_to(at, entry, Piece::Caught(local, code), state)?;
+                self.destroy_to(at, entry, PendingPiece::Caught(local, code), state)?;
             }
             Ending::Returns(_) => {}
             Ending::Panics(_) | Ending::Cut(_) | Ending::NoCleanup => unreachable!(),
@@ -102,7 +102,7 @@ impl<'a> Control<'a> {
     }
 
     /// A TRAP's local gets the code of a leave, once the items are destroyed.
-    fn fall_caught(&mut self, local: u8, code: i32, state: &mut State)
+    fn unwind_caught(&mut self, local: u8, code: i32, state: &mut State)
         requires { is_stop self.old.ending ≡ false }
         ensures kept { (script : Script) (r : Rule) (budget : ℕ) →
             rest_from script budget r self.new.ending self.old.pieces.items state.new
@@ -121,7 +121,7 @@ impl<'a> Control<'a> {
     /// `main` ends plainly where its body returned; no item may stand then. Where it was left, all items are to be destroyed,
     /// and then the leave goes on.
     #[inline(never)]
-    fn fall_main(&mut self, state: &State) -> Result<(), AllocError>
+    fn unwind_main(&mut self, state: &State) -> Result<(), AllocError>
         requires { is_stop self.old.ending ≡ false }
         ensures kept { OnOk result ((script : Script) (r : Rule) (budget : ℕ) → state.now.steps ≤ budget →
             rest_from script budget r self.new.ending self.new.pieces.items state.now
@@ -135,7 +135,7 @@ impl<'a> Control<'a> {
         match self.ending {
             Ending::Leaves(code) => {
                 self.ending = Ending::GoesOn;
-                self.destroy_to(IN_MAIN, 0, Piece::MainCaught(code), state)?;
+                self.destroy_to(IN_MAIN, 0, PendingPiece::MainCaught(code), state)?;
             }
             _ if state.items() == 0 => self.ending = Ending::GoesOn,
             _ => {
@@ -147,7 +147,7 @@ impl<'a> Control<'a> {
     }
 
     /// `main` is left with a code, once the items are destroyed.
-    fn fall_main_caught(&mut self, code: i32)
+    fn unwind_main_caught(&mut self, code: i32)
         requires { is_stop self.old.ending ≡ false }
         ensures kept { (script : Script) (r : Rule) (budget : ℕ) (h : RunState) →
             rest_from script budget r self.new.ending self.old.pieces.items h
@@ -164,7 +164,7 @@ impl<'a> Control<'a> {
 
     /// A body has ended: the caller's frame, which begins at `base` and runs a body of `this`, is the innermost again. Then
     /// comes what follows; a body that ran out gives null. A leave goes on.
-    fn fall_call(&mut self, base: usize, this: Ptr, after: After, state: &mut State)
+    fn unwind_call(&mut self, base: usize, this: Ptr, after: After, state: &mut State)
         requires { is_stop self.old.ending ≡ false }
         ensures kept { (script : Script) (r : Rule) (budget : ℕ) →
             rest_from script budget r self.new.ending self.old.pieces.items state.new
@@ -188,7 +188,7 @@ impl<'a> Control<'a> {
 
     /// A piece without a step takes how the one above it ended.
     #[inline(always)]
-    fn fall(&mut self, piece: Piece<'a>, state: &mut State) -> Result<(), AllocError>
+    fn unwind(&mut self, piece: PendingPiece<'a>, state: &mut State) -> Result<(), AllocError>
         requires stop { is_stop self.old.ending ≡ false }
         requires done { self.old.ending ≡ GoesOn → needs_step piece ≡ false }
         ensures kept { OnOk result ((script : Script) (r : Rule) (budget : ℕ) → state.old.steps ≤ budget →
@@ -203,15 +203,15 @@ impl<'a> Control<'a> {
         ensures line { self.new.line ≡ self.old.line }
     {
         match piece {
-            Piece::Code(..) => {}
-            Piece::Turns(..) => {}
-            Piece::Items(..) => {}
-            Piece::Object(..) => {}
-            Piece::Trap(at, local, entry) => self.fall_trap(at, local, entry, state)?,
-            Piece::Caught(local, code) => self.fall_caught(local, code, state),
-            Piece::MainTrap => self.fall_main(state)?,
-            Piece::MainCaught(code) => self.fall_main_caught(code),
-            Piece::Call(base, this, after) => self.fall_call(base, this, after, state),
+            PendingPiece::Code(..) => {}
+            PendingPiece::Turns(..) => {}
+            PendingPiece::Items(..) => {}
+            PendingPiece::Object(..) => {}
+            PendingPiece::Trap(at, local, entry) => self.unwind_trap(at, local, entry, state)?,
+            PendingPiece::Caught(local, code) => self.unwind_caught(local, code, state),
+            PendingPiece::MainTrap => self.unwind_main(state)?,
+            PendingPiece::MainCaught(code) => self.unwind_main_caught(code),
+            PendingPiece::Call(base, this, after) => self.unwind_call(base, this, after, state),
         }
         Ok(())
     }
@@ -231,7 +231,7 @@ impl<'a> Control<'a> {
     {
         while self.is_done() {
             if let Some(piece) = self.pieces.pop() {
-                self.fall(piece, state)?;
+                self.unwind(piece, state)?;
             }
         }
         Ok(())
@@ -240,7 +240,7 @@ impl<'a> Control<'a> {
 
 /// What follows the end of a body that gave a result, in its caller's frame.
 fn follow(after: After, given: Ptr, state: &mut State) -> Ending
-    ensures followed { CarriesOut state.old (followed_carried state.old after given) result state.new }
+    ensures followed { CarriesOut state.old (followed_effect state.old after given) result state.new }
     ensures quiet { IsQuiet state.old state.new }
 {
     match after {

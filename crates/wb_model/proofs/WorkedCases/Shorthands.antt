@@ -17,7 +17,7 @@ use Rattle.wb_model.specs.declared.script.Local.{Local}
 use Rattle.wb_model.specs.declared.script.Parameter.{Parameter}
 use Rattle.wb_model.specs.declared.size.Rise.{Rise}
 use Rattle.wb_model.specs.declared.script.Statement.{Statement}
-use Rattle.wb_model.specs.declared.script.Numbered.{Numbered}
+use Rattle.wb_model.specs.declared.script.StatementAt.{StatementAt}
 use Rattle.wb_model.specs.declared.script.Statement.TheOpen.{Statement-F}
 use Rattle.wb_model.specs.declared.script.Statement.TheViews.{out-Statement, roll-Statement}
 use Rattle.wb_model.specs.Run.{run}
@@ -30,7 +30,7 @@ unfolding out-Statement
     denote.Hole.Carrier.roll
     denote.Hole.Carrier.shown
     denote.Hole.Carrier.hidden
-    Rattle.wb_model.specs.declared.script.Statement.TheBlock.shown-the_row-Numbered-0
+    Rattle.wb_model.specs.declared.script.Statement.TheBlock.shown-the_row-StatementAt-0
     digits
     Rattle.wb_model.specs.Attempts.attempt
     Rattle.wb_model.specs.Attempts.allocate
@@ -86,7 +86,7 @@ unfolding out-Statement
     Rattle.wb_model.specs.Statements.statement
 everything = tt
 
-abbrev pub on : ℕ → Statement-F Statement Numbered → Numbered
+abbrev pub on : ℕ → Statement-F Statement StatementAt → StatementAt
 on line layer = record { line = line; statement = roll-Statement layer }
 
 abbrev pub script : List Class → List Procedure → List Operation → List (List ℕ) → ℕ → Script
@@ -102,7 +102,7 @@ procedure line parameters body = record { line = line; parameters = parameters; 
 abbrev pub operation : ℕ → Body → Operation
 operation line body = record { line = line; body = body }
 
-abbrev pub body : List Local → List Numbered → Body
+abbrev pub body : List Local → List StatementAt → Body
 body locals statements = record { locals = locals; statements = statements }
 
 abbrev pub result : Outcome → List Attempt → List (List ℕ) → List Note → ℕ → RunResult

@@ -3,57 +3,57 @@
 ghost use Rattle.std.specs.Prelude.{◌≡◌, IfOk, OnOk, ◌++◌, map};
 ghost use Rattle.std.specs.List.{flat_map};
 ghost use Rattle.std.specs.Option.{option_map, option_to_list};
-ghost use Rattle.wb_model.specs.Forms.{renamed_taken};
-ghost use Rattle.wb_model.specs.Names.{count_among, fields_begun, fields_behind, first_declaration_of, is_same_kind, item_begun, item_declared, item_of_kind, items_by, items_of, kind_begun, names_of, parameters_in, taken_by};
-ghost use Rattle.wb_lines.specs.Lent.{lent_form, lent_forms, lent_operand, lent_operands, lent_text, lent_texts};
-ghost use Rattle.wb_script.specs.Lent.{lent_item, lent_items};
+ghost use Rattle.wb_model.specs.Forms.{renamed_parameter_type};
+ghost use Rattle.wb_model.specs.Names.{count_among, fields_in_item, following_fields, first_declaration_of, is_same_kind, item_kind_in, declaration_of, item_of_kind, items_by, items_of, item_kind_of, names_of, parameters_in, parameter_type_of};
+ghost use Rattle.wb_lines.specs.BytesOf.{bytes_of_form, bytes_of_forms, bytes_of_operand, bytes_of_operands, bytes_of_text, bytes_of_texts};
+ghost use Rattle.wb_script.specs.BytesOf.{bytes_of_item, bytes_of_items};
 
-use crate::checks::known::first_name;
+use crate::checks::names_so_far::first_name;
 use std::alloc::{AllocError, Global};
 use wb_lines::forms::role;
 use wb_lines::lists::{add, add_some};
 use wb_lines::same::are_same;
 use wb_model::items::Items;
-use wb_model::script_lines::{Form, ItemKind, Key, Operand, Role, Taken};
+use wb_model::script_lines::{Form, ItemKind, LineKind, Operand, ParameterType, Role};
 
 /// Something of the script's own space: a class with the names of its fields, a procedure or an operation with what its
 /// parameters take.
 #[derive(Drop)]
-pub(crate) struct Item<'a> {
+pub(crate) struct Declaration<'a> {
     pub name: &'a [u8],
     pub kind: ItemKind,
-    pub parameters: Items<Taken<&'a [u8]>>,
+    pub parameters: Items<ParameterType<&'a [u8]>>,
     pub fields: Items<&'a [u8]>,
 }
 
-/// What a line of a key begins.
-fn kind_begun(key: Key) -> Option<ItemKind>
-    ensures { result ≡ kind_begun key }
+/// What a line of a line kind begins.
+fn item_kind_of(line_kind: LineKind) -> Option<ItemKind>
+    ensures { result ≡ item_kind_of line_kind }
 {
-    match key {
-        Key::Class => Some(ItemKind::Class),
-        Key::Proc => Some(ItemKind::Procedure),
-        Key::Op => Some(ItemKind::Operation),
+    match line_kind {
+        LineKind::Class => Some(ItemKind::Class),
+        LineKind::Proc => Some(ItemKind::Procedure),
+        LineKind::Op => Some(ItemKind::Operation),
         _ => None,
     }
 }
 
 /// What a line begins.
-pub(crate) fn item_begun(form: &Form<&[u8]>) -> Option<ItemKind>
-    ensures { result ≡ item_begun (lent_form form.now) }
+pub(crate) fn item_kind_in(form: &Form<&[u8]>) -> Option<ItemKind>
+    ensures { result ≡ item_kind_in (bytes_of_form form.now) }
 {
     match form {
-        Form::Line(key, _) => kind_begun(*key),
+        Form::Line(line_kind, _) => item_kind_of(*line_kind),
         _ => None,
     }
 }
 
 /// What an operand takes that is a parameter.
-fn taken_by<'a>(operand: &Operand<&'a [u8]>) -> Option<Taken<&'a [u8]>>
-    ensures { option_to_list (option_map (renamed_taken lent_text) result) ≡ taken_by (lent_operand operand.now) }
+fn parameter_type_of<'a>(operand: &Operand<&'a [u8]>) -> Option<ParameterType<&'a [u8]>>
+    ensures { option_to_list (option_map (renamed_parameter_type bytes_of_text) result) ≡ parameter_type_of (bytes_of_operand operand.now) }
 {
     match operand {
-        Operand::Parameter(_, taken) => Some(*taken),
+        Operand::Parameter(_, parameter_type) => Some(*parameter_type),
         _ => None,
     }
 }
@@ -62,12 +62,12 @@ fn taken_by<'a>(operand: &Operand<&'a [u8]>) -> Option<Taken<&'a [u8]>>
 fn parameters_among<'a>(
     alloc: Global,
     operands: &[Operand<&'a [u8]>],
-) -> Result<Vec<Taken<&'a [u8]>>, AllocError>
-    ensures { IfOk result (λ found. map (renamed_taken lent_text) found.items ≡ flat_map taken_by (lent_operands operands.now)) }
+) -> Result<Vec<ParameterType<&'a [u8]>>, AllocError>
+    ensures { IfOk result (λ found. map (renamed_parameter_type bytes_of_text) found.items ≡ flat_map parameter_type_of (bytes_of_operands operands.now)) }
 {
     let mut found = Vec::new(alloc);
     for operand in operands {
-        add_some(&mut found, taken_by(operand))?;
+        add_some(&mut found, parameter_type_of(operand))?;
     }
     Ok(found)
 }
@@ -76,8 +76,8 @@ fn parameters_among<'a>(
 fn parameters_in<'a>(
     alloc: Global,
     form: &Form<&'a [u8]>,
-) -> Result<Vec<Taken<&'a [u8]>>, AllocError>
-    ensures { IfOk result (λ found. map (renamed_taken lent_text) found.items ≡ parameters_in (lent_form form.now)) }
+) -> Result<Vec<ParameterType<&'a [u8]>>, AllocError>
+    ensures { IfOk result (λ found. map (renamed_parameter_type bytes_of_text) found.items ≡ parameters_in (bytes_of_form form.now)) }
 {
     match form {
         Form::Line(_, operands) => parameters_among(alloc, operands.as_slice()),
@@ -86,8 +86,11 @@ fn parameters_in<'a>(
 }
 
 /// The fields of a class whose first line these follow.
-fn fields_behind<'a>(alloc: Global, forms: &[Form<&'a [u8]>]) -> Result<Vec<&'a [u8]>, AllocError>
-    ensures { IfOk result (λ found. lent_texts found.items ≡ fields_behind (lent_forms forms.now)) }
+fn following_fields<'a>(
+    alloc: Global,
+    forms: &[Form<&'a [u8]>],
+) -> Result<Vec<&'a [u8]>, AllocError>
+    ensures { IfOk result (λ found. bytes_of_texts found.items ≡ following_fields (bytes_of_forms forms.now)) }
 {
     let mut found = Vec::new(alloc);
     for form in forms {
@@ -101,32 +104,32 @@ fn fields_behind<'a>(alloc: Global, forms: &[Form<&'a [u8]>]) -> Result<Vec<&'a 
 }
 
 /// The fields of something of a kind whose first line these follow: only a class has some.
-fn fields_begun<'a>(
+fn fields_in_item<'a>(
     alloc: Global,
     kind: ItemKind,
-    behind: &[Form<&'a [u8]>],
+    following: &[Form<&'a [u8]>],
 ) -> Result<Vec<&'a [u8]>, AllocError>
-    ensures { IfOk result (λ found. lent_texts found.items ≡ fields_begun kind (lent_forms behind.now)) }
+    ensures { IfOk result (λ found. bytes_of_texts found.items ≡ fields_in_item kind (bytes_of_forms following.now)) }
 {
     match kind {
-        ItemKind::Class => fields_behind(alloc, behind),
+        ItemKind::Class => following_fields(alloc, following),
         ItemKind::Procedure | ItemKind::Operation => Ok(Vec::new(alloc)),
     }
 }
 
 /// What a line declares in the script's own space, by its kind and its name, where these lines follow.
-fn item_declared<'a>(
+fn declaration_of<'a>(
     alloc: Global,
     form: &Form<&'a [u8]>,
-    behind: &[Form<&'a [u8]>],
+    following: &[Form<&'a [u8]>],
     kind: ItemKind,
     name: &'a [u8],
-) -> Result<Item<'a>, AllocError>
-    ensures { IfOk result (λ item. lent_item item ≡ item_declared (lent_form form.now) (lent_forms behind.now) kind name.now) }
+) -> Result<Declaration<'a>, AllocError>
+    ensures { IfOk result (λ item. bytes_of_item item ≡ declaration_of (bytes_of_form form.now) (bytes_of_forms following.now) kind name.now) }
 {
     let parameters = Items::from_vec(parameters_in(alloc, form)?);
-    let fields = Items::from_vec(fields_begun(alloc, kind, behind)?);
-    Ok(Item {
+    let fields = Items::from_vec(fields_in_item(alloc, kind, following)?);
+    Ok(Declaration {
         name,
         kind,
         parameters,
@@ -137,15 +140,15 @@ fn item_declared<'a>(
 /// Adds what a line declares in the script's own space, where these lines follow.
 fn add_items<'a>(
     alloc: Global,
-    items: &mut Vec<Item<'a>>,
+    items: &mut Vec<Declaration<'a>>,
     form: &Form<&'a [u8]>,
-    behind: &[Form<&'a [u8]>],
+    following: &[Form<&'a [u8]>],
 ) -> Result<(), AllocError>
-    ensures { OnOk result (lent_items items.new.items ≡ lent_items items.old.items ++ items_by (lent_form form.now) (lent_forms behind.now)) }
+    ensures { OnOk result (bytes_of_items items.new.items ≡ bytes_of_items items.old.items ++ items_by (bytes_of_form form.now) (bytes_of_forms following.now)) }
 {
-    match item_begun(form) {
+    match item_kind_in(form) {
         Some(kind) => match first_name(form) {
-            Some(name) => add(items, item_declared(alloc, form, behind, kind, name)?),
+            Some(name) => add(items, declaration_of(alloc, form, following, kind, name)?),
             None => Ok(()),
         },
         None => Ok(()),
@@ -156,8 +159,8 @@ fn add_items<'a>(
 pub(crate) fn items_of<'a>(
     alloc: Global,
     forms: &[Form<&'a [u8]>],
-) -> Result<Vec<Item<'a>>, AllocError>
-    ensures { IfOk result (λ items. lent_items items.items ≡ items_of (lent_forms forms.now)) }
+) -> Result<Vec<Declaration<'a>>, AllocError>
+    ensures { IfOk result (λ items. bytes_of_items items.items ≡ items_of (bytes_of_forms forms.now)) }
 {
     let mut items = Vec::new(alloc);
     for (index, form) in forms.iter().enumerate() {
@@ -177,8 +180,8 @@ fn is_same_kind(kind: ItemKind, other: ItemKind) -> bool
 }
 
 /// How many of a kind stand among items.
-pub(crate) fn count_among(kind: ItemKind, items: &[Item]) -> usize
-    ensures { result ≡ count_among kind (lent_items items.now) }
+pub(crate) fn count_among(kind: ItemKind, items: &[Declaration]) -> usize
+    ensures { result ≡ count_among kind (bytes_of_items items.now) }
 {
     let mut count = 0;
     for item in items {
@@ -192,10 +195,10 @@ pub(crate) fn count_among(kind: ItemKind, items: &[Item]) -> usize
 /// The one of a kind with an index among those of its kind.
 pub(crate) fn item_of_kind<'i, 'a>(
     kind: ItemKind,
-    items: &'i [Item<'a>],
+    items: &'i [Declaration<'a>],
     index: usize,
-) -> Option<&'i Item<'a>>
-    ensures { option_map (λ i. lent_item i.now) result ≡ item_of_kind kind (lent_items items.now) index }
+) -> Option<&'i Declaration<'a>>
+    ensures { option_map (λ i. bytes_of_item i.now) result ≡ item_of_kind kind (bytes_of_items items.now) index }
 {
     let mut before = 0;
     for candidate in items {
@@ -210,8 +213,8 @@ pub(crate) fn item_of_kind<'i, 'a>(
 }
 
 /// The index of the first declaration of a name.
-pub(crate) fn place_of_item(items: &[Item], name: &[u8]) -> Option<usize>
-    ensures { result ≡ first_declaration_of (names_of (lent_items items.now)) name.now }
+pub(crate) fn place_of_item(items: &[Declaration], name: &[u8]) -> Option<usize>
+    ensures { result ≡ first_declaration_of (names_of (bytes_of_items items.now)) name.now }
 {
     for (index, item) in items.iter().enumerate() {
         if are_same(item.name, name) {

@@ -1,112 +1,114 @@
-//! Which operands are of the sorts that their lines take.
+//! Which operands are of the kinds that their lines take.
 
 ghost use Rattle.std.specs.Prelude.{◌≡◌, length, map, not};
 ghost use Rattle.std.specs.List.{flat_map, list_any};
-ghost use Rattle.wb_model.specs.Forms.{renamed_taken};
-ghost use Rattle.wb_model.specs.Keys.{is_pointer_sort, letters_for};
-ghost use Rattle.wb_model.specs.Kinds.{are_given, are_right, arguments_agree, call_agrees, ends_body, has_wrong_kind, is_class_key, is_given, is_nothing, is_of_procedure, is_right, is_right_line, is_trap, misuses_main, returns_in_trap, returns_outside, returns_pointer, sides_agree, sort_named, sort_of, sort_of_class, sort_of_field, sort_taken};
-ghost use Rattle.wb_model.specs.Names.{taken_by};
+ghost use Rattle.wb_model.specs.Forms.{renamed_parameter_type};
+ghost use Rattle.wb_model.specs.LineKinds.{is_pointer_kind, operand_places_for};
+ghost use Rattle.wb_model.specs.Kinds.{are_given, are_right, arguments_agree, call_agrees, ends_body, has_wrong_kind, is_class_line_kind, is_given, is_nothing, is_of_procedure, is_right, is_right_line, is_trap, misuses_main, returns_in_trap, returns_outside, returns_pointer, sides_agree, operand_kind_of_name, operand_kind_of, operand_kind_of_class, operand_kind_of_field, operand_kind_of_type};
+ghost use Rattle.wb_model.specs.Names.{parameter_type_of};
 ghost use Rattle.wb_model.specs.Resolved.{resolved_line};
 ghost use Rattle.wb_script.specs.Checks.{known_in};
-ghost use Rattle.wb_lines.specs.Lent.{lent_form, lent_operands, lent_text};
-ghost use Rattle.wb_script.specs.Lent.{lent_items};
+ghost use Rattle.wb_lines.specs.BytesOf.{bytes_of_form, bytes_of_operands, bytes_of_text};
+ghost use Rattle.wb_script.specs.BytesOf.{bytes_of_items};
 
-use crate::checks::items::{Item, item_of_kind};
-use crate::checks::known::Known;
-use wb_lines::keys::Letters;
+use crate::checks::items::{Declaration, item_of_kind};
+use crate::checks::names_so_far::NamesSoFar;
+use wb_lines::line_kinds::OperandPlaces;
+use wb_lines::operand_kinds::{is_pointer_kind, takes};
 use wb_lines::same::are_same;
-use wb_lines::sorts::{is_pointer_sort, takes};
-use wb_model::script_lines::{BodyKind, Form, ItemKind, Key, Letter, Meant, Operand, Sort, Taken};
+use wb_model::script_lines::{
+    BodyKind, Form, ItemKind, LineKind, Operand, OperandKind, OperandPlace, ParameterType, Referent,
+};
 
 /// What an operand is that is a name.
-fn sort_named(meant: Meant) -> Sort
-    ensures { result ≡ sort_named meant }
+fn operand_kind_of_name(referent: Referent) -> OperandKind
+    ensures { result ≡ operand_kind_of_name referent }
 {
-    match meant {
-        Meant::Declared(_) => Sort::Declared,
-        Meant::Pointer(_) => Sort::Pointer,
-        Meant::Number(_) => Sort::Variable,
-        Meant::Buffer(_) => Sort::Buffer,
-        Meant::View(_) => Sort::View,
-        Meant::This => Sort::This,
-        Meant::Class(_) => Sort::Class,
-        Meant::Procedure(_) => Sort::Procedure,
-        Meant::Operation(_) => Sort::Operation,
-        Meant::Literal(_) | Meant::Field(..) | Meant::Classless => Sort::Nothing,
-        Meant::Parameter | Meant::Nothing => Sort::Nothing,
+    match referent {
+        Referent::Declared(_) => OperandKind::Declared,
+        Referent::Pointer(_) => OperandKind::Pointer,
+        Referent::Number(_) => OperandKind::Variable,
+        Referent::Buffer(_) => OperandKind::Buffer,
+        Referent::View(_) => OperandKind::View,
+        Referent::This => OperandKind::This,
+        Referent::Class(_) => OperandKind::Class,
+        Referent::Procedure(_) => OperandKind::Procedure,
+        Referent::Operation(_) => OperandKind::Operation,
+        Referent::Literal(_) | Referent::Field(..) | Referent::Classless => OperandKind::Nothing,
+        Referent::Parameter | Referent::Nothing => OperandKind::Nothing,
     }
 }
 
 /// What an operand is whose field stands for this.
-fn sort_of_field(field: Meant) -> Sort
-    ensures { result ≡ sort_of_field field }
+fn operand_kind_of_field(field: Referent) -> OperandKind
+    ensures { result ≡ operand_kind_of_field field }
 {
     match field {
-        Meant::Field(..) => Sort::Field,
-        _ => Sort::Nothing,
+        Referent::Field(..) => OperandKind::Field,
+        _ => OperandKind::Nothing,
     }
 }
 
 /// What a parameter is that takes this: its class is one.
-fn sort_taken(taken: Taken<Meant>) -> Sort
-    ensures { result ≡ sort_taken taken }
+fn operand_kind_of_type(parameter_type: ParameterType<Referent>) -> OperandKind
+    ensures { result ≡ operand_kind_of_type parameter_type }
 {
-    match taken {
-        Taken::Pointer | Taken::Number => Sort::Parameter,
-        Taken::OfClass(Meant::Class(_)) => Sort::Parameter,
-        Taken::OfClass(_) => Sort::Nothing,
+    match parameter_type {
+        ParameterType::Pointer | ParameterType::Number => OperandKind::Parameter,
+        ParameterType::OfClass(Referent::Class(_)) => OperandKind::Parameter,
+        ParameterType::OfClass(_) => OperandKind::Nothing,
     }
 }
 
-fn sort_of(operand: &Operand<Meant>) -> Sort
-    ensures { result ≡ sort_of operand.now }
+fn operand_kind_of(operand: &Operand<Referent>) -> OperandKind
+    ensures { result ≡ operand_kind_of operand.now }
 {
     match operand {
-        Operand::Name(meant) => sort_named(*meant),
-        Operand::Field(_, field) => sort_of_field(*field),
-        Operand::Number(_) => Sort::Number,
-        Operand::Size(_) => Sort::Size,
-        Operand::Literal(_) => Sort::Literal,
-        Operand::Parameter(_, taken) => sort_taken(*taken),
-        Operand::Keyword => Sort::Keyword,
+        Operand::Name(referent) => operand_kind_of_name(*referent),
+        Operand::Field(_, field) => operand_kind_of_field(*field),
+        Operand::Number(_) => OperandKind::Number,
+        Operand::Size(_) => OperandKind::Size,
+        Operand::Literal(_) => OperandKind::Literal,
+        Operand::Parameter(_, parameter_type) => operand_kind_of_type(*parameter_type),
+        Operand::Keyword => OperandKind::Keyword,
     }
 }
 
 #[inline(always)]
-fn is_right(letter: Letter, operand: &Operand<Meant>) -> bool
-    ensures { result ≡ is_right letter operand.now }
+fn is_right(operand_place: OperandPlace, operand: &Operand<Referent>) -> bool
+    ensures { result ≡ is_right operand_place operand.now }
 {
-    takes(letter, sort_of(operand))
+    takes(operand_place, operand_kind_of(operand))
 }
 
-/// Whether the words behind a key are all right.
-fn are_right(key: Key, operands: &[Operand<Meant>]) -> bool
-    ensures { result ≡ are_right (letters_for key (length operands.now)) operands.now }
+/// Whether the words behind a line kind are all right.
+fn are_right(line_kind: LineKind, operands: &[Operand<Referent>]) -> bool
+    ensures { result ≡ are_right (operand_places_for line_kind (length operands.now)) operands.now }
 {
-    let letters = Letters::of(key);
+    let operand_places = OperandPlaces::of(line_kind);
     for (index, operand) in operands.iter().enumerate() {
-        let Some(letter) = letters.at(index) else {
+        let Some(operand_place) = operand_places.at(index) else {
             return true;
         };
-        if !is_right(letter, operand) {
+        if !is_right(operand_place, operand) {
             return false;
         }
     }
     true
 }
 
-fn is_pointer(operand: &Operand<Meant>) -> bool
-    ensures { result ≡ is_pointer_sort (sort_of operand.now) }
+fn is_pointer(operand: &Operand<Referent>) -> bool
+    ensures { result ≡ is_pointer_kind (operand_kind_of operand.now) }
 {
-    is_pointer_sort(sort_of(operand))
+    is_pointer_kind(operand_kind_of(operand))
 }
 
 /// Whether the two sides of a `set` are of one kind.
-fn sides_agree(key: Key, operands: &[Operand<Meant>]) -> bool
-    ensures { result ≡ sides_agree key operands.now }
+fn sides_agree(line_kind: LineKind, operands: &[Operand<Referent>]) -> bool
+    ensures { result ≡ sides_agree line_kind operands.now }
 {
-    match key {
-        Key::Set => match operands {
+    match line_kind {
+        LineKind::Set => match operands {
             [target, source] => is_pointer(target) == is_pointer(source),
             _ => true,
         },
@@ -115,18 +117,21 @@ fn sides_agree(key: Key, operands: &[Operand<Meant>]) -> bool
 }
 
 /// Whether an argument is of the kind that a parameter wants: a pointer may be of any class.
-fn is_given(parameter: Taken<&[u8]>, operand: &Operand<Meant>) -> bool
-    ensures { result ≡ is_given (renamed_taken lent_text parameter.entry) operand.now }
+fn is_given(parameter: ParameterType<&[u8]>, operand: &Operand<Referent>) -> bool
+    ensures { result ≡ is_given (renamed_parameter_type bytes_of_text parameter.entry) operand.now }
 {
     match parameter {
-        Taken::Pointer | Taken::OfClass(_) => is_right(Letter::Pointer, operand),
-        Taken::Number => is_right(Letter::Value, operand),
+        ParameterType::Pointer | ParameterType::OfClass(_) => is_right(
+            OperandPlace::Pointer,
+            operand,
+        ),
+        ParameterType::Number => is_right(OperandPlace::Value, operand),
     }
 }
 
 /// Whether there is one for each parameter.
-fn are_given(parameters: &[Taken<&[u8]>], operands: &[Operand<Meant>]) -> bool
-    ensures { result ≡ are_given (map (renamed_taken lent_text) parameters.now) operands.now }
+fn are_given(parameters: &[ParameterType<&[u8]>], operands: &[Operand<Referent>]) -> bool
+    ensures { result ≡ are_given (map (renamed_parameter_type bytes_of_text) parameters.now) operands.now }
 {
     if parameters.len() != operands.len() {
         return false;
@@ -140,11 +145,11 @@ fn are_given(parameters: &[Taken<&[u8]>], operands: &[Operand<Meant>]) -> bool
 }
 
 /// Whether a procedure stands there with what it takes.
-fn call_agrees(items: &[Item], operands: &[Operand<Meant>]) -> bool
-    ensures { result ≡ call_agrees (lent_items items.now) operands.now }
+fn call_agrees(items: &[Declaration], operands: &[Operand<Referent>]) -> bool
+    ensures { result ≡ call_agrees (bytes_of_items items.now) operands.now }
 {
     match operands {
-        [Operand::Name(Meant::Procedure(index)), arguments @ ..] => {
+        [Operand::Name(Referent::Procedure(index)), arguments @ ..] => {
             match item_of_kind(ItemKind::Procedure, items, *index) {
                 Some(procedure) => are_given(procedure.parameters.as_slice(), arguments),
                 None => false,
@@ -155,12 +160,16 @@ fn call_agrees(items: &[Item], operands: &[Operand<Meant>]) -> bool
 }
 
 /// Whether a call gives what the procedure takes.
-fn arguments_agree(items: &[Item], key: Key, operands: &[Operand<Meant>]) -> bool
-    ensures { result ≡ arguments_agree (lent_items items.now) key operands.now }
+fn arguments_agree(
+    items: &[Declaration],
+    line_kind: LineKind,
+    operands: &[Operand<Referent>],
+) -> bool
+    ensures { result ≡ arguments_agree (bytes_of_items items.now) line_kind operands.now }
 {
-    match key {
-        Key::Call => call_agrees(items, operands),
-        Key::CallTo => match operands {
+    match line_kind {
+        LineKind::Call => call_agrees(items, operands),
+        LineKind::CallTo => match operands {
             [_, call @ ..] => call_agrees(items, call),
             [] => true,
         },
@@ -168,34 +177,34 @@ fn arguments_agree(items: &[Item], key: Key, operands: &[Operand<Meant>]) -> boo
     }
 }
 
-/// Whether all operands of a line are of the sorts that it takes.
-pub(crate) fn is_right_line(items: &[Item], line: &Form<Meant>) -> bool
-    ensures { result ≡ is_right_line (lent_items items.now) line.now }
+/// Whether all operands of a line are of the kinds that it takes.
+pub(crate) fn is_right_line(items: &[Declaration], line: &Form<Referent>) -> bool
+    ensures { result ≡ is_right_line (bytes_of_items items.now) line.now }
 {
     match line {
-        Form::Line(key, operands) => {
-            are_right(*key, operands.as_slice())
-                && sides_agree(*key, operands.as_slice())
-                && arguments_agree(items, *key, operands.as_slice())
+        Form::Line(line_kind, operands) => {
+            are_right(*line_kind, operands.as_slice())
+                && sides_agree(*line_kind, operands.as_slice())
+                && arguments_agree(items, *line_kind, operands.as_slice())
         }
         _ => true,
     }
 }
 
-fn is_class_key(key: Key) -> bool
-    ensures { result ≡ is_class_key key }
+fn is_class_line_kind(line_kind: LineKind) -> bool
+    ensures { result ≡ is_class_line_kind line_kind }
 {
-    matches!(key, Key::Class)
+    matches!(line_kind, LineKind::Class)
 }
 
 /// Whether a line gives `main` parameters, or makes an operation or a class of it.
 fn misuses_main(form: &Form<&[u8]>) -> bool
-    ensures { result ≡ misuses_main (lent_form form.now) }
+    ensures { result ≡ misuses_main (bytes_of_form form.now) }
 {
     match form {
-        Form::Line(key, operands) => match operands.as_slice() {
+        Form::Line(line_kind, operands) => match operands.as_slice() {
             [Operand::Name(name), rest @ ..] => {
-                are_same(name, b"main") && (has_parameter(rest) || is_class_key(*key))
+                are_same(name, b"main") && (has_parameter(rest) || is_class_line_kind(*line_kind))
             }
             _ => false,
         },
@@ -205,7 +214,7 @@ fn misuses_main(form: &Form<&[u8]>) -> bool
 
 /// Whether a parameter stands among operands.
 fn has_parameter(operands: &[Operand<&[u8]>]) -> bool
-    ensures { not result ≡ is_nothing (flat_map taken_by (lent_operands operands.now)) }
+    ensures { not result ≡ is_nothing (flat_map parameter_type_of (bytes_of_operands operands.now)) }
 {
     for operand in operands {
         if matches!(operand, Operand::Parameter(..)) {
@@ -215,39 +224,39 @@ fn has_parameter(operands: &[Operand<&[u8]>]) -> bool
     false
 }
 
-fn is_trap(key: Key) -> bool
-    ensures { result ≡ is_trap key }
+fn is_trap(line_kind: LineKind) -> bool
+    ensures { result ≡ is_trap line_kind }
 {
-    matches!(key, Key::Trap)
+    matches!(line_kind, LineKind::Trap)
 }
 
-fn ends_body(key: Key) -> bool
-    ensures { result ≡ ends_body key }
+fn ends_body(line_kind: LineKind) -> bool
+    ensures { result ≡ ends_body line_kind }
 {
-    matches!(key, Key::Return | Key::ReturnPointer)
+    matches!(line_kind, LineKind::Return | LineKind::ReturnPointer)
 }
 
 /// Whether one of these blocks is a TRAP's.
-fn any_trap(blocks: &[Key]) -> bool
+fn any_trap(blocks: &[LineKind]) -> bool
     ensures { result ≡ list_any is_trap blocks.now }
 {
-    blocks.iter().any(|key| is_trap(*key))
+    blocks.iter().any(|line_kind| is_trap(*line_kind))
 }
 
 /// Whether a line is a `return` inside a TRAP.
-fn returns_in_trap(known: &Known, form: &Form<&[u8]>) -> bool
-    ensures { result ≡ returns_in_trap (known_in known.now) (lent_form form.now) }
+fn returns_in_trap(known: &NamesSoFar, form: &Form<&[u8]>) -> bool
+    ensures { result ≡ returns_in_trap (known_in known.now) (bytes_of_form form.now) }
 {
     match form {
-        Form::Line(key, _) => ends_body(*key) && any_trap(&known.blocks),
+        Form::Line(line_kind, _) => ends_body(*line_kind) && any_trap(&known.blocks),
         _ => false,
     }
 }
 
-fn returns_pointer(key: Key) -> bool
-    ensures { result ≡ returns_pointer key }
+fn returns_pointer(line_kind: LineKind) -> bool
+    ensures { result ≡ returns_pointer line_kind }
 {
-    matches!(key, Key::ReturnPointer)
+    matches!(line_kind, LineKind::ReturnPointer)
 }
 
 fn is_of_procedure(body: BodyKind) -> bool
@@ -257,24 +266,24 @@ fn is_of_procedure(body: BodyKind) -> bool
 }
 
 /// Whether a line is a `return` with a pointer outside of a procedure.
-fn returns_outside(known: &Known, form: &Form<&[u8]>) -> bool
-    ensures { result ≡ returns_outside (known_in known.now) (lent_form form.now) }
+fn returns_outside(known: &NamesSoFar, form: &Form<&[u8]>) -> bool
+    ensures { result ≡ returns_outside (known_in known.now) (bytes_of_form form.now) }
 {
     match form {
-        Form::Line(key, _) => returns_pointer(*key) && !is_of_procedure(known.body),
+        Form::Line(line_kind, _) => returns_pointer(*line_kind) && !is_of_procedure(known.body),
         _ => false,
     }
 }
 
-/// Whether a line has an operand of another sort than it takes, or has no place where it stands.
+/// Whether a line has an operand of another kind than it takes, or has no place where it stands.
 pub(crate) fn has_wrong_kind(
-    items: &[Item],
-    known: &Known,
+    items: &[Declaration],
+    known: &NamesSoFar,
     form: &Form<&[u8]>,
-    line: &Form<Meant>,
+    line: &Form<Referent>,
 ) -> bool
-    requires { line.now ≡ resolved_line (lent_items items.now) (known_in known.now) (lent_form form.now) }
-    ensures { result ≡ has_wrong_kind (lent_items items.now) (known_in known.now) (lent_form form.now) }
+    requires { line.now ≡ resolved_line (bytes_of_items items.now) (known_in known.now) (bytes_of_form form.now) }
+    ensures { result ≡ has_wrong_kind (bytes_of_items items.now) (known_in known.now) (bytes_of_form form.now) }
 {
     !is_right_line(items, line)
         || misuses_main(form)

@@ -3,61 +3,65 @@
 ghost use Rattle.std.specs.Prelude.{◌≡◌};
 ghost use Rattle.wb_model.specs.Kinds.{is_loud, is_outside, is_quiet, may_leave, may_leave_in};
 ghost use Rattle.wb_script.specs.Checks.{known_in};
-ghost use Rattle.wb_lines.specs.Lent.{lent_form};
+ghost use Rattle.wb_lines.specs.BytesOf.{bytes_of_form};
 
-use crate::checks::known::Known;
-use wb_model::script_lines::{BodyKind, Form, Key};
+use crate::checks::names_so_far::NamesSoFar;
+use wb_model::script_lines::{BodyKind, Form, LineKind};
 
-/// Whether no line of a key can leave.
-fn is_quiet(key: Key) -> bool
-    ensures { result ≡ is_quiet key }
+/// Whether no line of a line kind can leave.
+fn is_quiet(line_kind: LineKind) -> bool
+    ensures { result ≡ is_quiet line_kind }
 {
-    match key {
-        Key::Ptr | Key::ClassPtr | Key::Int => true,
-        Key::Free | Key::Delete => true,
-        Key::Set | Key::SetField | Key::Null | Key::Add => true,
-        Key::AllocLen | Key::Load | Key::Store => true,
-        Key::IfNull | Key::IfSome | Key::IfEqual | Key::IfLess | Key::Else => true,
-        Key::Repeat | Key::End => true,
-        Key::Print | Key::Heap | Key::Available | Key::Compress => true,
+    match line_kind {
+        LineKind::Ptr | LineKind::ClassPtr | LineKind::Int => true,
+        LineKind::Free | LineKind::Delete => true,
+        LineKind::Set | LineKind::SetField | LineKind::Null | LineKind::Add => true,
+        LineKind::AllocLen | LineKind::Load | LineKind::Store => true,
+        LineKind::IfNull
+        | LineKind::IfSome
+        | LineKind::IfEqual
+        | LineKind::IfLess
+        | LineKind::Else => true,
+        LineKind::Repeat | LineKind::End => true,
+        LineKind::Print | LineKind::Heap | LineKind::Available | LineKind::Compress => true,
         _ => false,
     }
 }
 
-/// Whether a line of a key is one of the script or of a class, and of no body.
-fn is_outside(key: Key) -> bool
-    ensures { result ≡ is_outside key }
+/// Whether a line of a line kind is one of the script or of a class, and of no body.
+fn is_outside(line_kind: LineKind) -> bool
+    ensures { result ≡ is_outside line_kind }
 {
-    match key {
-        Key::Class | Key::Field | Key::ClassField => true,
-        Key::Constructor | Key::Destructor => true,
-        Key::Proc | Key::Op => true,
+    match line_kind {
+        LineKind::Class | LineKind::Field | LineKind::ClassField => true,
+        LineKind::Constructor | LineKind::Destructor => true,
+        LineKind::Proc | LineKind::Op => true,
         _ => false,
     }
 }
 
-fn is_loud(key: Key) -> bool
-    ensures { result ≡ is_loud key }
+fn is_loud(line_kind: LineKind) -> bool
+    ensures { result ≡ is_loud line_kind }
 {
-    !(is_outside(key) || is_quiet(key))
+    !(is_outside(line_kind) || is_quiet(line_kind))
 }
 
-/// Whether a line of a key may leave in a body that must not.
-fn may_leave_in(body: BodyKind, key: Key) -> bool
-    ensures { result ≡ may_leave_in body key }
+/// Whether a line of a line kind may leave in a body that must not.
+fn may_leave_in(body: BodyKind, line_kind: LineKind) -> bool
+    ensures { result ≡ may_leave_in body line_kind }
 {
     match body {
-        BodyKind::Operation | BodyKind::Destructor => is_loud(key),
+        BodyKind::Operation | BodyKind::Destructor => is_loud(line_kind),
         BodyKind::Procedure | BodyKind::Constructor => false,
     }
 }
 
 /// Whether a line of an operation or of a destructor may leave.
-pub(crate) fn may_leave(known: &Known, form: &Form<&[u8]>) -> bool
-    ensures { result ≡ may_leave (known_in known.now) (lent_form form.now) }
+pub(crate) fn may_leave(known: &NamesSoFar, form: &Form<&[u8]>) -> bool
+    ensures { result ≡ may_leave (known_in known.now) (bytes_of_form form.now) }
 {
     match form {
-        Form::Line(key, _) => may_leave_in(known.body, *key),
+        Form::Line(line_kind, _) => may_leave_in(known.body, *line_kind),
         _ => false,
     }
 }

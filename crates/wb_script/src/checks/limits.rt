@@ -2,18 +2,18 @@
 
 ghost use Rattle.std.specs.Prelude.{◌≡◌, length};
 ghost use Rattle.std.specs.List.{flat_map, list_any};
-ghost use Rattle.wb_model.specs.Names.{has_long_class, has_long_name, has_more_parameters, is_large, is_long, is_long_name, is_one_more, passes_limit, taken_by};
+ghost use Rattle.wb_model.specs.Names.{has_long_class, has_long_name, has_more_parameters, is_large, is_long, is_long_name, is_one_more, passes_limit, parameter_type_of};
 ghost use Rattle.wb_script.specs.Checks.{known_in, is_size_above, IsFew};
-ghost use Rattle.wb_model.specs.Forms.{renamed_taken};
-ghost use Rattle.wb_lines.specs.Lent.{lent_operand, lent_operands, lent_form, lent_text};
+ghost use Rattle.wb_model.specs.Forms.{renamed_parameter_type};
+ghost use Rattle.wb_lines.specs.BytesOf.{bytes_of_operand, bytes_of_operands, bytes_of_form, bytes_of_text};
 
-use crate::checks::known::Known;
+use crate::checks::names_so_far::NamesSoFar;
 use wb_lines::forms::role;
 use wb_model::limits::{
     DEEPEST_BLOCK, LARGEST_BUFFER, LONGEST_NAME, MOST_CLASSES, MOST_EXTRA, MOST_FIELDS,
     MOST_LOCALS, MOST_PARAMETERS, MOST_PROCEDURES,
 };
-use wb_model::script_lines::{Form, Key, Operand, Role, Taken};
+use wb_model::script_lines::{Form, LineKind, Operand, ParameterType, Role};
 
 fn is_long_name(name: &[u8]) -> bool
     ensures { result ≡ is_long_name name.now }
@@ -21,29 +21,30 @@ fn is_long_name(name: &[u8]) -> bool
     name.len() > LONGEST_NAME as usize
 }
 
-fn has_long_class(taken: Taken<&[u8]>) -> bool
-    ensures { result ≡ has_long_class (renamed_taken lent_text taken.entry) }
+fn has_long_class(parameter_type: ParameterType<&[u8]>) -> bool
+    ensures { result ≡ has_long_class (renamed_parameter_type bytes_of_text parameter_type.entry) }
 {
-    match taken {
-        Taken::OfClass(class) => is_long_name(class),
-        Taken::Pointer | Taken::Number => false,
+    match parameter_type {
+        ParameterType::OfClass(class) => is_long_name(class),
+        ParameterType::Pointer | ParameterType::Number => false,
     }
 }
 
 /// Whether a name of an operand is too long: each half of a field or of a parameter by itself.
 fn is_long(operand: &Operand<&[u8]>) -> bool
-    ensures { result ≡ is_long (lent_operand operand.now) }
+    ensures { result ≡ is_long (bytes_of_operand operand.now) }
 {
     match operand {
         Operand::Name(name) => is_long_name(name),
         Operand::Field(base, field) => is_long_name(base) || is_long_name(field),
-        Operand::Parameter(name, taken) => is_long_name(name) || has_long_class(*taken),
+        Operand::Parameter(name, parameter_type) => is_long_name(name)
+            || has_long_class(*parameter_type),
         _ => false,
     }
 }
 
 fn any_long(operands: &[Operand<&[u8]>]) -> bool
-    ensures { result ≡ list_any is_long (lent_operands operands.now) }
+    ensures { result ≡ list_any is_long (bytes_of_operands operands.now) }
 {
     for operand in operands {
         if is_long(operand) {
@@ -55,7 +56,7 @@ fn any_long(operands: &[Operand<&[u8]>]) -> bool
 
 /// Whether a line has a longer name than names may be.
 fn has_long_name(form: &Form<&[u8]>) -> bool
-    ensures { result ≡ has_long_name (lent_form form.now) }
+    ensures { result ≡ has_long_name (bytes_of_form form.now) }
 {
     match form {
         Form::Line(_, operands) => any_long(operands.as_slice()),
@@ -65,7 +66,7 @@ fn has_long_name(form: &Form<&[u8]>) -> bool
 
 /// Whether the second of two words is a size, and larger than this.
 fn is_size_above(most: u32, operands: &[Operand<&[u8]>]) -> bool
-    ensures { result ≡ is_size_above most (lent_operands operands.now) }
+    ensures { result ≡ is_size_above most (bytes_of_operands operands.now) }
 {
     match operands {
         [_, Operand::Size(size)] => *size > most,
@@ -75,18 +76,18 @@ fn is_size_above(most: u32, operands: &[Operand<&[u8]>]) -> bool
 
 /// Whether a line declares a text with a larger maximum than texts may have, or a class with more extra bytes.
 fn is_large(form: &Form<&[u8]>) -> bool
-    ensures { result ≡ is_large (lent_form form.now) }
+    ensures { result ≡ is_large (bytes_of_form form.now) }
 {
     match form {
-        Form::Line(Key::Class, operands) => is_size_above(MOST_EXTRA, operands.as_slice()),
-        Form::Line(Key::Buf, operands) => is_size_above(LARGEST_BUFFER, operands.as_slice()),
+        Form::Line(LineKind::Class, operands) => is_size_above(MOST_EXTRA, operands.as_slice()),
+        Form::Line(LineKind::Buf, operands) => is_size_above(LARGEST_BUFFER, operands.as_slice()),
         _ => false,
     }
 }
 
 /// How many parameters stand among operands.
 fn parameter_count(operands: &[Operand<&[u8]>]) -> usize
-    ensures { result ≡ length (flat_map taken_by (lent_operands operands.now)) }
+    ensures { result ≡ length (flat_map parameter_type_of (bytes_of_operands operands.now)) }
 {
     let mut count = 0;
     for operand in operands {
@@ -99,7 +100,7 @@ fn parameter_count(operands: &[Operand<&[u8]>]) -> usize
 
 /// Whether a line declares more parameters than a procedure may have.
 fn has_more_parameters(form: &Form<&[u8]>) -> bool
-    ensures { result ≡ has_more_parameters (lent_form form.now) }
+    ensures { result ≡ has_more_parameters (bytes_of_form form.now) }
 {
     match form {
         Form::Line(_, operands) => {
@@ -110,7 +111,7 @@ fn has_more_parameters(form: &Form<&[u8]>) -> bool
 }
 
 /// Whether a line of this role declares or begins one more than there may be.
-fn is_one_more(role: Role, known: &Known) -> bool
+fn is_one_more(role: Role, known: &NamesSoFar) -> bool
     requires { IsFew known.now }
     ensures { result ≡ is_one_more role (known_in known.now) }
 {
@@ -125,9 +126,9 @@ fn is_one_more(role: Role, known: &Known) -> bool
 }
 
 /// Whether a line passes a limit.
-pub(crate) fn passes_limit(known: &Known, form: &Form<&[u8]>) -> bool
+pub(crate) fn passes_limit(known: &NamesSoFar, form: &Form<&[u8]>) -> bool
     requires { IsFew known.now }
-    ensures { result ≡ passes_limit (known_in known.now) (lent_form form.now) }
+    ensures { result ≡ passes_limit (known_in known.now) (bytes_of_form form.now) }
 {
     has_long_name(form)
         || has_more_parameters(form)

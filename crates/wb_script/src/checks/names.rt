@@ -2,21 +2,21 @@
 
 ghost use Rattle.std.specs.Prelude.{◌≡◌};
 ghost use Rattle.std.specs.List.{flat_map, list_any};
-ghost use Rattle.wb_model.specs.Names.{first_declaration_of, is_among, is_item_before, has_double, name_passed, names_of, parameter_names, stands_declared, declares_again};
-ghost use Rattle.wb_model.specs.Resolved.{has_unknown, is_nothing_meant, means_nothing, takes_nothing};
+ghost use Rattle.wb_model.specs.Names.{first_declaration_of, is_among, is_item_before, has_double, name_passed, names_of, parameter_names, is_declared_there, declares_again};
+ghost use Rattle.wb_model.specs.Resolved.{has_unknown, refers_to_nothing, means_nothing, takes_nothing};
 ghost use Rattle.wb_script.specs.Checks.{known_in, IsFew};
-ghost use Rattle.wb_lines.specs.Lent.{lent_texts, lent_operands, lent_form};
-ghost use Rattle.wb_script.specs.Lent.{lent_items};
+ghost use Rattle.wb_lines.specs.BytesOf.{bytes_of_texts, bytes_of_operands, bytes_of_form};
+ghost use Rattle.wb_script.specs.BytesOf.{bytes_of_items};
 
-use crate::checks::items::{Item, place_of_item};
-use crate::checks::known::{Known, first_name};
+use crate::checks::items::{Declaration, place_of_item};
+use crate::checks::names_so_far::{NamesSoFar, first_name};
 use wb_lines::forms::role;
 use wb_lines::same::are_same;
-use wb_model::script_lines::{Form, Meant, Operand, Role, Taken};
+use wb_model::script_lines::{Form, Operand, ParameterType, Referent, Role};
 
 /// The index of the first declaration of a name.
 pub(crate) fn place_of(names: &[&[u8]], name: &[u8]) -> Option<usize>
-    ensures { result ≡ first_declaration_of (lent_texts names.now) name.now }
+    ensures { result ≡ first_declaration_of (bytes_of_texts names.now) name.now }
 {
     for (index, known) in names.iter().enumerate() {
         if are_same(known, name) {
@@ -27,8 +27,8 @@ pub(crate) fn place_of(names: &[&[u8]], name: &[u8]) -> Option<usize>
 }
 
 /// Whether a name is that of one of the first items of the script's own space.
-fn is_item_before(items: &[Item], before: usize, name: &[u8]) -> bool
-    ensures { result ≡ is_item_before (names_of (lent_items items.now)) before name.now }
+fn is_item_before(items: &[Declaration], before: usize, name: &[u8]) -> bool
+    ensures { result ≡ is_item_before (names_of (bytes_of_items items.now)) before name.now }
 {
     match place_of_item(items, name) {
         Some(index) => index < before,
@@ -37,9 +37,9 @@ fn is_item_before(items: &[Item], before: usize, name: &[u8]) -> bool
 }
 
 /// Whether a name stands declared in the space of a line of this role.
-fn stands_declared(items: &[Item], known: &Known, role: Role, name: &[u8]) -> bool
+fn is_declared_there(items: &[Declaration], known: &NamesSoFar, role: Role, name: &[u8]) -> bool
     requires { IsFew known.now }
-    ensures { result ≡ stands_declared (names_of (lent_items items.now)) (known_in known.now) role name.now }
+    ensures { result ≡ is_declared_there (names_of (bytes_of_items items.now)) (known_in known.now) role name.now }
 {
     match role {
         Role::Class | Role::Procedure => is_item_before(items, known.items_before(), name),
@@ -51,7 +51,7 @@ fn stands_declared(items: &[Item], known: &Known, role: Role, name: &[u8]) -> bo
 
 /// Whether a parameter among operands has this name.
 fn is_parameter(operands: &[Operand<&[u8]>], name: &[u8]) -> bool
-    ensures { result ≡ is_among (flat_map name_passed (lent_operands operands.now)) name.now }
+    ensures { result ≡ is_among (flat_map name_passed (bytes_of_operands operands.now)) name.now }
 {
     for operand in operands {
         match operand {
@@ -68,7 +68,7 @@ fn is_parameter(operands: &[Operand<&[u8]>], name: &[u8]) -> bool
 
 /// Whether two parameters among operands have one name.
 fn has_double(operands: &[Operand<&[u8]>]) -> bool
-    ensures { result ≡ has_double (flat_map name_passed (lent_operands operands.now)) }
+    ensures { result ≡ has_double (flat_map name_passed (bytes_of_operands operands.now)) }
 {
     for (index, operand) in operands.iter().enumerate() {
         match operand {
@@ -85,7 +85,7 @@ fn has_double(operands: &[Operand<&[u8]>]) -> bool
 
 /// Whether a line declares two parameters with one name.
 fn has_double_parameter(form: &Form<&[u8]>) -> bool
-    ensures { result ≡ has_double (parameter_names (lent_form form.now)) }
+    ensures { result ≡ has_double (parameter_names (bytes_of_form form.now)) }
 {
     match form {
         Form::Line(_, operands) => has_double(operands.as_slice()),
@@ -94,44 +94,44 @@ fn has_double_parameter(form: &Form<&[u8]>) -> bool
 }
 
 /// Whether a line declares a name which stands declared in its space, or two parameters with one name.
-pub(crate) fn declares_again(items: &[Item], known: &Known, form: &Form<&[u8]>) -> bool
+pub(crate) fn declares_again(items: &[Declaration], known: &NamesSoFar, form: &Form<&[u8]>) -> bool
     requires { IsFew known.now }
-    ensures { result ≡ declares_again (names_of (lent_items items.now)) (known_in known.now) (lent_form form.now) }
+    ensures { result ≡ declares_again (names_of (bytes_of_items items.now)) (known_in known.now) (bytes_of_form form.now) }
 {
     let again = match first_name(form) {
-        Some(name) => stands_declared(items, known, role(form), name),
+        Some(name) => is_declared_there(items, known, role(form), name),
         None => false,
     };
     again || has_double_parameter(form)
 }
 
-fn is_nothing_meant(meant: Meant) -> bool
-    ensures { result ≡ is_nothing_meant meant }
+fn refers_to_nothing(referent: Referent) -> bool
+    ensures { result ≡ refers_to_nothing referent }
 {
-    matches!(meant, Meant::Nothing)
+    matches!(referent, Referent::Nothing)
 }
 
-fn takes_nothing(taken: Taken<Meant>) -> bool
-    ensures { result ≡ takes_nothing taken }
+fn takes_nothing(parameter_type: ParameterType<Referent>) -> bool
+    ensures { result ≡ takes_nothing parameter_type }
 {
-    match taken {
-        Taken::OfClass(class) => is_nothing_meant(class),
-        Taken::Pointer | Taken::Number => false,
+    match parameter_type {
+        ParameterType::OfClass(class) => refers_to_nothing(class),
+        ParameterType::Pointer | ParameterType::Number => false,
     }
 }
 
-fn means_nothing(operand: &Operand<Meant>) -> bool
+fn means_nothing(operand: &Operand<Referent>) -> bool
     ensures { result ≡ means_nothing operand.now }
 {
     match operand {
-        Operand::Name(name) => is_nothing_meant(*name),
-        Operand::Field(base, field) => is_nothing_meant(*base) || is_nothing_meant(*field),
-        Operand::Parameter(_, taken) => takes_nothing(*taken),
+        Operand::Name(name) => refers_to_nothing(*name),
+        Operand::Field(base, field) => refers_to_nothing(*base) || refers_to_nothing(*field),
+        Operand::Parameter(_, parameter_type) => takes_nothing(*parameter_type),
         _ => false,
     }
 }
 
-fn any_nothing(operands: &[Operand<Meant>]) -> bool
+fn any_nothing(operands: &[Operand<Referent>]) -> bool
     ensures { result ≡ list_any means_nothing operands.now }
 {
     for operand in operands {
@@ -143,7 +143,7 @@ fn any_nothing(operands: &[Operand<Meant>]) -> bool
 }
 
 /// Whether a line uses a name that is declared nowhere.
-pub(crate) fn has_unknown(line: &Form<Meant>) -> bool
+pub(crate) fn has_unknown(line: &Form<Referent>) -> bool
     ensures { result ≡ has_unknown line.now }
 {
     match line {

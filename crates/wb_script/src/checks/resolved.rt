@@ -2,27 +2,29 @@
 
 ghost use Rattle.std.specs.Prelude.{◌≡◌, length, map, slice_get, IfOk, Some};
 ghost use Rattle.std.specs.Option.{option_map};
-ghost use Rattle.wb_model.specs.Forms.{renamed_taken};
-ghost use Rattle.wb_model.specs.Keys.{letters_for};
+ghost use Rattle.wb_model.specs.Forms.{renamed_parameter_type};
+ghost use Rattle.wb_model.specs.LineKinds.{operand_places_for};
 ghost use Rattle.wb_model.specs.Names.{first_declaration_of, names_before};
-ghost use Rattle.wb_model.specs.Resolved.{class_in, class_named, class_of_base, class_of_kind, class_of_local, class_of_this, field_at, field_meant, has_this, is_this, item_at, item_meant, kind_meant, local_meant, meant_at, name_meant, own_meant, resolved_line, resolved_operand, resolved_operands, resolved_taken, this_meant};
-ghost use Rattle.wb_lines.specs.Lent.{lent_operand, lent_operands, lent_form, lent_text};
-ghost use Rattle.wb_script.specs.Lent.{lent_kind, lent_items};
+ghost use Rattle.wb_model.specs.Resolved.{class_in, class_named, class_of_base, class_of_kind, class_of_local, class_of_this, field_at, field_referent, has_this, is_this, item_at, item_referent, referent_of_kind, local_referent, referent_at, name_referent, own_referent, resolved_line, resolved_operand, resolved_operands, resolved_parameter_type, this_referent};
+ghost use Rattle.wb_lines.specs.BytesOf.{bytes_of_operand, bytes_of_operands, bytes_of_form, bytes_of_text};
+ghost use Rattle.wb_script.specs.BytesOf.{bytes_of_kind, bytes_of_items};
 ghost use Rattle.wb_script.specs.Checks.{known_in};
 
-use crate::checks::items::{Item, count_among, item_of_kind, place_of_item};
-use crate::checks::known::Known;
+use crate::checks::items::{Declaration, count_among, item_of_kind, place_of_item};
 use crate::checks::names::place_of;
+use crate::checks::names_so_far::NamesSoFar;
 use std::alloc::{AllocError, Global};
-use wb_lines::keys::Letters;
+use wb_lines::line_kinds::OperandPlaces;
 use wb_lines::lists::add;
 use wb_lines::same::are_same;
 use wb_model::items::Items;
-use wb_model::script_lines::{BodyKind, Form, ItemKind, Key, Kind, Letter, Meant, Operand, Taken};
+use wb_model::script_lines::{
+    BodyKind, Form, ItemKind, LineKind, LocalKind, Operand, OperandPlace, ParameterType, Referent,
+};
 
 /// What the local with an index holds.
-fn kind_at<'a>(kinds: &[Kind<&'a [u8]>], index: usize) -> Option<Kind<&'a [u8]>>
-    ensures { option_map lent_kind result ≡ slice_get (map lent_kind kinds.now) index }
+fn kind_at<'a>(kinds: &[LocalKind<&'a [u8]>], index: usize) -> Option<LocalKind<&'a [u8]>>
+    ensures { option_map bytes_of_kind result ≡ slice_get (map bytes_of_kind kinds.now) index }
 {
     match kinds.get(index) {
         Some(kind) => Some(*kind),
@@ -30,25 +32,25 @@ fn kind_at<'a>(kinds: &[Kind<&'a [u8]>], index: usize) -> Option<Kind<&'a [u8]>>
     }
 }
 
-fn local_meant(index: usize, kind: Option<Kind<&[u8]>>) -> Meant
-    ensures { result ≡ local_meant index (option_map lent_kind kind.entry) }
+fn local_referent(index: usize, kind: Option<LocalKind<&[u8]>>) -> Referent
+    ensures { result ≡ local_referent index (option_map bytes_of_kind kind.entry) }
 {
     match kind {
-        Some(Kind::Pointer(_)) => Meant::Pointer(index),
-        Some(Kind::Number) => Meant::Number(index),
-        Some(Kind::Buffer) => Meant::Buffer(index),
-        Some(Kind::View) => Meant::View(index),
-        None => Meant::Nothing,
+        Some(LocalKind::Pointer(_)) => Referent::Pointer(index),
+        Some(LocalKind::Number) => Referent::Number(index),
+        Some(LocalKind::Buffer) => Referent::Buffer(index),
+        Some(LocalKind::View) => Referent::View(index),
+        None => Referent::Nothing,
     }
 }
 
 /// What a name stands for that is used among these locals.
-fn used_meant(known: &Known, name: &[u8]) -> Meant
-    ensures { result ≡ meant_at (known_in known.now).kinds (first_declaration_of (known_in known.now).locals name.now) }
+fn used_referent(known: &NamesSoFar, name: &[u8]) -> Referent
+    ensures { result ≡ referent_at (known_in known.now).kinds (first_declaration_of (known_in known.now).locals name.now) }
 {
     match place_of(&known.locals, name) {
-        Some(index) => local_meant(index, kind_at(&known.kinds, index)),
-        None => Meant::Nothing,
+        Some(index) => local_referent(index, kind_at(&known.kinds, index)),
+        None => Referent::Nothing,
     }
 }
 
@@ -65,87 +67,87 @@ fn is_this(name: &[u8]) -> bool
     are_same(name, b"self")
 }
 
-fn this_meant(body: BodyKind) -> Meant
-    ensures { result ≡ this_meant body }
+fn this_referent(body: BodyKind) -> Referent
+    ensures { result ≡ this_referent body }
 {
     if has_this(body) {
-        Meant::This
+        Referent::This
     } else {
-        Meant::Nothing
+        Referent::Nothing
     }
 }
 
 /// What a name stands for in the space of the body.
-fn own_meant(known: &Known, name: &[u8]) -> Meant
-    ensures { result ≡ own_meant (known_in known.now) name.now }
+fn own_referent(known: &NamesSoFar, name: &[u8]) -> Referent
+    ensures { result ≡ own_referent (known_in known.now) name.now }
 {
     if is_this(name) {
-        this_meant(known.body)
+        this_referent(known.body)
     } else {
-        used_meant(known, name)
+        used_referent(known, name)
     }
 }
 
 /// One of a kind, by its index among these.
-fn kind_meant(kind: ItemKind, index: usize) -> Meant
-    ensures { result ≡ kind_meant kind index }
+fn referent_of_kind(kind: ItemKind, index: usize) -> Referent
+    ensures { result ≡ referent_of_kind kind index }
 {
     match kind {
-        ItemKind::Class => Meant::Class(index),
-        ItemKind::Procedure => Meant::Procedure(index),
-        ItemKind::Operation => Meant::Operation(index),
+        ItemKind::Class => Referent::Class(index),
+        ItemKind::Procedure => Referent::Procedure(index),
+        ItemKind::Operation => Referent::Operation(index),
     }
 }
 
 /// The item with an index, by its index among those of its kind.
-fn item_at(items: &[Item], index: usize) -> Meant
-    ensures { result ≡ item_at (lent_items items.now) (Some index) }
+fn item_at(items: &[Declaration], index: usize) -> Referent
+    ensures { result ≡ item_at (bytes_of_items items.now) (Some index) }
 {
     match items.get(index) {
-        Some(item) => kind_meant(item.kind, count_among(item.kind, &items[..index])),
-        None => Meant::Nothing,
+        Some(item) => referent_of_kind(item.kind, count_among(item.kind, &items[..index])),
+        None => Referent::Nothing,
     }
 }
 
 /// What a name stands for in the script's own space.
-pub(crate) fn item_meant(items: &[Item], name: &[u8]) -> Meant
-    ensures { result ≡ item_meant (lent_items items.now) name.now }
+pub(crate) fn item_referent(items: &[Declaration], name: &[u8]) -> Referent
+    ensures { result ≡ item_referent (bytes_of_items items.now) name.now }
 {
     match place_of_item(items, name) {
         Some(index) => item_at(items, index),
-        None => Meant::Nothing,
+        None => Referent::Nothing,
     }
 }
 
-fn class_in(meant: Meant) -> Option<usize>
-    ensures { result ≡ class_in meant }
+fn class_in(referent: Referent) -> Option<usize>
+    ensures { result ≡ class_in referent }
 {
-    match meant {
-        Meant::Class(class) => Some(class),
+    match referent {
+        Referent::Class(class) => Some(class),
         _ => None,
     }
 }
 
 /// The class with a name, where it is one's.
-fn class_named(items: &[Item], name: &[u8]) -> Option<usize>
-    ensures { result ≡ class_named (lent_items items.now) name.now }
+fn class_named(items: &[Declaration], name: &[u8]) -> Option<usize>
+    ensures { result ≡ class_named (bytes_of_items items.now) name.now }
 {
-    class_in(item_meant(items, name))
+    class_in(item_referent(items, name))
 }
 
 /// The class that a local of a kind is declared with.
-fn class_of_kind(items: &[Item], kind: Option<Kind<&[u8]>>) -> Option<usize>
-    ensures { result ≡ class_of_kind (lent_items items.now) (option_map lent_kind kind.entry) }
+fn class_of_kind(items: &[Declaration], kind: Option<LocalKind<&[u8]>>) -> Option<usize>
+    ensures { result ≡ class_of_kind (bytes_of_items items.now) (option_map bytes_of_kind kind.entry) }
 {
     match kind {
-        Some(Kind::Pointer(Some(class))) => class_named(items, class),
+        Some(LocalKind::Pointer(Some(class))) => class_named(items, class),
         _ => None,
     }
 }
 
 /// The class that a local with a name is declared with.
-fn class_of_local(items: &[Item], known: &Known, name: &[u8]) -> Option<usize>
-    ensures { result ≡ class_of_local (lent_items items.now) (known_in known.now).kinds (first_declaration_of (known_in known.now).locals name.now) }
+fn class_of_local(items: &[Declaration], known: &NamesSoFar, name: &[u8]) -> Option<usize>
+    ensures { result ≡ class_of_local (bytes_of_items items.now) (known_in known.now).kinds (first_declaration_of (known_in known.now).locals name.now) }
 {
     match place_of(&known.locals, name) {
         Some(index) => class_of_kind(items, kind_at(&known.kinds, index)),
@@ -154,7 +156,7 @@ fn class_of_local(items: &[Item], known: &Known, name: &[u8]) -> Option<usize>
 }
 
 /// The class of `self`: the one begun last.
-fn class_of_this(known: &Known) -> Option<usize>
+fn class_of_this(known: &NamesSoFar) -> Option<usize>
     ensures { result ≡ class_of_this (known_in known.now) }
 {
     if has_this(known.body) {
@@ -165,8 +167,8 @@ fn class_of_this(known: &Known) -> Option<usize>
 }
 
 /// The class that what holds a pointer is declared with.
-fn class_of_base(items: &[Item], known: &Known, name: &[u8]) -> Option<usize>
-    ensures { result ≡ class_of_base (lent_items items.now) (known_in known.now) name.now }
+fn class_of_base(items: &[Declaration], known: &NamesSoFar, name: &[u8]) -> Option<usize>
+    ensures { result ≡ class_of_base (bytes_of_items items.now) (known_in known.now) name.now }
 {
     if is_this(name) {
         class_of_this(known)
@@ -175,81 +177,104 @@ fn class_of_base(items: &[Item], known: &Known, name: &[u8]) -> Option<usize>
     }
 }
 
-fn field_at(class: usize, index: Option<usize>) -> Meant
+fn field_at(class: usize, index: Option<usize>) -> Referent
     ensures { result ≡ field_at class index }
 {
     match index {
-        Some(index) => Meant::Field(class, index),
-        None => Meant::Nothing,
+        Some(index) => Referent::Field(class, index),
+        None => Referent::Nothing,
     }
 }
 
 /// What a field stands for, by the class of what stands before its dot.
-fn field_meant(items: &[Item], class: Option<usize>, name: &[u8]) -> Meant
-    ensures { result ≡ field_meant (lent_items items.now) class name.now }
+fn field_referent(items: &[Declaration], class: Option<usize>, name: &[u8]) -> Referent
+    ensures { result ≡ field_referent (bytes_of_items items.now) class name.now }
 {
     match class {
         Some(class) => match item_of_kind(ItemKind::Class, items, class) {
             Some(item) => field_at(class, place_of(item.fields.as_slice(), name)),
-            None => Meant::Nothing,
+            None => Referent::Nothing,
         },
-        None => Meant::Classless,
+        None => Referent::Classless,
     }
 }
 
-/// How many of its kind stand before what a line of a key declares.
-fn names_before(key: Key, known: &Known) -> usize
-    ensures { result ≡ names_before key (known_in known.now) }
+/// How many of its kind stand before what a line of a line kind declares.
+fn names_before(line_kind: LineKind, known: &NamesSoFar) -> usize
+    ensures { result ≡ names_before line_kind (known_in known.now) }
 {
-    match key {
-        Key::Class => known.classes,
-        Key::Field | Key::ClassField => known.fields.len(),
-        Key::Proc => known.procedures,
-        Key::Op => known.operations,
+    match line_kind {
+        LineKind::Class => known.classes,
+        LineKind::Field | LineKind::ClassField => known.fields.len(),
+        LineKind::Proc => known.procedures,
+        LineKind::Op => known.operations,
         _ => known.locals.len(),
     }
 }
 
-fn name_meant(items: &[Item], known: &Known, key: Key, letter: Letter, name: &[u8]) -> Meant
-    ensures { result ≡ name_meant (lent_items items.now) (known_in known.now) key letter name.now }
+fn name_referent(
+    items: &[Declaration],
+    known: &NamesSoFar,
+    line_kind: LineKind,
+    operand_place: OperandPlace,
+    name: &[u8],
+) -> Referent
+    ensures { result ≡ name_referent (bytes_of_items items.now) (known_in known.now) line_kind operand_place name.now }
 {
-    match letter {
-        Letter::Declared => Meant::Declared(names_before(key, known)),
-        Letter::Class | Letter::Procedure | Letter::Operation => item_meant(items, name),
-        _ => own_meant(known, name),
+    match operand_place {
+        OperandPlace::Declared => Referent::Declared(names_before(line_kind, known)),
+        OperandPlace::Class | OperandPlace::Procedure | OperandPlace::Operation => item_referent(
+            items, name,
+        ),
+        _ => own_referent(known, name),
     }
 }
 
-fn resolved_taken(items: &[Item], taken: Taken<&[u8]>) -> Taken<Meant>
-    ensures { result ≡ resolved_taken (lent_items items.now) (renamed_taken lent_text taken.entry) }
+fn resolved_parameter_type(
+    items: &[Declaration],
+    parameter_type: ParameterType<&[u8]>,
+) -> ParameterType<Referent>
+    ensures { result ≡ resolved_parameter_type (bytes_of_items items.now) (renamed_parameter_type bytes_of_text parameter_type.entry) }
 {
-    match taken {
-        Taken::Pointer => Taken::Pointer,
-        Taken::Number => Taken::Number,
-        Taken::OfClass(class) => Taken::OfClass(item_meant(items, class)),
+    match parameter_type {
+        ParameterType::Pointer => ParameterType::Pointer,
+        ParameterType::Number => ParameterType::Number,
+        ParameterType::OfClass(class) => ParameterType::OfClass(item_referent(items, class)),
     }
 }
 
 fn resolved_operand(
-    items: &[Item],
-    known: &Known,
-    key: Key,
-    letter: Letter,
+    items: &[Declaration],
+    known: &NamesSoFar,
+    line_kind: LineKind,
+    operand_place: OperandPlace,
     operand: &Operand<&[u8]>,
-) -> Operand<Meant>
-    ensures { result ≡ resolved_operand (lent_items items.now) (known_in known.now) key letter (lent_operand operand.now) }
+) -> Operand<Referent>
+    ensures { result ≡ resolved_operand (bytes_of_items items.now) (known_in known.now) line_kind operand_place (bytes_of_operand operand.now) }
 {
     match operand {
-        Operand::Name(name) => Operand::Name(name_meant(items, known, key, letter, name)),
+        Operand::Name(name) => Operand::Name(name_referent(
+            items,
+            known,
+            line_kind,
+            operand_place,
+            name,
+        )),
         Operand::Field(base, field) => {
             let class = class_of_base(items, known, base);
-            Operand::Field(own_meant(known, base), field_meant(items, class, field))
+            Operand::Field(
+                own_referent(known, base),
+                field_referent(items, class, field),
+            )
         }
         Operand::Number(number) => Operand::Number(*number),
         Operand::Size(size) => Operand::Size(*size),
-        Operand::Literal(_) => Operand::Literal(Meant::Literal(known.literals.len())),
-        Operand::Parameter(_, taken) => {
-            Operand::Parameter(Meant::Parameter, resolved_taken(items, *taken))
+        Operand::Literal(_) => Operand::Literal(Referent::Literal(known.literals.len())),
+        Operand::Parameter(_, parameter_type) => {
+            Operand::Parameter(
+                Referent::Parameter,
+                resolved_parameter_type(items, *parameter_type),
+            )
         }
         Operand::Keyword => Operand::Keyword,
     }
@@ -257,22 +282,22 @@ fn resolved_operand(
 
 fn resolved_operands(
     alloc: Global,
-    items: &[Item],
-    known: &Known,
-    key: Key,
+    items: &[Declaration],
+    known: &NamesSoFar,
+    line_kind: LineKind,
     operands: &[Operand<&[u8]>],
-) -> Result<Vec<Operand<Meant>>, AllocError>
-    ensures { IfOk result (λ found. found.items ≡ resolved_operands (lent_items items.now) (known_in known.now) key (letters_for key (length operands.now)) (lent_operands operands.now)) }
+) -> Result<Vec<Operand<Referent>>, AllocError>
+    ensures { IfOk result (λ found. found.items ≡ resolved_operands (bytes_of_items items.now) (known_in known.now) line_kind (operand_places_for line_kind (length operands.now)) (bytes_of_operands operands.now)) }
 {
-    let letters = Letters::of(key);
+    let operand_places = OperandPlaces::of(line_kind);
     let mut found = Vec::with_capacity(alloc, operands.len())?;
     for (index, operand) in operands.iter().enumerate() {
-        let Some(letter) = letters.at(index) else {
+        let Some(operand_place) = operand_places.at(index) else {
             return Ok(found);
         };
         add(
             &mut found,
-            resolved_operand(items, known, key, letter, operand),
+            resolved_operand(items, known, line_kind, operand_place, operand),
         )?;
     }
     Ok(found)
@@ -281,18 +306,18 @@ fn resolved_operands(
 /// A line, by the script's own space and what stands before it.
 pub(crate) fn resolved_line(
     alloc: Global,
-    items: &[Item],
-    known: &Known,
+    items: &[Declaration],
+    known: &NamesSoFar,
     form: &Form<&[u8]>,
-) -> Result<Form<Meant>, AllocError>
-    ensures { IfOk result (λ line. line ≡ resolved_line (lent_items items.now) (known_in known.now) (lent_form form.now)) }
+) -> Result<Form<Referent>, AllocError>
+    ensures { IfOk result (λ line. line ≡ resolved_line (bytes_of_items items.now) (known_in known.now) (bytes_of_form form.now)) }
 {
     match form {
         Form::Skip => Ok(Form::Skip),
         Form::Unknown => Ok(Form::Unknown),
-        Form::Line(key, operands) => {
-            let found = resolved_operands(alloc, items, known, *key, operands.as_slice())?;
-            Ok(Form::Line(*key, Items::from_vec(found)))
+        Form::Line(line_kind, operands) => {
+            let found = resolved_operands(alloc, items, known, *line_kind, operands.as_slice())?;
+            Ok(Form::Line(*line_kind, Items::from_vec(found)))
         }
     }
 }

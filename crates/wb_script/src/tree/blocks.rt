@@ -3,18 +3,18 @@
 ghost use Rattle.std.specs.Prelude.{◌≡◌, [], ◌∷◌, ◌++◌, IfOk};
 ghost use Rattle.std.specs.List.{list_any};
 ghost use Rattle.wb_model.specs.Kinds.{is_trap};
-ghost use Rattle.wb_script.specs.Building.{head_key, keys_of_blocks, IsWhole, IsClosed, TurnsToElse};
+ghost use Rattle.wb_script.specs.Building.{head_line_kind, line_kinds_of_blocks, IsWhole, IsClosed, TurnsToElse};
 
 use std::alloc::{AllocError, Global};
 use wb_model::items::Items;
-use wb_model::script::{Condition, Number, Numbered, Statement};
+use wb_model::script::{Condition, Number, Statement, StatementAt};
 
 /// What a block began with.
 #[derive(Drop)]
 pub(crate) enum Head {
     If(Condition),
     /// An `if` whose `else` has come, with its first part.
-    Else(Condition, Items<Numbered>),
+    Else(Condition, Items<StatementAt>),
     Repeat(Number),
     Trap(u8),
 }
@@ -23,21 +23,21 @@ pub(crate) enum Head {
 /// began with.
 #[derive(Drop)]
 pub(crate) struct OpenBlock {
-    pub before: Items<Numbered>,
+    pub before: Items<StatementAt>,
     pub line: u32,
     pub head: Head,
 }
 
 /// The open blocks, outermost first, and the statements so far in the innermost, or in the body where no block is open.
 #[derive(Drop)]
-pub(crate) struct Nest {
+pub(crate) struct BlockStack {
     pub blocks: Items<OpenBlock>,
-    pub statements: Items<Numbered>,
+    pub statements: Items<StatementAt>,
 }
 
 /// A block is or is no TRAP.
 fn is_trap_block(block: &OpenBlock) -> bool
-    ensures { result ≡ is_trap (head_key block.now.head) }
+    ensures { result ≡ is_trap (head_line_kind block.now.head) }
 {
     match &block.head {
         Head::Trap(_) => true,
@@ -47,7 +47,7 @@ fn is_trap_block(block: &OpenBlock) -> bool
 
 /// One of these blocks is a TRAP.
 pub(crate) fn has_trap(blocks: &[OpenBlock]) -> bool
-    ensures { result ≡ list_any is_trap (keys_of_blocks blocks.now) }
+    ensures { result ≡ list_any is_trap (line_kinds_of_blocks blocks.now) }
 {
     for block in blocks {
         if is_trap_block(block) {
@@ -58,7 +58,7 @@ pub(crate) fn has_trap(blocks: &[OpenBlock]) -> bool
 }
 
 /// The statement that a block is, whose innermost statements are these.
-fn whole(head: Head, statements: Items<Numbered>) -> Statement
+fn statement_of_block(head: Head, statements: Items<StatementAt>) -> Statement
     ensures { IsWhole head statements result }
 {
     match head {
@@ -70,35 +70,43 @@ fn whole(head: Head, statements: Items<Numbered>) -> Statement
 }
 
 /// A block begins.
-pub(crate) fn entered(alloc: Global, nest: Nest, line: u32, head: Head) -> Result<Nest, AllocError>
-    ensures { IfOk result (λ n. n ≡ record { blocks = nest.blocks ++ (record { before = nest.statements; line = line; head = head }) ∷ []; statements = [] }) }
+pub(crate) fn enter_block(
+    alloc: Global,
+    block_stack: BlockStack,
+    line: u32,
+    head: Head,
+) -> Result<BlockStack, AllocError>
+    ensures { IfOk result (λ n. n ≡ record { blocks = block_stack.blocks ++ (record { before = block_stack.statements; line = line; head = head }) ∷ []; statements = [] }) }
 {
-    let mut blocks = nest.blocks;
+    let mut blocks = block_stack.blocks;
     blocks.push(OpenBlock {
-        before: nest.statements,
+        before: block_stack.statements,
         line,
         head,
     })?;
-    Ok(Nest {
+    Ok(BlockStack {
         blocks,
         statements: Items::new(alloc),
     })
 }
 
 /// The `else` of the innermost block; none where that is no `if`, or has one.
-pub(crate) fn turned(alloc: Global, nest: Nest) -> Result<Option<Nest>, AllocError>
-    ensures { IfOk result (TurnsToElse nest) }
+pub(crate) fn turn_to_else(
+    alloc: Global,
+    block_stack: BlockStack,
+) -> Result<Option<BlockStack>, AllocError>
+    ensures { IfOk result (TurnsToElse block_stack) }
 {
-    let mut blocks = nest.blocks;
+    let mut blocks = block_stack.blocks;
     match blocks.pop() {
         Some(block) => match block.head {
             Head::If(condition) => {
                 blocks.push(OpenBlock {
                     before: block.before,
                     line: block.line,
-                    head: Head::Else(condition, nest.statements),
+                    head: Head::Else(condition, block_stack.statements),
                 })?;
-                Ok(Some(Nest {
+                Ok(Some(BlockStack {
                     blocks,
                     statements: Items::new(alloc),
                 }))
@@ -111,27 +119,27 @@ pub(crate) fn turned(alloc: Global, nest: Nest) -> Result<Option<Nest>, AllocErr
 
 /// What the end of a block, or of a body, leaves.
 #[derive(Drop)]
-pub(crate) enum Around {
+pub(crate) enum Enclosing {
     /// The innermost block is a statement of what is around it.
-    Block(Nest),
+    Block(BlockStack),
     /// No block was open: these are the statements of the body.
-    Body(Items<Numbered>),
+    Body(Items<StatementAt>),
 }
 
 /// The end of the innermost block, or of the body.
-pub(crate) fn ended(nest: Nest) -> Result<Around, AllocError>
-    ensures { IfOk result (IsClosed nest) }
+pub(crate) fn end_block(block_stack: BlockStack) -> Result<Enclosing, AllocError>
+    ensures { IfOk result (IsClosed block_stack) }
 {
-    let mut blocks = nest.blocks;
+    let mut blocks = block_stack.blocks;
     match blocks.pop() {
         Some(block) => {
             let mut statements = block.before;
-            statements.push(Numbered {
+            statements.push(StatementAt {
                 line: block.line,
-                statement: whole(block.head, nest.statements),
+                statement: statement_of_block(block.head, block_stack.statements),
             })?;
-            Ok(Around::Block(Nest { blocks, statements }))
+            Ok(Enclosing::Block(BlockStack { blocks, statements }))
         }
-        None => Ok(Around::Body(nest.statements)),
+        None => Ok(Enclosing::Body(block_stack.statements)),
     }
 }

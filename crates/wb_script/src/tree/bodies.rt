@@ -3,14 +3,14 @@
 ghost use Rattle.std.specs.Prelude.{◌≡◌, ◌≤◌, ◌++◌, ◌∷◌, [], length, IfOk, IsTrue, OnOk};
 ghost use Rattle.wb_model.specs.declared.script_lines.Role.TheVariants as role;
 ghost use Rattle.wb_model.specs.declared.script_lines.Form.TheVariants.{Line};
-ghost use Rattle.wb_model.specs.declared.script_lines.Key.TheVariants as key;
-ghost use Rattle.wb_model.specs.Keys.{role_of};
-ghost use Rattle.wb_script.specs.Building.{begins_block, keys_of_blocks};
-ghost use Rattle.wb_script.specs.declared.tree.bodies.Left.TheVariants.{Inside};
+ghost use Rattle.wb_model.specs.declared.script_lines.LineKind.TheVariants as line_kind;
+ghost use Rattle.wb_model.specs.LineKinds.{role_of};
+ghost use Rattle.wb_script.specs.Building.{begins_block, line_kinds_of_blocks};
+ghost use Rattle.wb_script.specs.declared.tree.bodies.BodyProgress.TheVariants.{Inside};
 ghost use Rattle.wb_script.specs.Growing.{AddsWhereFit, IsSoundOpen, TakesWhereFit, declared_in_space, if_added, scope_in_body, with_statement};
 ghost use Rattle.wb_script.specs.Stated.{IsStatedWhereFit, scope_in};
 
-use crate::tree::blocks::{Around, Nest, ended, entered, turned};
+use crate::tree::blocks::{BlockStack, Enclosing, end_block, enter_block, turn_to_else};
 use crate::tree::heads::head_of;
 use crate::tree::locals::declared_local;
 use crate::tree::plain::plain_statement;
@@ -19,8 +19,8 @@ use crate::tree::space::Space;
 use std::alloc::{AllocError, Global};
 use wb_model::items::Items;
 use wb_model::limits::{DEEPEST_BLOCK, MOST_LOCALS};
-use wb_model::script::{Body, Local, Numbered, Parameter, Statement};
-use wb_model::script_lines::{Key, Meant, Operand};
+use wb_model::script::{Body, Local, Parameter, Statement, StatementAt};
+use wb_model::script_lines::{LineKind, Operand, Referent};
 
 /// A body whose end hasn't come: its parameters, the class of `self` in the body of a class, the locals that it declares, all
 /// its locals, of which the parameters are the first, and its statements.
@@ -30,12 +30,12 @@ pub(crate) struct OpenBody {
     pub this: Option<u16>,
     pub locals: Items<Local>,
     pub scope: Items<Local>,
-    pub nest: Nest,
+    pub block_stack: BlockStack,
 }
 
 /// What a line of an open body leaves.
 #[derive(Drop)]
-pub(crate) enum Left {
+pub(crate) enum BodyProgress {
     Inside(OpenBody),
     /// The whole body, with its parameters.
     Done(Items<Parameter>, Body),
@@ -56,20 +56,25 @@ fn scope_of<'a>(space: Space<'a>, body: &'a OpenBody) -> Scope<'a>
 }
 
 /// The local that a line declares as the next of a body; none where it takes no such.
-fn next_local(space: Space, body: &OpenBody, key: Key, operands: &[Operand<Meant>]) -> Option<Local>
-    requires { role_of key ≡ role.Declaration }
-    ensures { TakesWhereFit (declared_in_space space.entry) body.now key operands.now result }
+fn next_local(
+    space: Space,
+    body: &OpenBody,
+    line_kind: LineKind,
+    operands: &[Operand<Referent>],
+) -> Option<Local>
+    requires { role_of line_kind ≡ role.Declaration }
+    ensures { TakesWhereFit (declared_in_space space.entry) body.now line_kind operands.now result }
 {
-    if body.nest.blocks.len() > 0 {
+    if body.block_stack.blocks.len() > 0 {
         return None;
     }
-    if body.nest.statements.len() > 0 {
+    if body.block_stack.statements.len() > 0 {
         return None;
     }
     if body.scope.len() >= MOST_LOCALS as usize {
         return None;
     }
-    declared_local(body.scope.len(), space.fields, key, operands)
+    declared_local(body.scope.len(), space.fields, line_kind, operands)
 }
 
 fn with_local(body: OpenBody, local: Local) -> Result<OpenBody, AllocError>
@@ -87,19 +92,19 @@ fn with_local(body: OpenBody, local: Local) -> Result<OpenBody, AllocError>
 }
 
 /// Adds a declaration, with the number of its line; none where it has no place.
-fn declared(
+fn add_declaration(
     space: Space,
     body: OpenBody,
     number: u32,
-    key: Key,
-    operands: &[Operand<Meant>],
-) -> Result<Option<Left>, AllocError>
+    line_kind: LineKind,
+    operands: &[Operand<Referent>],
+) -> Result<Option<BodyProgress>, AllocError>
     requires sound { IsSoundOpen (declared_in_space space) body }
-    requires declares { role_of key ≡ role.Declaration }
-    ensures { IfOk result (AddsWhereFit (declared_in_space space.entry) number (Line key operands.now) body) }
+    requires declares { role_of line_kind ≡ role.Declaration }
+    ensures { IfOk result (AddsWhereFit (declared_in_space space.entry) number (Line line_kind operands.now) body) }
 {
-    match next_local(space, &body, key, operands) {
-        Some(local) => Ok(Some(Left::Inside(with_local(body, local)?))),
+    match next_local(space, &body, line_kind, operands) {
+        Some(local) => Ok(Some(BodyProgress::Inside(with_local(body, local)?))),
         None => Ok(None),
     }
 }
@@ -109,18 +114,18 @@ fn statement_in(
     alloc: Global,
     space: Space,
     body: &OpenBody,
-    key: Key,
-    operands: &[Operand<Meant>],
+    line_kind: LineKind,
+    operands: &[Operand<Referent>],
 ) -> Result<Option<Statement>, AllocError>
     requires sound { IsSoundOpen (declared_in_space space) body.now }
-    requires plain { role_of key ≡ role.Plain }
+    requires plain { role_of line_kind ≡ role.Plain }
     ensures { let declared = declared_in_space space.entry in
         IfOk result (IsStatedWhereFit declared (scope_in_body declared body.now)
-        (keys_of_blocks body.now.nest.blocks) key operands.now) }
+        (line_kinds_of_blocks body.now.block_stack.blocks) line_kind operands.now) }
 {
     let here = scope_of(space, body);
-    let blocks = body.nest.blocks.as_slice();
-    plain_statement(alloc, space.items, &here, blocks, key, operands)
+    let blocks = body.block_stack.blocks.as_slice();
+    plain_statement(alloc, space.items, &here, blocks, line_kind, operands)
 }
 
 /// Appends a statement to the innermost block of an open body, or to the body.
@@ -128,25 +133,27 @@ fn push_statement(body: &mut OpenBody, line: u32, statement: Statement) -> Resul
     ensures { OnOk result (body.new ≡
         with_statement body.old (record { line = line; statement = statement })) }
 {
-    body.nest.statements.push(Numbered { line, statement })?;
+    body.block_stack
+        .statements
+        .push(StatementAt { line, statement })?;
     Ok(())
 }
 
 /// Adds a statement that is no block in place, with the number of its line; false where its operands don't fit.
-pub(crate) fn add_stated(
+pub(crate) fn add_statement_in_place(
     alloc: Global,
     space: Space,
     body: &mut OpenBody,
     number: u32,
-    key: Key,
-    operands: &[Operand<Meant>],
+    line_kind: LineKind,
+    operands: &[Operand<Referent>],
 ) -> Result<bool, AllocError>
     requires sound { IsSoundOpen (declared_in_space space) body.old }
-    requires plain { role_of key ≡ role.Plain }
+    requires plain { role_of line_kind ≡ role.Plain }
     ensures { IfOk result (λ added. AddsWhereFit (declared_in_space space.entry) number
-        (Line key operands.now) body.old (if_added added (Inside body.new))) }
+        (Line line_kind operands.now) body.old (if_added added (Inside body.new))) }
 {
-    match statement_in(alloc, space, body, key, operands)? {
+    match statement_in(alloc, space, body, line_kind, operands)? {
         Some(statement) => {
             push_statement(body, number, statement)?;
             Ok(true)
@@ -156,88 +163,97 @@ pub(crate) fn add_stated(
 }
 
 /// Adds a statement that is no block, with the number of its line; none where its operands don't fit.
-fn stated(
+fn add_statement(
     alloc: Global,
     space: Space,
     body: OpenBody,
     number: u32,
-    key: Key,
-    operands: &[Operand<Meant>],
-) -> Result<Option<Left>, AllocError>
+    line_kind: LineKind,
+    operands: &[Operand<Referent>],
+) -> Result<Option<BodyProgress>, AllocError>
     requires sound { IsSoundOpen (declared_in_space space) body }
-    requires plain { role_of key ≡ role.Plain }
-    ensures { IfOk result (AddsWhereFit (declared_in_space space.entry) number (Line key operands.now) body) }
+    requires plain { role_of line_kind ≡ role.Plain }
+    ensures { IfOk result (AddsWhereFit (declared_in_space space.entry) number (Line line_kind operands.now) body) }
 {
     let mut body = body;
-    if add_stated(alloc, space, &mut body, number, key, operands)? {
-        Ok(Some(Left::Inside(body)))
+    if add_statement_in_place(alloc, space, &mut body, number, line_kind, operands)? {
+        Ok(Some(BodyProgress::Inside(body)))
     } else {
         Ok(None)
     }
 }
 
 /// Begins a block, with the number of its line; none where its operands don't fit.
-fn begun_block(
+fn begin_block(
     alloc: Global,
     space: Space,
     body: OpenBody,
     number: u32,
-    key: Key,
-    operands: &[Operand<Meant>],
-) -> Result<Option<Left>, AllocError>
+    line_kind: LineKind,
+    operands: &[Operand<Referent>],
+) -> Result<Option<BodyProgress>, AllocError>
     requires sound { IsSoundOpen (declared_in_space space) body }
-    requires block { IsTrue (begins_block key) }
-    ensures { IfOk result (AddsWhereFit (declared_in_space space.entry) number (Line key operands.now) body) }
+    requires block { IsTrue (begins_block line_kind) }
+    ensures { IfOk result (AddsWhereFit (declared_in_space space.entry) number (Line line_kind operands.now) body) }
 {
-    if body.nest.blocks.len() >= DEEPEST_BLOCK as usize {
+    if body.block_stack.blocks.len() >= DEEPEST_BLOCK as usize {
         return Ok(None);
     }
     let here = scope_of(space, &body);
-    match head_of(&here, key, operands) {
+    match head_of(&here, line_kind, operands) {
         Some(head) => {
-            let nest = entered(alloc, body.nest, number, head)?;
-            Ok(Some(Left::Inside(OpenBody { nest, ..body })))
+            let block_stack = enter_block(alloc, body.block_stack, number, head)?;
+            Ok(Some(BodyProgress::Inside(OpenBody {
+                block_stack,
+                ..body
+            })))
         }
         None => Ok(None),
     }
 }
 
 /// Adds an `else`; none where it has no place.
-fn otherwise(
+fn add_else(
     alloc: Global,
     space: Space,
     body: OpenBody,
     number: u32,
-    operands: &[Operand<Meant>],
-) -> Result<Option<Left>, AllocError>
+    operands: &[Operand<Referent>],
+) -> Result<Option<BodyProgress>, AllocError>
     requires { IsSoundOpen (declared_in_space space) body }
-    ensures { IfOk result (AddsWhereFit (declared_in_space space.entry) number (Line key.Else operands.now) body) }
+    ensures { IfOk result (AddsWhereFit (declared_in_space space.entry) number (Line line_kind.Else operands.now) body) }
 {
     if !operands.is_empty() {
         return Ok(None);
     }
-    match turned(alloc, body.nest)? {
-        Some(nest) => Ok(Some(Left::Inside(OpenBody { nest, ..body }))),
+    match turn_to_else(alloc, body.block_stack)? {
+        Some(block_stack) => Ok(Some(BodyProgress::Inside(OpenBody {
+            block_stack,
+            ..body
+        }))),
         None => Ok(None),
     }
 }
 
 /// Adds an `end`; none where it has operands.
-fn closed(
+fn add_end(
     space: Space,
     body: OpenBody,
     number: u32,
-    operands: &[Operand<Meant>],
-) -> Result<Option<Left>, AllocError>
+    operands: &[Operand<Referent>],
+) -> Result<Option<BodyProgress>, AllocError>
     requires { IsSoundOpen (declared_in_space space) body }
-    ensures { IfOk result (AddsWhereFit (declared_in_space space.entry) number (Line key.End operands.now) body) }
+    ensures { IfOk result (AddsWhereFit (declared_in_space space.entry) number (Line line_kind.End operands.now) body) }
 {
     if !operands.is_empty() {
         return Ok(None);
     }
-    match ended(body.nest)? {
-        Around::Block(nest) => Ok(Some(Left::Inside(OpenBody { nest, ..body }))),
-        Around::Body(statements) => Ok(Some(Left::Done(
+    match end_block(body.block_stack)? {
+        Enclosing::Block(block_stack) => Ok(Some(BodyProgress::Inside(OpenBody {
+            block_stack,
+            ..body
+        }))),
+        Enclosing::Body(statements) => Ok(Some(BodyProgress::Done(
             body.parameters,
             Body {
                 locals: body.locals,
@@ -248,33 +264,36 @@ fn closed(
 }
 
 /// Adds a line to an open body, with its number; none where it has no place there.
-pub(crate) fn inside(
+pub(crate) fn add_to_body(
     alloc: Global,
     space: Space,
     body: OpenBody,
     number: u32,
-    key: Key,
-    operands: &[Operand<Meant>],
-) -> Result<Option<Left>, AllocError>
+    line_kind: LineKind,
+    operands: &[Operand<Referent>],
+) -> Result<Option<BodyProgress>, AllocError>
     requires sound { IsSoundOpen (declared_in_space space) body }
-    ensures { IfOk result (AddsWhereFit (declared_in_space space.entry) number (Line key operands.now) body) }
+    ensures { IfOk result (AddsWhereFit (declared_in_space space.entry) number (Line line_kind operands.now) body) }
 {
-    match key {
-        Key::Class
-        | Key::Field
-        | Key::ClassField
-        | Key::Constructor
-        | Key::Destructor
-        | Key::Proc
-        | Key::Op => Ok(None),
-        Key::Ptr | Key::ClassPtr | Key::Int | Key::Buf | Key::View => {
-            declared(space, body, number, key, operands)
+    match line_kind {
+        LineKind::Class
+        | LineKind::Field
+        | LineKind::ClassField
+        | LineKind::Constructor
+        | LineKind::Destructor
+        | LineKind::Proc
+        | LineKind::Op => Ok(None),
+        LineKind::Ptr | LineKind::ClassPtr | LineKind::Int | LineKind::Buf | LineKind::View => {
+            add_declaration(space, body, number, line_kind, operands)
         }
-        Key::IfNull | Key::IfSome | Key::IfEqual | Key::IfLess | Key::Repeat | Key::Trap => {
-            begun_block(alloc, space, body, number, key, operands)
-        }
-        Key::Else => otherwise(alloc, space, body, number, operands),
-        Key::End => closed(space, body, number, operands),
-        _ => stated(alloc, space, body, number, key, operands),
+        LineKind::IfNull
+        | LineKind::IfSome
+        | LineKind::IfEqual
+        | LineKind::IfLess
+        | LineKind::Repeat
+        | LineKind::Trap => { begin_block(alloc, space, body, number, line_kind, operands) }
+        LineKind::Else => add_else(alloc, space, body, number, operands),
+        LineKind::End => add_end(space, body, number, operands),
+        _ => add_statement(alloc, space, body, number, line_kind, operands),
     }
 }

@@ -3,30 +3,36 @@
 ghost use Rattle.std.specs.Prelude.{◌≡◌, ◌≤◌, false, length, map, IfOk, IsTrue, List, Some, MatchOption, slice_get};
 ghost use Rattle.std.specs.Option.{option_map};
 ghost use Rattle.wb_model.specs.declared.limits.TheConstants.{LONGEST_SCRIPT};
-ghost use Rattle.wb_model.specs.declared.script_lines.Key.TheVariants as key;
+ghost use Rattle.wb_model.specs.declared.script_lines.LineKind.TheVariants as line_kind;
 ghost use Rattle.wb_model.specs.Names as model;
 ghost use Rattle.wb_model.specs.Sound.{is_passed};
 ghost use Rattle.wb_model.specs.Trees.{argument_operand};
 ghost use Rattle.wb_script.specs.Fitting.{argument_fits};
-ghost use Rattle.wb_script.specs.Lent.{declared_by, lent_items, signatures_among};
-ghost use Rattle.wb_script.specs.Stated.{ArePassed, IsCalled, IsNestedOf, lent_parameter, scope_in};
+ghost use Rattle.wb_script.specs.BytesOf.{declared_by, bytes_of_items, signatures_among};
+ghost use Rattle.wb_script.specs.Stated.{ArePassed, IsCalled, IsNestedOf, bytes_of_parameter, scope_in};
 
-use crate::checks::items::{Item, item_of_kind};
+use crate::checks::items::{Declaration, item_of_kind};
 use crate::tree::scope::Scope;
 use std::alloc::{AllocError, Global};
 use wb_model::items::Items;
 use wb_model::script::{Argument, Statement};
-use wb_model::script_lines::{ItemKind, Meant, Operand, Taken};
+use wb_model::script_lines::{ItemKind, Operand, ParameterType, Referent};
 
 /// The argument that an operand is for a parameter; none where it doesn't fit.
-fn argument(here: &Scope, parameter: &Taken<&[u8]>, operand: &Operand<Meant>) -> Option<Argument>
-    ensures { (items : List model.Item) → MatchOption result
-        (argument_fits here.now.literals (scope_in here.now) (lent_parameter items parameter.now) operand.now ≡ false)
-        (λ a. (argument_operand a ≡ Some operand.now) × IsTrue (is_passed (scope_in here.now) (lent_parameter items parameter.now) a)) }
+fn argument(
+    here: &Scope,
+    parameter: &ParameterType<&[u8]>,
+    operand: &Operand<Referent>,
+) -> Option<Argument>
+    ensures { (items : List model.Declaration) → MatchOption result
+        (argument_fits here.now.literals (scope_in here.now) (bytes_of_parameter items parameter.now) operand.now ≡ false)
+        (λ a. (argument_operand a ≡ Some operand.now) × IsTrue (is_passed (scope_in here.now) (bytes_of_parameter items parameter.now) a)) }
 {
     match parameter {
-        Taken::Number => Some(Argument::Given(here.number(operand)?)),
-        Taken::Pointer | Taken::OfClass(_) => Some(Argument::Passed(here.pointer(operand)?)),
+        ParameterType::Number => Some(Argument::Given(here.number(operand)?)),
+        ParameterType::Pointer | ParameterType::OfClass(_) => Some(Argument::Passed(here.pointer(
+            operand,
+        )?)),
     }
 }
 
@@ -34,10 +40,10 @@ fn argument(here: &Scope, parameter: &Taken<&[u8]>, operand: &Operand<Meant>) ->
 fn arguments(
     alloc: Global,
     here: &Scope,
-    parameters: &[Taken<&[u8]>],
-    operands: &[Operand<Meant>],
+    parameters: &[ParameterType<&[u8]>],
+    operands: &[Operand<Referent>],
 ) -> Result<Option<Items<Argument>>, AllocError>
-    ensures { (items : List model.Item) → IfOk result (ArePassed here.now (map (lent_parameter items) parameters.now) operands.now) }
+    ensures { (items : List model.Declaration) → IfOk result (ArePassed here.now (map (bytes_of_parameter items) parameters.now) operands.now) }
 {
     let mut given = Items::new(alloc);
     for operand in operands {
@@ -57,8 +63,11 @@ fn arguments(
 }
 
 /// What the procedure with an index takes.
-fn signature_at<'i, 'a>(items: &'i [Item<'a>], index: usize) -> Option<&'i [Taken<&'a [u8]>]>
-    ensures { option_map (λ taken. map (lent_parameter (lent_items items.now)) taken.now) result ≡ slice_get (signatures_among (lent_items items.now)) index }
+fn signature_at<'i, 'a>(
+    items: &'i [Declaration<'a>],
+    index: usize,
+) -> Option<&'i [ParameterType<&'a [u8]>]>
+    ensures { option_map (λ parameter_type. map (bytes_of_parameter (bytes_of_items items.now)) parameter_type.now) result ≡ slice_get (signatures_among (bytes_of_items items.now)) index }
 {
     match item_of_kind(ItemKind::Procedure, items, index) {
         Some(item) => Some(item.parameters.as_slice()),
@@ -76,15 +85,17 @@ pub(crate) struct Called {
 /// What operands call: a procedure by its name, and its arguments behind it; none where they don't fit.
 fn call_in(
     alloc: Global,
-    items: &[Item],
+    items: &[Declaration],
     here: &Scope,
-    operands: &[Operand<Meant>],
+    operands: &[Operand<Referent>],
 ) -> Result<Option<Called>, AllocError>
     requires { length items.now ≤ LONGEST_SCRIPT }
     ensures { IfOk result (IsCalled (declared_by here.now.literals items.now) (scope_in here.now) operands.now) }
 {
     match operands.split_first() {
-        Some((Operand::Name(Meant::Procedure(index)), given)) => match signature_at(items, *index) {
+        Some((Operand::Name(Referent::Procedure(index)), given)) => match signature_at(
+            items, *index,
+        ) {
             Some(parameters) => match arguments(alloc, here, parameters, given)? {
                 Some(arguments) => Ok(Some(Called {
                     procedure: *index as u16,
@@ -101,12 +112,12 @@ fn call_in(
 #[inline(never)]
 pub(crate) fn call(
     alloc: Global,
-    items: &[Item],
+    items: &[Declaration],
     here: &Scope,
-    operands: &[Operand<Meant>],
+    operands: &[Operand<Referent>],
 ) -> Result<Option<Statement>, AllocError>
     requires { length items.now ≤ LONGEST_SCRIPT }
-    ensures { IfOk result (IsNestedOf (declared_by here.now.literals items.now) (scope_in here.now) key.Call operands.now) }
+    ensures { IfOk result (IsNestedOf (declared_by here.now.literals items.now) (scope_in here.now) line_kind.Call operands.now) }
 {
     match call_in(alloc, items, here, operands)? {
         Some(called) => Ok(Some(Statement::Call(called.procedure, called.arguments))),
@@ -117,16 +128,16 @@ pub(crate) fn call(
 #[inline(never)]
 pub(crate) fn call_to(
     alloc: Global,
-    items: &[Item],
+    items: &[Declaration],
     here: &Scope,
-    operands: &[Operand<Meant>],
+    operands: &[Operand<Referent>],
 ) -> Result<Option<Statement>, AllocError>
     requires { length items.now ≤ LONGEST_SCRIPT }
-    ensures { IfOk result (IsNestedOf (declared_by here.now.literals items.now) (scope_in here.now) key.CallTo operands.now) }
+    ensures { IfOk result (IsNestedOf (declared_by here.now.literals items.now) (scope_in here.now) line_kind.CallTo operands.now) }
 {
     match operands.split_first() {
-        Some((target, behind)) => match here.receiver(target) {
-            Some(local) => match call_in(alloc, items, here, behind)? {
+        Some((target, following)) => match here.receiver(target) {
+            Some(local) => match call_in(alloc, items, here, following)? {
                 Some(called) => Ok(Some(Statement::CallTo(
                     local,
                     called.procedure,

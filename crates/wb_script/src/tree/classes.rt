@@ -3,17 +3,17 @@
 ghost use Rattle.std.specs.Prelude.{◌≡◌, ◌<◌, ◌≤◌, ℕ, [], ◌∷◌, ◌++◌, Some, is_some, length, nat_le, IfOk, IfSome, IsTrue};
 ghost use Rattle.wb_model.specs.declared.limits.TheConstants.{MOST_CLASSES, MOST_EXTRA};
 ghost use Rattle.wb_model.specs.declared.script_lines.Form.TheVariants.{Line};
-ghost use Rattle.wb_model.specs.declared.script_lines.Key.TheVariants as key;
-ghost use Rattle.wb_model.specs.declared.script_lines.Letter.TheVariants as letter;
-ghost use Rattle.wb_model.specs.declared.script_lines.Meant.TheVariants as meant;
+ghost use Rattle.wb_model.specs.declared.script_lines.LineKind.TheVariants as line_kind;
+ghost use Rattle.wb_model.specs.declared.script_lines.OperandPlace.TheVariants as operand_place;
+ghost use Rattle.wb_model.specs.declared.script_lines.Referent.TheVariants as referent;
 ghost use Rattle.wb_model.specs.declared.script_lines.Operand.TheVariants.{Name, Size};
 ghost use Rattle.wb_model.specs.declared.script_lines.Role.TheVariants as role;
-ghost use Rattle.wb_model.specs.Keys.{role_of};
+ghost use Rattle.wb_model.specs.LineKinds.{role_of};
 ghost use Rattle.wb_model.specs.Sound.{Declared, Scope, is_class_among};
 ghost use Rattle.wb_model.specs.Trees.{field_line};
 ghost use Rattle.wb_script.specs.Building.{declares, is_small};
-ghost use Rattle.wb_script.specs.Fitting.{letters_fit, operands_fit};
-ghost use Rattle.wb_script.specs.Growing.{GrowsWhereFit, IsBelow, IsSound, OpensWhereFit, SaysWhereFit, behind, declared_in_space, in_class, new_body, outside};
+ghost use Rattle.wb_script.specs.Fitting.{operand_places_fit, operands_fit};
+ghost use Rattle.wb_script.specs.Growing.{GrowsWhereFit, IsBelow, IsSound, OpensWhereFit, SaysWhereFit, building_after, declared_in_space, in_class, new_body, outside};
 
 use crate::tree::bodies::OpenBody;
 use crate::tree::openings::new_body;
@@ -23,15 +23,18 @@ use std::alloc::{AllocError, Global};
 use wb_model::items::Items;
 use wb_model::limits::{MOST_CLASSES, MOST_EXTRA, MOST_FIELDS};
 use wb_model::script::Class;
-use wb_model::script_lines::{Key, Meant, Operand};
+use wb_model::script_lines::{LineKind, Operand, Referent};
 
 /// The extra bytes of the class with an index, by the operands of its first line; none where they are no such.
-fn extra_of(index: usize, operands: &[Operand<Meant>]) -> Option<u32>
-    ensures extra { IfSome result (λ extra. (operands.now ≡ Name (meant.Declared index) ∷ Size extra ∷ []) × IsTrue (nat_le extra MOST_EXTRA)) }
-    ensures found { (literals : ℕ) (scope : Scope) → IsTrue (letters_fit literals scope (letter.Declared ∷ letter.Size ∷ []) operands.now) → IsTrue (declares index operands.now) → IsTrue (is_small MOST_EXTRA operands.now) → IsTrue (is_some result) }
+fn extra_of(index: usize, operands: &[Operand<Referent>]) -> Option<u32>
+    ensures extra { IfSome result (λ extra. (operands.now ≡ Name (referent.Declared index) ∷ Size extra ∷ []) × IsTrue (nat_le extra MOST_EXTRA)) }
+    ensures found { (literals : ℕ) (scope : Scope) → IsTrue (operand_places_fit literals scope (operand_place.Declared ∷ operand_place.Size ∷ []) operands.now) → IsTrue (declares index operands.now) → IsTrue (is_small MOST_EXTRA operands.now) → IsTrue (is_some result) }
 {
     match operands {
-        [Operand::Name(Meant::Declared(name)), Operand::Size(extra)] => {
+        [
+            Operand::Name(Referent::Declared(name)),
+            Operand::Size(extra),
+        ] => {
             if *name == index && *extra <= MOST_EXTRA {
                 Some(*extra)
             } else {
@@ -43,16 +46,16 @@ fn extra_of(index: usize, operands: &[Operand<Meant>]) -> Option<u32>
 }
 
 /// Begins a class, by its first line with the number of it; none where it has no place.
-pub(crate) fn begun_class(
+pub(crate) fn begin_class(
     alloc: Global,
     space: Space,
     whole: &WholeItems,
     number: u32,
-    operands: &[Operand<Meant>],
+    operands: &[Operand<Referent>],
 ) -> Option<Stage>
     requires sound { IsSound (declared_in_space space) (outside whole.now) }
     requires below { IsBelow number (outside whole.now) }
-    ensures { OpensWhereFit (declared_in_space space.entry) number (Line key.Class operands.now) whole.now result }
+    ensures { OpensWhereFit (declared_in_space space.entry) number (Line line_kind.Class operands.now) whole.now result }
 {
     if whole.classes.len() >= MOST_CLASSES as usize {
         return None;
@@ -73,28 +76,30 @@ pub(crate) fn begun_class(
 }
 
 /// A field of no class, where a line declares it by its name alone, with this index.
-fn plain_field(index: usize, operands: &[Operand<Meant>]) -> Option<Option<u16>>
-    ensures line { IfSome result (λ f. field_line index f ≡ Line key.Field operands.now) }
+fn plain_field(index: usize, operands: &[Operand<Referent>]) -> Option<Option<u16>>
+    ensures line { IfSome result (λ f. field_line index f ≡ Line line_kind.Field operands.now) }
     ensures sound { (classes : ℕ) → IfSome result (λ f. IsTrue (is_class_among classes f)) }
-    ensures found { (literals : ℕ) (scope : Scope) → IsTrue (letters_fit literals scope (letter.Declared ∷ []) operands.now) → IsTrue (declares index operands.now) → IsTrue (is_some result) }
+    ensures found { (literals : ℕ) (scope : Scope) → IsTrue (operand_places_fit literals scope (operand_place.Declared ∷ []) operands.now) → IsTrue (declares index operands.now) → IsTrue (is_some result) }
 {
     match operands {
-        [Operand::Name(Meant::Declared(name))] => { if *name == index { Some(None) } else { None } }
+        [Operand::Name(Referent::Declared(name))] => {
+            if *name == index { Some(None) } else { None }
+        }
         _ => None,
     }
 }
 
 /// The class of a field, where a line declares it with this index, by a name and a class of the script.
-fn class_field(index: usize, counts: &[u8], operands: &[Operand<Meant>]) -> Option<Option<u16>>
+fn class_field(index: usize, counts: &[u8], operands: &[Operand<Referent>]) -> Option<Option<u16>>
     requires { length counts.now ≤ MOST_CLASSES }
-    ensures line { IfSome result (λ f. field_line index f ≡ Line key.ClassField operands.now) }
+    ensures line { IfSome result (λ f. field_line index f ≡ Line line_kind.ClassField operands.now) }
     ensures sound { IfSome result (λ f. IsTrue (is_class_among (length counts.now) f)) }
-    ensures found { (literals : ℕ) (scope : Scope) → scope.fields ≡ counts.now → IsTrue (letters_fit literals scope (letter.Declared ∷ letter.Class ∷ []) operands.now) → IsTrue (declares index operands.now) → IsTrue (is_some result) }
+    ensures found { (literals : ℕ) (scope : Scope) → scope.fields ≡ counts.now → IsTrue (operand_places_fit literals scope (operand_place.Declared ∷ operand_place.Class ∷ []) operands.now) → IsTrue (declares index operands.now) → IsTrue (is_some result) }
 {
     match operands {
         [
-            Operand::Name(Meant::Declared(name)),
-            Operand::Name(Meant::Class(class)),
+            Operand::Name(Referent::Declared(name)),
+            Operand::Name(Referent::Class(class)),
         ] => {
             if *name == index && *class < counts.len() {
                 Some(Some(*class as u16))
@@ -111,17 +116,17 @@ fn class_field(index: usize, counts: &[u8], operands: &[Operand<Meant>]) -> Opti
 fn declared_field(
     index: usize,
     counts: &[u8],
-    key: Key,
-    operands: &[Operand<Meant>],
+    line_kind: LineKind,
+    operands: &[Operand<Referent>],
 ) -> Option<Option<u16>>
     requires { length counts.now ≤ MOST_CLASSES }
-    ensures line { IfSome result (λ f. field_line index f ≡ Line key operands.now) }
+    ensures line { IfSome result (λ f. field_line index f ≡ Line line_kind operands.now) }
     ensures sound { IfSome result (λ f. IsTrue (is_class_among (length counts.now) f)) }
-    ensures found { (declared : Declared) (scope : Scope) → scope.fields ≡ counts.now → role_of key ≡ role.Field → IsTrue (operands_fit declared scope key operands.now) → IsTrue (declares index operands.now) → IsTrue (is_some result) }
+    ensures found { (declared : Declared) (scope : Scope) → scope.fields ≡ counts.now → role_of line_kind ≡ role.Field → IsTrue (operands_fit declared scope line_kind operands.now) → IsTrue (declares index operands.now) → IsTrue (is_some result) }
 {
-    match key {
-        Key::Field => plain_field(index, operands),
-        Key::ClassField => class_field(index, counts, operands),
+    match line_kind {
+        LineKind::Field => plain_field(index, operands),
+        LineKind::ClassField => class_field(index, counts, operands),
         _ => None,
     }
 }
@@ -136,18 +141,18 @@ pub(crate) enum ClassLine {
 }
 
 /// A line that declares a field; none where it has no place.
-fn field_said(
+fn read_field(
     space: Space,
     whole: &WholeItems,
     class: &Class,
     number: u32,
-    key: Key,
-    operands: &[Operand<Meant>],
+    line_kind: LineKind,
+    operands: &[Operand<Referent>],
 ) -> Option<ClassLine>
     requires sound { IsSound (declared_in_space space) (in_class whole.now class.now) }
     requires below { IsBelow number (in_class whole.now class.now) }
-    requires field { role_of key ≡ role.Field }
-    ensures { SaysWhereFit (declared_in_space space.entry) number (Line key operands.now) whole.now class.now result }
+    requires field { role_of line_kind ≡ role.Field }
+    ensures { SaysWhereFit (declared_in_space space.entry) number (Line line_kind operands.now) whole.now class.now result }
 {
     if class.construct.is_some() || class.destroy.is_some() {
         return None;
@@ -155,7 +160,7 @@ fn field_said(
     if class.fields.len() >= MOST_FIELDS as usize {
         return None;
     }
-    match declared_field(class.fields.len(), space.fields, key, operands) {
+    match declared_field(class.fields.len(), space.fields, line_kind, operands) {
         Some(field) => Some(ClassLine::Field(field)),
         None => None,
     }
@@ -171,17 +176,17 @@ fn own_body(alloc: Global, whole: &WholeItems) -> Result<OpenBody, AllocError>
 }
 
 /// The first line of `construct`; none where it has no place.
-fn constructor_said(
+fn read_construct(
     alloc: Global,
     space: Space,
     whole: &WholeItems,
     class: &Class,
     number: u32,
-    operands: &[Operand<Meant>],
+    operands: &[Operand<Referent>],
 ) -> Result<Option<ClassLine>, AllocError>
     requires sound { IsSound (declared_in_space space) (in_class whole.now class.now) }
     requires below { IsBelow number (in_class whole.now class.now) }
-    ensures { IfOk result (SaysWhereFit (declared_in_space space.entry) number (Line key.Constructor operands.now) whole.now class.now) }
+    ensures { IfOk result (SaysWhereFit (declared_in_space space.entry) number (Line line_kind.Constructor operands.now) whole.now class.now) }
 {
     if class.construct.is_some() || class.destroy.is_some() {
         return Ok(None);
@@ -194,17 +199,17 @@ fn constructor_said(
 }
 
 /// The first line of `destroy`; none where it has no place.
-fn destructor_said(
+fn read_destroy(
     alloc: Global,
     space: Space,
     whole: &WholeItems,
     class: &Class,
     number: u32,
-    operands: &[Operand<Meant>],
+    operands: &[Operand<Referent>],
 ) -> Result<Option<ClassLine>, AllocError>
     requires sound { IsSound (declared_in_space space) (in_class whole.now class.now) }
     requires below { IsBelow number (in_class whole.now class.now) }
-    ensures { IfOk result (SaysWhereFit (declared_in_space space.entry) number (Line key.Destructor operands.now) whole.now class.now) }
+    ensures { IfOk result (SaysWhereFit (declared_in_space space.entry) number (Line line_kind.Destructor operands.now) whole.now class.now) }
 {
     if class.destroy.is_some() {
         return Ok(None);
@@ -217,16 +222,16 @@ fn destructor_said(
 }
 
 /// The end of the class; none where the line has operands.
-fn end_said(
+fn read_end(
     space: Space,
     whole: &WholeItems,
     class: &Class,
     number: u32,
-    operands: &[Operand<Meant>],
+    operands: &[Operand<Referent>],
 ) -> Option<ClassLine>
     requires sound { IsSound (declared_in_space space) (in_class whole.now class.now) }
     requires below { IsBelow number (in_class whole.now class.now) }
-    ensures { SaysWhereFit (declared_in_space space.entry) number (Line key.End operands.now) whole.now class.now result }
+    ensures { SaysWhereFit (declared_in_space space.entry) number (Line line_kind.End operands.now) whole.now class.now result }
 {
     if operands.is_empty() {
         Some(ClassLine::End)
@@ -236,24 +241,26 @@ fn end_said(
 }
 
 /// What a line says to the class that is open; none where it has no place there.
-fn said(
+fn read_class_line(
     alloc: Global,
     space: Space,
     whole: &WholeItems,
     class: &Class,
     number: u32,
-    key: Key,
-    operands: &[Operand<Meant>],
+    line_kind: LineKind,
+    operands: &[Operand<Referent>],
 ) -> Result<Option<ClassLine>, AllocError>
     requires sound { IsSound (declared_in_space space) (in_class whole.now class.now) }
     requires below { IsBelow number (in_class whole.now class.now) }
-    ensures { IfOk result (SaysWhereFit (declared_in_space space.entry) number (Line key operands.now) whole.now class.now) }
+    ensures { IfOk result (SaysWhereFit (declared_in_space space.entry) number (Line line_kind operands.now) whole.now class.now) }
 {
-    match key {
-        Key::Field | Key::ClassField => Ok(field_said(space, whole, class, number, key, operands)),
-        Key::Constructor => constructor_said(alloc, space, whole, class, number, operands),
-        Key::Destructor => destructor_said(alloc, space, whole, class, number, operands),
-        Key::End => Ok(end_said(space, whole, class, number, operands)),
+    match line_kind {
+        LineKind::Field | LineKind::ClassField => Ok(read_field(
+            space, whole, class, number, line_kind, operands,
+        )),
+        LineKind::Constructor => read_construct(alloc, space, whole, class, number, operands),
+        LineKind::Destructor => read_destroy(alloc, space, whole, class, number, operands),
+        LineKind::End => Ok(read_end(space, whole, class, number, operands)),
         _ => Ok(None),
     }
 }
@@ -268,8 +275,8 @@ fn with_field(class: Class, field: Option<u16>) -> Result<Class, AllocError>
 }
 
 /// The tree behind what a line says to the class that is open.
-fn behind(whole: WholeItems, class: Class, said: ClassLine) -> Result<Building, AllocError>
-    ensures { IfOk result (λ next. next ≡ behind whole class said) }
+fn building_after(whole: WholeItems, class: Class, said: ClassLine) -> Result<Building, AllocError>
+    ensures { IfOk result (λ next. next ≡ building_after whole class said) }
 {
     match said {
         ClassLine::Field(field) => {
@@ -295,21 +302,21 @@ fn behind(whole: WholeItems, class: Class, said: ClassLine) -> Result<Building, 
 }
 
 /// Adds a line to the class that is open, with its number; none where it has no place there.
-pub(crate) fn in_class(
+pub(crate) fn add_to_class(
     alloc: Global,
     space: Space,
     whole: WholeItems,
     class: Class,
     number: u32,
-    key: Key,
-    operands: &[Operand<Meant>],
+    line_kind: LineKind,
+    operands: &[Operand<Referent>],
 ) -> Result<Option<Building>, AllocError>
     requires sound { IsSound (declared_in_space space) (in_class whole class) }
     requires below { IsBelow number (in_class whole class) }
-    ensures { IfOk result (GrowsWhereFit (declared_in_space space.entry) number (Line key operands.now) (in_class whole class)) }
+    ensures { IfOk result (GrowsWhereFit (declared_in_space space.entry) number (Line line_kind operands.now) (in_class whole class)) }
 {
-    match said(alloc, space, &whole, &class, number, key, operands)? {
-        Some(said) => Ok(Some(behind(whole, class, said)?)),
+    match read_class_line(alloc, space, &whole, &class, number, line_kind, operands)? {
+        Some(said) => Ok(Some(building_after(whole, class, said)?)),
         None => Ok(None),
     }
 }

@@ -1,6 +1,6 @@
 //! What the first line of a block begins, from its operands. As with statements, what builds it is never inlined.
 
-ghost use Rattle.wb_model.specs.declared.script_lines.Key.TheVariants as key;
+ghost use Rattle.wb_model.specs.declared.script_lines.LineKind.TheVariants as line_kind;
 ghost use Rattle.std.specs.Prelude.{IsTrue};
 ghost use Rattle.wb_model.specs.declared.script_lines.Keyword.{Keyword};
 ghost use Rattle.wb_script.specs.Building.{begins_block};
@@ -9,11 +9,11 @@ ghost use Rattle.wb_script.specs.Stated.{AreCompared, IsHeadOf};
 use crate::tree::blocks::Head;
 use crate::tree::scope::Scope;
 use wb_model::script::{Condition, Number};
-use wb_model::script_lines::{Key, Meant, Operand};
+use wb_model::script_lines::{LineKind, Operand, Referent};
 
 #[inline(never)]
-fn if_null(here: &Scope, operands: &[Operand<Meant>]) -> Option<Head>
-    ensures { IsHeadOf here.now key.IfNull operands.now result }
+fn if_null(here: &Scope, operands: &[Operand<Referent>]) -> Option<Head>
+    ensures { IsHeadOf here.now line_kind.IfNull operands.now result }
 {
     match operands {
         [Operand::Keyword, pointer] => Some(Head::If(Condition::IsNull(here.pointer(pointer)?))),
@@ -22,8 +22,8 @@ fn if_null(here: &Scope, operands: &[Operand<Meant>]) -> Option<Head>
 }
 
 #[inline(never)]
-fn if_some(here: &Scope, operands: &[Operand<Meant>]) -> Option<Head>
-    ensures { IsHeadOf here.now key.IfSome operands.now result }
+fn if_some(here: &Scope, operands: &[Operand<Referent>]) -> Option<Head>
+    ensures { IsHeadOf here.now line_kind.IfSome operands.now result }
 {
     match operands {
         [Operand::Keyword, pointer] => Some(Head::If(Condition::NotNull(here.pointer(pointer)?))),
@@ -32,7 +32,7 @@ fn if_some(here: &Scope, operands: &[Operand<Meant>]) -> Option<Head>
 }
 
 /// The two numbers that a line compares, behind its keyword.
-fn compared(here: &Scope, operands: &[Operand<Meant>]) -> Option<(Number, Number)>
+fn numbers_to_compare(here: &Scope, operands: &[Operand<Referent>]) -> Option<(Number, Number)>
     ensures { (keyword : Keyword) → AreCompared here.now keyword operands.now result }
 {
     match operands {
@@ -42,28 +42,28 @@ fn compared(here: &Scope, operands: &[Operand<Meant>]) -> Option<(Number, Number
 }
 
 #[inline(never)]
-fn if_equal(here: &Scope, operands: &[Operand<Meant>]) -> Option<Head>
-    ensures { IsHeadOf here.now key.IfEqual operands.now result }
+fn if_equal(here: &Scope, operands: &[Operand<Referent>]) -> Option<Head>
+    ensures { IsHeadOf here.now line_kind.IfEqual operands.now result }
 {
-    match compared(here, operands) {
+    match numbers_to_compare(here, operands) {
         Some((left, right)) => Some(Head::If(Condition::Equal(left, right))),
         None => None,
     }
 }
 
 #[inline(never)]
-fn if_less(here: &Scope, operands: &[Operand<Meant>]) -> Option<Head>
-    ensures { IsHeadOf here.now key.IfLess operands.now result }
+fn if_less(here: &Scope, operands: &[Operand<Referent>]) -> Option<Head>
+    ensures { IsHeadOf here.now line_kind.IfLess operands.now result }
 {
-    match compared(here, operands) {
+    match numbers_to_compare(here, operands) {
         Some((left, right)) => Some(Head::If(Condition::Less(left, right))),
         None => None,
     }
 }
 
 #[inline(never)]
-fn repeat(here: &Scope, operands: &[Operand<Meant>]) -> Option<Head>
-    ensures { IsHeadOf here.now key.Repeat operands.now result }
+fn repeat(here: &Scope, operands: &[Operand<Referent>]) -> Option<Head>
+    ensures { IsHeadOf here.now line_kind.Repeat operands.now result }
 {
     match operands {
         [turns] => Some(Head::Repeat(here.number(turns)?)),
@@ -72,8 +72,8 @@ fn repeat(here: &Scope, operands: &[Operand<Meant>]) -> Option<Head>
 }
 
 #[inline(never)]
-fn trap(here: &Scope, operands: &[Operand<Meant>]) -> Option<Head>
-    ensures { IsHeadOf here.now key.Trap operands.now result }
+fn trap(here: &Scope, operands: &[Operand<Referent>]) -> Option<Head>
+    ensures { IsHeadOf here.now line_kind.Trap operands.now result }
 {
     match operands {
         [variable] => Some(Head::Trap(here.variable(variable)?)),
@@ -82,17 +82,21 @@ fn trap(here: &Scope, operands: &[Operand<Meant>]) -> Option<Head>
 }
 
 /// What a line begins; none where its operands don't fit.
-pub(crate) fn head_of(here: &Scope, key: Key, operands: &[Operand<Meant>]) -> Option<Head>
-    requires { IsTrue (begins_block key) }
-    ensures { IsHeadOf here.now key operands.now result }
+pub(crate) fn head_of(
+    here: &Scope,
+    line_kind: LineKind,
+    operands: &[Operand<Referent>],
+) -> Option<Head>
+    requires { IsTrue (begins_block line_kind) }
+    ensures { IsHeadOf here.now line_kind operands.now result }
 {
-    match key {
-        Key::IfNull => if_null(here, operands),
-        Key::IfSome => if_some(here, operands),
-        Key::IfEqual => if_equal(here, operands),
-        Key::IfLess => if_less(here, operands),
-        Key::Repeat => repeat(here, operands),
-        Key::Trap => trap(here, operands),
+    match line_kind {
+        LineKind::IfNull => if_null(here, operands),
+        LineKind::IfSome => if_some(here, operands),
+        LineKind::IfEqual => if_equal(here, operands),
+        LineKind::IfLess => if_less(here, operands),
+        LineKind::Repeat => repeat(here, operands),
+        LineKind::Trap => trap(here, operands),
         _ => None,
     }
 }

@@ -4,27 +4,27 @@ ghost use Rattle.std.specs.Prelude.{◌≡◌, ◌≤◌, ℕ, [], ◌∷◌, is
 ghost use Rattle.wb_model.specs.declared.limits.TheConstants.{LARGEST_BUFFER, MOST_CLASSES};
 ghost use Rattle.wb_model.specs.declared.script_lines.Role.TheVariants.{Declaration};
 ghost use Rattle.wb_model.specs.declared.script_lines.Form.TheVariants.{Line};
-ghost use Rattle.wb_model.specs.declared.script_lines.Key.TheVariants as key;
-ghost use Rattle.wb_model.specs.declared.script_lines.Letter.TheVariants as letter;
-ghost use Rattle.wb_model.specs.declared.script_lines.Meant.TheVariants as meant;
+ghost use Rattle.wb_model.specs.declared.script_lines.LineKind.TheVariants as line_kind;
+ghost use Rattle.wb_model.specs.declared.script_lines.OperandPlace.TheVariants as operand_place;
+ghost use Rattle.wb_model.specs.declared.script_lines.Referent.TheVariants as referent;
 ghost use Rattle.wb_model.specs.declared.script_lines.Operand.TheVariants.{Name};
-ghost use Rattle.wb_model.specs.Keys.{role_of};
+ghost use Rattle.wb_model.specs.LineKinds.{role_of};
 ghost use Rattle.wb_model.specs.Sound.{Declared, Scope, is_local};
 ghost use Rattle.wb_model.specs.Trees.{local_line};
 ghost use Rattle.wb_script.specs.Building.{local_of, declares, is_small};
-ghost use Rattle.wb_script.specs.Fitting.{letters_fit, operands_fit};
+ghost use Rattle.wb_script.specs.Fitting.{operand_places_fit, operands_fit};
 
 use wb_model::limits::LARGEST_BUFFER;
 use wb_model::script::Local;
-use wb_model::script_lines::{Key, Meant, Operand};
+use wb_model::script_lines::{LineKind, Operand, Referent};
 
 /// The local, where a line declares it by its name alone, with this index in its body.
-fn named(index: usize, operands: &[Operand<Meant>], local: Local) -> Option<Local>
-    ensures named { IfSome result (λ l. (l ≡ local) × (operands.now ≡ Name (meant.Declared index) ∷ [])) }
-    ensures found { (literals : ℕ) (scope : Scope) → IsTrue (letters_fit literals scope (letter.Declared ∷ []) operands.now) → IsTrue (declares index operands.now) → IsTrue (is_some result) }
+fn local_of_name(index: usize, operands: &[Operand<Referent>], local: Local) -> Option<Local>
+    ensures named { IfSome result (λ l. (l ≡ local) × (operands.now ≡ Name (referent.Declared index) ∷ [])) }
+    ensures found { (literals : ℕ) (scope : Scope) → IsTrue (operand_places_fit literals scope (operand_place.Declared ∷ []) operands.now) → IsTrue (declares index operands.now) → IsTrue (is_some result) }
 {
     match operands {
-        [Operand::Name(Meant::Declared(name))] => {
+        [Operand::Name(Referent::Declared(name))] => {
             if *name == index { Some(local) } else { None }
         }
         _ => None,
@@ -32,14 +32,14 @@ fn named(index: usize, operands: &[Operand<Meant>], local: Local) -> Option<Loca
 }
 
 /// The text that a line declares by a name and a size.
-fn sized(index: usize, operands: &[Operand<Meant>]) -> Option<Local>
-    ensures line { IfSome result (λ l. local_line index l ≡ Line key.Buf operands.now) }
-    ensures local { IfSome result (λ l. local_of key.Buf operands.now ≡ Some l) }
+fn buffer_of_size(index: usize, operands: &[Operand<Referent>]) -> Option<Local>
+    ensures line { IfSome result (λ l. local_line index l ≡ Line line_kind.Buf operands.now) }
+    ensures local { IfSome result (λ l. local_of line_kind.Buf operands.now ≡ Some l) }
     ensures sound { (classes : ℕ) → IfSome result (λ l. IsTrue (is_local classes l)) }
-    ensures found { (literals : ℕ) (scope : Scope) → IsTrue (letters_fit literals scope (letter.Declared ∷ letter.Size ∷ []) operands.now) → IsTrue (declares index operands.now) → IsTrue (is_small LARGEST_BUFFER operands.now) → IsTrue (is_some result) }
+    ensures found { (literals : ℕ) (scope : Scope) → IsTrue (operand_places_fit literals scope (operand_place.Declared ∷ operand_place.Size ∷ []) operands.now) → IsTrue (declares index operands.now) → IsTrue (is_small LARGEST_BUFFER operands.now) → IsTrue (is_some result) }
 {
     match operands {
-        [Operand::Name(Meant::Declared(name)), Operand::Size(max)] => {
+        [Operand::Name(Referent::Declared(name)), Operand::Size(max)] => {
             if *name == index && *max <= LARGEST_BUFFER {
                 Some(Local::OfBuffer(*max as u16))
             } else {
@@ -51,17 +51,17 @@ fn sized(index: usize, operands: &[Operand<Meant>]) -> Option<Local>
 }
 
 /// The pointer that a line declares by a name and a class of the script.
-fn classed(index: usize, fields: &[u8], operands: &[Operand<Meant>]) -> Option<Local>
+fn pointer_of_class(index: usize, fields: &[u8], operands: &[Operand<Referent>]) -> Option<Local>
     requires { length fields.now ≤ MOST_CLASSES }
-    ensures line { IfSome result (λ l. local_line index l ≡ Line key.ClassPtr operands.now) }
-    ensures local { IfSome result (λ l. local_of key.ClassPtr operands.now ≡ Some l) }
+    ensures line { IfSome result (λ l. local_line index l ≡ Line line_kind.ClassPtr operands.now) }
+    ensures local { IfSome result (λ l. local_of line_kind.ClassPtr operands.now ≡ Some l) }
     ensures sound { IfSome result (λ l. IsTrue (is_local (length fields.now) l)) }
-    ensures found { (literals : ℕ) (scope : Scope) → scope.fields ≡ fields.now → IsTrue (letters_fit literals scope (letter.Declared ∷ letter.Class ∷ []) operands.now) → IsTrue (declares index operands.now) → IsTrue (is_some result) }
+    ensures found { (literals : ℕ) (scope : Scope) → scope.fields ≡ fields.now → IsTrue (operand_places_fit literals scope (operand_place.Declared ∷ operand_place.Class ∷ []) operands.now) → IsTrue (declares index operands.now) → IsTrue (is_some result) }
 {
     match operands {
         [
-            Operand::Name(Meant::Declared(name)),
-            Operand::Name(Meant::Class(class)),
+            Operand::Name(Referent::Declared(name)),
+            Operand::Name(Referent::Class(class)),
         ] => {
             if *name == index && *class < fields.len() {
                 Some(Local::OfPointer(Some(*class as u16)))
@@ -78,21 +78,21 @@ fn classed(index: usize, fields: &[u8], operands: &[Operand<Meant>]) -> Option<L
 pub(crate) fn declared_local(
     index: usize,
     fields: &[u8],
-    key: Key,
-    operands: &[Operand<Meant>],
+    line_kind: LineKind,
+    operands: &[Operand<Referent>],
 ) -> Option<Local>
     requires { length fields.now ≤ MOST_CLASSES }
-    ensures line { IfSome result (λ l. local_line index l ≡ Line key operands.now) }
-    ensures local { IfSome result (λ l. local_of key operands.now ≡ Some l) }
+    ensures line { IfSome result (λ l. local_line index l ≡ Line line_kind operands.now) }
+    ensures local { IfSome result (λ l. local_of line_kind operands.now ≡ Some l) }
     ensures sound { IfSome result (λ l. IsTrue (is_local (length fields.now) l)) }
-    ensures found { (declared : Declared) (scope : Scope) → scope.fields ≡ fields.now → role_of key ≡ Declaration → IsTrue (operands_fit declared scope key operands.now) → IsTrue (declares index operands.now) → IsTrue (is_small LARGEST_BUFFER operands.now) → IsTrue (is_some result) }
+    ensures found { (declared : Declared) (scope : Scope) → scope.fields ≡ fields.now → role_of line_kind ≡ Declaration → IsTrue (operands_fit declared scope line_kind operands.now) → IsTrue (declares index operands.now) → IsTrue (is_small LARGEST_BUFFER operands.now) → IsTrue (is_some result) }
 {
-    match key {
-        Key::Ptr => named(index, operands, Local::OfPointer(None)),
-        Key::ClassPtr => classed(index, fields, operands),
-        Key::Int => named(index, operands, Local::OfNumber),
-        Key::View => named(index, operands, Local::OfView),
-        Key::Buf => sized(index, operands),
+    match line_kind {
+        LineKind::Ptr => local_of_name(index, operands, Local::OfPointer(None)),
+        LineKind::ClassPtr => pointer_of_class(index, fields, operands),
+        LineKind::Int => local_of_name(index, operands, Local::OfNumber),
+        LineKind::View => local_of_name(index, operands, Local::OfView),
+        LineKind::Buf => buffer_of_size(index, operands),
         _ => None,
     }
 }

@@ -3,11 +3,11 @@
 ghost use Rattle.std.specs.Prelude.{◌≡◌, ◌≤◌, ◌+◌, length, map, IfOk};
 ghost use Rattle.wb_model.specs.declared.limits.TheConstants.{MOST_CLASSES, MOST_PROCEDURES};
 ghost use Rattle.wb_model.specs.declared.script_lines.Form.TheVariants.{Line};
-ghost use Rattle.wb_model.specs.declared.script_lines.Key.TheVariants as key;
+ghost use Rattle.wb_model.specs.declared.script_lines.LineKind.TheVariants as line_kind;
 ghost use Rattle.wb_model.specs.Sound.{local_of_parameter};
 ghost use Rattle.wb_script.specs.Growing.{AreParametersOf, AreTaken, IsBelow, IsSound, IsTaken, OpensWhereFit, declared_in_space, has_room, is_operation_head, new_body, outside};
 
-use crate::tree::blocks::Nest;
+use crate::tree::blocks::BlockStack;
 use crate::tree::bodies::OpenBody;
 use crate::tree::space::Space;
 use crate::tree::whole::{Owner, Stage, WholeItems};
@@ -15,17 +15,19 @@ use std::alloc::{AllocError, Global};
 use wb_model::items::Items;
 use wb_model::limits::{MOST_PARAMETERS, MOST_PROCEDURES};
 use wb_model::script::{Local, Parameter};
-use wb_model::script_lines::{Meant, Operand, Taken};
+use wb_model::script_lines::{Operand, ParameterType, Referent};
 
 /// The parameter that an operand declares, among a number of classes.
-fn parameter(classes: usize, operand: &Operand<Meant>) -> Option<Parameter>
+fn parameter(classes: usize, operand: &Operand<Referent>) -> Option<Parameter>
     requires { classes ≤ MOST_CLASSES }
     ensures { IsTaken classes operand.now result }
 {
     match operand {
-        Operand::Parameter(Meant::Parameter, Taken::Pointer) => Some(Parameter::OfPointer(None)),
-        Operand::Parameter(Meant::Parameter, Taken::Number) => Some(Parameter::OfNumber),
-        Operand::Parameter(Meant::Parameter, Taken::OfClass(Meant::Class(class))) => {
+        Operand::Parameter(Referent::Parameter, ParameterType::Pointer) => Some(
+            Parameter::OfPointer(None),
+        ),
+        Operand::Parameter(Referent::Parameter, ParameterType::Number) => Some(Parameter::OfNumber),
+        Operand::Parameter(Referent::Parameter, ParameterType::OfClass(Referent::Class(class))) => {
             if *class < classes {
                 Some(Parameter::OfPointer(Some(*class as u16)))
             } else {
@@ -40,7 +42,7 @@ fn parameter(classes: usize, operand: &Operand<Meant>) -> Option<Parameter>
 fn parameters(
     alloc: Global,
     classes: usize,
-    operands: &[Operand<Meant>],
+    operands: &[Operand<Referent>],
 ) -> Result<Option<Items<Parameter>>, AllocError>
     requires { classes ≤ MOST_CLASSES }
     ensures { IfOk result (AreTaken classes operands.now) }
@@ -83,7 +85,7 @@ pub(crate) fn new_body(
         this,
         locals: Items::new(alloc),
         scope,
-        nest: Nest {
+        block_stack: BlockStack {
             blocks: Items::new(alloc),
             statements: Items::new(alloc),
         },
@@ -99,17 +101,17 @@ fn has_room(whole: &WholeItems) -> bool
 }
 
 /// The parameters of the procedure with an index, by the operands of its first line; none where they are no such.
-fn parameters_behind(
+fn parameters_of_head(
     alloc: Global,
     classes: usize,
     index: usize,
-    operands: &[Operand<Meant>],
+    operands: &[Operand<Referent>],
 ) -> Result<Option<Items<Parameter>>, AllocError>
     requires { classes ≤ MOST_CLASSES }
     ensures { IfOk result (AreParametersOf classes index operands.now) }
 {
     match operands.split_first() {
-        Some((Operand::Name(Meant::Declared(name)), rest)) => {
+        Some((Operand::Name(Referent::Declared(name)), rest)) => {
             if *name == index && rest.len() <= MOST_PARAMETERS as usize {
                 parameters(alloc, classes, rest)
             } else {
@@ -121,35 +123,35 @@ fn parameters_behind(
 }
 
 /// The operands name the operation with this index, and its one parameter.
-fn begins_operation(index: usize, operands: &[Operand<Meant>]) -> bool
+fn begins_operation(index: usize, operands: &[Operand<Referent>]) -> bool
     ensures { result ≡ is_operation_head index operands.now }
 {
     match operands {
         [
-            Operand::Name(Meant::Declared(name)),
-            Operand::Parameter(Meant::Parameter, Taken::Pointer),
+            Operand::Name(Referent::Declared(name)),
+            Operand::Parameter(Referent::Parameter, ParameterType::Pointer),
         ] => *name == index,
         _ => false,
     }
 }
 
 /// Begins a procedure, by its first line with the number of it; none where it has no place.
-pub(crate) fn begun_procedure(
+pub(crate) fn begin_procedure(
     alloc: Global,
     space: Space,
     whole: &WholeItems,
     number: u32,
-    operands: &[Operand<Meant>],
+    operands: &[Operand<Referent>],
 ) -> Result<Option<Stage>, AllocError>
     requires sound { IsSound (declared_in_space space) (outside whole.now) }
     requires below { IsBelow number (outside whole.now) }
-    ensures { IfOk result (OpensWhereFit (declared_in_space space.entry) number (Line key.Proc operands.now) whole.now) }
+    ensures { IfOk result (OpensWhereFit (declared_in_space space.entry) number (Line line_kind.Proc operands.now) whole.now) }
 {
     if !has_room(whole) {
         return Ok(None);
     }
     let index = whole.procedures.len();
-    match parameters_behind(alloc, space.fields.len(), index, operands)? {
+    match parameters_of_head(alloc, space.fields.len(), index, operands)? {
         Some(parameters) => {
             let body = new_body(alloc, None, parameters)?;
             Ok(Some(Stage::InBody(Owner::Procedure(number), body)))
@@ -159,16 +161,16 @@ pub(crate) fn begun_procedure(
 }
 
 /// Begins an operation, by its first line with the number of it; none where it has no place.
-pub(crate) fn begun_operation(
+pub(crate) fn begin_operation(
     alloc: Global,
     space: Space,
     whole: &WholeItems,
     number: u32,
-    operands: &[Operand<Meant>],
+    operands: &[Operand<Referent>],
 ) -> Result<Option<Stage>, AllocError>
     requires sound { IsSound (declared_in_space space) (outside whole.now) }
     requires below { IsBelow number (outside whole.now) }
-    ensures { IfOk result (OpensWhereFit (declared_in_space space.entry) number (Line key.Op operands.now) whole.now) }
+    ensures { IfOk result (OpensWhereFit (declared_in_space space.entry) number (Line line_kind.Op operands.now) whole.now) }
 {
     if !has_room(whole) {
         return Ok(None);

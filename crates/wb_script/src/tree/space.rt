@@ -4,9 +4,9 @@ ghost use Rattle.std.specs.Prelude.{◌≡◌, ◌≤◌, [], ◌∷◌, ◌++�
 ghost use Rattle.std.specs.List.{list_all};
 ghost use Rattle.wb_model.specs.declared.limits.TheConstants.{LONGEST_SCRIPT, MOST_CLASSES, MOST_FIELDS};
 ghost use Rattle.wb_model.specs.declared.script_lines.ItemKind.TheVariants as kind;
-ghost use Rattle.wb_script.specs.Lent.{fields_among, lent_items};
+ghost use Rattle.wb_script.specs.BytesOf.{fields_among, bytes_of_items};
 
-use crate::checks::items::Item;
+use crate::checks::items::Declaration;
 use std::alloc::{AllocError, Global};
 use wb_model::script_lines::ItemKind;
 
@@ -14,17 +14,17 @@ use wb_model::script_lines::ItemKind;
 #[derive(Clone, Copy)]
 pub(crate) struct Space<'a> {
     pub literals: u32,
-    pub items: &'a [Item<'a>],
+    pub items: &'a [Declaration<'a>],
     pub fields: &'a [u8],
     ghost few: { length items.now ≤ LONGEST_SCRIPT },
     ghost classes: { length fields.now ≤ MOST_CLASSES },
-    ghost counted: { fields.now ≡ fields_among (lent_items items.now) },
+    ghost counted: { fields.now ≡ fields_among (bytes_of_items items.now) },
 }
 
 /// Adds how many fields an item has, where it is a class.
-fn add_count(counts: &mut Vec<u8>, item: &Item) -> Result<(), AllocError>
+fn add_count(counts: &mut Vec<u8>, item: &Declaration) -> Result<(), AllocError>
     requires { item.now.kind ≡ kind.Class → length item.now.fields ≤ MOST_FIELDS }
-    ensures { OnOk result (counts.new.items ≡ counts.old.items ++ fields_among (lent_items (item.now ∷ []))) }
+    ensures { OnOk result (counts.new.items ≡ counts.old.items ++ fields_among (bytes_of_items (item.now ∷ []))) }
 {
     match item.kind {
         ItemKind::Class => {
@@ -37,9 +37,9 @@ fn add_count(counts: &mut Vec<u8>, item: &Item) -> Result<(), AllocError>
 }
 
 /// How many fields each class among items has.
-pub(crate) fn field_counts(alloc: Global, items: &[Item]) -> Result<Vec<u8>, AllocError>
-    requires { IsTrue (list_all (λ n. nat_le n MOST_FIELDS) (fields_among (lent_items items.now))) }
-    ensures { IfOk result (λ counts. counts.items ≡ fields_among (lent_items items.now)) }
+pub(crate) fn field_counts(alloc: Global, items: &[Declaration]) -> Result<Vec<u8>, AllocError>
+    requires { IsTrue (list_all (λ n. nat_le n MOST_FIELDS) (fields_among (bytes_of_items items.now))) }
+    ensures { IfOk result (λ counts. counts.items ≡ fields_among (bytes_of_items items.now)) }
 {
     let mut counts = Vec::new(alloc);
     for item in items {

@@ -3,12 +3,12 @@
 //! A function that builds one is never inlined: `statement_of` would else clear the room of all of them for each line.
 
 ghost use Rattle.std.specs.Prelude.{◌≡◌, [], ◌∷◌, false, IsTrue, MatchOption};
-ghost use Rattle.wb_model.specs.declared.script_lines.Key.TheVariants as key;
-ghost use Rattle.wb_model.specs.declared.script_lines.Letter.TheVariants as letter;
+ghost use Rattle.wb_model.specs.declared.script_lines.LineKind.TheVariants as line_kind;
+ghost use Rattle.wb_model.specs.declared.script_lines.OperandPlace.TheVariants as operand_place;
 ghost use Rattle.wb_model.specs.Sound.{is_pointer, is_number};
 ghost use Rattle.wb_model.specs.Trees.{pointer_operand, number_operand};
-ghost use Rattle.wb_script.specs.Fitting.{letters_fit};
-ghost use Rattle.wb_script.specs.Stated.{IsStatementOf, IsOnlySpelled, IsPairSpelled, IsTripleSpelled, IsReturnOf, alloc_key, is_lasting, new_key, new_text_key, realloc_key, scope_in, takes_number, takes_pointer};
+ghost use Rattle.wb_script.specs.Fitting.{operand_places_fit};
+ghost use Rattle.wb_script.specs.Stated.{IsStatementOf, IsOnlySpelled, IsPairSpelled, IsTripleSpelled, IsReturnOf, alloc_line_kind, is_lasting, new_line_kind, new_text_line_kind, realloc_line_kind, scope_in, takes_number, takes_pointer};
 
 use crate::tree::blocks::{OpenBlock, has_trap};
 use crate::tree::scope::Scope;
@@ -17,13 +17,17 @@ use crate::tree::text_statements::{
     append, copy, delete_text, get_length, get_maximum, insert, left, mid, print, right, set_length,
 };
 use wb_model::script::{Holder, Number, Pointer, Refusal, Statement};
-use wb_model::script_lines::{Key, Meant, Operand};
+use wb_model::script_lines::{LineKind, Operand, Referent};
 
 /// The statement of a line that takes no operand.
 #[inline(never)]
-fn alone(here: &Scope, statement: Statement, operands: &[Operand<Meant>]) -> Option<Statement>
+fn statement_without_operands(
+    here: &Scope,
+    statement: Statement,
+    operands: &[Operand<Referent>],
+) -> Option<Statement>
     ensures { MatchOption result
-        (letters_fit here.now.literals (scope_in here.now) [] operands.now ≡ false)
+        (operand_places_fit here.now.literals (scope_in here.now) [] operands.now ≡ false)
         (λ s. (s ≡ statement) × (operands.now ≡ [])) }
 {
     match operands {
@@ -33,24 +37,28 @@ fn alone(here: &Scope, statement: Statement, operands: &[Operand<Meant>]) -> Opt
 }
 
 /// The operand of a line that takes one pointer.
-pub(crate) fn one_pointer(here: &Scope, operands: &[Operand<Meant>]) -> Option<Pointer>
-    ensures { IsOnlySpelled pointer_operand (is_pointer (scope_in here.now)) here.now letter.Pointer operands.now result }
+pub(crate) fn one_pointer(here: &Scope, operands: &[Operand<Referent>]) -> Option<Pointer>
+    ensures { IsOnlySpelled pointer_operand (is_pointer (scope_in here.now)) here.now operand_place.Pointer operands.now result }
 {
     let pointer = one(operands)?;
     here.pointer(pointer)
 }
 
 /// The operand of a line that takes one number.
-fn one_number(here: &Scope, operands: &[Operand<Meant>]) -> Option<Number>
-    ensures { IsOnlySpelled number_operand (is_number here.now.locals.now) here.now letter.Value operands.now result }
+fn one_number(here: &Scope, operands: &[Operand<Referent>]) -> Option<Number>
+    ensures { IsOnlySpelled number_operand (is_number here.now.locals.now) here.now operand_place.Value operands.now result }
 {
     let number = one(operands)?;
     here.number(number)
 }
 
 /// A `set` of a local to a source: of one that holds a pointer, or of one that holds a number.
-fn set_local(here: &Scope, target: &Operand<Meant>, source: &Operand<Meant>) -> Option<Statement>
-    ensures { IsStatementOf here.now key.Set (target.now ∷ source.now ∷ []) result }
+fn set_local(
+    here: &Scope,
+    target: &Operand<Referent>,
+    source: &Operand<Referent>,
+) -> Option<Statement>
+    ensures { IsStatementOf here.now line_kind.Set (target.now ∷ source.now ∷ []) result }
 {
     match here.receiver(target) {
         Some(local) => Some(Statement::Set(
@@ -66,8 +74,8 @@ fn set_local(here: &Scope, target: &Operand<Meant>, source: &Operand<Meant>) -> 
 
 /// A `set` of a local that holds a pointer or a number, by what its target is.
 #[inline(never)]
-fn set(here: &Scope, operands: &[Operand<Meant>]) -> Option<Statement>
-    ensures { IsStatementOf here.now key.Set operands.now result }
+fn set(here: &Scope, operands: &[Operand<Referent>]) -> Option<Statement>
+    ensures { IsStatementOf here.now line_kind.Set operands.now result }
 {
     match operands {
         [target, source] => set_local(here, target, source),
@@ -77,8 +85,8 @@ fn set(here: &Scope, operands: &[Operand<Meant>]) -> Option<Statement>
 
 /// A `set` of a field.
 #[inline(never)]
-fn set_field(here: &Scope, operands: &[Operand<Meant>]) -> Option<Statement>
-    ensures { IsStatementOf here.now key.SetField operands.now result }
+fn set_field(here: &Scope, operands: &[Operand<Referent>]) -> Option<Statement>
+    ensures { IsStatementOf here.now line_kind.SetField operands.now result }
 {
     let (target, source) = two(operands)?;
     match (here.field_target(target), here.pointer(source)) {
@@ -88,31 +96,31 @@ fn set_field(here: &Scope, operands: &[Operand<Meant>]) -> Option<Statement>
 }
 
 #[inline(never)]
-fn set_null(here: &Scope, operands: &[Operand<Meant>]) -> Option<Statement>
-    ensures { IsStatementOf here.now key.Null operands.now result }
+fn set_null(here: &Scope, operands: &[Operand<Referent>]) -> Option<Statement>
+    ensures { IsStatementOf here.now line_kind.Null operands.now result }
 {
     let target = one(operands)?;
-    Some(Statement::SetNull(here.written(target)?))
+    Some(Statement::SetNull(here.written_pointer(target)?))
 }
 
 /// A new object of a class.
 #[inline(never)]
-fn new_object(here: &Scope, operands: &[Operand<Meant>], refusal: Refusal) -> Option<Statement>
-    ensures { IsStatementOf here.now (new_key refusal) operands.now result }
+fn new_object(here: &Scope, operands: &[Operand<Referent>], refusal: Refusal) -> Option<Statement>
+    ensures { IsStatementOf here.now (new_line_kind refusal) operands.now result }
 {
     let (target, class) = two(operands)?;
-    match (here.written(target), here.class(class)) {
+    match (here.written_pointer(target), here.class(class)) {
         (Some(target), Some(class)) => Some(Statement::New(target, class, refusal)),
         _ => None,
     }
 }
 
 /// The operands of a line that writes a pointer, by a number.
-fn pointer_and_number(here: &Scope, operands: &[Operand<Meant>]) -> Option<(Pointer, Number)>
+fn pointer_and_number(here: &Scope, operands: &[Operand<Referent>]) -> Option<(Pointer, Number)>
     ensures { IsPairSpelled here.now operands.now result }
 {
     let (target, number) = two(operands)?;
-    match (here.written(target), here.number(number)) {
+    match (here.written_pointer(target), here.number(number)) {
         (Some(target), Some(number)) => Some((target, number)),
         _ => None,
     }
@@ -121,13 +129,13 @@ fn pointer_and_number(here: &Scope, operands: &[Operand<Meant>]) -> Option<(Poin
 /// The operands of a line that writes a pointer, by another and a number.
 fn pointers_and_number(
     here: &Scope,
-    operands: &[Operand<Meant>],
+    operands: &[Operand<Referent>],
 ) -> Option<(Pointer, Pointer, Number)>
     ensures { IsTripleSpelled here.now operands.now result }
 {
     let (target, source, number) = three(operands)?;
     match (
-        here.written(target),
+        here.written_pointer(target),
         here.pointer(source),
         here.number(number),
     ) {
@@ -137,40 +145,40 @@ fn pointers_and_number(
 }
 
 #[inline(never)]
-fn alloc(here: &Scope, operands: &[Operand<Meant>], refusal: Refusal) -> Option<Statement>
-    ensures { IsStatementOf here.now (alloc_key refusal) operands.now result }
+fn alloc(here: &Scope, operands: &[Operand<Referent>], refusal: Refusal) -> Option<Statement>
+    ensures { IsStatementOf here.now (alloc_line_kind refusal) operands.now result }
 {
     let (pointer, size) = pointer_and_number(here, operands)?;
     Some(Statement::Alloc(pointer, size, refusal))
 }
 
 #[inline(never)]
-fn realloc(here: &Scope, operands: &[Operand<Meant>], refusal: Refusal) -> Option<Statement>
-    ensures { IsStatementOf here.now (realloc_key refusal) operands.now result }
+fn realloc(here: &Scope, operands: &[Operand<Referent>], refusal: Refusal) -> Option<Statement>
+    ensures { IsStatementOf here.now (realloc_line_kind refusal) operands.now result }
 {
     let (target, source, size) = pointers_and_number(here, operands)?;
     Some(Statement::Realloc(target, source, size, refusal))
 }
 
 #[inline(never)]
-fn new_text(here: &Scope, operands: &[Operand<Meant>], refusal: Refusal) -> Option<Statement>
-    ensures { IsStatementOf here.now (new_text_key refusal) operands.now result }
+fn new_text(here: &Scope, operands: &[Operand<Referent>], refusal: Refusal) -> Option<Statement>
+    ensures { IsStatementOf here.now (new_text_line_kind refusal) operands.now result }
 {
     let (pointer, maximum) = pointer_and_number(here, operands)?;
     Some(Statement::NewText(pointer, maximum, refusal))
 }
 
 #[inline(never)]
-fn realloc_text(here: &Scope, operands: &[Operand<Meant>]) -> Option<Statement>
-    ensures { IsStatementOf here.now key.HRealloc operands.now result }
+fn realloc_text(here: &Scope, operands: &[Operand<Referent>]) -> Option<Statement>
+    ensures { IsStatementOf here.now line_kind.HRealloc operands.now result }
 {
     let (target, source, maximum) = pointers_and_number(here, operands)?;
     Some(Statement::ReallocText(target, source, maximum))
 }
 
 #[inline(never)]
-fn alloc_len(here: &Scope, operands: &[Operand<Meant>]) -> Option<Statement>
-    ensures { IsStatementOf here.now key.AllocLen operands.now result }
+fn alloc_len(here: &Scope, operands: &[Operand<Referent>]) -> Option<Statement>
+    ensures { IsStatementOf here.now line_kind.AllocLen operands.now result }
 {
     let (variable, pointer) = two(operands)?;
     match (here.variable(variable), here.pointer(pointer)) {
@@ -180,8 +188,8 @@ fn alloc_len(here: &Scope, operands: &[Operand<Meant>]) -> Option<Statement>
 }
 
 #[inline(never)]
-fn store(here: &Scope, operands: &[Operand<Meant>]) -> Option<Statement>
-    ensures { IsStatementOf here.now key.Store operands.now result }
+fn store(here: &Scope, operands: &[Operand<Referent>]) -> Option<Statement>
+    ensures { IsStatementOf here.now line_kind.Store operands.now result }
 {
     let (pointer, index, value) = three(operands)?;
     match (
@@ -195,8 +203,8 @@ fn store(here: &Scope, operands: &[Operand<Meant>]) -> Option<Statement>
 }
 
 #[inline(never)]
-fn load(here: &Scope, operands: &[Operand<Meant>]) -> Option<Statement>
-    ensures { IsStatementOf here.now key.Load operands.now result }
+fn load(here: &Scope, operands: &[Operand<Referent>]) -> Option<Statement>
+    ensures { IsStatementOf here.now line_kind.Load operands.now result }
 {
     let (variable, pointer, index) = three(operands)?;
     match (
@@ -212,8 +220,8 @@ fn load(here: &Scope, operands: &[Operand<Meant>]) -> Option<Statement>
 }
 
 #[inline(never)]
-fn add(here: &Scope, operands: &[Operand<Meant>]) -> Option<Statement>
-    ensures { IsStatementOf here.now key.Add operands.now result }
+fn add(here: &Scope, operands: &[Operand<Referent>]) -> Option<Statement>
+    ensures { IsStatementOf here.now line_kind.Add operands.now result }
 {
     let (variable, number) = two(operands)?;
     match (here.variable(variable), here.number(number)) {
@@ -224,90 +232,102 @@ fn add(here: &Scope, operands: &[Operand<Meant>]) -> Option<Statement>
 
 /// The statement of a line that takes one pointer.
 #[inline(never)]
-fn of_pointer(here: &Scope, key: Key, operands: &[Operand<Meant>]) -> Option<Statement>
-    requires { IsTrue (takes_pointer key) }
-    ensures { IsStatementOf here.now key operands.now result }
+fn of_pointer(
+    here: &Scope,
+    line_kind: LineKind,
+    operands: &[Operand<Referent>],
+) -> Option<Statement>
+    requires { IsTrue (takes_pointer line_kind) }
+    ensures { IsStatementOf here.now line_kind operands.now result }
 {
     let pointer = one_pointer(here, operands)?;
-    match key {
-        Key::Free => Some(Statement::Free(pointer)),
-        Key::Push => Some(Statement::Push(pointer)),
-        Key::PushObj => Some(Statement::PushObject(pointer)),
-        Key::PopCheck => Some(Statement::PopCheck(pointer)),
-        Key::LeaveIfNull => Some(Statement::LeaveIfNull(pointer)),
+    match line_kind {
+        LineKind::Free => Some(Statement::Free(pointer)),
+        LineKind::Push => Some(Statement::Push(pointer)),
+        LineKind::PushObj => Some(Statement::PushObject(pointer)),
+        LineKind::PopCheck => Some(Statement::PopCheck(pointer)),
+        LineKind::LeaveIfNull => Some(Statement::LeaveIfNull(pointer)),
         _ => None,
     }
 }
 
 /// The statement of a line that takes one number.
 #[inline(never)]
-fn of_number(here: &Scope, key: Key, operands: &[Operand<Meant>]) -> Option<Statement>
-    requires { IsTrue (takes_number key) }
-    ensures { IsStatementOf here.now key operands.now result }
+fn of_number(here: &Scope, line_kind: LineKind, operands: &[Operand<Referent>]) -> Option<Statement>
+    requires { IsTrue (takes_number line_kind) }
+    ensures { IsStatementOf here.now line_kind operands.now result }
 {
     let number = one_number(here, operands)?;
-    match key {
-        Key::Pop => Some(Statement::Pop(number)),
-        Key::PopDestroy => Some(Statement::PopDestroy(number)),
-        Key::Leave => Some(Statement::Leave(number)),
-        Key::LeaveIfError => Some(Statement::LeaveIfError(number)),
-        Key::MarkEnd => Some(Statement::MarkEnd(number)),
-        Key::Check => Some(Statement::Check(number)),
-        Key::CheckAll => Some(Statement::CheckAll(number)),
-        Key::FailNext => Some(Statement::FailNext(number)),
-        Key::FailEvery => Some(Statement::FailEvery(number)),
+    match line_kind {
+        LineKind::Pop => Some(Statement::Pop(number)),
+        LineKind::PopDestroy => Some(Statement::PopDestroy(number)),
+        LineKind::Leave => Some(Statement::Leave(number)),
+        LineKind::LeaveIfError => Some(Statement::LeaveIfError(number)),
+        LineKind::MarkEnd => Some(Statement::MarkEnd(number)),
+        LineKind::Check => Some(Statement::Check(number)),
+        LineKind::CheckAll => Some(Statement::CheckAll(number)),
+        LineKind::FailNext => Some(Statement::FailNext(number)),
+        LineKind::FailEvery => Some(Statement::FailEvery(number)),
         _ => None,
     }
 }
 
 /// The statement of a line; none where its operands don't fit.
 #[inline(never)]
-pub(crate) fn statement_of(here: &Scope, key: Key, operands: &[Operand<Meant>]) -> Option<Statement>
-    requires { IsTrue (is_lasting key) }
-    ensures { IsStatementOf here.now key operands.now result }
+pub(crate) fn statement_of(
+    here: &Scope,
+    line_kind: LineKind,
+    operands: &[Operand<Referent>],
+) -> Option<Statement>
+    requires { IsTrue (is_lasting line_kind) }
+    ensures { IsStatementOf here.now line_kind operands.now result }
 {
-    match key {
-        Key::Alloc => alloc(here, operands, Refusal::GivesNull),
-        Key::AllocL => alloc(here, operands, Refusal::Leaves),
-        Key::Realloc => realloc(here, operands, Refusal::GivesNull),
-        Key::ReallocL => realloc(here, operands, Refusal::Leaves),
-        Key::AllocLen => alloc_len(here, operands),
-        Key::Store => store(here, operands),
-        Key::Load => load(here, operands),
-        Key::New => new_object(here, operands, Refusal::GivesNull),
-        Key::NewLeave => new_object(here, operands, Refusal::Leaves),
-        Key::Set => set(here, operands),
-        Key::SetField => set_field(here, operands),
-        Key::Null => set_null(here, operands),
-        Key::Add => add(here, operands),
-        Key::Free | Key::Push | Key::PushObj | Key::PopCheck | Key::LeaveIfNull => {
-            of_pointer(here, key, operands)
+    match line_kind {
+        LineKind::Alloc => alloc(here, operands, Refusal::GivesNull),
+        LineKind::AllocL => alloc(here, operands, Refusal::Leaves),
+        LineKind::Realloc => realloc(here, operands, Refusal::GivesNull),
+        LineKind::ReallocL => realloc(here, operands, Refusal::Leaves),
+        LineKind::AllocLen => alloc_len(here, operands),
+        LineKind::Store => store(here, operands),
+        LineKind::Load => load(here, operands),
+        LineKind::New => new_object(here, operands, Refusal::GivesNull),
+        LineKind::NewLeave => new_object(here, operands, Refusal::Leaves),
+        LineKind::Set => set(here, operands),
+        LineKind::SetField => set_field(here, operands),
+        LineKind::Null => set_null(here, operands),
+        LineKind::Add => add(here, operands),
+        LineKind::Free
+        | LineKind::Push
+        | LineKind::PushObj
+        | LineKind::PopCheck
+        | LineKind::LeaveIfNull => { of_pointer(here, line_kind, operands) }
+        LineKind::Pop | LineKind::PopDestroy | LineKind::Leave | LineKind::LeaveIfError => {
+            of_number(here, line_kind, operands)
         }
-        Key::Pop | Key::PopDestroy | Key::Leave | Key::LeaveIfError => {
-            of_number(here, key, operands)
-        }
-        Key::MarkEnd | Key::Check | Key::CheckAll | Key::FailNext | Key::FailEvery => {
-            of_number(here, key, operands)
-        }
-        Key::Mark => alone(here, Statement::Mark, operands),
-        Key::FailNone => alone(here, Statement::FailNone, operands),
-        Key::HNew => new_text(here, operands, Refusal::GivesNull),
-        Key::HNewL => new_text(here, operands, Refusal::Leaves),
-        Key::HRealloc => realloc_text(here, operands),
-        Key::Copy => copy(here, operands),
-        Key::Append => append(here, operands),
-        Key::Insert => insert(here, operands),
-        Key::DelText => delete_text(here, operands),
-        Key::SetLength => set_length(here, operands),
-        Key::Left => left(here, operands),
-        Key::Right => right(here, operands),
-        Key::Mid => mid(here, operands),
-        Key::GetLen => get_length(here, operands),
-        Key::GetMax => get_maximum(here, operands),
-        Key::Print => print(here, operands),
-        Key::Heap => alone(here, Statement::NoteHeap, operands),
-        Key::Available => alone(here, Statement::NoteAvailable, operands),
-        Key::Compress => alone(here, Statement::NoteCompress, operands),
+        LineKind::MarkEnd
+        | LineKind::Check
+        | LineKind::CheckAll
+        | LineKind::FailNext
+        | LineKind::FailEvery => { of_number(here, line_kind, operands) }
+        LineKind::Mark => statement_without_operands(here, Statement::Mark, operands),
+        LineKind::FailNone => statement_without_operands(here, Statement::FailNone, operands),
+        LineKind::HNew => new_text(here, operands, Refusal::GivesNull),
+        LineKind::HNewL => new_text(here, operands, Refusal::Leaves),
+        LineKind::HRealloc => realloc_text(here, operands),
+        LineKind::Copy => copy(here, operands),
+        LineKind::Append => append(here, operands),
+        LineKind::Insert => insert(here, operands),
+        LineKind::DelText => delete_text(here, operands),
+        LineKind::SetLength => set_length(here, operands),
+        LineKind::Left => left(here, operands),
+        LineKind::Right => right(here, operands),
+        LineKind::Mid => mid(here, operands),
+        LineKind::GetLen => get_length(here, operands),
+        LineKind::GetMax => get_maximum(here, operands),
+        LineKind::Print => print(here, operands),
+        LineKind::Heap => statement_without_operands(here, Statement::NoteHeap, operands),
+        LineKind::Available => statement_without_operands(here, Statement::NoteAvailable, operands),
+        LineKind::Compress => statement_without_operands(here, Statement::NoteCompress, operands),
         _ => None,
     }
 }
@@ -317,14 +337,14 @@ pub(crate) fn statement_of(here: &Scope, key: Key, operands: &[Operand<Meant>]) 
 pub(crate) fn return_nothing(
     here: &Scope,
     blocks: &[OpenBlock],
-    operands: &[Operand<Meant>],
+    operands: &[Operand<Referent>],
 ) -> Option<Statement>
-    ensures { IsReturnOf here.now blocks.now key.Return operands.now result }
+    ensures { IsReturnOf here.now blocks.now line_kind.Return operands.now result }
 {
     if has_trap(blocks) {
         return None;
     }
-    alone(here, Statement::Return, operands)
+    statement_without_operands(here, Statement::Return, operands)
 }
 
 /// A `return` of a pointer; none inside a TRAP.
@@ -332,9 +352,9 @@ pub(crate) fn return_nothing(
 pub(crate) fn return_pointer(
     here: &Scope,
     blocks: &[OpenBlock],
-    operands: &[Operand<Meant>],
+    operands: &[Operand<Referent>],
 ) -> Option<Statement>
-    ensures { IsReturnOf here.now blocks.now key.ReturnPointer operands.now result }
+    ensures { IsReturnOf here.now blocks.now line_kind.ReturnPointer operands.now result }
 {
     if has_trap(blocks) {
         return None;

@@ -1,17 +1,17 @@
 //! The statements of lines on texts, each from its operands.
 
 ghost use Rattle.std.specs.Prelude.{[], ◌∷◌};
-ghost use Rattle.wb_model.specs.declared.script_lines.Key.TheVariants as key;
+ghost use Rattle.wb_model.specs.declared.script_lines.LineKind.TheVariants as line_kind;
 ghost use Rattle.wb_script.specs.Stated.{IsStatementOf};
 
 use crate::tree::scope::Scope;
 use crate::tree::scope::counted::{four, one, three, two};
 use wb_model::script::Statement;
-use wb_model::script_lines::{Meant, Operand};
+use wb_model::script_lines::{Operand, Referent};
 
 #[inline(never)]
-pub(crate) fn copy(here: &Scope, operands: &[Operand<Meant>]) -> Option<Statement>
-    ensures { IsStatementOf here.now key.Copy operands.now result }
+pub(crate) fn copy(here: &Scope, operands: &[Operand<Referent>]) -> Option<Statement>
+    ensures { IsStatementOf here.now line_kind.Copy operands.now result }
 {
     let (target, source) = two(operands)?;
     match (here.writable(target), here.readable(source)) {
@@ -21,8 +21,8 @@ pub(crate) fn copy(here: &Scope, operands: &[Operand<Meant>]) -> Option<Statemen
 }
 
 #[inline(never)]
-pub(crate) fn append(here: &Scope, operands: &[Operand<Meant>]) -> Option<Statement>
-    ensures { IsStatementOf here.now key.Append operands.now result }
+pub(crate) fn append(here: &Scope, operands: &[Operand<Referent>]) -> Option<Statement>
+    ensures { IsStatementOf here.now line_kind.Append operands.now result }
 {
     let (target, source) = two(operands)?;
     match (here.writable(target), here.readable(source)) {
@@ -32,8 +32,8 @@ pub(crate) fn append(here: &Scope, operands: &[Operand<Meant>]) -> Option<Statem
 }
 
 #[inline(never)]
-pub(crate) fn insert(here: &Scope, operands: &[Operand<Meant>]) -> Option<Statement>
-    ensures { IsStatementOf here.now key.Insert operands.now result }
+pub(crate) fn insert(here: &Scope, operands: &[Operand<Referent>]) -> Option<Statement>
+    ensures { IsStatementOf here.now line_kind.Insert operands.now result }
 {
     let (target, position, source) = three(operands)?;
     match (
@@ -49,8 +49,8 @@ pub(crate) fn insert(here: &Scope, operands: &[Operand<Meant>]) -> Option<Statem
 }
 
 #[inline(never)]
-pub(crate) fn delete_text(here: &Scope, operands: &[Operand<Meant>]) -> Option<Statement>
-    ensures { IsStatementOf here.now key.DelText operands.now result }
+pub(crate) fn delete_text(here: &Scope, operands: &[Operand<Referent>]) -> Option<Statement>
+    ensures { IsStatementOf here.now line_kind.DelText operands.now result }
 {
     let (target, position, count) = three(operands)?;
     match (
@@ -66,8 +66,8 @@ pub(crate) fn delete_text(here: &Scope, operands: &[Operand<Meant>]) -> Option<S
 }
 
 #[inline(never)]
-pub(crate) fn set_length(here: &Scope, operands: &[Operand<Meant>]) -> Option<Statement>
-    ensures { IsStatementOf here.now key.SetLength operands.now result }
+pub(crate) fn set_length(here: &Scope, operands: &[Operand<Referent>]) -> Option<Statement>
+    ensures { IsStatementOf here.now line_kind.SetLength operands.now result }
 {
     let (target, length) = two(operands)?;
     match (here.writable(target), here.number(length)) {
@@ -77,8 +77,8 @@ pub(crate) fn set_length(here: &Scope, operands: &[Operand<Meant>]) -> Option<St
 }
 
 #[inline(never)]
-pub(crate) fn left(here: &Scope, operands: &[Operand<Meant>]) -> Option<Statement>
-    ensures { IsStatementOf here.now key.Left operands.now result }
+pub(crate) fn left(here: &Scope, operands: &[Operand<Referent>]) -> Option<Statement>
+    ensures { IsStatementOf here.now line_kind.Left operands.now result }
 {
     let (view, source, count) = three(operands)?;
     match (here.view(view), here.readable(source), here.number(count)) {
@@ -88,8 +88,8 @@ pub(crate) fn left(here: &Scope, operands: &[Operand<Meant>]) -> Option<Statemen
 }
 
 #[inline(never)]
-pub(crate) fn right(here: &Scope, operands: &[Operand<Meant>]) -> Option<Statement>
-    ensures { IsStatementOf here.now key.Right operands.now result }
+pub(crate) fn right(here: &Scope, operands: &[Operand<Referent>]) -> Option<Statement>
+    ensures { IsStatementOf here.now line_kind.Right operands.now result }
 {
     let (view, source, count) = three(operands)?;
     match (here.view(view), here.readable(source), here.number(count)) {
@@ -99,8 +99,8 @@ pub(crate) fn right(here: &Scope, operands: &[Operand<Meant>]) -> Option<Stateme
 }
 
 #[inline(never)]
-pub(crate) fn mid(here: &Scope, operands: &[Operand<Meant>]) -> Option<Statement>
-    ensures { IsStatementOf here.now key.Mid operands.now result }
+pub(crate) fn mid(here: &Scope, operands: &[Operand<Referent>]) -> Option<Statement>
+    ensures { IsStatementOf here.now line_kind.Mid operands.now result }
 {
     let (view, source, position, count) = four(operands)?;
     match (
@@ -117,8 +117,8 @@ pub(crate) fn mid(here: &Scope, operands: &[Operand<Meant>]) -> Option<Statement
 }
 
 #[inline(never)]
-pub(crate) fn get_length(here: &Scope, operands: &[Operand<Meant>]) -> Option<Statement>
-    ensures { IsStatementOf here.now key.GetLen operands.now result }
+pub(crate) fn get_length(here: &Scope, operands: &[Operand<Referent>]) -> Option<Statement>
+    ensures { IsStatementOf here.now line_kind.GetLen operands.now result }
 {
     let (variable, source) = two(operands)?;
     match (here.variable(variable), here.readable(source)) {
@@ -128,8 +128,8 @@ pub(crate) fn get_length(here: &Scope, operands: &[Operand<Meant>]) -> Option<St
 }
 
 #[inline(never)]
-pub(crate) fn get_maximum(here: &Scope, operands: &[Operand<Meant>]) -> Option<Statement>
-    ensures { IsStatementOf here.now key.GetMax operands.now result }
+pub(crate) fn get_maximum(here: &Scope, operands: &[Operand<Referent>]) -> Option<Statement>
+    ensures { IsStatementOf here.now line_kind.GetMax operands.now result }
 {
     let (variable, target) = two(operands)?;
     match (here.variable(variable), here.writable(target)) {
@@ -139,11 +139,11 @@ pub(crate) fn get_maximum(here: &Scope, operands: &[Operand<Meant>]) -> Option<S
 }
 
 /// A `print` of what one operand spells.
-fn printed(here: &Scope, operand: &Operand<Meant>) -> Option<Statement>
-    ensures { IsStatementOf here.now key.Print (operand.now ∷ []) result }
+fn print_statement(here: &Scope, operand: &Operand<Referent>) -> Option<Statement>
+    ensures { IsStatementOf here.now line_kind.Print (operand.now ∷ []) result }
 {
     match operand {
-        Operand::Number(_) | Operand::Name(Meant::Number(_)) => {
+        Operand::Number(_) | Operand::Name(Referent::Number(_)) => {
             Some(Statement::PrintNumber(here.number(operand)?))
         }
         _ => Some(Statement::PrintText(here.readable(operand)?)),
@@ -152,9 +152,9 @@ fn printed(here: &Scope, operand: &Operand<Meant>) -> Option<Statement>
 
 /// A `print` of a number or of a text.
 #[inline(never)]
-pub(crate) fn print(here: &Scope, operands: &[Operand<Meant>]) -> Option<Statement>
-    ensures { IsStatementOf here.now key.Print operands.now result }
+pub(crate) fn print(here: &Scope, operands: &[Operand<Referent>]) -> Option<Statement>
+    ensures { IsStatementOf here.now line_kind.Print operands.now result }
 {
     let operand = one(operands)?;
-    printed(here, operand)
+    print_statement(here, operand)
 }

@@ -1,7 +1,7 @@
 //! What is whole of a script's tree, and what is open.
 
 ghost use Rattle.std.specs.Prelude.{◌≡◌, [], IfOk};
-ghost use Rattle.wb_script.specs.Growing.{finished, outside, with_class, with_procedure, with_operation};
+ghost use Rattle.wb_script.specs.Growing.{with_whole_body, outside, with_class, with_procedure, with_operation};
 
 use crate::tree::bodies::OpenBody;
 use std::alloc::{AllocError, Global};
@@ -98,13 +98,13 @@ fn with_operation(whole: WholeItems, line: u32, body: Body) -> Result<WholeItems
 }
 
 /// A body is whole.
-pub(crate) fn finished(
+pub(crate) fn finish_body(
     whole: WholeItems,
     owner: Owner,
     parameters: Items<Parameter>,
     body: Body,
 ) -> Result<Building, AllocError>
-    ensures { IfOk result (λ next. next ≡ finished whole owner parameters body) }
+    ensures { IfOk result (λ next. next ≡ with_whole_body whole owner parameters body) }
 {
     match owner {
         Owner::Procedure(line) => {

@@ -10,7 +10,7 @@ use Rattle.wb_model.specs.Texts.{units_of_part}
 use Rattle.wb_model.proofs.TextCells.{IsUnit, zeros}
 use Rattle.wb_hbuf.specs.Drafts.{HasUnits, IsDraft, put}
 use Rattle.wb_hbuf.proofs.Drafts.{draft-none, draft-put, draft-words, is_live, payload-small, units-zeros}
-use Rattle.wb_hbuf.proofs.Units.{part-is, part-within, put-put, length-put, run-behind}
+use Rattle.wb_hbuf.proofs.Units.{part-is, part-within, put-put, length-put, run-following}
 use Rattle.wb_hbuf.proofs.WrittenUnits.{len, all, all-room, text-length}
 use Rattle.wb_hbuf.proofs.writing.copy_part.Goals as goal
 
@@ -31,7 +31,7 @@ module _ (p q : Ptr) (d e : Debug) (has : HasUnits p d) (has' : HasUnits q d) (a
   copied =
       draft-put p d d (len p d has) (all p d has) has (draft-none p d has) e at (at + 2) read refl (omega (arith, length-read, long, room))
       (All-take IsUnit there (drop start (all q d has')) (All-drop IsUnit start (all q d has') has'.units))
-      (made ∙ ap (λ vs. debug_changed d p (with_halves (payload_of p d.heap.row) (at + 2) vs)) (run-behind (payload_of q d.heap.row) start (start + 2) there (omega arith) within))
+      (made ∙ ap (λ vs. debug_changed d p (with_halves (payload_of p d.heap.row) (at + 2) vs)) (run-following (payload_of q d.heap.row) start (start + 2) there (omega arith) within))
 
   -- and zeros behind it
   filled : (f : Debug) → f ≡ debug_changed e p (with_halves (payload_of p e.heap.row) (at + there + 2) (zeros (count - there))) →

@@ -7,7 +7,7 @@ use Rattle.wb_model.specs.Debug.{debug_changed}
 use Rattle.wb_model.specs.TextCells.{text_at}
 use Rattle.wb_model.proofs.TextCells.{IsUnit}
 use Rattle.wb_hbuf.proofs.Drafts.{draft-none, draft-put, is_live}
-use Rattle.wb_hbuf.proofs.Units.{run-behind}
+use Rattle.wb_hbuf.proofs.Units.{run-following}
 use Rattle.wb_hbuf.proofs.WrittenUnits.{len, all, all-room, text-length}
 use Rattle.wb_hbuf.proofs.writing.open_gap.Goals as goal
 
@@ -37,7 +37,7 @@ returns-clause-draft c =
     let long : length tail ≡ n = omega (arith, length-drop at (text_at p d), text-length p d has, c.payload-len.ensures) in
     let whole : at + n ≡ len p d has = omega (arith, c.requires.within, text-length p d has, c.payload-len.ensures) in
     let read : halves_from ws (at + 2) n ≡ tail =
-    run-behind ws at (at + 2) n (omega arith) (omega (arith, whole, all-room p d has, has.within))
+    run-following ws at (at + 2) n (omega arith) (omega (arith, whole, all-room p d has, has.within))
     ∙ sym (drop-take at n (all p d has)) ∙ ap (λ k. drop at (take k (all p d has))) whole in
     draft-put p d d (len p d has) (all p d has) has (draft-none p d has) c.copy_halves.new.self (at + c.args.gap) (at + c.args.gap + 2) tail refl
     (omega (arith, long, whole, all-room p d has, c.requires.room, text-length p d has))

@@ -19,7 +19,7 @@ loop-argument-preserved c =
     let vs : List Buffer → Values = λ bs. values_stored bs before in
     let base = c.args.base in
     let end = c.len-end.result in
-    let get : Values → Argument → Value = passed_over c.args.sight.script.now c.args.sight.heap.now c.args.sight.this in
+    let get : Values → Argument → Value = passed_over c.args.context.script.now c.args.context.heap.now c.args.context.this in
     let i = c.loop-argument.argument-index in
     let first : Argument = Passed (Held (Local 0)) in
     let long : (bs : List Buffer) → length (vs bs) ≡ end = λ bs. length-map before (value_stored bs) ∙ sym c.args.slots.now.ok.0 ∙ sym c.len-end.ensures in
@@ -27,9 +27,9 @@ loop-argument-preserved c =
     λ bs. ap (λ (xs : List Stored). values_stored bs (slice_range xs base end)) c.deref.ensures.value
     ∙ frame_below (value_stored bs) c.loop-argument.slots.items (vs bs) (map (get (drop base (vs bs))) (take i c.args.arguments.now)) base end
     (c.loop-argument.invariant.0 bs) (long bs) (omega (arith, c.requires, c.len-end.ensures)) in (
-      λ bs. one_more (get (drop base (vs bs))) (values_stored bs c.push_slot.new.slots.items) (values_stored bs c.loop-argument.slots.items) (value_of c.passed-slot.result) (vs bs) c.args.arguments.now i first
+      λ bs. one_more (get (drop base (vs bs))) (values_stored bs c.push_slot.new.slots.items) (values_stored bs c.loop-argument.slots.items) (value_of c.argument_slot-slot.result) (vs bs) c.args.arguments.now i first
           (c.in_ok-push_slot.ensures.pushed bs) (c.loop-argument.invariant.0 bs)
-          (c.passed-slot.ensures bs ∙ ap (λ (locals : Values). get locals (get_or c.args.arguments.now i first)) (frame bs)) c.loop-argument-test.true,
+          (c.argument_slot-slot.ensures bs ∙ ap (λ (locals : Values). get locals (get_or c.args.arguments.now i first)) (frame bs)) c.loop-argument-test.true,
       λ e h. c.in_ok-push_slot.ensures.ascending e (c.loop-argument.invariant.1 e h),
       omega (arith, c.loop-argument.invariant.2, c.in_ok-push_slot.ensures.more),
     )
@@ -37,5 +37,5 @@ loop-argument-preserved c =
 pub returns-clause-passed : goal.returns-clause-passed
 returns-clause-passed c bs =
     let vs = values_stored bs c.args.slots.now.items in
-    let get = passed_over c.args.sight.script.now c.args.sight.heap.now c.args.sight.this (drop c.args.base vs) in
+    let get = passed_over c.args.context.script.now c.args.context.heap.now c.args.context.this (drop c.args.base vs) in
     c.loop-argument.invariant.0 bs ∙ ap (λ (given : List Argument). vs ++ map get given) (take_all c.loop-argument.argument-index c.args.arguments.now c.loop-argument-test.false)

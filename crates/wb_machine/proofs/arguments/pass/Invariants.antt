@@ -8,6 +8,6 @@ invariant-loop-argument l =
     ((buffers : List Buffer) →
     values_stored buffers l.slots.items
     ≡ values_stored buffers l.fn.slots.items
-    ++ map (passed_over l.fn.sight.script.now l.fn.sight.heap.now l.fn.sight.this (drop l.base (values_stored buffers l.fn.slots.items))) (take l.argument-index l.arguments))
+    ++ map (passed_over l.fn.context.script.now l.fn.context.heap.now l.fn.context.this (drop l.base (values_stored buffers l.fn.slots.items))) (take l.argument-index l.arguments))
     × ((end : ℕ) → AreAscending 0 end l.fn.slots.items → AreAscending 0 end l.slots.items)
     × (vec_len l.fn.slots ≤ vec_len l.slots)

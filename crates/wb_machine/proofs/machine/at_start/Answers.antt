@@ -3,7 +3,7 @@ use Rattle.std.proofs.lemmas.List.Elements.{All-nil}
 use Rattle.wb_machine.specs.RunState.{RunState}
 use Rattle.wb_machine.specs.ObjectInvariant.{AreWhole}
 use Rattle.wb_machine.specs.Flow.{AreSound, IsFirst}
-use Rattle.wb_machine.proofs.Begins.{rest_first}
+use Rattle.wb_machine.proofs.FirstTurn.{rest_first}
 use Rattle.wb_machine.proofs.Fitting.{fits-limit}
 use Rattle.wb_machine.proofs.machine.at_start.Goals as goal
 

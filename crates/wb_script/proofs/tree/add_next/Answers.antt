@@ -15,14 +15,14 @@ returns-in-InBody c =
     let whole = c.args.building.now.whole in
     let owner = c.in-InBody.field-0 in
     let p = c.in-InBody.body in
-    let key = c.in-Line.key in
+    let line_kind = c.in-Line.line_kind in
     let operands = c.as_slice.result.now in
-    let next = c.add_stated.new.body in
-    let result = c.add_stated.result in
+    let next = c.add_statement_in_place.new.body in
+    let result = c.add_statement_in_place.result in
     let stage_is : c.args.building.now.stage ≡ InBody owner p = cc in
-    let line_is : c.args.line.now ≡ Line key operands = cc in
+    let line_is : c.args.line.now ≡ Line line_kind operands = cc in
     let sound = subst (IsSoundWhere declared whole) stage_is c.requires.sound.stands in
     let below = subst (IsBelowWhere number whole) stage_is c.requires.below.stands in
-    let grows = result_grows declared number key operands whole owner p sound below result next c.add_stated.ensures in
+    let grows = result_grows declared number line_kind operands whole owner p sound below result next c.add_statement_in_place.ensures in
     subst (λ (l : Indexed). IfOk result (λ added. GrowsWhereFit declared number l c.args.building.now (if_added added (in_body whole owner next)))) (sym line_is)
-    (subst (λ (s : Stage). IfOk result (λ added. GrowsWhereFit declared number (Line key operands) (record { whole = whole; stage = s }) (if_added added (in_body whole owner next)))) (sym stage_is) grows)
+    (subst (λ (s : Stage). IfOk result (λ added. GrowsWhereFit declared number (Line line_kind operands) (record { whole = whole; stage = s }) (if_added added (in_body whole owner next)))) (sym stage_is) grows)

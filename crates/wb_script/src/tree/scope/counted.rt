@@ -1,16 +1,16 @@
 //! The operands of a line, where there are so many.
 
 ghost use Rattle.std.specs.Prelude.{◌≡◌, [], ◌∷◌, ℕ, false, MatchOption};
-ghost use Rattle.wb_model.specs.declared.script_lines.Letter as model;
+ghost use Rattle.wb_model.specs.declared.script_lines.OperandPlace as model;
 ghost use Rattle.wb_model.specs.Sound.{Scope};
-ghost use Rattle.wb_script.specs.Fitting.{letters_fit};
+ghost use Rattle.wb_script.specs.Fitting.{operand_places_fit};
 
-use wb_model::script_lines::{Meant, Operand};
+use wb_model::script_lines::{Operand, Referent};
 
 /// The only operand.
-pub(crate) fn one<'o>(operands: &'o [Operand<Meant>]) -> Option<&'o Operand<Meant>>
+pub(crate) fn one<'o>(operands: &'o [Operand<Referent>]) -> Option<&'o Operand<Referent>>
     ensures { MatchOption result
-        ((literals : ℕ) (scope : Scope) (letter : model.Letter) → letters_fit literals scope (letter ∷ []) operands.now ≡ false)
+        ((literals : ℕ) (scope : Scope) (operand_place : model.OperandPlace) → operand_places_fit literals scope (operand_place ∷ []) operands.now ≡ false)
         (λ r. operands.now ≡ r.now ∷ []) }
 {
     match operands {
@@ -21,10 +21,10 @@ pub(crate) fn one<'o>(operands: &'o [Operand<Meant>]) -> Option<&'o Operand<Mean
 
 /// Two operands, where there are no others.
 pub(crate) fn two<'o>(
-    operands: &'o [Operand<Meant>],
-) -> Option<(&'o Operand<Meant>, &'o Operand<Meant>)>
+    operands: &'o [Operand<Referent>],
+) -> Option<(&'o Operand<Referent>, &'o Operand<Referent>)>
     ensures { MatchOption result
-        ((literals : ℕ) (scope : Scope) (first second : model.Letter) → letters_fit literals scope (first ∷ second ∷ []) operands.now ≡ false)
+        ((literals : ℕ) (scope : Scope) (first second : model.OperandPlace) → operand_places_fit literals scope (first ∷ second ∷ []) operands.now ≡ false)
         (λ r. operands.now ≡ r.0.now ∷ r.1.now ∷ []) }
 {
     match operands {
@@ -35,10 +35,16 @@ pub(crate) fn two<'o>(
 
 /// Three operands, where there are no others.
 pub(crate) fn three<'o>(
-    operands: &'o [Operand<Meant>],
-) -> Option<(&'o Operand<Meant>, &'o Operand<Meant>, &'o Operand<Meant>)>
+    operands: &'o [Operand<Referent>],
+) -> Option<
+    (
+        &'o Operand<Referent>,
+        &'o Operand<Referent>,
+        &'o Operand<Referent>,
+    ),
+>
     ensures { MatchOption result
-        ((literals : ℕ) (scope : Scope) (first second third : model.Letter) → letters_fit literals scope (first ∷ second ∷ third ∷ []) operands.now ≡ false)
+        ((literals : ℕ) (scope : Scope) (first second third : model.OperandPlace) → operand_places_fit literals scope (first ∷ second ∷ third ∷ []) operands.now ≡ false)
         (λ r. operands.now ≡ r.0.now ∷ r.1.now ∷ r.2.now ∷ []) }
 {
     match operands {
@@ -49,17 +55,17 @@ pub(crate) fn three<'o>(
 
 /// Four operands, where there are no others.
 pub(crate) fn four<'o>(
-    operands: &'o [Operand<Meant>],
+    operands: &'o [Operand<Referent>],
 ) -> Option<
     (
-        &'o Operand<Meant>,
-        &'o Operand<Meant>,
-        &'o Operand<Meant>,
-        &'o Operand<Meant>,
+        &'o Operand<Referent>,
+        &'o Operand<Referent>,
+        &'o Operand<Referent>,
+        &'o Operand<Referent>,
     ),
 >
     ensures { MatchOption result
-        ((literals : ℕ) (scope : Scope) (first second third fourth : model.Letter) → letters_fit literals scope (first ∷ second ∷ third ∷ fourth ∷ []) operands.now ≡ false)
+        ((literals : ℕ) (scope : Scope) (first second third fourth : model.OperandPlace) → operand_places_fit literals scope (first ∷ second ∷ third ∷ fourth ∷ []) operands.now ≡ false)
         (λ r. operands.now ≡ r.0.now ∷ r.1.now ∷ r.2.now ∷ r.3.now ∷ []) }
 {
     match operands {

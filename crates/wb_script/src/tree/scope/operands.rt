@@ -3,17 +3,17 @@
 ghost use Rattle.std.specs.Prelude.{◌≡◌, ◌<◌, length, nat_lt, slice_get, false, IfSome, IsSome, IsTrue, MatchOption};
 ghost use Rattle.wb_model.specs.declared.script.Pointer.TheVariants as P;
 ghost use Rattle.wb_model.specs.declared.limits.TheConstants.{MOST_LOCALS};
-ghost use Rattle.wb_model.specs.declared.script_lines.Key.TheVariants as key;
-ghost use Rattle.wb_model.specs.declared.script_lines.Letter.TheVariants as letter;
+ghost use Rattle.wb_model.specs.declared.script_lines.LineKind.TheVariants as line_kind;
+ghost use Rattle.wb_model.specs.declared.script_lines.OperandPlace.TheVariants as operand_place;
 ghost use Rattle.wb_model.specs.Sound.{is_pointer, is_target, is_variable, is_number, is_view, is_writable, is_readable};
-ghost use Rattle.wb_model.specs.Trees.{class_operand, pointer_operand, variable_operand, number_operand, view_operand, writable_operand, text_operand, set_key};
+ghost use Rattle.wb_model.specs.Trees.{class_operand, pointer_operand, variable_operand, number_operand, view_operand, writable_operand, text_operand, set_line_kind};
 ghost use Rattle.wb_script.specs.Fitting.{IsSpelled};
 ghost use Rattle.wb_script.specs.Stated.{IsFieldOf, IsHolderOf, IsPointerLocal, IsReceiver, scope_in};
 
 use crate::tree::scope::Scope;
 use wb_model::limits::NINE_DIGITS;
 use wb_model::script::{Holder, Local, Number, Pointer, Readable, Writable};
-use wb_model::script_lines::{Meant, Operand};
+use wb_model::script_lines::{Operand, Referent};
 
 impl<'a> Scope<'a> {
     /// The local with an index.
@@ -38,12 +38,12 @@ impl<'a> Scope<'a> {
     }
 
     /// What holds a pointer by its name: a local, or `self`.
-    fn holder(&self, name: Meant) -> Option<Holder>
+    fn holder(&self, name: Referent) -> Option<Holder>
         ensures { IsHolderOf (scope_in self.now) name result }
     {
         match name {
-            Meant::Pointer(index) => Some(Holder::Local(self.pointer_local(index)?)),
-            Meant::This => match self.this {
+            Referent::Pointer(index) => Some(Holder::Local(self.pointer_local(index)?)),
+            Referent::This => match self.this {
                 Some(_) => Some(Holder::This),
                 None => None,
             },
@@ -52,8 +52,8 @@ impl<'a> Scope<'a> {
     }
 
     /// The class that a local or `self` is declared with.
-    fn class_held(&self, holder: Holder) -> Option<u16>
-        ensures { result ≡ Rattle.wb_model.specs.Sound.class_held (scope_in self.now) holder }
+    fn class_of_holder(&self, holder: Holder) -> Option<u16>
+        ensures { result ≡ Rattle.wb_model.specs.Sound.class_of_holder (scope_in self.now) holder }
     {
         match holder {
             Holder::Local(index) => match self.local(index as usize) {
@@ -80,7 +80,7 @@ impl<'a> Scope<'a> {
             (is_pointer (scope_in self.now) (P.Field holder class index) ≡ false)
             (λ p. (p ≡ P.Field holder class index) × IsTrue (is_pointer (scope_in self.now) p)) }
     {
-        match (self.class_held(holder), self.field_count(class)) {
+        match (self.class_of_holder(holder), self.field_count(class)) {
             (Some(own), Some(count)) => {
                 if own as usize == class && index < count as usize {
                     Some(Pointer::Field(holder, own, index as u8))
@@ -93,18 +93,18 @@ impl<'a> Scope<'a> {
     }
 
     /// The field of what a name stands for, where it is of the class that this is declared with.
-    fn field(&self, base: Meant, field: Meant) -> Option<Pointer>
+    fn field(&self, base: Referent, field: Referent) -> Option<Pointer>
         ensures { IsFieldOf (scope_in self.now) base field result }
     {
         match field {
-            Meant::Field(class, index) => self.field_of(self.holder(base)?, class, index),
+            Referent::Field(class, index) => self.field_of(self.holder(base)?, class, index),
             _ => None,
         }
     }
 
     /// The pointer that an operand spells: a local, `self`, or a field of one of these.
-    pub(crate) fn pointer(&self, operand: &Operand<Meant>) -> Option<Pointer>
-        ensures { IsSpelled pointer_operand (is_pointer (scope_in self.now)) self.now.literals (scope_in self.now) letter.Pointer operand.now result }
+    pub(crate) fn pointer(&self, operand: &Operand<Referent>) -> Option<Pointer>
+        ensures { IsSpelled pointer_operand (is_pointer (scope_in self.now)) self.now.literals (scope_in self.now) operand_place.Pointer operand.now result }
     {
         match operand {
             Operand::Name(name) => Some(Pointer::Held(self.holder(*name)?)),
@@ -114,8 +114,8 @@ impl<'a> Scope<'a> {
     }
 
     /// The pointer that an operand spells and that a line may write: a local, or a field.
-    pub(crate) fn written(&self, operand: &Operand<Meant>) -> Option<Pointer>
-        ensures { IsSpelled pointer_operand (is_target (scope_in self.now)) self.now.literals (scope_in self.now) letter.Written operand.now result }
+    pub(crate) fn written_pointer(&self, operand: &Operand<Referent>) -> Option<Pointer>
+        ensures { IsSpelled pointer_operand (is_target (scope_in self.now)) self.now.literals (scope_in self.now) operand_place.Written operand.now result }
     {
         match operand {
             Operand::Field(base, field) => self.field(*base, *field),
@@ -124,19 +124,19 @@ impl<'a> Scope<'a> {
     }
 
     /// The local that holds a pointer and that an operand spells.
-    pub(crate) fn receiver(&self, operand: &Operand<Meant>) -> Option<u8>
+    pub(crate) fn receiver(&self, operand: &Operand<Referent>) -> Option<u8>
         ensures { IsReceiver self.now operand.now result }
     {
         match operand {
-            Operand::Name(Meant::Pointer(index)) => self.pointer_local(*index),
+            Operand::Name(Referent::Pointer(index)) => self.pointer_local(*index),
             _ => None,
         }
     }
 
     /// The field that an operand spells.
-    pub(crate) fn field_target(&self, operand: &Operand<Meant>) -> Option<Pointer>
-        ensures spelled { IsSpelled pointer_operand (is_target (scope_in self.now)) self.now.literals (scope_in self.now) letter.FieldTarget operand.now result }
-        ensures key { IfSome result (λ p. set_key p ≡ key.SetField) }
+    pub(crate) fn field_target(&self, operand: &Operand<Referent>) -> Option<Pointer>
+        ensures spelled { IsSpelled pointer_operand (is_target (scope_in self.now)) self.now.literals (scope_in self.now) operand_place.FieldTarget operand.now result }
+        ensures line_kind { IfSome result (λ p. set_line_kind p ≡ line_kind.SetField) }
     {
         match operand {
             Operand::Field(base, field) => self.field(*base, *field),
@@ -145,11 +145,11 @@ impl<'a> Scope<'a> {
     }
 
     /// The class that an operand spells.
-    pub(crate) fn class(&self, operand: &Operand<Meant>) -> Option<u16>
-        ensures { IsSpelled class_operand (λ class. nat_lt class (length self.now.fields.now)) self.now.literals (scope_in self.now) letter.Class operand.now result }
+    pub(crate) fn class(&self, operand: &Operand<Referent>) -> Option<u16>
+        ensures { IsSpelled class_operand (λ class. nat_lt class (length self.now.fields.now)) self.now.literals (scope_in self.now) operand_place.Class operand.now result }
     {
         match operand {
-            Operand::Name(Meant::Class(index)) => {
+            Operand::Name(Referent::Class(index)) => {
                 if *index < self.fields.len() {
                     Some(*index as u16)
                 } else {
@@ -161,11 +161,11 @@ impl<'a> Scope<'a> {
     }
 
     /// The local that holds a number and that an operand spells.
-    pub(crate) fn variable(&self, operand: &Operand<Meant>) -> Option<u8>
-        ensures { IsSpelled variable_operand (is_variable self.now.locals.now) self.now.literals (scope_in self.now) letter.Variable operand.now result }
+    pub(crate) fn variable(&self, operand: &Operand<Referent>) -> Option<u8>
+        ensures { IsSpelled variable_operand (is_variable self.now.locals.now) self.now.literals (scope_in self.now) operand_place.Variable operand.now result }
     {
         match operand {
-            Operand::Name(Meant::Number(index)) => match self.local(*index) {
+            Operand::Name(Referent::Number(index)) => match self.local(*index) {
                 Some(Local::OfNumber) => Some(*index as u8),
                 _ => None,
             },
@@ -174,8 +174,8 @@ impl<'a> Scope<'a> {
     }
 
     /// The number that an operand spells, or the local that holds it.
-    pub(crate) fn number(&self, operand: &Operand<Meant>) -> Option<Number>
-        ensures { IsSpelled number_operand (is_number self.now.locals.now) self.now.literals (scope_in self.now) letter.Value operand.now result }
+    pub(crate) fn number(&self, operand: &Operand<Referent>) -> Option<Number>
+        ensures { IsSpelled number_operand (is_number self.now.locals.now) self.now.literals (scope_in self.now) operand_place.Value operand.now result }
     {
         match operand {
             Operand::Number(number) => {
@@ -190,11 +190,11 @@ impl<'a> Scope<'a> {
     }
 
     /// The local that holds a view and that an operand spells.
-    pub(crate) fn view(&self, operand: &Operand<Meant>) -> Option<u8>
-        ensures { IsSpelled view_operand (is_view self.now.locals.now) self.now.literals (scope_in self.now) letter.ViewName operand.now result }
+    pub(crate) fn view(&self, operand: &Operand<Referent>) -> Option<u8>
+        ensures { IsSpelled view_operand (is_view self.now.locals.now) self.now.literals (scope_in self.now) operand_place.ViewName operand.now result }
     {
         match operand {
-            Operand::Name(Meant::View(index)) => match self.local(*index) {
+            Operand::Name(Referent::View(index)) => match self.local(*index) {
                 Some(Local::OfView) => Some(*index as u8),
                 _ => None,
             },
@@ -203,11 +203,11 @@ impl<'a> Scope<'a> {
     }
 
     /// The text that an operand spells and that can be changed.
-    pub(crate) fn writable(&self, operand: &Operand<Meant>) -> Option<Writable>
-        ensures { IsSpelled writable_operand (is_writable (scope_in self.now)) self.now.literals (scope_in self.now) letter.Writable operand.now result }
+    pub(crate) fn writable(&self, operand: &Operand<Referent>) -> Option<Writable>
+        ensures { IsSpelled writable_operand (is_writable (scope_in self.now)) self.now.literals (scope_in self.now) operand_place.Writable operand.now result }
     {
         match operand {
-            Operand::Name(Meant::Buffer(index)) => match self.local(*index) {
+            Operand::Name(Referent::Buffer(index)) => match self.local(*index) {
                 Some(Local::OfBuffer(_)) => Some(Writable::OwnBuffer(*index as u8)),
                 _ => None,
             },
@@ -216,18 +216,18 @@ impl<'a> Scope<'a> {
     }
 
     /// The text that an operand spells and that can be read.
-    pub(crate) fn readable(&self, operand: &Operand<Meant>) -> Option<Readable>
-        ensures { IsSpelled text_operand (is_readable self.now.literals (scope_in self.now)) self.now.literals (scope_in self.now) letter.Readable operand.now result }
+    pub(crate) fn readable(&self, operand: &Operand<Referent>) -> Option<Readable>
+        ensures { IsSpelled text_operand (is_readable self.now.literals (scope_in self.now)) self.now.literals (scope_in self.now) operand_place.Readable operand.now result }
     {
         match operand {
-            Operand::Literal(Meant::Literal(index)) => {
+            Operand::Literal(Referent::Literal(index)) => {
                 if *index < self.literals as usize {
                     Some(Readable::Quoted(*index as u32))
                 } else {
                     None
                 }
             }
-            Operand::Name(Meant::View(_)) => Some(Readable::ViewOf(self.view(operand)?)),
+            Operand::Name(Referent::View(_)) => Some(Readable::ViewOf(self.view(operand)?)),
             _ => Some(Readable::Of(self.writable(operand)?)),
         }
     }

@@ -55,9 +55,9 @@ returns-in_err-found-clause-cut g c at why e =
     let script = c.args.script.now in
     let failures = c.args.failures in
     let first = c.in_ok-first.first in
-    let is : c.found_at.result ≡ Err (Cut at why) = search rules in
+    let is : c.judge_run.result ≡ Err (Cut at why) = search rules in
     let told : (met : Why) × (Cut at why ≡ Cut c.at-none.result met) × (first.outcome ≡ outcomes.Cut met) =
-    subst (λ (r : Result (Option Found) SweepFault). IfErr r (λ fault. (met : Why) × (fault ≡ Cut c.at-none.result met) × (first.outcome ≡ outcomes.Cut met))) is c.found_at.ensures.cut in
+    subst (λ (r : Result (Option Found) SweepFault). IfErr r (λ fault. (met : Why) × (fault ≡ Cut c.at-none.result met) × (first.outcome ≡ outcomes.Cut met))) is c.judge_run.ensures.cut in
     let fault = told.1 in
     let failing : at ≡ c.at-none.result = cc in
     let same : why ≡ told.0 = cc in

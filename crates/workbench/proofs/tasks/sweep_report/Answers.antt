@@ -8,11 +8,11 @@ returns-in_ok-put_cut_at-in-Err-Cut g c =
     let cut = c.in-Err-Cut in
     let report = c.cut_report.result in
     let text : report.text.items ≡ cut_at_line cut.at cut.why = search rules in
-    let unswept : IsUnswept c.args.failures c.args.script.now c.args.budget c.args.shape report.text.items report.figures = record {
+    let unswept : IsUnswept c.args.failures c.args.script.now c.args.budget c.args.shape report.text.items report.values = record {
       at = cut.at;
       why = cut.why;
       cut = c.sweep.ensures.cut cut.at cut.why (search rules);
       text_is = text;
-      figures_are = c.cut_report.ensures.figures;
+      values_are = c.cut_report.ensures.values;
     } in
     inr (inr (unswept, c.cut_report.ensures.status))

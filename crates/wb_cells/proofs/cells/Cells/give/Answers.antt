@@ -3,7 +3,7 @@ use Rattle.std.proofs.lemmas.List.{length-set}
 use Rattle.wb_model.specs.Row.{without}
 use Rattle.wb_model.specs.Spelling.{spelled}
 use Rattle.wb_cells.specs.Inside.{IsLaid}
-use Rattle.wb_cells.proofs.Behind.{length_word}
+use Rattle.wb_cells.proofs.NamedCells.{length_word}
 use Rattle.wb_cells.proofs.Listing.{listed_laid, released, length-closed}
 use Rattle.wb_cells.proofs.Laying.{spelled-laid}
 use Rattle.wb_cells.proofs.Linking.{gaps_from, links_laid}
@@ -13,8 +13,8 @@ use Rattle.wb_cells.proofs.Closing.{closed_hole, numbered-without}
 use Rattle.wb_cells.proofs.Sound.{sound_laid}
 use Rattle.wb_cells.proofs.cells.Cells.give.Goals as goal
 
-pub around-around-requires-clause-below : goal.around-around-requires-clause-below
-around-around-requires-clause-below c =
+pub neighbours_of-around-requires-clause-below : goal.neighbours_of-around-requires-clause-below
+neighbours_of-around-requires-clause-below c =
     let v = valid _ _ _ _ c.self.invariant.laid c.args.ptr c.args.self.now.row (ap (λ v. v.row) c.self.view_is) (some_cell c.args.ptr c.args.self.now.row c.requires) in
     omega (arith, payload_within _ _ _ _ v.cell, c.self.invariant.laid.bounded)
 
@@ -28,83 +28,83 @@ overflow_add-end c =
     let v = valid _ _ _ _ c.self.invariant.laid c.args.ptr c.args.self.now.row (ap (λ v. v.row) c.self.view_is) (some_cell c.args.ptr c.args.self.now.row c.requires) in
     omega (arith, c.length_at.ensures, length_word _ _ _ _ v.cell, payload_within _ _ _ _ v.cell, c.self.invariant.laid.bounded)
 
-pub around-around-requires-clause-rounded : goal.around-around-requires-clause-rounded
-around-around-requires-clause-rounded c =
+pub neighbours_of-around-requires-clause-rounded : goal.neighbours_of-around-requires-clause-rounded
+neighbours_of-around-requires-clause-rounded c =
     let v = valid _ _ _ _ c.self.invariant.laid c.args.ptr c.args.self.now.row (ap (λ v. v.row) c.self.view_is) (some_cell c.args.ptr c.args.self.now.row c.requires) in
     omega (arith, v.cell.here, v.cell.rounded)
 
-pub around-around-requires-clause-listed : goal.around-around-requires-clause-listed
-around-around-requires-clause-listed c = listed_laid _ _ _ _ c.self.invariant.laid _ c.self.invariant.listed
+pub neighbours_of-around-requires-clause-listed : goal.neighbours_of-around-requires-clause-listed
+neighbours_of-around-requires-clause-listed c = listed_laid _ _ _ _ c.self.invariant.laid _ c.self.invariant.listed
 
 pub close-requires-clause-end : goal.close-requires-clause-end
 close-requires-clause-end c =
     let v = valid _ _ _ _ c.self.invariant.laid c.args.ptr c.args.self.now.row (ap (λ v. v.row) c.self.view_is) (some_cell c.args.ptr c.args.self.now.row c.requires) in
-    let around = c.around-around.result in
-    let round = rounds_of _ _ _ _ c.self.invariant.laid c.args.ptr v.cell around.prior around.before around.after c.around-around.ensures.round in
+    let around = c.neighbours_of-around.result in
+    let round = rounds_of _ _ _ _ c.self.invariant.laid c.args.ptr v.cell around.prior around.before around.after c.neighbours_of-around.ensures.round in
     (released _ _ _ _ c.self.invariant.laid _ c.self.invariant.room c.self.invariant.listed c.args.ptr v.cell around.prior around.before around.after round
     c.hole_left-hole.result _ c.hole_left-hole.ensures (ap (λ n. c.args.ptr.place + n) c.length_at.ensures) _ refl).end_in
 
 pub close-requires-clause-start : goal.close-requires-clause-start
 close-requires-clause-start c =
     let v = valid _ _ _ _ c.self.invariant.laid c.args.ptr c.args.self.now.row (ap (λ v. v.row) c.self.view_is) (some_cell c.args.ptr c.args.self.now.row c.requires) in
-    let around = c.around-around.result in
-    let round = rounds_of _ _ _ _ c.self.invariant.laid c.args.ptr v.cell around.prior around.before around.after c.around-around.ensures.round in
+    let around = c.neighbours_of-around.result in
+    let round = rounds_of _ _ _ _ c.self.invariant.laid c.args.ptr v.cell around.prior around.before around.after c.neighbours_of-around.ensures.round in
     (released _ _ _ _ c.self.invariant.laid _ c.self.invariant.room c.self.invariant.listed c.args.ptr v.cell around.prior around.before around.after round
     c.hole_left-hole.result _ c.hole_left-hole.ensures (ap (λ n. c.args.ptr.place + n) c.length_at.ensures) _ refl).start_in
 
 pub close-requires-clause-order : goal.close-requires-clause-order
 close-requires-clause-order c =
     let v = valid _ _ _ _ c.self.invariant.laid c.args.ptr c.args.self.now.row (ap (λ v. v.row) c.self.view_is) (some_cell c.args.ptr c.args.self.now.row c.requires) in
-    let around = c.around-around.result in
-    let round = rounds_of _ _ _ _ c.self.invariant.laid c.args.ptr v.cell around.prior around.before around.after c.around-around.ensures.round in
+    let around = c.neighbours_of-around.result in
+    let round = rounds_of _ _ _ _ c.self.invariant.laid c.args.ptr v.cell around.prior around.before around.after c.neighbours_of-around.ensures.round in
     (released _ _ _ _ c.self.invariant.laid _ c.self.invariant.room c.self.invariant.listed c.args.ptr v.cell around.prior around.before around.after round
     c.hole_left-hole.result _ c.hole_left-hole.ensures (ap (λ n. c.args.ptr.place + n) c.length_at.ensures) _ refl).order
 
-pub around-around-requires-clause-linked : goal.around-around-requires-clause-linked
-around-around-requires-clause-linked c = (gaps_from 0 c.self.invariant.laid.segments, links_laid _ _ _ _ c.self.invariant.laid)
+pub neighbours_of-around-requires-clause-linked : goal.neighbours_of-around-requires-clause-linked
+neighbours_of-around-requires-clause-linked c = (gaps_from 0 c.self.invariant.laid.segments, links_laid _ _ _ _ c.self.invariant.laid)
 
 pub hole_left-hole-requires-clause-cell : goal.hole_left-hole-requires-clause-cell
 hole_left-hole-requires-clause-cell c =
     let v = valid _ _ _ _ c.self.invariant.laid c.args.ptr c.args.self.now.row (ap (λ v. v.row) c.self.view_is) (some_cell c.args.ptr c.args.self.now.row c.requires) in
-    let around = c.around-around.result in
-    let round = rounds_of _ _ _ _ c.self.invariant.laid c.args.ptr v.cell around.prior around.before around.after c.around-around.ensures.round in
+    let around = c.neighbours_of-around.result in
+    let round = rounds_of _ _ _ _ c.self.invariant.laid c.args.ptr v.cell around.prior around.before around.after c.neighbours_of-around.ensures.round in
     within_live _ _ _ _ c.self.invariant.laid c.args.ptr v.cell around.prior around.before around.after round
 
 pub hole_left-hole-requires-clause-below : goal.hole_left-hole-requires-clause-below
 hole_left-hole-requires-clause-below c =
     let v = valid _ _ _ _ c.self.invariant.laid c.args.ptr c.args.self.now.row (ap (λ v. v.row) c.self.view_is) (some_cell c.args.ptr c.args.self.now.row c.requires) in
-    let around = c.around-around.result in
-    let round = rounds_of _ _ _ _ c.self.invariant.laid c.args.ptr v.cell around.prior around.before around.after c.around-around.ensures.round in
+    let around = c.neighbours_of-around.result in
+    let round = rounds_of _ _ _ _ c.self.invariant.laid c.args.ptr v.cell around.prior around.before around.after c.neighbours_of-around.ensures.round in
     within_before _ _ _ _ c.self.invariant.laid c.args.ptr v.cell around.prior around.before around.after round
 
 pub hole_left-hole-requires-clause-above : goal.hole_left-hole-requires-clause-above
 hole_left-hole-requires-clause-above c =
     let v = valid _ _ _ _ c.self.invariant.laid c.args.ptr c.args.self.now.row (ap (λ v. v.row) c.self.view_is) (some_cell c.args.ptr c.args.self.now.row c.requires) in
-    let around = c.around-around.result in
-    let round = rounds_of _ _ _ _ c.self.invariant.laid c.args.ptr v.cell around.prior around.before around.after c.around-around.ensures.round in
+    let around = c.neighbours_of-around.result in
+    let round = rounds_of _ _ _ _ c.self.invariant.laid c.args.ptr v.cell around.prior around.before around.after c.neighbours_of-around.ensures.round in
     within_after _ _ _ _ c.self.invariant.laid c.args.ptr v.cell around.prior around.before around.after round
 
 pub close-ends-requires-clause-before : goal.close-ends-requires-clause-before
 close-ends-requires-clause-before c =
     let v = valid _ _ _ _ c.self.invariant.laid c.args.ptr c.args.self.now.row (ap (λ v. v.row) c.self.view_is) (some_cell c.args.ptr c.args.self.now.row c.requires) in
-    let around = c.around-around.result in
-    let round = rounds_of _ _ _ _ c.self.invariant.laid c.args.ptr v.cell around.prior around.before around.after c.around-around.ensures.round in
+    let around = c.neighbours_of-around.result in
+    let round = rounds_of _ _ _ _ c.self.invariant.laid c.args.ptr v.cell around.prior around.before around.after c.neighbours_of-around.ensures.round in
     let hollow = hollow_is _ _ _ _ c.self.invariant.laid c.args.ptr v.cell around.prior around.before around.after round c.hole_left-hole.result c.hole_left-hole.ensures in
     hole_before _ _ _ _ _ _ _ _ _ hollow
 
 pub close-ends-requires-clause-start : goal.close-ends-requires-clause-start
 close-ends-requires-clause-start c =
     let v = valid _ _ _ _ c.self.invariant.laid c.args.ptr c.args.self.now.row (ap (λ v. v.row) c.self.view_is) (some_cell c.args.ptr c.args.self.now.row c.requires) in
-    let around = c.around-around.result in
-    let round = rounds_of _ _ _ _ c.self.invariant.laid c.args.ptr v.cell around.prior around.before around.after c.around-around.ensures.round in
+    let around = c.neighbours_of-around.result in
+    let round = rounds_of _ _ _ _ c.self.invariant.laid c.args.ptr v.cell around.prior around.before around.after c.neighbours_of-around.ensures.round in
     let hollow = hollow_is _ _ _ _ c.self.invariant.laid c.args.ptr v.cell around.prior around.before around.after round c.hole_left-hole.result c.hole_left-hole.ensures in
     λ some. hole_start _ _ _ _ _ _ _ _ _ hollow
 
 pub close-ends-requires-clause-order : goal.close-ends-requires-clause-order
 close-ends-requires-clause-order c =
     let v = valid _ _ _ _ c.self.invariant.laid c.args.ptr c.args.self.now.row (ap (λ v. v.row) c.self.view_is) (some_cell c.args.ptr c.args.self.now.row c.requires) in
-    let around = c.around-around.result in
-    let round = rounds_of _ _ _ _ c.self.invariant.laid c.args.ptr v.cell around.prior around.before around.after c.around-around.ensures.round in
+    let around = c.neighbours_of-around.result in
+    let round = rounds_of _ _ _ _ c.self.invariant.laid c.args.ptr v.cell around.prior around.before around.after c.neighbours_of-around.ensures.round in
     let hollow = hollow_is _ _ _ _ c.self.invariant.laid c.args.ptr v.cell around.prior around.before around.after round c.hole_left-hole.result c.hole_left-hole.ensures in
     λ some. hole_order _ _ _ _ _ _ _ _ _ hollow
 
@@ -116,8 +116,8 @@ set-requires c =
 pub invariant_of-self : goal.invariant_of-self
 invariant_of-self c =
     let v = valid _ _ _ _ c.self.invariant.laid c.args.ptr c.args.self.now.row (ap (λ v. v.row) c.self.view_is) (some_cell c.args.ptr c.args.self.now.row c.requires) in
-    let around = c.around-around.result in
-    let round = rounds_of _ _ _ _ c.self.invariant.laid c.args.ptr v.cell around.prior around.before around.after c.around-around.ensures.round in
+    let around = c.neighbours_of-around.result in
+    let round = rounds_of _ _ _ _ c.self.invariant.laid c.args.ptr v.cell around.prior around.before around.after c.neighbours_of-around.ensures.round in
     let hollow = hollow_is _ _ _ _ c.self.invariant.laid c.args.ptr v.cell around.prior around.before around.after round c.hole_left-hole.result c.hole_left-hole.ensures in
     let laid = c.self.invariant.laid in
     let left = closed_hole _ _ _ _ _ (length c.self.inside.words) c.hole_left-hole.result hollow in
@@ -139,8 +139,8 @@ invariant_of-self c =
 pub returns-clause-given : goal.returns-clause-given
 returns-clause-given c =
     let v = valid _ _ _ _ c.self.invariant.laid c.args.ptr c.args.self.now.row (ap (λ v. v.row) c.self.view_is) (some_cell c.args.ptr c.args.self.now.row c.requires) in
-    let around = c.around-around.result in
-    let round = rounds_of _ _ _ _ c.self.invariant.laid c.args.ptr v.cell around.prior around.before around.after c.around-around.ensures.round in
+    let around = c.neighbours_of-around.result in
+    let round = rounds_of _ _ _ _ c.self.invariant.laid c.args.ptr v.cell around.prior around.before around.after c.neighbours_of-around.ensures.round in
     let hollow = hollow_is _ _ _ _ c.self.invariant.laid c.args.ptr v.cell around.prior around.before around.after round c.hole_left-hole.result c.hole_left-hole.ensures in
     let laid = c.self.invariant.laid in
     let left = closed_hole _ _ _ _ _ (length c.self.inside.words) c.hole_left-hole.result hollow in

@@ -1,6 +1,6 @@
 use Rattle.std.proofs.Common.{◌+◌, Some, ap, sym, ◌∙◌, arith}
 use Rattle.wb_cells.proofs.Changing.{valid, some_cell, payload_within}
-use Rattle.wb_cells.proofs.Behind.{length_word}
+use Rattle.wb_cells.proofs.NamedCells.{length_word}
 use Rattle.wb_cells.proofs.Listing.{room_last, room_inner}
 use Rattle.wb_cells.proofs.Sound.{sound_now}
 use Rattle.wb_cells.proofs.cells.Cells.room_after.Goals as goal

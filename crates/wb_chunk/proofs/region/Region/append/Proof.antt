@@ -92,7 +92,7 @@ module _ (Z : Al) {M : Type 1} {𝓤 : Ura M} (𝓛 : Logic 𝓤) (at_mem : Memo
         enter ! 𝓣.C 𝓣.Λ (here Z) vs _ $ alloc_all ! (λ l. pass_all ! refl ((tt, tt), ((tt, record { fits = small }), ((tt, record { fits = fits }), tt))) $
         opens ! tt (Rg Z) {h = d} rb ro (λ us. move ! (1 ∷ []) $ region_had Z ! d us (λ is. rewrite ! 1 (λ (zs : List Val). ‵ (cell_at full_share (Rg Z).mir zs rb ro)) is refl $
         in_a_block ! d.start (λ p. block_at Z d p xs) (fst∗ 𝓤 (never 𝓤) (sem 𝓛 (spare_at Z d null_ptr (length xs)))) (λ b o e.
-        let at : o + length xs * 4 ≡ n * 4 + o = omega (arith, count) in let behind : n * 4 + o ≡ length xs * 4 + o = omega (arith, count) in
+        let at : o + length xs * 4 ≡ n * 4 + o = omega (arith, count) in let following : n * 4 + o ≡ length xs * 4 + o = omega (arith, count) in
         let end : o + length xs * 4 + 4 ≡ o + length ws * 4 = omega (arith, more) in let rest : left ≡ d.capacity - length ws = omega (arith, more) in
         rewrite ! 1 (λ (p : Ptr). ‵ (Cell p)) e refl $ fsplit ! $ move ! (1 ∷ []) $ fsplit ! $
         rewrite ! 0 (λ (k : ℕ). ‵ (froom (room_ty k) b (o + length xs * 4))) one refl $
@@ -109,7 +109,7 @@ module _ (Z : Al) {M : Type 1} {𝓤 : Ura M} (𝓛 : Logic 𝓤) (at_mem : Memo
         sets ! (of_opd ! (unit_lit !)) refl (tt, tt) $
         use1 𝓛 (‵ (part_at u32 full_share x b (n * 4 + o))) (uint_in 𝓛 full_share w32 x b (n * 4 + o)) $ move ! (3 ∷ 0 ∷ []) $
         use1 𝓛 (‵ (fsep (feq ℕ (length xs) (length xs)) (row u32 full_share xs b o))) (Array-apart 𝓛 u32 full_share tt (length xs) xs b o) $ fsplit ! $ drop ! $
-        use2 𝓛 (‵ (row u32 full_share ws b o)) (snoc 𝓛 b xs x o (n * 4 + o) behind) $
+        use2 𝓛 (‵ (row u32 full_share ws b o)) (snoc 𝓛 b xs x o (n * 4 + o) following) $
         feq_i ! ℕ (length ws) (length ws) refl $ fjoin ! $ use1 𝓛 (‵ (part_at (Array u32 (length ws)) full_share ws b o)) (Array-whole 𝓛 u32 full_share (length ws) ws b o) $
         -- [the words; the room behind them; the token; the region's cell; ..]
         move ! (1 ∷ 2 ∷ []) $ rewrite ! 0 (λ (k : ℕ). ‵ (froom (room_ty left) b k)) end refl $

@@ -2,7 +2,7 @@ use Rattle.std.proofs.Common.{true, refl, sym, ap, ◌+◌}
 use Rattle.wb_cleanup.specs.Pushes.{cell_by, slots_by}
 use Rattle.wb_cleanup.specs.Stacks.{items_of}
 use Rattle.wb_cleanup.proofs.Growing.{grown-by}
-use Rattle.wb_cleanup.proofs.Standing.{Stands}
+use Rattle.wb_cleanup.proofs.StackInHeap.{Stands}
 use Rattle.wb_cleanup.proofs.cleanup.Cleanup.grow.Goals as goal
 
 -- the stack in a cell that was granted

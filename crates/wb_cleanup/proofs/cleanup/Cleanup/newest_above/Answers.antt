@@ -1,6 +1,6 @@
 use Rattle.std.proofs.Common.{Some, ap, sym, ◌∙◌, arith}
 use Rattle.wb_cleanup.proofs.SlotWords.{same-item}
-use Rattle.wb_cleanup.proofs.Standing.{newest-is, stack-room}
+use Rattle.wb_cleanup.proofs.StackInHeap.{newest-is, stack-room}
 use Rattle.wb_cleanup.proofs.cleanup.Cleanup.newest_above.Goals as goal
 
 pub read-requires : goal.read-requires

@@ -1,5 +1,5 @@
 use Rattle.std.proofs.Common.{refl, arith}
-use Rattle.wb_cleanup.proofs.Standing.{popped}
+use Rattle.wb_cleanup.proofs.StackInHeap.{popped}
 use Rattle.wb_cleanup.proofs.cleanup.Cleanup.pop.Goals as goal
 
 pub returns-clause-popped : goal.returns-clause-popped

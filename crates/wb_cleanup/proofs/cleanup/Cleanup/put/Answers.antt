@@ -2,7 +2,7 @@ use Rattle.std.proofs.Common.{◌+◌, ◌∷◌, ◌++◌, [], refl, sym, ap, �
 use Rattle.wb_model.specs.Debug.{debug_changed}
 use Rattle.wb_cleanup.specs.Stacks.{items_of}
 use Rattle.wb_cleanup.proofs.Rewriting.{payload-then}
-use Rattle.wb_cleanup.proofs.Standing.{stack-more, Stands, stack-room}
+use Rattle.wb_cleanup.proofs.StackInHeap.{stack-more, Stands, stack-room}
 use Rattle.wb_cleanup.proofs.cleanup.Cleanup.put.Goals as goal
 
 pub write-requires-clause-within : goal.write-requires-clause-within

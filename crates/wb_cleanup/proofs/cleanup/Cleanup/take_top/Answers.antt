@@ -1,5 +1,5 @@
 use Rattle.std.proofs.Common.{refl, sym, ◌∙◌, arith}
-use Rattle.wb_cleanup.proofs.Standing.{popped, newest-within}
+use Rattle.wb_cleanup.proofs.StackInHeap.{popped, newest-within}
 use Rattle.wb_cleanup.proofs.cleanup.Cleanup.take_top.Goals as goal
 
 pub returns-clause-taken : goal.returns-clause-taken

@@ -8,7 +8,7 @@ use Rattle.wb_model.specs.Rules.{Request}
 use Rattle.wb_model.specs.Space.{limit_under}
 use Rattle.wb_debug.specs.declared.debug_heap.DebugHeap.TheInside.{Inside}
 use Rattle.wb_debug.specs.Debug.{IsKept}
-use Rattle.wb_debug.proofs.Kept.{kept-sound, tally-room, set-kept, granted-kept, refused-kept, on-ok, on-err}
+use Rattle.wb_debug.proofs.DebugFields.{kept-sound, tally-room, set-kept, granted-kept, refused-kept, on-ok, on-err}
 use Rattle.wb_debug.proofs.Rises.{rises-same, granted-within, no_want, allocation, end-of-grant}
 use Rattle.wb_debug.proofs.debug_heap.DebugHeap.attempt_alloc.Goals.{in-Granted+in_ok-gave-in-Granted, in-Simulated}
 use Rattle.wb_debug.proofs.debug_heap.DebugHeap.attempt_alloc.Goals as goal
@@ -22,7 +22,7 @@ returns-in_err-added-clause-sound c =
 
 pub returns-in_err-gave-in-Granted-clause-sound : goal.returns-in_err-gave-in-Granted-clause-sound
 returns-in_err-gave-in-Granted-clause-sound c =
-    kept-sound _ (set-kept c.self.inside c.alloc_at-granted.new.self c.self.inside.level c.self.inside.setting c.granted_or_undone.new.log
+    kept-sound _ (set-kept c.self.inside c.alloc_at-granted.new.self c.self.inside.level c.self.inside.setting c.answer_or_undo.new.log
     (on-err c.alloc_at-granted.result _ c.in_err-gave-in-Granted.ensures.wanting c.alloc_at-granted.ensures.err)
     (c.in_err-gave-in-Granted.ensures.undone c.self.inside.log c.in-Some.line c.in_ok-added.ensures.pushed (sym c.in_ok-added.ensures.added)) c.self.invariant)
 
@@ -51,16 +51,16 @@ invariant_of-self-2 c =
     let next = ap (λ (a : Attempt). a.number) c.in-Some.ensures.line ∙ ap (λ (d : Debug). d.attempts + 1) (sym c.self.view_is) in
     elim c.match-line.branch [
       | in-Granted+in_ok-gave-in-Granted w ↦
-          subst (λ (x : Inside). IsKept (record x { setting = c.counted-self-inside.result; attempts = c.in-Some.line.number })) (sym w.self-inside-is)
-          (granted-kept c.self.inside w.alloc_at-granted.new.self c.counted-self-inside.result w.granted_or_undone.new.log w.grant.new.self c.in-Some.line _ _ _ _
+          subst (λ (x : Inside). IsKept (record x { setting = c.after_attempt-self-inside.result; attempts = c.in-Some.line.number })) (sym w.self-inside-is)
+          (granted-kept c.self.inside w.alloc_at-granted.new.self c.after_attempt-self-inside.result w.answer_or_undo.new.log w.grant.new.self c.in-Some.line _ _ _ _
           (on-ok w.alloc_at-granted.result _ _ w.in_ok-gave-in-Granted.ensures.granted w.alloc_at-granted.ensures.granted)
           next c.place_for-place.ensures.place
           (end-of-grant c.in-Some.line _ (request_at c.args.self.now.heap c.place_for-place.result c.cell_length-length.result) c.in-Some.ensures.line w.in-Granted.is)
           w.alloc_at-granted.ensures.sound
           (w.in_ok-gave-in-Granted.ensures.kept ∙ c.in_ok-added.ensures.pushed) w.grant.ensures c.self.invariant)
       | in-Simulated w ↦
-          subst (λ (x : Inside). IsKept (record x { setting = c.counted-self-inside.result; attempts = c.in-Some.line.number })) (sym w.self-inside-is)
-          (refused-kept c.self.inside c.counted-self-inside.result c.push.new.self c.in-Some.line c.in_ok-added.ensures.pushed next w.in-Simulated.is c.self.invariant)
+          subst (λ (x : Inside). IsKept (record x { setting = c.after_attempt-self-inside.result; attempts = c.in-Some.line.number })) (sym w.self-inside-is)
+          (refused-kept c.self.inside c.after_attempt-self-inside.result c.push.new.self c.in-Some.line c.in_ok-added.ensures.pushed next w.in-Simulated.is c.self.invariant)
     ]
 
 pub returns-clause-sound : goal.returns-clause-sound

@@ -8,7 +8,7 @@ use Rattle.wb_model.specs.Rules.{after_attempt}
 use Rattle.wb_debug.specs.declared.debug_heap.DebugHeap.TheInside.{Inside}
 use Rattle.wb_debug.specs.Debug.{debug_of, IsKept}
 use Rattle.wb_debug.specs.Setting.{setting_of}
-use Rattle.wb_debug.proofs.Kept.{kept-sound, set-kept, refused-kept, on-ok, on-err, ok-value}
+use Rattle.wb_debug.proofs.DebugFields.{kept-sound, set-kept, refused-kept, on-ok, on-err, ok-value}
 use Rattle.wb_rheap.proofs.Growing.{own-named}
 use Rattle.wb_debug.proofs.Longer.{IsAsked, asked, granted-debug, granted-gave, denied-debug, denied-gave, grown-kept, grown-quiet, shortened-kept, shortened-gave, shortened-debug, asked-cell}
 use Rattle.wb_debug.proofs.debug_heap.DebugHeap.attempt_realloc.Goals.{in-Granted+in_ok-gave-in-Granted, in-Simulated}
@@ -23,7 +23,7 @@ returns-in_err-added-clause-sound c =
 
 pub invariant_of-self-in_err-gave-in-Granted : goal.invariant_of-self-in_err-gave-in-Granted
 invariant_of-self-in_err-gave-in-Granted c =
-    set-kept c.self.inside c.lengthen-granted.new.self c.self.inside.level c.self.inside.setting c.granted_or_undone.new.log
+    set-kept c.self.inside c.lengthen-granted.new.self c.self.inside.level c.self.inside.setting c.answer_or_undo.new.log
     (on-err c.lengthen-granted.result _ c.in_err-gave-in-Granted.ensures.wanting c.lengthen-granted.ensures.err)
     (c.in_err-gave-in-Granted.ensures.undone c.self.inside.log c.in-Some.line c.in_ok-added.ensures.pushed (sym c.in_ok-added.ensures.added)) c.self.invariant
 
@@ -55,14 +55,14 @@ pub invariant_of-self-2 : goal.invariant_of-self-2
 invariant_of-self-2 c =
     elim c.match-line.branch [
       | in-Granted+in_ok-gave-in-Granted w ↦
-          subst (λ (x : Inside). IsKept (record x { setting = c.counted-self-inside.result; attempts = c.in-Some.line.number })) (sym w.self-inside-is)
+          subst (λ (x : Inside). IsKept (record x { setting = c.after_attempt-self-inside.result; attempts = c.in-Some.line.number })) (sym w.self-inside-is)
           (grown-kept c.self.inside c.args.ptr (asked-cell c.self.inside c.unwrap-cell.result) c.args.bytes c.cell_length-length.result c.in-Some.line w.lengthen-granted.new.self
-          c.counted-self-inside.result w.granted_or_undone.new.log c.place_to_grow-place.result w.put_at.new.self (asked-for c) w.in-Granted.is
+          c.after_attempt-self-inside.result w.answer_or_undo.new.log c.place_to_grow-place.result w.put_at.new.self (asked-for c) w.in-Granted.is
           (on-ok w.lengthen-granted.result _ _ w.in_ok-gave-in-Granted.ensures.granted w.lengthen-granted.ensures.grown) w.lengthen-granted.ensures.sound
           (w.in_ok-gave-in-Granted.ensures.kept ∙ c.in_ok-added.ensures.pushed) c.place_to_grow-place.ensures.place w.put_at.ensures c.self.invariant)
       | in-Simulated w ↦
-          subst (λ (x : Inside). IsKept (record x { setting = c.counted-self-inside.result; attempts = c.in-Some.line.number })) (sym w.self-inside-is)
-          (refused-kept c.self.inside c.counted-self-inside.result c.push.new.self c.in-Some.line c.in_ok-added.ensures.pushed (ap (λ (a : Attempt). a.number) (asked-for c).added) w.in-Simulated.is c.self.invariant)
+          subst (λ (x : Inside). IsKept (record x { setting = c.after_attempt-self-inside.result; attempts = c.in-Some.line.number })) (sym w.self-inside-is)
+          (refused-kept c.self.inside c.after_attempt-self-inside.result c.push.new.self c.in-Some.line c.in_ok-added.ensures.pushed (ap (λ (a : Attempt). a.number) (asked-for c).added) w.in-Simulated.is c.self.invariant)
     ]
 
 pub returns-clause-sound : goal.returns-clause-sound
@@ -84,20 +84,20 @@ returns-clause-gave c =
 pub returns-clause-made : goal.returns-clause-made
 returns-clause-made c =
     let P : Inside → Type 0 = λ i. IfSome (cell_at c.args.ptr c.self.inside.heap.row)
-    (λ x. debug_of (record i { setting = c.counted-self-inside.result; attempts = c.in-Some.line.number }) ≡ (realloc_made (debug_of c.self.inside) x c.args.bytes).debug) in
+    (λ x. debug_of (record i { setting = c.after_attempt-self-inside.result; attempts = c.in-Some.line.number }) ≡ (realloc_made (debug_of c.self.inside) x c.args.bytes).debug) in
     subst (λ (d : Debug). IfSome (cell_at c.args.ptr d.heap.row)
-    (λ x. debug_of (record c.match-line.self-inside { setting = c.counted-self-inside.result; attempts = c.in-Some.line.number }) ≡ (realloc_made d x c.args.bytes).debug)) c.self.view_is
+    (λ x. debug_of (record c.match-line.self-inside { setting = c.after_attempt-self-inside.result; attempts = c.in-Some.line.number }) ≡ (realloc_made d x c.args.bytes).debug)) c.self.view_is
     (elim c.match-line.branch [
       | in-Granted+in_ok-gave-in-Granted w ↦
           subst P (sym w.self-inside-is) (granted-debug c.self.inside c.args.ptr (asked-cell c.self.inside c.unwrap-cell.result) c.args.bytes c.cell_length-length.result c.in-Some.line
-          w.lengthen-granted.new.self c.counted-self-inside.result w.granted_or_undone.new.log (asked-for c) w.in-Granted.is
+          w.lengthen-granted.new.self c.after_attempt-self-inside.result w.answer_or_undo.new.log (asked-for c) w.in-Granted.is
           (on-ok w.lengthen-granted.result _ _ w.in_ok-gave-in-Granted.ensures.granted w.lengthen-granted.ensures.grown)
           (w.in_ok-gave-in-Granted.ensures.kept ∙ c.in_ok-added.ensures.pushed)
-          (c.counted-self-inside.ensures ∙ ap (λ (i : Inside). after_attempt (setting_of i.setting)) w.self-inside-is) c.self.invariant)
+          (c.after_attempt-self-inside.ensures ∙ ap (λ (i : Inside). after_attempt (setting_of i.setting)) w.self-inside-is) c.self.invariant)
       | in-Simulated w ↦
           subst P (sym w.self-inside-is) (denied-debug c.self.inside c.args.ptr (asked-cell c.self.inside c.unwrap-cell.result) c.args.bytes c.cell_length-length.result c.in-Some.line
-          c.counted-self-inside.result c.push.new.self (asked-for c) w.in-Simulated.is c.in_ok-added.ensures.pushed
-          (c.counted-self-inside.ensures ∙ ap (λ (i : Inside). after_attempt (setting_of i.setting)) w.self-inside-is))
+          c.after_attempt-self-inside.result c.push.new.self (asked-for c) w.in-Simulated.is c.in_ok-added.ensures.pushed
+          (c.after_attempt-self-inside.ensures ∙ ap (λ (i : Inside). after_attempt (setting_of i.setting)) w.self-inside-is))
     ])
 
 pub shorten-requires-clause-live : goal.shorten-requires-clause-live

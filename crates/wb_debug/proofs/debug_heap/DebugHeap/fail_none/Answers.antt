@@ -1,6 +1,6 @@
 use Rattle.std.proofs.Common.{refl}
 use Rattle.wb_debug.specs.declared.setting.Setting.TheVariants.{Never}
-use Rattle.wb_debug.proofs.Kept.{kept-sound, set-kept}
+use Rattle.wb_debug.proofs.DebugFields.{kept-sound, set-kept}
 use Rattle.wb_debug.proofs.debug_heap.DebugHeap.fail_none.Goals as goal
 
 pub returns-clause-sound : goal.returns-clause-sound

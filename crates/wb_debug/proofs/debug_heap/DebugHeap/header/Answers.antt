@@ -1,7 +1,7 @@
 use Rattle.std.proofs.Common.{◌∙◌, IfSome, ap, option_map, subst, sym}
 use Rattle.wb_model.specs.Debug.{Debug, IsLiveIn, IsSoundDebug}
 use Rattle.wb_model.specs.Row.{cell_at}
-use Rattle.wb_debug.proofs.Kept.{kept-sound, cell-live}
+use Rattle.wb_debug.proofs.DebugFields.{kept-sound, cell-live}
 use Rattle.wb_debug.proofs.debug_heap.DebugHeap.header.Goals as goal
 
 pub returns-clause-live : goal.returns-clause-live

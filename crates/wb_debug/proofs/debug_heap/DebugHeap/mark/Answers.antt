@@ -1,5 +1,5 @@
 use Rattle.std.proofs.Common.{refl}
-use Rattle.wb_debug.proofs.Kept.{kept-sound, set-kept}
+use Rattle.wb_debug.proofs.DebugFields.{kept-sound, set-kept}
 use Rattle.wb_debug.proofs.debug_heap.DebugHeap.mark.Goals as goal
 
 pub returns-clause-sound : goal.returns-clause-sound

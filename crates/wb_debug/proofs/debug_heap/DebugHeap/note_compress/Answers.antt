@@ -1,4 +1,4 @@
-use Rattle.wb_debug.proofs.Kept.{kept-sound, compressed-kept}
+use Rattle.wb_debug.proofs.DebugFields.{kept-sound, compressed-kept}
 use Rattle.wb_debug.proofs.debug_heap.DebugHeap.note_compress.Goals as goal
 
 pub invariant_of-self : goal.invariant_of-self

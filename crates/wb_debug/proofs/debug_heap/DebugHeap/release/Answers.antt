@@ -1,5 +1,5 @@
 use Rattle.std.proofs.Common.{sym}
-use Rattle.wb_debug.proofs.Kept.{kept-sound, released-kept}
+use Rattle.wb_debug.proofs.DebugFields.{kept-sound, released-kept}
 use Rattle.wb_debug.proofs.debug_heap.DebugHeap.release.Goals as goal
 
 pub returns-then-ptr-eq0-clause-sound : goal.returns-then-ptr-eq0-clause-sound

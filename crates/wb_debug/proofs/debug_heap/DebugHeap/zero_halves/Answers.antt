@@ -1,4 +1,4 @@
-use Rattle.wb_debug.proofs.Kept.{kept-sound, changed-kept}
+use Rattle.wb_debug.proofs.DebugFields.{kept-sound, changed-kept}
 use Rattle.wb_debug.proofs.debug_heap.DebugHeap.zero_halves.Goals as goal
 
 pub invariant_of-self : goal.invariant_of-self

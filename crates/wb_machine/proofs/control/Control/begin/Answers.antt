@@ -2,15 +2,15 @@ use Rattle.std.proofs.Common.{ap, ◌∙◌, sym, subst, refl, arith}
 use Rattle.std.specs.List.{list_all}
 use Rattle.wb_machine.specs.LocalValues.{is_small}
 use Rattle.wb_machine.specs.declared.pieces.Ending.TheVariants.{NoCleanup}
-use Rattle.wb_machine.specs.declared.pieces.Piece.TheVariants.{Code}
+use Rattle.wb_machine.specs.declared.pieces.PendingPiece.TheVariants.{Code}
 use Rattle.wb_machine.specs.declared.pieces.TheConstants.{IN_MAIN}
 use Rattle.wb_model.specs.Debug.{Debug}
 use Rattle.wb_machine.specs.Flow.{AreOwn}
 use Rattle.wb_machine.specs.ObjectInvariant.{AreWhole}
 use Rattle.wb_machine.specs.SlotInvariant.{slots_for_all}
 use Rattle.wb_machine.specs.RunState.{main_of, with_debug}
-use Rattle.wb_machine.specs.Carried.{entered, first_made, started_by}
-use Rattle.wb_machine.proofs.Begins.{granted_enters, granted_goes, refused_ends, refused_stays, run_begun, begun_pieces}
+use Rattle.wb_machine.specs.Effects.{entered, first_made, started_by}
+use Rattle.wb_machine.proofs.FirstTurn.{granted_enters, granted_goes, refused_ends, refused_stays, run_begun, begun_pieces}
 use Rattle.wb_machine.proofs.WholeCells.{started_whole}
 use Rattle.wb_machine.proofs.Scripts.{main_there, procedure_locals, procedure_statements, sound_begun}
 use Rattle.wb_machine.proofs.SlotsKept.{begun_room, stop_room}

@@ -7,7 +7,7 @@ use Rattle.wb_model.specs.declared.heap.Ptr.{Ptr}
 use Rattle.wb_model.specs.Rest.{nothing_more}
 use Rattle.wb_model.specs.Bodies.{class_at, no_body}
 use Rattle.wb_machine.specs.Bodies.{class_read}
-use Rattle.wb_machine.specs.Flow.{where_of, AreOwn, rest_of_body}
+use Rattle.wb_machine.specs.Flow.{context_of, AreOwn, rest_of_body}
 use Rattle.wb_machine.proofs.Outcomes.{on_ok_then}
 use Rattle.wb_machine.proofs.Heads.{construct_as_body, construct_refused}
 use Rattle.wb_machine.proofs.Scripts.{construct_own}
@@ -21,8 +21,8 @@ returns-in-Ok-clause-kept c =
     let old = c.args.self.now.pieces.items in
     let body = unwrap_or (class_at script c.in-Ok.class).construct no_body in
     kept r budget body (record { locals = c.construct_at-body.ensures.locals; statements = c.construct_at-body.ensures.statements })
-    ∙ ap (λ (p : Ptr). rest_of_body script budget r (where_of c.args.at) p [] body nothing_more old h) c.pointer-this.ensures
-    ∙ construct_as_body script budget r (where_of c.args.at) c.args.object.now c.in-Ok.class old h ok (sym c.in-Ok.is ∙ c.class.ensures ∙ ap (class_read h) c.pointer-this.ensures))
+    ∙ ap (λ (p : Ptr). rest_of_body script budget r (context_of c.args.at) p [] body nothing_more old h) c.pointer-this.ensures
+    ∙ construct_as_body script budget r (context_of c.args.at) c.args.object.now c.in-Ok.class old h ok (sym c.in-Ok.is ∙ c.class.ensures ∙ ap (class_read h) c.pointer-this.ensures))
 
 pub returns-in-Ok-clause-sound : goal.returns-in-Ok-clause-sound
 returns-in-Ok-clause-sound c =
@@ -34,7 +34,7 @@ pub returns-in-Err-clause-kept : goal.returns-in-Err-clause-kept
 returns-in-Err-clause-kept c r budget ok =
     let script = c.args.script.now in
     let h = c.args.state.now in
-    construct_refused script budget r (where_of c.args.at) c.args.object.now c.in-Err.panic c.args.self.now.pieces.items h ok (sym c.in-Err.is ∙ c.class.ensures ∙ ap (class_read h) c.pointer-this.ensures)
+    construct_refused script budget r (context_of c.args.at) c.args.object.now c.in-Err.panic c.args.self.now.pieces.items h ok (sym c.in-Err.is ∙ c.class.ensures ∙ ap (class_read h) c.pointer-this.ensures)
 
 pub begin_body-requires-clause-locals : goal.begin_body-requires-clause-locals
 begin_body-requires-clause-locals c =

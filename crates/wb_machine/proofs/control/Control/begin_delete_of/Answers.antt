@@ -3,7 +3,7 @@ use Rattle.wb_model.specs.declared.heap.Ptr.{Ptr}
 use Rattle.wb_model.specs.Statements.{destroyed_object, is_null}
 use Rattle.wb_model.specs.Meaning.{meaning_of}
 use Rattle.wb_machine.specs.RunState.{state_of}
-use Rattle.wb_machine.specs.Flow.{where_of, rest_after}
+use Rattle.wb_machine.specs.Flow.{context_of, rest_after}
 use Rattle.wb_machine.proofs.Heads.{delete_asked}
 use Rattle.wb_machine.proofs.Outcomes.{on_ok_then}
 use Rattle.wb_machine.proofs.SlotsKept.{still_room}
@@ -15,7 +15,7 @@ returns-clause-kept c =
     let script = c.args.script.now in
     let h = c.args.state.now in
     let old = c.args.self.now.pieces.items in
-    let at = where_of c.args.at in
+    let at = context_of c.args.at in
     kept script r budget h
     ∙ ap (λ (q : Ptr). rest_after script budget r (destroyed_object (is_null q) (meaning_of script budget) at q (state_of script h)) old h) c.pointer.ensures
     ∙ delete_asked script budget r at c.args.object.now old h ok)

@@ -3,9 +3,9 @@ use Rattle.std.proofs.lemmas.Grind.{common_steps}
 use Rattle.std.proofs.lemmas.Bool.Decides.{nat_tests}
 use Rattle.std.proofs.lemmas.List.{nil_from_length}
 use Rattle.wb_model.specs.Statements.{choice}
-use Rattle.wb_machine.specs.declared.pieces.Piece.TheVariants.{Code}
-use Rattle.wb_machine.specs.Carried.{condition_read}
-use Rattle.wb_machine.specs.Flow.{where_of, AreOwn, rest_from}
+use Rattle.wb_machine.specs.declared.pieces.PendingPiece.TheVariants.{Code}
+use Rattle.wb_machine.specs.Effects.{condition_read}
+use Rattle.wb_machine.specs.Flow.{context_of, AreOwn, rest_from}
 use Rattle.wb_machine.proofs.Heads.{chosen_rest, nothing_chosen}
 use Rattle.wb_machine.proofs.Steps.{pending_pushed}
 use Rattle.wb_machine.proofs.Scripts.{sound_pushed}
@@ -24,7 +24,7 @@ returns-then-is_empty-clause-kept c r budget ok =
       | else-holds w ↦ ap (λ x. x.now) w.part-is ∙ sym (ap (λ b. choice b first other) (sym c.holds.ensures ∙ w.if-holds.false))
     ] in
     ap (λ e. rest_from script budget r e old h) c.requires
-    ∙ nothing_chosen script budget r (where_of c.args.at) c.args.condition.now first other c.if-holds.part.now old h
+    ∙ nothing_chosen script budget r (context_of c.args.at) c.args.condition.now first other c.if-holds.part.now old h
     (nil_from_length c.if-holds.part.now (grind (arith, common_steps, nat_tests, c.if-is_empty.ensures))) chosen ok
 
 pub returns-clause-kept : goal.returns-clause-kept
@@ -39,7 +39,7 @@ returns-clause-kept c r budget ok =
       | else-holds w ↦ ap (λ x. x.now) w.part-is ∙ sym (ap (λ b. choice b first other) (sym c.holds.ensures ∙ w.if-holds.false))
     ] in
     ap (λ e. rest_from script budget r e new h) (c.in_ok-push.ensures.ending ∙ c.requires)
-    ∙ chosen_rest script budget r (where_of c.args.at) c.args.condition.now first other c.if-holds.part.now c.args.self.now.pieces.items new h
+    ∙ chosen_rest script budget r (context_of c.args.at) c.args.condition.now first other c.if-holds.part.now c.args.self.now.pieces.items new h
     (pending_pushed h.callers c.args.self.now.pieces.items new (Code c.args.at c.if-holds.part) c.in_ok-push.ensures.pieces) chosen ok
 
 pub returns-clause-sound : goal.returns-clause-sound

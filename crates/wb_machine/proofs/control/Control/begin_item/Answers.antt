@@ -7,12 +7,12 @@ use Rattle.wb_model.specs.Statements.{release, destroyed_item}
 use Rattle.wb_model.specs.Bodies.{operation_at}
 use Rattle.wb_model.specs.Meaning.{meaning_of}
 use Rattle.wb_machine.specs.RunState.{state_of}
-use Rattle.wb_machine.specs.Carried.{free_carried}
-use Rattle.wb_machine.specs.Flow.{where_of, AreOwn, rest_after}
+use Rattle.wb_machine.specs.Effects.{free_effect}
+use Rattle.wb_machine.specs.Flow.{context_of, AreOwn, rest_after}
 use Rattle.wb_machine.proofs.Outcomes.{on_ok_then}
-use Rattle.wb_machine.proofs.Falls.{carried_rest}
+use Rattle.wb_machine.proofs.Unwinding.{effect_rest}
 use Rattle.wb_machine.proofs.Heads.{free_destroyed, delete_destroyed, call_destroyed}
-use Rattle.wb_machine.proofs.KeptCells.{release_kept}
+use Rattle.wb_machine.proofs.CellEffects.{release_kept}
 use Rattle.wb_machine.proofs.Scripts.{operation_own}
 use Rattle.wb_machine.proofs.WholeCells.{released_quiet}
 use Rattle.wb_machine.proofs.control.Control.begin_item.Goals as goal
@@ -23,9 +23,9 @@ returns-in-Free-clause-kept c r budget =
     let h = c.args.state.now in
     let old = c.args.self.now.pieces.items in
     let p = c.in-Free.ptr in
-    carried_rest script budget r old (release p (state_of script h)) (free_carried h p) c.release-self.result h c.release-self.new.self c.release-self.ensures (release_kept r script h p)
-    ∙ free_destroyed script budget r (where_of c.args.at) p old h
-    ∙ sym (ap (λ (i : Item). rest_after script budget r (destroyed_item script (meaning_of script budget) (where_of c.args.at) i (state_of script h)) old h) c.in-Free.is)
+    effect_rest script budget r old (release p (state_of script h)) (free_effect h p) c.release-self.result h c.release-self.new.self c.release-self.ensures (release_kept r script h p)
+    ∙ free_destroyed script budget r (context_of c.args.at) p old h
+    ∙ sym (ap (λ (i : Item). rest_after script budget r (destroyed_item script (meaning_of script budget) (context_of c.args.at) i (state_of script h)) old h) c.in-Free.is)
 
 pub returns-in-Delete-clause-kept : goal.returns-in-Delete-clause-kept
 returns-in-Delete-clause-kept c =
@@ -33,8 +33,8 @@ returns-in-Delete-clause-kept c =
     let script = c.args.script.now in
     let h = c.args.state.now in
     let old = c.args.self.now.pieces.items in
-    kept script r budget h ∙ delete_destroyed script budget r (where_of c.args.at) c.in-Delete.ptr old h
-    ∙ sym (ap (λ (i : Item). rest_after script budget r (destroyed_item script (meaning_of script budget) (where_of c.args.at) i (state_of script h)) old h) c.in-Delete.is))
+    kept script r budget h ∙ delete_destroyed script budget r (context_of c.args.at) c.in-Delete.ptr old h
+    ∙ sym (ap (λ (i : Item). rest_after script budget r (destroyed_item script (meaning_of script budget) (context_of c.args.at) i (state_of script h)) old h) c.in-Delete.is))
 
 pub returns-in-Delete-clause-sound : goal.returns-in-Delete-clause-sound
 returns-in-Delete-clause-sound c = on_ok_then c.begin_delete.result c.begin_delete.ensures.sound (λ sound. sound c.args.script.now)
@@ -46,8 +46,8 @@ returns-in-Call-clause-kept c =
     let h = c.args.state.now in
     let old = c.args.self.now.pieces.items in
     kept r budget (operation_at script c.in-Call.operation) (record { locals = c.operation_at-body.ensures.locals; statements = c.operation_at-body.ensures.statements })
-    ∙ call_destroyed script budget r (where_of c.args.at) c.in-Call.ptr c.in-Call.operation old h
-    ∙ sym (ap (λ (i : Item). rest_after script budget r (destroyed_item script (meaning_of script budget) (where_of c.args.at) i (state_of script h)) old h) c.in-Call.is))
+    ∙ call_destroyed script budget r (context_of c.args.at) c.in-Call.ptr c.in-Call.operation old h
+    ∙ sym (ap (λ (i : Item). rest_after script budget r (destroyed_item script (meaning_of script budget) (context_of c.args.at) i (state_of script h)) old h) c.in-Call.is))
 
 pub returns-in-Call-clause-sound : goal.returns-in-Call-clause-sound
 returns-in-Call-clause-sound c =

@@ -1,5 +1,5 @@
 use Rattle.std.proofs.Common.{◌≡◌, List, [], refl, ap, ◌∙◌, sym, subst, arith}
-use Rattle.wb_model.specs.declared.script.Numbered.{Numbered}
+use Rattle.wb_model.specs.declared.script.StatementAt.{StatementAt}
 use Rattle.wb_model.specs.declared.script.Statement.TheOpen.{Statement-F}
 use Rattle.wb_model.specs.declared.script.Argument.{Argument}
 use Rattle.wb_model.specs.Statements.{Layer}
@@ -9,13 +9,13 @@ use Rattle.wb_model.specs.Rest.{resume}
 use Rattle.wb_machine.proofs.Steps.{rest_known}
 use Rattle.wb_machine.specs.RunState.{Values}
 use Rattle.wb_model.specs.declared.script.Statement.TheViews.{out-Statement, outs-If, outs-IfElse, outs-Repeat, outs-Trap, outs-Call, outs-CallTo}
-use Rattle.wb_machine.specs.Flow.{where_of, pending_in, AreOwn, rest_of_statement}
-use Rattle.wb_machine.specs.PointerOperands.{first_refusal, of_arguments, operands_refused}
+use Rattle.wb_machine.specs.Flow.{context_of, pending_in, AreOwn, rest_of_statement}
+use Rattle.wb_machine.specs.PointerOperands.{first_refusal, of_arguments, operands_refusal}
 use Rattle.wb_machine.proofs.Outcomes.{on_ok_then, on_ok_anyhow}
-use Rattle.wb_machine.proofs.WholeCells.{carried_whole}
+use Rattle.wb_machine.proofs.WholeCells.{effect_whole}
 use Rattle.wb_machine.proofs.Heads.{if_as_choice}
 use Rattle.wb_machine.proofs.Scripts.{own_if, own_choice, own_turns, own_trapped, own_none, own_call, own_call_to}
-use Rattle.wb_machine.proofs.SlotsKept.{carried_room, free_room, still_room, quiet_room}
+use Rattle.wb_machine.proofs.SlotsKept.{effect_room, free_room, still_room, quiet_room}
 use Rattle.wb_machine.proofs.control.Control.begin_statement.Goals as goal
 
 pub returns-in-If-clause-kept : goal.returns-in-If-clause-kept
@@ -24,13 +24,13 @@ returns-in-If-clause-kept c =
     let layer = out-Statement c.args.statement.now in
     let old = c.args.self.now.pieces.items in
     let h = c.args.state.now in
-    let at = where_of c.args.at in
+    let at = context_of c.args.at in
     let cond = c.in-If.condition in
     let first = c.in-If.first in
     let is : layer ≡ Statement-F.If cond first = ap out-Statement c.in-If.is ∙ outs-If cond first in
     on_ok_then c.begin_if.result c.begin_if.ensures.kept (λ kept r budget f.
-    kept r budget (sym (ap (operands_refused h) is) ∙ c.requires.operands)
-    ∙ ap (λ (ss : List Numbered). rest_of_statement script budget r at (Statement-F.IfElse cond ss []) old h) c.as_slice.ensures
+    kept r budget (sym (ap (operands_refusal h) is) ∙ c.requires.operands)
+    ∙ ap (λ (ss : List StatementAt). rest_of_statement script budget r at (Statement-F.IfElse cond ss []) old h) c.as_slice.ensures
     ∙ if_as_choice script budget r at cond first old h
     ∙ ap (λ (l : Layer). rest_of_statement script budget r at l old h) (sym is))
 
@@ -68,11 +68,11 @@ returns-in_ok-self-in_default c =
       kept = λ r budget f.
           rest_known script budget r c.in_ok-self-in_default.field-0 pieces (pending_in c.args.state.now.callers pieces) c.carry_out.new.self
           (ap (λ (callers : Values). pending_in callers pieces) c.in_ok-self-in_default.ensures.keeps.callers)
-          ∙ ap whole_of (c.in_ok-self-in_default.ensures.kept r f (meaning_of script budget) (where_of c.args.at) refl (resume script budget (pending_in c.args.state.now.callers pieces)));
+          ∙ ap whole_of (c.in_ok-self-in_default.ensures.kept r f (meaning_of script budget) (context_of c.args.at) refl (resume script budget (pending_in c.args.state.now.callers pieces)));
       sound = c.requires.sound;
       keeps = record { steps = c.in_ok-self-in_default.ensures.keeps.steps; stays = c.in_ok-self-in_default.ensures.keeps.stays };
-      room = carried_room script c.args.at.floor (out-Statement c.args.statement.now) pieces c.args.state.now c.carry_out.new.self c.in_ok-self-in_default.field-0 c.in_ok-self-in_default.ensures.kept c.requires.free;
-      whole = carried_whole script c.args.at.floor (out-Statement c.args.statement.now) c.args.state.now c.carry_out.new.self c.in_ok-self-in_default.field-0 c.in_ok-self-in_default.ensures.kept;
+      room = effect_room script c.args.at.floor (out-Statement c.args.statement.now) pieces c.args.state.now c.carry_out.new.self c.in_ok-self-in_default.field-0 c.in_ok-self-in_default.ensures.kept c.requires.free;
+      whole = effect_whole script c.args.at.floor (out-Statement c.args.statement.now) c.args.state.now c.carry_out.new.self c.in_ok-self-in_default.field-0 c.in_ok-self-in_default.ensures.kept;
       line = refl;
     }
 
@@ -125,10 +125,10 @@ returns-in-Call-clause-kept c =
     let script = c.args.script.now in
     let h = c.args.state.now in
     let old = c.args.self.now.pieces.items in
-    let at = where_of c.args.at in
+    let at = context_of c.args.at in
     let layer = out-Statement c.args.statement.now in
     let is : layer ≡ Statement-F.Call c.in-Call.index c.in-Call.arguments = ap out-Statement c.in-Call.is ∙ outs-Call c.in-Call.index c.in-Call.arguments in
-    kept r budget (ap (λ (given : List Argument). first_refusal h (of_arguments given)) c.as_slice-in-Call.ensures ∙ sym (ap (operands_refused h) is) ∙ c.requires.operands)
+    kept r budget (ap (λ (given : List Argument). first_refusal h (of_arguments given)) c.as_slice-in-Call.ensures ∙ sym (ap (operands_refusal h) is) ∙ c.requires.operands)
     ∙ ap (λ (given : List Argument). rest_of_statement script budget r at (Statement-F.Call c.in-Call.index given) old h) c.as_slice-in-Call.ensures
     ∙ ap (λ (l : Layer). rest_of_statement script budget r at l old h) (sym is))
 
@@ -155,10 +155,10 @@ returns-in-CallTo-clause-kept c =
     let script = c.args.script.now in
     let h = c.args.state.now in
     let old = c.args.self.now.pieces.items in
-    let at = where_of c.args.at in
+    let at = context_of c.args.at in
     let layer = out-Statement c.args.statement.now in
     let is : layer ≡ Statement-F.CallTo c.in-CallTo.target c.in-CallTo.index c.in-CallTo.arguments = ap out-Statement c.in-CallTo.is ∙ outs-CallTo c.in-CallTo.target c.in-CallTo.index c.in-CallTo.arguments in
-    kept r budget (ap (λ (given : List Argument). first_refusal h (of_arguments given)) c.as_slice-in-CallTo.ensures ∙ sym (ap (operands_refused h) is) ∙ c.requires.operands)
+    kept r budget (ap (λ (given : List Argument). first_refusal h (of_arguments given)) c.as_slice-in-CallTo.ensures ∙ sym (ap (operands_refusal h) is) ∙ c.requires.operands)
     ∙ ap (λ (given : List Argument). rest_of_statement script budget r at (Statement-F.CallTo c.in-CallTo.target c.in-CallTo.index given) old h) c.as_slice-in-CallTo.ensures
     ∙ ap (λ (l : Layer). rest_of_statement script budget r at l old h) (sym is))
 

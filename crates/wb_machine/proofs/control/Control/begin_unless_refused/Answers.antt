@@ -1,10 +1,10 @@
 use Rattle.std.proofs.Common.{sym, ◌∙◌}
 use Rattle.wb_model.specs.declared.script.Statement.TheViews.{out-Statement}
-use Rattle.wb_machine.specs.Flow.{where_of}
+use Rattle.wb_machine.specs.Flow.{context_of}
 use Rattle.wb_machine.proofs.Heads.{refused_rest}
 use Rattle.wb_machine.proofs.control.Control.begin_unless_refused.Goals as goal
 
 pub returns-in-Some-clause-kept : goal.returns-in-Some-clause-kept
 returns-in-Some-clause-kept c r budget f =
-    refused_rest c.args.script.now budget r (where_of c.args.at) (out-Statement c.args.statement.now) c.in-Some.panic c.args.self.now.pieces.items c.args.state.now
-    (sym c.operands_refused.ensures ∙ c.in-Some.is)
+    refused_rest c.args.script.now budget r (context_of c.args.at) (out-Statement c.args.statement.now) c.in-Some.panic c.args.self.now.pieces.items c.args.state.now
+    (sym c.operands_refusal.ensures ∙ c.in-Some.is)

@@ -14,21 +14,21 @@ loop-self-preserved-in-Continue-1 c =
     let new = c.pop.new.self.items in
     let piece = c.in-Some.piece in
     let st = c.loop-self.state in
-    let fell = c.in_ok-fall.ensures in
+    let unwound = c.in_ok-unwind.ensures in
     let top : old ≡ new ++ piece ∷ [] = c.pop.ensures.items ∙ ap (λ o. new ++ option_to_list o) c.in-Some.is in
     record {
       kept = λ script r budget within.
           let still : st.steps ≤ budget = omega (arith, within, c.loop-self.invariant.quiet.steps) in
-          fell.kept script r budget still
+          unwound.kept script r budget still
           ∙ sym (rest_known script budget r c.loop-self.self.ending old (pending_of st.callers piece ∷ pending_in (callers_under st.callers piece) new) st (pending_pushed st.callers new old piece top))
           ∙ c.loop-self.invariant.kept script r budget within;
       stop = λ was. let x = sym (c.loop-self.invariant.stop was) ∙ done.0 in cc;
-      line = fell.line ∙ c.loop-self.invariant.line;
+      line = unwound.line ∙ c.loop-self.invariant.line;
       room = λ before.
           let was = c.loop-self.invariant.room before in
-          fell.room (entered_under c.loop-self.self.ending new old piece st top done.0 was) (room_under c.loop-self.self.ending new old piece st top (λ e. done.2 new piece top e) was);
-      quiet = quiet_then c.args.state.now st c.fall.new.state c.loop-self.invariant.quiet fell.quiet;
-      sound = λ script s. fell.sound script (sound_below script new old piece top (c.loop-self.invariant.sound script s));
+          unwound.room (entered_under c.loop-self.self.ending new old piece st top done.0 was) (room_under c.loop-self.self.ending new old piece st top (λ e. done.2 new piece top e) was);
+      quiet = quiet_then c.args.state.now st c.unwind.new.state c.loop-self.invariant.quiet unwound.quiet;
+      sound = λ script s. unwound.sound script (sound_below script new old piece top (c.loop-self.invariant.sound script s));
     }
 
 pub loop-self-smaller-in-Continue-1 : goal.loop-self-smaller-in-Continue-1
@@ -37,4 +37,4 @@ loop-self-smaller-in-Continue-1 c =
     let new = c.pop.new.self.items in
     let piece = c.in-Some.piece in
     let top : old ≡ new ++ piece ∷ [] = c.pop.ensures.items ∙ ap (λ o. new ++ option_to_list o) c.in-Some.is in
-    omega (arith, c.in_ok-fall.ensures.lighter, weight_pushed new old piece top)
+    omega (arith, c.in_ok-unwind.ensures.lighter, weight_pushed new old piece top)

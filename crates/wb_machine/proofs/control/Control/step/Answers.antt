@@ -1,10 +1,10 @@
 use Rattle.std.proofs.Common.{◌≡◌, ◌∷◌, ◌++◌, [], List, ◌-◌, take, drop, length, vec_len, refl, ap, ◌∙◌, sym, subst, arith}
-use Rattle.wb_model.specs.declared.script.Numbered.{Numbered}
+use Rattle.wb_model.specs.declared.script.StatementAt.{StatementAt}
 use Rattle.wb_model.specs.Statements.{all, turns, destroy_items, destroy_object}
 use Rattle.wb_model.specs.Rest.{doing}
-use Rattle.wb_machine.specs.declared.pieces.Piece.{Piece}
-use Rattle.wb_machine.specs.declared.pieces.Piece.TheVariants.{Code, Turns, Items, Object}
-use Rattle.wb_machine.specs.Flow.{where_of, AreOwn, rest_from, rest_of_piece}
+use Rattle.wb_machine.specs.declared.pieces.PendingPiece.{PendingPiece}
+use Rattle.wb_machine.specs.declared.pieces.PendingPiece.TheVariants.{Code, Turns, Items, Object}
+use Rattle.wb_machine.specs.Flow.{context_of, AreOwn, rest_from, rest_of_piece}
 use Rattle.wb_machine.proofs.Outcomes.{on_ok_then, on_ok_anyhow, split_first}
 use Rattle.wb_machine.proofs.WholeCells.{stepped_whole}
 use Rattle.wb_machine.proofs.Steps.{pending_pushed, rest_on_top, rest_stepped}
@@ -18,7 +18,7 @@ step_code-requires-clause-own c =
     let arm = c.in-Code-default-len1-up in
     let old = c.args.self.now.pieces.items in
     let below = take (vec_len c.args.self.now.pieces - 1) old in
-    let top : old ≡ below ++ Code arm.at arm.field-1 ∷ [] = c.top.ensures.top ∙ ap (λ (p : Piece). below ++ p ∷ []) arm.is in
+    let top : old ≡ below ++ Code arm.at arm.field-1 ∷ [] = c.top.ensures.top ∙ ap (λ (p : PendingPiece). below ++ p ∷ []) arm.is in
     let ss = arm.field-1.now in
     let rest = take (length ss - 1) (drop 1 ss) in
     let split : ss ≡ c.first-item.result ∷ rest = split_first ss c.first-item.result c.first-item.is arm.len_at_least in
@@ -30,7 +30,7 @@ step_code-requires-clause-sound c =
     let arm = c.in-Code-default-len1-up in
     let old = c.args.self.now.pieces.items in
     let below = take (vec_len c.args.self.now.pieces - 1) old in
-    let top : old ≡ below ++ Code arm.at arm.field-1 ∷ [] = c.top.ensures.top ∙ ap (λ (p : Piece). below ++ p ∷ []) arm.is in
+    let top : old ≡ below ++ Code arm.at arm.field-1 ∷ [] = c.top.ensures.top ∙ ap (λ (p : PendingPiece). below ++ p ∷ []) arm.is in
     let ss = arm.field-1.now in
     let rest = take (length ss - 1) (drop 1 ss) in
     let split : ss ≡ c.first-item.result ∷ rest = split_first ss c.first-item.result c.first-item.is arm.len_at_least in
@@ -43,7 +43,7 @@ step_code-requires-clause-free c =
     let arm = c.in-Code-default-len1-up in
     let old = c.args.self.now.pieces.items in
     let below = take (vec_len c.args.self.now.pieces - 1) old in
-    let top : old ≡ below ++ Code arm.at arm.field-1 ∷ [] = c.top.ensures.top ∙ ap (λ (p : Piece). below ++ p ∷ []) arm.is in
+    let top : old ≡ below ++ Code arm.at arm.field-1 ∷ [] = c.top.ensures.top ∙ ap (λ (p : PendingPiece). below ++ p ∷ []) arm.is in
     let mid = c.replace_top.new.self.pieces.items in
     let free = room_free c.args.self.now.ending below old (Code arm.at arm.field-1) c.args.state.now c.requires.ready.0 top refl c.requires.room in
     record {
@@ -58,16 +58,16 @@ returns-in-Code-default-len1-up-clause-kept c =
     let arm = c.in-Code-default-len1-up in
     let old = c.args.self.now.pieces.items in
     let below = take (vec_len c.args.self.now.pieces - 1) old in
-    let top : old ≡ below ++ Code arm.at arm.field-1 ∷ [] = c.top.ensures.top ∙ ap (λ (p : Piece). below ++ p ∷ []) arm.is in
+    let top : old ≡ below ++ Code arm.at arm.field-1 ∷ [] = c.top.ensures.top ∙ ap (λ (p : PendingPiece). below ++ p ∷ []) arm.is in
     let ss = arm.field-1.now in
     let rest = take (length ss - 1) (drop 1 ss) in
     let split : ss ≡ c.first-item.result ∷ rest = split_first ss c.first-item.result c.first-item.is arm.len_at_least in
     let mid = c.replace_top.new.self.pieces.items in
     let h = c.args.state.now in
-    let at = where_of arm.at in
+    let at = context_of arm.at in
     rest_stepped script budget r at c.first-item.result rest below mid c.step_code.new.self.pieces.items c.step_code.new.self.ending h c.step_code.new.state
     (pending_pushed h.callers below mid _ (c.replace_top.ensures.pieces below (Code arm.at arm.field-1) top)) within (kept r budget f)
-    ∙ ap (λ (ss : List Numbered). rest_of_piece script budget r (doing at (all ss)) below h) (sym split)
+    ∙ ap (λ (ss : List StatementAt). rest_of_piece script budget r (doing at (all ss)) below h) (sym split)
     ∙ sym (ap (λ e. rest_from script budget r e old h) c.requires.ready.0 ∙ rest_on_top script budget r old below (doing at (all ss)) h (pending_pushed h.callers below old (Code arm.at arm.field-1) top)))
 
 pub returns-in-Turns-clause-kept : goal.returns-in-Turns-clause-kept
@@ -77,10 +77,10 @@ returns-in-Turns-clause-kept c =
     let arm = c.in-Turns in
     let old = c.args.self.now.pieces.items in
     let below = take (vec_len c.args.self.now.pieces - 1) old in
-    let top : old ≡ below ++ Turns arm.at arm.left arm.body ∷ [] = c.top.ensures.top ∙ ap (λ (p : Piece). below ++ p ∷ []) arm.is in
+    let top : old ≡ below ++ Turns arm.at arm.left arm.body ∷ [] = c.top.ensures.top ∙ ap (λ (p : PendingPiece). below ++ p ∷ []) arm.is in
     let h = c.args.state.now in
     kept script r budget below top within
-    ∙ sym (ap (λ e. rest_from script budget r e old h) c.requires.ready.0 ∙ rest_on_top script budget r old below (doing (where_of arm.at) (turns arm.left arm.body.now)) h (pending_pushed h.callers below old (Turns arm.at arm.left arm.body) top)))
+    ∙ sym (ap (λ e. rest_from script budget r e old h) c.requires.ready.0 ∙ rest_on_top script budget r old below (doing (context_of arm.at) (turns arm.left arm.body.now)) h (pending_pushed h.callers below old (Turns arm.at arm.left arm.body) top)))
 
 pub returns-in-Turns-clause-sound : goal.returns-in-Turns-clause-sound
 returns-in-Turns-clause-sound c =
@@ -88,7 +88,7 @@ returns-in-Turns-clause-sound c =
     let arm = c.in-Turns in
     let old = c.args.self.now.pieces.items in
     let below = take (vec_len c.args.self.now.pieces - 1) old in
-    let top : old ≡ below ++ Turns arm.at arm.left arm.body ∷ [] = c.top.ensures.top ∙ ap (λ (p : Piece). below ++ p ∷ []) arm.is in
+    let top : old ≡ below ++ Turns arm.at arm.left arm.body ∷ [] = c.top.ensures.top ∙ ap (λ (p : PendingPiece). below ++ p ∷ []) arm.is in
     on_ok_then c.step_turns.result c.step_turns.ensures.sound (λ sound.
     sound script below top (sound_top script below old (Turns arm.at arm.left arm.body) top c.requires.sound) (sound_below script below old (Turns arm.at arm.left arm.body) top c.requires.sound))
 
@@ -100,7 +100,7 @@ returns-in-Turns-clause-room c =
     let arm = c.in-Turns in
     let old = c.args.self.now.pieces.items in
     let below = take (vec_len c.args.self.now.pieces - 1) old in
-    let top : old ≡ below ++ Turns arm.at arm.left arm.body ∷ [] = c.top.ensures.top ∙ ap (λ (p : Piece). below ++ p ∷ []) arm.is in
+    let top : old ≡ below ++ Turns arm.at arm.left arm.body ∷ [] = c.top.ensures.top ∙ ap (λ (p : PendingPiece). below ++ p ∷ []) arm.is in
     let h = c.args.state.now in
     let g = c.step_turns.new.state in
     on_ok_then c.step_turns.result c.step_turns.ensures.slots (λ slots.
@@ -113,7 +113,7 @@ step_items-requires-clause-free c =
     let old = c.args.self.now.pieces.items in
     let below = c.drop_top.new.self.pieces.items in
     let top : old ≡ below ++ Items arm.at arm.left ∷ [] =
-    c.top.ensures.top ∙ ap (λ (ps : List Piece). ps ++ c.top.result ∷ []) (sym c.drop_top.ensures.pieces) ∙ ap (λ (p : Piece). below ++ p ∷ []) arm.is in
+    c.top.ensures.top ∙ ap (λ (ps : List PendingPiece). ps ++ c.top.result ∷ []) (sym c.drop_top.ensures.pieces) ∙ ap (λ (p : PendingPiece). below ++ p ∷ []) arm.is in
     room_items c.args.self.now.ending below old (Items arm.at arm.left) c.args.state.now c.requires.ready.0 top c.requires.room
 
 pub returns-in-Items-clause-kept : goal.returns-in-Items-clause-kept
@@ -124,10 +124,10 @@ returns-in-Items-clause-kept c =
     let old = c.args.self.now.pieces.items in
     let below = c.drop_top.new.self.pieces.items in
     let top : old ≡ below ++ Items arm.at arm.left ∷ [] =
-    c.top.ensures.top ∙ ap (λ (ps : List Piece). ps ++ c.top.result ∷ []) (sym c.drop_top.ensures.pieces) ∙ ap (λ (p : Piece). below ++ p ∷ []) arm.is in
+    c.top.ensures.top ∙ ap (λ (ps : List PendingPiece). ps ++ c.top.result ∷ []) (sym c.drop_top.ensures.pieces) ∙ ap (λ (p : PendingPiece). below ++ p ∷ []) arm.is in
     let h = c.args.state.now in
     kept r budget within
-    ∙ sym (ap (λ e. rest_from script budget r e old h) c.requires.ready.0 ∙ rest_on_top script budget r old below (doing (where_of arm.at) (destroy_items arm.left)) h (pending_pushed h.callers below old (Items arm.at arm.left) top)))
+    ∙ sym (ap (λ e. rest_from script budget r e old h) c.requires.ready.0 ∙ rest_on_top script budget r old below (doing (context_of arm.at) (destroy_items arm.left)) h (pending_pushed h.callers below old (Items arm.at arm.left) top)))
 
 pub returns-in-Items-clause-sound : goal.returns-in-Items-clause-sound
 returns-in-Items-clause-sound c =
@@ -135,7 +135,7 @@ returns-in-Items-clause-sound c =
     let old = c.args.self.now.pieces.items in
     let below = c.drop_top.new.self.pieces.items in
     let top : old ≡ below ++ Items arm.at arm.left ∷ [] =
-    c.top.ensures.top ∙ ap (λ (ps : List Piece). ps ++ c.top.result ∷ []) (sym c.drop_top.ensures.pieces) ∙ ap (λ (p : Piece). below ++ p ∷ []) arm.is in
+    c.top.ensures.top ∙ ap (λ (ps : List PendingPiece). ps ++ c.top.result ∷ []) (sym c.drop_top.ensures.pieces) ∙ ap (λ (p : PendingPiece). below ++ p ∷ []) arm.is in
     on_ok_then c.step_items.result c.step_items.ensures.sound (λ sound. sound (sound_below c.args.script.now below old (Items arm.at arm.left) top c.requires.sound))
 
 pub step_object-requires-clause-free : goal.step_object-requires-clause-free
@@ -144,7 +144,7 @@ step_object-requires-clause-free c =
     let old = c.args.self.now.pieces.items in
     let below = c.drop_top-in-Object.new.self.pieces.items in
     let top : old ≡ below ++ Object arm.at arm.ptr ∷ [] =
-    c.top.ensures.top ∙ ap (λ (ps : List Piece). ps ++ c.top.result ∷ []) (sym c.drop_top-in-Object.ensures.pieces) ∙ ap (λ (p : Piece). below ++ p ∷ []) arm.is in
+    c.top.ensures.top ∙ ap (λ (ps : List PendingPiece). ps ++ c.top.result ∷ []) (sym c.drop_top-in-Object.ensures.pieces) ∙ ap (λ (p : PendingPiece). below ++ p ∷ []) arm.is in
     room_free c.args.self.now.ending below old (Object arm.at arm.ptr) c.args.state.now c.requires.ready.0 top refl c.requires.room
 
 pub returns-in-Object-clause-kept : goal.returns-in-Object-clause-kept
@@ -155,10 +155,10 @@ returns-in-Object-clause-kept c =
     let old = c.args.self.now.pieces.items in
     let below = c.drop_top-in-Object.new.self.pieces.items in
     let top : old ≡ below ++ Object arm.at arm.ptr ∷ [] =
-    c.top.ensures.top ∙ ap (λ (ps : List Piece). ps ++ c.top.result ∷ []) (sym c.drop_top-in-Object.ensures.pieces) ∙ ap (λ (p : Piece). below ++ p ∷ []) arm.is in
+    c.top.ensures.top ∙ ap (λ (ps : List PendingPiece). ps ++ c.top.result ∷ []) (sym c.drop_top-in-Object.ensures.pieces) ∙ ap (λ (p : PendingPiece). below ++ p ∷ []) arm.is in
     let h = c.args.state.now in
     kept r budget within
-    ∙ sym (ap (λ e. rest_from script budget r e old h) c.requires.ready.0 ∙ rest_on_top script budget r old below (doing (where_of arm.at) (destroy_object arm.ptr)) h (pending_pushed h.callers below old (Object arm.at arm.ptr) top)))
+    ∙ sym (ap (λ e. rest_from script budget r e old h) c.requires.ready.0 ∙ rest_on_top script budget r old below (doing (context_of arm.at) (destroy_object arm.ptr)) h (pending_pushed h.callers below old (Object arm.at arm.ptr) top)))
 
 pub returns-in-Object-clause-sound : goal.returns-in-Object-clause-sound
 returns-in-Object-clause-sound c =
@@ -166,5 +166,5 @@ returns-in-Object-clause-sound c =
     let old = c.args.self.now.pieces.items in
     let below = c.drop_top-in-Object.new.self.pieces.items in
     let top : old ≡ below ++ Object arm.at arm.ptr ∷ [] =
-    c.top.ensures.top ∙ ap (λ (ps : List Piece). ps ++ c.top.result ∷ []) (sym c.drop_top-in-Object.ensures.pieces) ∙ ap (λ (p : Piece). below ++ p ∷ []) arm.is in
+    c.top.ensures.top ∙ ap (λ (ps : List PendingPiece). ps ++ c.top.result ∷ []) (sym c.drop_top-in-Object.ensures.pieces) ∙ ap (λ (p : PendingPiece). below ++ p ∷ []) arm.is in
     on_ok_then c.step_object.result c.step_object.ensures.sound (λ sound. sound (sound_below c.args.script.now below old (Object arm.at arm.ptr) top c.requires.sound))

@@ -1,7 +1,7 @@
 use Rattle.std.proofs.Common.{ap, ◌∙◌, sym, subst, arith}
 use Rattle.wb_model.specs.declared.script.Statement.TheViews.{out-Statement}
 use Rattle.wb_machine.specs.RunState.{RunState}
-use Rattle.wb_machine.specs.Flow.{where_of, FitsStep, rest_of_statement}
+use Rattle.wb_machine.specs.Flow.{context_of, FitsStep, rest_of_statement}
 use Rattle.wb_machine.proofs.Outcomes.{on_ok_then}
 use Rattle.wb_machine.proofs.WholeCells.{stepped_whole}
 use Rattle.wb_machine.proofs.SlotsKept.{stepped_free}
@@ -11,7 +11,7 @@ pub returns-clause-kept : goal.returns-clause-kept
 returns-clause-kept c =
     on_ok_then c.begin_unless_refused.result c.begin_unless_refused.ensures.kept (λ kept r budget f.
     kept r budget (subst (λ (x : RunState). FitsStep r x c.begin_unless_refused.new.self.ending c.begin_unless_refused.new.state) (sym c.tick.ensures) f)
-    ∙ ap (λ (x : RunState). rest_of_statement c.args.script.now budget r (where_of c.args.at) (out-Statement c.args.first.now.statement) c.args.self.now.pieces.items x) c.tick.ensures)
+    ∙ ap (λ (x : RunState). rest_of_statement c.args.script.now budget r (context_of c.args.at) (out-Statement c.args.first.now.statement) c.args.self.now.pieces.items x) c.tick.ensures)
 
 pub returns-clause-whole : goal.returns-clause-whole
 returns-clause-whole c =

@@ -3,10 +3,10 @@ use Rattle.wb_model.specs.declared.heap.TheConstants.Panic.{POP_BELOW_TRAP}
 use Rattle.wb_model.specs.Statements.{newest, destroyed_item}
 use Rattle.wb_model.specs.Meaning.{meaning_of}
 use Rattle.wb_machine.specs.declared.pieces.Ending.TheVariants.{Panics}
-use Rattle.wb_machine.specs.declared.pieces.Piece.TheVariants.{Items}
+use Rattle.wb_machine.specs.declared.pieces.PendingPiece.TheVariants.{Items}
 use Rattle.wb_machine.specs.RunState.{RunState, state_of}
 use Rattle.wb_machine.specs.Bodies.{without_newest}
-use Rattle.wb_machine.specs.Flow.{where_of, rest_from, rest_after}
+use Rattle.wb_machine.specs.Flow.{context_of, rest_from, rest_after}
 use Rattle.wb_machine.proofs.Outcomes.{on_ok_then, on_ok_anyhow}
 use Rattle.wb_machine.proofs.WholeCells.{taken_whole}
 use Rattle.wb_machine.proofs.Steps.{pending_pushed, rest_destroyed, rest_undestroyed}
@@ -19,7 +19,7 @@ returns-in-Some-clause-kept c =
     on_ok_then c.begin_item.result c.begin_item.ensures.kept (λ kept r budget within.
     let script = c.args.script.now in
     let h = c.args.state.now in
-    let at = where_of c.args.at in
+    let at = context_of c.args.at in
     let n = c.args.left - 1 in
     let old = c.args.self.now.pieces.items in
     let mid = c.push.new.self.pieces.items in
@@ -42,7 +42,7 @@ returns-in-None-clause-kept c r budget within =
     let new = c.push.new.self.pieces.items in
     let none = sym (ap (λ (x : RunState). newest x.items) c.tick.ensures) ∙ sym c.take_newest.ensures.item ∙ c.in-None.is in
     ap (λ (x : RunState). rest_from script budget r (Panics POP_BELOW_TRAP) new x) (c.take_newest.ensures.taken ∙ ap without_newest c.tick.ensures)
-    ∙ rest_undestroyed script budget r (where_of c.args.at) c.args.left (c.args.left - 1) old new h (omega (arith, c.requires.left)) within none
+    ∙ rest_undestroyed script budget r (context_of c.args.at) c.args.left (c.args.left - 1) old new h (omega (arith, c.requires.left)) within none
 
 pub returns-in-None-clause-sound : goal.returns-in-None-clause-sound
 returns-in-None-clause-sound c below =

@@ -8,8 +8,8 @@ use Rattle.wb_model.specs.Bodies.{class_at, no_body}
 use Rattle.wb_machine.specs.declared.pieces.Ending.TheVariants.{Panics}
 use Rattle.wb_machine.specs.RunState.{RunState}
 use Rattle.wb_machine.specs.Bodies.{class_read}
-use Rattle.wb_machine.specs.Carried.{stepped}
-use Rattle.wb_machine.specs.Flow.{where_of, AreOwn, rest_from, rest_of_body}
+use Rattle.wb_machine.specs.Effects.{stepped}
+use Rattle.wb_machine.specs.Flow.{context_of, AreOwn, rest_from, rest_of_body}
 use Rattle.wb_machine.proofs.Outcomes.{on_ok_then, on_ok_anyhow}
 use Rattle.wb_machine.proofs.WholeCells.{stepped_whole}
 use Rattle.wb_machine.proofs.Heads.{destroy_as_body, destroy_refused}
@@ -23,7 +23,7 @@ returns-in-Ok-clause-kept c =
     on_ok_then c.begin_body.result c.begin_body.ensures.kept (λ kept r budget within.
     let script = c.args.script.now in
     let h = c.args.state.now in
-    let at = where_of c.args.at in
+    let at = context_of c.args.at in
     let p = c.args.ptr in
     let old = c.args.self.now.pieces.items in
     let body = unwrap_or (class_at script c.in-Ok.class).destroy no_body in
@@ -42,7 +42,7 @@ pub returns-in-Err-clause-kept : goal.returns-in-Err-clause-kept
 returns-in-Err-clause-kept c r budget within =
     let script = c.args.script.now in
     let h = c.args.state.now in
-    let at = where_of c.args.at in
+    let at = context_of c.args.at in
     let old = c.args.self.now.pieces.items in
     rest_unmade script budget r at c.args.ptr old old (Panics c.in-Err.panic) h c.tick.new.self within
     (ap (λ (x : RunState). rest_from script budget r (Panics c.in-Err.panic) old x) c.tick.ensures

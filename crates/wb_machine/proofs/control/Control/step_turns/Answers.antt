@@ -1,8 +1,8 @@
 use Rattle.std.proofs.Common.{ap, ◌∙◌, ◌-◌, arith}
 use Rattle.wb_machine.specs.RunState.{RunState}
 use Rattle.wb_machine.specs.declared.pieces.Ending.TheVariants.{GoesOn}
-use Rattle.wb_machine.specs.declared.pieces.Piece.TheVariants.{Code, Turns}
-use Rattle.wb_machine.specs.Flow.{where_of, rest_from}
+use Rattle.wb_machine.specs.declared.pieces.PendingPiece.TheVariants.{Code, Turns}
+use Rattle.wb_machine.specs.Flow.{context_of, rest_from}
 use Rattle.wb_machine.proofs.Steps.{pending_pushed, rest_turned}
 use Rattle.wb_machine.proofs.Scripts.{sound_pushed}
 use Rattle.wb_machine.proofs.SlotsKept.{slots_pushed}
@@ -16,7 +16,7 @@ returns-clause-kept c script r budget below is within =
     let left = Turns c.args.at (c.args.left - 1) c.args.body in
     ap (λ e. rest_from script budget r e new c.tick.new.self) (c.in_ok-push.ensures.ending ∙ c.replace_top.ensures.ending ∙ c.requires.going)
     ∙ ap (λ (x : RunState). rest_from script budget r GoesOn new x) c.tick.ensures
-    ∙ rest_turned script budget r (where_of c.args.at) c.args.left (c.args.left - 1) c.args.body.now below mid new c.args.state.now
+    ∙ rest_turned script budget r (context_of c.args.at) c.args.left (c.args.left - 1) c.args.body.now below mid new c.args.state.now
     (pending_pushed callers below mid left (c.replace_top.ensures.pieces below (Turns c.args.at c.args.left c.args.body) is))
     (pending_pushed callers mid new (Code c.args.at c.args.body) c.in_ok-push.ensures.pieces)
     (omega (arith, c.requires.left)) within

@@ -9,7 +9,7 @@ use Rattle.wb_machine.specs.Asks.{asks_next, MakesAsked}
 use Rattle.wb_machine.specs.Flow.{pending_in, is_stop, is_over, has_met_ceiling, progress_of, AreSound, rest_from, rest_at}
 use Rattle.wb_machine.specs.ObjectInvariant.{AreWhole}
 use Rattle.wb_machine.proofs.AskedPieces.{settled_cut}
-use Rattle.wb_machine.proofs.Begins.{rest_first}
+use Rattle.wb_machine.proofs.FirstTurn.{rest_first}
 use Rattle.wb_machine.proofs.Counted.{made_as_asked}
 use Rattle.wb_machine.proofs.Fitting.{fits-limit, fits-before, going_on}
 use Rattle.wb_machine.proofs.control.Control.turn.Goals.{then-not-begun+in_ok-begin, else-not-begun+then-steps-budget+in_ok-step, else-not-begun+else-steps-budget}
@@ -18,11 +18,11 @@ use Rattle.wb_machine.proofs.SlotsKept.{moved_room, stop_room}
 use Rattle.wb_machine.proofs.control.Control.turn.Goals as goal
 
 -- a fact of what one of the branches made
-moved_on : (script : Script) (budget : ℕ) (r own : Rule) (made mid : Control) (st g : RunState) (told : WholeRun) → mid ≡ made → g ≡ st →
+moved_on : (script : Script) (budget : ℕ) (r own : Rule) (made mid : Control) (st g : RunState) (run_result : WholeRun) → mid ≡ made → g ≡ st →
     Fits r own (is_stop mid.ending) g.debug.attempts →
-    (Fits r own (is_stop made.ending) st.debug.attempts → rest_from script budget r made.ending made.pieces.items st ≡ told) →
-    rest_from script budget r mid.ending mid.pieces.items g ≡ told
-moved_on script budget r own made mid st g told e d f go =
+    (Fits r own (is_stop made.ending) st.debug.attempts → rest_from script budget r made.ending made.pieces.items st ≡ run_result) →
+    rest_from script budget r mid.ending mid.pieces.items g ≡ run_result
+moved_on script budget r own made mid st g run_result e d f go =
     let f' : Fits r own (is_stop made.ending) st.debug.attempts =
     subst (λ (x : RunState). Fits r own (is_stop made.ending) x.debug.attempts) d (subst (λ (x : Control). Fits r own (is_stop x.ending) g.debug.attempts) e f) in
     ap (λ (x : Control). rest_from script budget r x.ending x.pieces.items g) e

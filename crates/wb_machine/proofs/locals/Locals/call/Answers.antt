@@ -18,11 +18,11 @@ returns-clause-frames c =
     let inside = c.self.inside in
     let bs = inside.buffers.items in
     let old = values_stored bs inside.slots.items in
-    let script = c.args.sight.script.now in
-    let heap = c.args.sight.heap.now in
+    let script = c.args.context.script.now in
+    let heap = c.args.context.heap.now in
     let declared = map initial c.args.locals.now in
-    let given : Values → Values = λ vs. values_over script heap c.args.sight.this vs c.args.handed in
+    let given : Values → Values = λ vs. values_over script heap c.args.context.this vs c.args.call_arguments in
     frame_added old (values_stored c.declare.new.buffers.items c.declare.new.slots.items) (given (drop inside.base old)) declared inside.base c.len-top.result c.args.self.now c.self.view_is
     (c.len-top.ensures ∙ inside.slots.ok.0 ∙ sym (length-map inside.slots.items (value_stored bs)))
-    (c.in_ok-declare.ensures.declared ∙ ap (λ (vs : Values). vs ++ declared) (c.in_ok-hand.ensures.handed bs))
+    (c.in_ok-declare.ensures.declared ∙ ap (λ (vs : Values). vs ++ declared) (c.in_ok-hand.ensures.call_arguments bs))
     ∙ ap (λ (w : Frames). record { callers = c.args.self.now.callers ++ c.args.self.now.locals; locals = given w.locals ++ declared }) c.self.view_is

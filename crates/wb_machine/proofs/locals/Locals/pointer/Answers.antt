@@ -9,5 +9,5 @@ pub returns : goal.returns
 returns c =
     let inside = c.self.inside in
     c.pointer_over.ensures inside.buffers.items
-    ∙ ap (λ (locals : Values). pointer_over c.args.sight.script.now c.args.sight.heap.now c.args.sight.this locals c.args.operand)
+    ∙ ap (λ (locals : Values). pointer_over c.args.context.script.now c.args.context.heap.now c.args.context.this locals c.args.operand)
     (frame_is (value_stored inside.buffers.items) inside.slots.items c.deref.result.now inside.base c.args.self.now c.self.view_is c.deref.ensures.value)

@@ -8,14 +8,14 @@ use Rattle.wb_machine.specs.declared.pieces.Ending.{Ending}
 use Rattle.wb_machine.specs.declared.pieces.Ending.TheVariants.{GoesOn, Returns, Leaves, Panics, Cut, NoCleanup}
 use Rattle.wb_machine.specs.Flow.{has_met_ceiling}
 use Rattle.wb_machine.specs.Seen.{Seen}
-use Rattle.wb_machine.specs.Told.{outcome_by, told_by}
+use Rattle.wb_machine.specs.Results.{outcome_by, run_result_by}
 use Rattle.wb_machine.proofs.OverRuns.{run_over}
 use Rattle.wb_machine.proofs.machine.Machine.into_finished.Goals as goal
 
-pub returns-clause-told : goal.returns-clause-told
-returns-clause-told c =
+pub returns-clause-run_result : goal.returns-clause-run_result
+returns-clause-run_result c =
     let m = c.self.inside in
-    c.finish.ensures ∙ ap (λ e. told_by e m.leaks m.state) c.ending.ensures
+    c.finish.ensures ∙ ap (λ e. run_result_by e m.leaks m.state) c.ending.ensures
     ∙ ap (λ (x : WholeRun). x.result) (run_over m c.args.self c.self.view_is c.self.invariant c.requires.over c.requires.well)
 
 pub returns-clause-attempts : goal.returns-clause-attempts
@@ -38,6 +38,6 @@ pub returns-clause-ceiling : goal.returns-clause-ceiling
 returns-clause-ceiling c =
     let ending = c.self.inside.control.ending in
     let is : (has_met_ceiling ending ≡ true) ↔ (c.finish.result.result.outcome ≡ outcomes.Cut Ceiling) =
-    subst (λ (x : RunResult). (has_met_ceiling ending ≡ true) ↔ (x.outcome ≡ outcomes.Cut Ceiling)) (sym (c.finish.ensures ∙ ap (λ e. told_by e c.self.inside.leaks c.self.inside.state) c.ending.ensures))
+    subst (λ (x : RunResult). (has_met_ceiling ending ≡ true) ↔ (x.outcome ≡ outcomes.Cut Ceiling)) (sym (c.finish.ensures ∙ ap (λ e. run_result_by e c.self.inside.leaks c.self.inside.state) c.ending.ensures))
     (tells_ceiling ending c.self.inside.leaks) in
     subst (λ (b : Bool). (b ≡ true) ↔ (c.finish.result.result.outcome ≡ outcomes.Cut Ceiling)) (ap (λ (s : Seen). s.met_ceiling) c.self.view_is) is

@@ -4,13 +4,13 @@ use Rattle.wb_model.specs.Run.{whole_run}
 use Rattle.wb_model.proofs.AccountLemmas.{whole-attempts}
 use Rattle.wb_machine.proofs.machine.Machine.result.Goals as goal
 
-pub returns-clause-told : goal.returns-clause-told
-returns-clause-told c =
+pub returns-clause-run_result : goal.returns-clause-run_result
+returns-clause-run_result c =
     let s = c.args.self in
-    c.into_finished.ensures.told ∙ ap (λ b. (whole_run b s.script s.rule s.budget s.shape).result) c.requires.lines
+    c.into_finished.ensures.run_result ∙ ap (λ b. (whole_run b s.script s.rule s.budget s.shape).result) c.requires.lines
 
 pub returns-clause-attempts : goal.returns-clause-attempts
 returns-clause-attempts c =
     let s = c.args.self in
-    ap (λ (x : RunResult). length x.trace) (returns-clause-told c) ∙ sym (whole-attempts false s.script s.rule s.budget s.shape)
+    ap (λ (x : RunResult). length x.trace) (returns-clause-run_result c) ∙ sym (whole-attempts false s.script s.rule s.budget s.shape)
     ∙ sym (ap (λ b. (whole_run b s.script s.rule s.budget s.shape).attempts) c.requires.lines) ∙ c.into_finished.ensures.attempts

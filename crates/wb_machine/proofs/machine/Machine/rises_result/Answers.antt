@@ -1,5 +1,5 @@
 use Rattle.std.proofs.Common.{ap, ◌∙◌}
-use Rattle.wb_machine.specs.Told.{outcome_by}
+use Rattle.wb_machine.specs.Results.{outcome_by}
 use Rattle.wb_machine.proofs.OverRuns.{rises_over}
 use Rattle.wb_machine.proofs.machine.Machine.rises_result.Goals as goal
 

@@ -29,7 +29,7 @@ invariant_of-self-2 c =
         small = old.small;
         between = turn.between;
         no_line = λ e. cc;
-        leaks = λ e goes. c.in_ok-list_leaks.ensures.told (ap is_stop c.ending.ensures ∙ goes);
+        leaks = λ e goes. c.in_ok-list_leaks.ensures.run_result (ap is_stop c.ending.ensures ∙ goes);
       };
       keeps = λ well r f.
           let f' = subst (λ own. Fits r own (is_over c.turn.new.self.ending c.turn.new.self.pieces.items) c.turn.new.state.debug.attempts) turn.stays.rule f in

@@ -33,7 +33,7 @@ invariant_of-self-2 c =
         small = old.small;
         between = subst (λ b. IsBetweenTurns m.script.now m.budget b control.ending control.pieces.items state) (sym begun) turns.between;
         no_line = λ e. cc;
-        leaks = λ e goes. c.in_ok-list_leaks.ensures.told (ap is_stop c.ending.ensures ∙ goes);
+        leaks = λ e goes. c.in_ok-list_leaks.ensures.run_result (ap is_stop c.ending.ensures ∙ goes);
       };
       keeps = λ w r f.
           let f' : Fits r m.state.debug.rule true state.debug.attempts =

@@ -4,7 +4,7 @@ use Rattle.wb_model.specs.Row.{cell_at}
 use Rattle.wb_model.specs.Debug.{realloc_made}
 use Rattle.wb_machine.specs.RunState.{RunState}
 use Rattle.wb_machine.specs.StateView.{run_state}
-use Rattle.wb_machine.proofs.Stayed.{realloc_keeps}
+use Rattle.wb_machine.proofs.UnchangedByAttempts.{realloc_keeps}
 use Rattle.wb_machine.proofs.StackBeside.{becomes_found, keeps_seen, raw_other, remade_beside}
 use Rattle.wb_machine.proofs.TextInvariant.{texts_raw_again}
 use Rattle.wb_machine.proofs.state.State.attempt_again.Goals as goal

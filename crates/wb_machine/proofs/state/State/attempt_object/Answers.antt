@@ -1,7 +1,7 @@
 use Rattle.wb_model.specs.Bodies.{class_at}
 use Rattle.wb_objects.specs.Objects.{object_made}
 use Rattle.wb_machine.specs.StateView.{run_state}
-use Rattle.wb_machine.proofs.Stayed.{called_keeps}
+use Rattle.wb_machine.proofs.UnchangedByAttempts.{called_keeps}
 use Rattle.wb_machine.proofs.StackBeside.{becomes_ok, keeps_seen}
 use Rattle.wb_machine.proofs.ObjectsMade.{object_called, object_stays, texts_with_object}
 use Rattle.wb_machine.proofs.Scripts.{object_fits}

@@ -5,7 +5,7 @@ use Rattle.wb_model.specs.TextCells.{text_at}
 use Rattle.wb_machine.specs.RunState.{RunState}
 use Rattle.wb_machine.specs.StateView.{run_state}
 use Rattle.wb_machine.specs.TextOperands.{text_refusal}
-use Rattle.wb_machine.proofs.Stayed.{remade_keeps}
+use Rattle.wb_machine.proofs.UnchangedByAttempts.{remade_keeps}
 use Rattle.wb_machine.proofs.StackBeside.{becomes_found, is_there, keeps_seen, remade_beside, text_other}
 use Rattle.wb_machine.proofs.TextInvariant.{is_text_at, texts_remade}
 use Rattle.wb_machine.proofs.state.State.remake.Goals as goal

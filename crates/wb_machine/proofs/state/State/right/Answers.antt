@@ -1,5 +1,5 @@
 use Rattle.std.proofs.Common.{subst}
-use Rattle.wb_machine.specs.CarriedTexts.{part_stored}
+use Rattle.wb_machine.specs.TextEffects.{part_stored}
 use Rattle.wb_machine.specs.Owed.{CarriesOut}
 use Rattle.wb_machine.proofs.state.State.right.Goals as goal
 

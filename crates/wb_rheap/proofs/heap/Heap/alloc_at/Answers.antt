@@ -7,7 +7,7 @@ use Rattle.wb_model.proofs.LimitedHeaps.{place_in-committed, place_in-least}
 use Rattle.wb_rheap.specs.Heap.{heap_of}
 use Rattle.wb_rheap.proofs.Counters.{total-within, count-within}
 use Rattle.wb_rheap.proofs.Finding.{place_in-gap}
-use Rattle.wb_rheap.proofs.Kept.{granted-kept}
+use Rattle.wb_rheap.proofs.HeapFields.{granted-kept}
 use Rattle.wb_rheap.proofs.heap.Heap.alloc_at.Goals as goal
 
 -- the place lies within the committed length, and so does no end of a cell there pass what a word holds

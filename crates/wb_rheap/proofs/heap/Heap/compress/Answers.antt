@@ -3,7 +3,7 @@ use Rattle.wb_model.specs.Space.{compressed_to}
 use Rattle.wb_model.specs.LimitedHeap.{space_in}
 use Rattle.wb_model.proofs.LimitedHeaps.{top_of-committed}
 use Rattle.wb_rheap.specs.Heap.{heap_of}
-use Rattle.wb_rheap.proofs.Kept.{compressed-kept}
+use Rattle.wb_rheap.proofs.HeapFields.{compressed-kept}
 use Rattle.wb_rheap.proofs.heap.Heap.compress.Goals as goal
 
 pub compressed_for-committed-requires-clause-top : goal.compressed_for-committed-requires-clause-top

@@ -1,7 +1,7 @@
 use Rattle.std.proofs.Common.{◌≡◌, ◌≤◌, ◌++◌, ℕ, List, length, take, drop, arith, length-append, length-drop, ap, sym, subst}
 use Rattle.std.proofs.lemmas.List.{length-take-le}
 use Rattle.wb_model.specs.CellRow.{payload_of}
-use Rattle.wb_rheap.proofs.Kept.{changed-kept}
+use Rattle.wb_rheap.proofs.HeapFields.{changed-kept}
 use Rattle.wb_rheap.proofs.heap.Heap.copy_payload.Goals as goal
 
 copied-length : (n : ℕ) (from to : List ℕ) → n ≤ length from → n ≤ length to → length (take n from ++ drop n to) ≡ length to

@@ -1,6 +1,6 @@
 use Rattle.std.proofs.Common.{option_map, ap, ◌∙◌, arith}
 use Rattle.wb_model.specs.Row.{cell_at}
-use Rattle.wb_rheap.proofs.Kept.{released, released-kept}
+use Rattle.wb_rheap.proofs.HeapFields.{released, released-kept}
 use Rattle.wb_rheap.proofs.heap.Heap.free_cell.Goals as goal
 
 pub overflow_sub-self-2 : goal.overflow_sub-self-2

@@ -1,4 +1,4 @@
-use Rattle.wb_rheap.proofs.Kept.{leveled-kept}
+use Rattle.wb_rheap.proofs.HeapFields.{leveled-kept}
 use Rattle.wb_rheap.proofs.heap.Heap.set_level.Goals as goal
 
 pub invariant_of-self : goal.invariant_of-self

@@ -1,5 +1,5 @@
 use Rattle.std.proofs.lemmas.List.{length-set}
-use Rattle.wb_rheap.proofs.Kept.{changed-kept}
+use Rattle.wb_rheap.proofs.HeapFields.{changed-kept}
 use Rattle.wb_rheap.proofs.heap.Heap.set_payload.Goals as goal
 
 pub invariant_of-self : goal.invariant_of-self

@@ -1,7 +1,7 @@
 use Rattle.std.proofs.Common.{replicate}
 use Rattle.wb_model.specs.CellRow.{payload_of}
 use Rattle.wb_chunk.proofs.WrittenHalves.{length-with_halves}
-use Rattle.wb_rheap.proofs.Kept.{changed-kept}
+use Rattle.wb_rheap.proofs.HeapFields.{changed-kept}
 use Rattle.wb_rheap.proofs.heap.Heap.zero_halves.Goals as goal
 
 pub invariant_of-self : goal.invariant_of-self

@@ -1,13 +1,13 @@
 use Rattle.std.proofs.Common.{◌∙◌, ◌++◌, ◌∷◌, [], ap, arith}
 use Rattle.std.proofs.lemmas.Grind.{common_steps}
-use Rattle.wb_lines.specs.Lent.{lent_form}
-use Rattle.wb_script.specs.Lent.{lent_items}
+use Rattle.wb_lines.specs.BytesOf.{bytes_of_form}
+use Rattle.wb_script.specs.BytesOf.{bytes_of_items}
 use Rattle.wb_script.proofs.CheckedLemmas.{one_more_checked}
 use Rattle.wb_script.proofs.checks.Checked.add_line.Goals as goal
 
 pub returns-clause-checked : goal.returns-clause-checked
 returns-clause-checked c = λ before checked.
-    one_more_checked (lent_items c.args.items.now) before (lent_form c.args.form.now) c.args.self.now _ _ checked (grind (arith, common_steps, c.len.ensures))
+    one_more_checked (bytes_of_items c.args.items.now) before (bytes_of_form c.args.form.now) c.args.self.now _ _ checked (grind (arith, common_steps, c.len.ensures))
     (c.in_ok-add.ensures ∙ ap (λ l. c.args.self.now.lines.items ++ l ∷ []) c.in_ok-line.ensures)
     c.in_ok-add_line.ensures.known
     c.in_ok-add_line.ensures.literals

@@ -1,10 +1,10 @@
 use Rattle.std.proofs.Common.{◌≡◌}
 use Rattle.std.specs.Str.{bytes_eq}
 use Rattle.wb_model.specs.Names.{first_declaration_of, names_of}
-use Rattle.wb_script.specs.Lent.{lent_items}
-use Rattle.wb_script.specs.declared.checks.items.Item.{Item}
+use Rattle.wb_script.specs.BytesOf.{bytes_of_items}
+use Rattle.wb_script.specs.declared.checks.items.Declaration.{Declaration}
 use Rattle.wb_script.proofs.Passes.{found_from}
 use Rattle.wb_script.proofs.checks.items.place_of_item.Given as goal
 
 abbrev pub invariant-loop-index : goal.invariant-loop-index
-invariant-loop-index l = found_from (λ (item : Item). item.name.now) (λ s n. s) (λ s n. bytes_eq n l.name) l.items l.index (tt {0}) ≡ first_declaration_of (names_of (lent_items l.items)) l.name
+invariant-loop-index l = found_from (λ (item : Declaration). item.name.now) (λ s n. s) (λ s n. bytes_eq n l.name) l.items l.index (tt {0}) ≡ first_declaration_of (names_of (bytes_of_items l.items)) l.name

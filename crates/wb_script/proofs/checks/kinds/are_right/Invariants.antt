@@ -1,8 +1,8 @@
 use Rattle.std.proofs.Common.{◌≡◌, drop, length}
-use Rattle.wb_model.specs.Keys.{letters_with}
+use Rattle.wb_model.specs.LineKinds.{operand_places_with}
 use Rattle.wb_model.specs.Kinds.{are_right}
 use Rattle.wb_script.proofs.checks.kinds.are_right.Given as goal
 
 abbrev pub invariant-loop-index : goal.invariant-loop-index
 invariant-loop-index l =
-    are_right (drop l.index (letters_with l.letters.fixed.now l.letters.rest (length l.operands))) (drop l.index l.operands) ≡ are_right (letters_with l.letters.fixed.now l.letters.rest (length l.operands)) l.operands
+    are_right (drop l.index (operand_places_with l.operand_places.fixed.now l.operand_places.rest (length l.operands))) (drop l.index l.operands) ≡ are_right (operand_places_with l.operand_places.fixed.now l.operand_places.rest (length l.operands)) l.operands

@@ -1,7 +1,7 @@
 use Rattle.std.proofs.Common.{sym, ap, ◌∙◌, ◌++◌, ◌∷◌, [], take}
 use Rattle.std.proofs.lemmas.List.{take_more}
-use Rattle.wb_script.specs.Growing.{are_parameters, is_parameter_operand, parameters_taken}
-use Rattle.wb_script.proofs.Beginnings.{taken_more, all_more}
+use Rattle.wb_script.specs.Growing.{are_parameters, is_parameter_operand, parameters_of_operands}
+use Rattle.wb_script.proofs.HeadParameters.{taken_more, all_more}
 use Rattle.wb_script.proofs.Tests.{one_fails}
 use Rattle.wb_script.proofs.tree.openings.parameters.Goals as goal
 
@@ -16,8 +16,8 @@ loop-operand-preserved c =
       found =
           c.in_ok-push-in-Some.ensures.pushed
           ∙ ap (λ l. l ++ c.in-Some.one ∷ []) c.loop-operand.invariant.found
-          ∙ ap (λ l. parameters_taken front ++ l) (sym c.in-Some.ensures.1)
+          ∙ ap (λ l. parameters_of_operands front ++ l) (sym c.in-Some.ensures.1)
           ∙ sym (taken_more front _)
-          ∙ ap parameters_taken (sym more);
+          ∙ ap parameters_of_operands (sym more);
       all = ap (are_parameters c.args.classes) more ∙ all_more c.args.classes front _ c.loop-operand.invariant.all c.in-Some.ensures.0;
     }

@@ -6,8 +6,8 @@ use Rattle.wb_script.proofs.tree.scope.counted.one.Goals as goal
 use Rattle.wb_script.proofs.tree.scope.counted.one.Goals.{in_default-via-then-operands-lt1, in_default-via-else-operands-lt1+else-operands-lt2}
 
 pub returns-in_default : goal.returns-in_default
-returns-in_default c = λ literals scope letter.
+returns-in_default c = λ literals scope operand_place.
     elim c.in_default.branch [
-      | in_default-via-then-operands-lt1 w ↦ counts_differ literals scope (letter ∷ []) c.args.operands.now (λ e. grind (arith, common_steps, nat_tests, e))
-      | in_default-via-else-operands-lt1+else-operands-lt2 w ↦ counts_differ literals scope (letter ∷ []) c.args.operands.now (λ e. grind (arith, common_steps, nat_tests, e))
+      | in_default-via-then-operands-lt1 w ↦ counts_differ literals scope (operand_place ∷ []) c.args.operands.now (λ e. grind (arith, common_steps, nat_tests, e))
+      | in_default-via-else-operands-lt1+else-operands-lt2 w ↦ counts_differ literals scope (operand_place ∷ []) c.args.operands.now (λ e. grind (arith, common_steps, nat_tests, e))
     ]

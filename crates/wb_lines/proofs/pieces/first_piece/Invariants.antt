@@ -1,8 +1,0 @@
-use Rattle.std.proofs.Common.{◌≡◌, take, drop}
-use Rattle.wb_model.specs.Lines.{pieces, pieces_from}
-use Rattle.wb_lines.specs.Pieces.{ends_of}
-use Rattle.wb_lines.proofs.FirstPieces.{onto_all}
-use Rattle.wb_lines.proofs.pieces.first_piece.Given as goal
-
-abbrev pub invariant-loop-index : goal.invariant-loop-index
-invariant-loop-index l = onto_all (take l.index l.bytes) (pieces_from (ends_of l.cut) l.quoted (drop l.index l.bytes)) ≡ pieces (ends_of l.cut) l.bytes

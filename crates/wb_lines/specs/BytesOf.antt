@@ -1,0 +1,25 @@
+-- What references to texts lend: the same forms, operands and texts, with bytes in place of references to bytes.
+use Rattle.std.specs.Prelude.{List, map}
+use Rattle.std.specs.Borrow.{Bor}
+use Rattle.wb_model.specs.declared.script_lines.Form.{Form}
+use Rattle.wb_model.specs.declared.script_lines.Operand.{Operand}
+use Rattle.wb_model.specs.Forms.{renamed, renamed_operand}
+use Rattle.wb_model.specs.Names.{Text}
+
+abbrev pub bytes_of_text : Bor Text → Text
+bytes_of_text text = text.now
+
+abbrev pub bytes_of_texts : List (Bor Text) → List Text
+bytes_of_texts = map bytes_of_text
+
+abbrev pub bytes_of_operand : Operand (Bor Text) → Operand Text
+bytes_of_operand = renamed_operand bytes_of_text
+
+abbrev pub bytes_of_operands : List (Operand (Bor Text)) → List (Operand Text)
+bytes_of_operands = map bytes_of_operand
+
+abbrev pub bytes_of_form : Form (Bor Text) → Form Text
+bytes_of_form = renamed bytes_of_text
+
+abbrev pub bytes_of_forms : List (Form (Bor Text)) → List (Form Text)
+bytes_of_forms = map bytes_of_form

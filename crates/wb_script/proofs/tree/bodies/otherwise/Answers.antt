@@ -1,9 +1,0 @@
-use Rattle.std.proofs.Common.{subst}
-use Rattle.wb_script.specs.Building.{TurnsToElse}
-use Rattle.wb_script.specs.Growing.{declared_in_space}
-use Rattle.wb_script.proofs.Additions.{else_adds_where}
-use Rattle.wb_script.proofs.tree.bodies.otherwise.Goals as goal
-
-pub returns-in-Some : goal.returns-in-Some
-returns-in-Some c =
-    else_adds_where (declared_in_space c.args.space) c.args.number c.args.body c.args.operands.now c.in-Some.nest c.if-not-is_empty.ensures c.requires (subst (TurnsToElse c.args.body.nest) c.in-Some.is c.in_ok-nest.ensures)

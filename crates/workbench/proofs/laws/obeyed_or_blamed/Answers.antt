@@ -1,5 +1,0 @@
-use Rattle.workbench.proofs.WordsLemmas.{blamed_for_memory}
-use Rattle.workbench.proofs.laws.obeyed_or_blamed.Goals as goal
-
-pub returns : goal.returns
-returns c = blamed_for_memory

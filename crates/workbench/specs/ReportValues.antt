@@ -1,0 +1,32 @@
+-- What a report says as values, beside its lines: of a run, of a size, of a sweep.
+use Rattle.std.specs.Prelude.{ℕ, List, Some, None, length}
+use Rattle.wb_model.specs.declared.run.RunResult.{RunResult}
+use Rattle.wb_model.specs.declared.size.Rise.{Rise}
+use Rattle.workbench.specs.declared.report_values.FailingNumber.{FailingNumber}
+use Rattle.workbench.specs.declared.report_values.ReportValues.{ReportValues}
+
+-- of a refused script, and of a cut
+abbrev pub no_values : ReportValues
+no_values = record { attempts = None; number = None; required = None; rises = None }
+
+-- of one run, a cut one too: the length of its trace
+abbrev pub run_values : RunResult → ReportValues
+run_values r = record no_values { attempts = Some (length r.trace) }
+
+abbrev pub size_values : ℕ → List Rise → ReportValues
+size_values required rises = record no_values { required = Some required; rises = Some rises }
+
+-- of a sweep that was finished: the attempts of the run without failure, and the failure that was found,
+-- or that there is none
+abbrev pub sweep_values : ℕ → FailingNumber → ReportValues
+sweep_values attempts number =
+    record no_values { attempts = Some attempts; number = Some number }
+
+-- of a size, and of the sweep after it
+abbrev pub both_values : ReportValues → ReportValues → ReportValues
+both_values first second = record {
+  attempts = second.attempts;
+  number = second.number;
+  required = first.required;
+  rises = first.rises;
+}
