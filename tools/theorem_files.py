@@ -29,7 +29,7 @@ script.StatementAt.{StatementAt}; script.Statement.TheOpen.{Statement-F}; script
 """
 
 # The files of specs/ whose definitions a run computes through, and what it computes through beside these.
-COMPUTED_IN = ("Attempts", "Meaning", "Operands", "Reading", "Run", "State", "Statements")
+COMPUTED_IN = ("meaning/Attempts", "meaning/Meaning", "meaning/Operands", "meaning/Reading", "runs/Run", "meaning/State", "meaning/Statements")
 COMPUTED_THROUGH = """out-Statement denote.Hole.Carrier.out roll-Statement denote.Hole.Carrier.roll
 denote.Hole.Carrier.shown denote.Hole.Carrier.hidden {declared}.script.Statement.TheBlock.shown-the_row-StatementAt-0 digits"""
 
@@ -79,9 +79,9 @@ def uses_of(crate: Path) -> list[str]:
         "Rattle.std.specs.Prelude.{◌≡◌, refl, ℕ, pos, negsuc, List, [], ◌∷◌, length, Option, Some, None, map}",
         "Rattle.std.specs.Fmt.{digits}",
         *(f"{specs}.declared.{use.strip()}" for use in DECLARED.split(";")),
-        f"{specs}.Run.{{run, required, rises}}",
-        f"{specs}.Pairs.{{pair_run, least_bad_or_cut_pair}}",
-        f"{specs}.Sweeps.{{runs_of, least_bad_or_cut}}",
+        f"{specs}.runs.Run.{{run, required, rises}}",
+        f"{specs}.runs.Pairs.{{pair_run, least_bad_or_cut_pair}}",
+        f"{specs}.runs.Sweeps.{{runs_of, least_bad_or_cut}}",
     ]
 
 
@@ -90,7 +90,7 @@ def shorthands(crate: Path) -> str:
     specs = f"Rattle.{crate.name}.specs"
     shut = COMPUTED_THROUGH.format(declared=specs + ".declared").split()
     for file in (crate / "specs" / f"{stem}.antt" for stem in COMPUTED_IN):
-        shut += [f"{specs}.{file.stem}.{name}" for name in re.findall(r"^unfoldable pub (\S+)", file.read_text(), re.M)]
+        shut += [f"{specs}.{file.parent.name}.{file.stem}.{name}" for name in re.findall(r"^unfoldable pub (\S+)", file.read_text(), re.M)]
     lines = [f"-- What the theorems of worked cases have in common. {WRITTEN}", *(f"use {use}" for use in uses_of(crate))]
     lines += ["", "-- what a run computes through", "unfoldable pub everything : Unit {0}"]
     lines += ["unfolding " + "\n    ".join(shut), "everything = tt"]

@@ -22,7 +22,9 @@ HEAD = """\
 """
 LINE = re.compile(r"(\w+) (\d+) (\d{4}-\d\d-\d\d) ([0-9a-f]{64})")
 # theorems that no other file may use: worked cases, which are written anew where a case is new, and have further files in a folder
-USED_BY_NOTHING = ("proofs", "WorkedCases.antt")
+USED_BY_NOTHING = (("proofs", "WorkedCases.antt"), ("proofs", "WorkedCases"))
+# the files of the proof of one function
+OF_ONE_FUNCTION = ("Answers.antt", "Invariants.antt", "Proof.antt")
 # where a function begins, by the layout that `rt fmt` gives
 FUNCTION = re.compile(r"( *)(?:pub(?:\([^)]*\))? )?(?:const |unsafe )*fn \w+")
 # what `rt version` says of the logic
@@ -106,7 +108,7 @@ def seen_from_above(file: Path, crate: Path) -> str | None:
     """What a crate above sees of a file: of code all but the bodies of functions, each definition, and the lemmas right in
     `proofs/`; None of a proof of one function, which is in a folder, and of the worked cases."""
     place = file.relative_to(crate).parts
-    if place == USED_BY_NOTHING or (place[0] == "proofs" and len(place) > 2):
+    if place[:2] in USED_BY_NOTHING or (place[0] == "proofs" and place[-1] in OF_ONE_FUNCTION):
         return None
     return without_bodies(text_of(file)) if file.suffix == ".rt" else text_of(file)
 

@@ -1,8 +1,8 @@
 //! A heap full of equal cells, and rounds of calls over all of them.
 
 ghost use Rattle.std.specs.Prelude.{◌≡◌, ◌+◌, ◌<◌, ◌≤◌, All};
-ghost use Rattle.wb_model.specs.Row.{headers};
-ghost use Rattle.wb_model.specs.LimitedHeap.{IsCellLength};
+ghost use Rattle.wb_model.specs.heap.Row.{headers};
+ghost use Rattle.wb_model.specs.heap.LimitedHeap.{IsCellLength};
 
 use std::alloc::{AllocError, Global};
 use wb_model::heap::{Kind, Ptr, Shape};

@@ -2,8 +2,8 @@
 //! whose arguments no call may have isn't made, and answers `NoMemory` too: then the plain run has other lines than it should.
 
 ghost use Rattle.std.specs.Prelude.{◌≡◌, ◌+◌, ◌^◌, ◌<◌, ◌≤◌, IfOk, IsSome, OnErr, OnOk};
-ghost use Rattle.wb_model.specs.Debug.{IsSoundDebug, alloc_made};
-ghost use Rattle.wb_model.specs.Row.{cell_at};
+ghost use Rattle.wb_model.specs.heap.Debug.{IsSoundDebug, alloc_made};
+ghost use Rattle.wb_model.specs.heap.Row.{cell_at};
 
 use wb_debug::{DebugHeap, Heap};
 use wb_model::heap::{Gave, Kind, Ptr};

@@ -1,8 +1,8 @@
 //! Objects of a script's classes, made in a heap of their own.
 
 ghost use Rattle.std.specs.Prelude.{◌≡◌, ◌<◌, ◌≤◌, length, true};
-ghost use Rattle.wb_model.specs.Bodies.{class_at};
-ghost use Rattle.wb_model.specs.Statements.{payload_of_object};
+ghost use Rattle.wb_model.specs.meaning.Bodies.{class_at};
+ghost use Rattle.wb_model.specs.meaning.Statements.{payload_of_object};
 
 use crate::heaps::SHAPE;
 use crate::lines::{show, write_gave};

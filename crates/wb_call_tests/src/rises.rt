@@ -2,8 +2,8 @@
 //! once, whichever allocation is refused.
 
 ghost use Rattle.std.specs.Prelude.{◌≡◌, ◌+◌, ◌^◌, ◌<◌, ◌≤◌, true, IfOk, IsSome};
-ghost use Rattle.wb_model.specs.Debug.{keeps_rises};
-ghost use Rattle.wb_model.specs.Row.{cell_at};
+ghost use Rattle.wb_model.specs.heap.Debug.{keeps_rises};
+ghost use Rattle.wb_model.specs.heap.Row.{cell_at};
 
 use crate::stop::Stop;
 use std::alloc::Global;

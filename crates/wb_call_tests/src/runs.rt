@@ -2,7 +2,7 @@
 //! over the memory of the copy that did so before, and another waits while the run takes its turn: neither changes the other.
 
 ghost use Rattle.std.specs.Prelude.{IsTrue};
-ghost use Rattle.wb_model.specs.Sound.{is_script};
+ghost use Rattle.wb_model.specs.language.Sound.{is_script};
 
 use crate::stop::Stop;
 use std::alloc::Global;

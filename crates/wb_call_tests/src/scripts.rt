@@ -1,7 +1,7 @@
 //! Scripts that are read: one with lines of most kinds, which objects are then made of and which is run, and some that have a fault.
 
 ghost use Rattle.std.specs.Prelude.{IfOk, IsTrue};
-ghost use Rattle.wb_model.specs.Sound.{is_script};
+ghost use Rattle.wb_model.specs.language.Sound.{is_script};
 
 use crate::objects::make_objects;
 use crate::runs::run_script;

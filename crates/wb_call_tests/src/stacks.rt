@@ -2,7 +2,7 @@
 
 ghost use Rattle.std.specs.Prelude.{◌≡◌, IfOk, IfSome};
 ghost use Rattle.wb_cleanup.specs.Stacks.{IsStack};
-ghost use Rattle.wb_model.specs.Debug.{IsSoundDebug};
+ghost use Rattle.wb_model.specs.heap.Debug.{IsSoundDebug};
 
 use crate::calls;
 use crate::heaps::SHAPE;
@@ -30,7 +30,7 @@ struct Stacked {
 
 impl Model for Stacked {
     ghost use Rattle.wb_call_tests.specs.Stacked.{IsStacked};
-    ghost use Rattle.wb_model.specs.Debug.{Debug};
+    ghost use Rattle.wb_model.specs.heap.Debug.{Debug};
 
     ghost Value = { Debug };
 

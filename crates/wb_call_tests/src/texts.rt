@@ -1,7 +1,7 @@
 //! Texts that are made in cells, and get other maxima: at their place, and at another.
 
 ghost use Rattle.std.specs.Prelude.{◌≤◌, [], IfOk};
-ghost use Rattle.wb_model.specs.TextCells.{IsGrantedText, IsRemadeText, IsTextAt, text_at};
+ghost use Rattle.wb_model.specs.cells.TextCells.{IsGrantedText, IsRemadeText, IsTextAt, text_at};
 
 use crate::calls;
 use crate::heaps::SHAPE;

@@ -4,8 +4,8 @@ use Rattle.std.specs.Prelude.{nat_eq}
 use Rattle.std.proofs.lemmas.List.{append-nil, map-append}
 use Rattle.wb_model.specs.declared.heap.Header.{Header}
 use Rattle.wb_model.specs.declared.heap.Ptr.{Ptr}
-use Rattle.wb_model.specs.Row.{Cell, headers, end_of, inserted, without, top_from}
-use Rattle.wb_model.specs.CellRow.{resized_words, with_length}
+use Rattle.wb_model.specs.heap.Row.{Cell, headers, end_of, inserted, without, top_from}
+use Rattle.wb_model.specs.cells.CellRow.{resized_words, with_length}
 use Rattle.wb_cells.specs.FreeList.{end_at}
 use Rattle.wb_cells.specs.Holes.{touches}
 use Rattle.wb_cells.specs.Inside.{IsLaid}

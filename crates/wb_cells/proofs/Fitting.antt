@@ -4,9 +4,9 @@ use Rattle.std.specs.Prelude.{nat_eq, nat_le}
 use Rattle.std.proofs.lemmas.Bool.{eq-eqb, ne_eqb, leb-true, leb-false, cases_eq, cases_lt}
 use Rattle.wb_model.specs.declared.heap.Header.{Header}
 use Rattle.wb_model.specs.declared.heap.Ptr.{Ptr}
-use Rattle.wb_model.specs.CellRow.{room_after}
-use Rattle.wb_model.specs.Row.{IsSpacedFrom, end_of, is_at, place_from, top_from}
-use Rattle.wb_model.specs.Space.{free_runs, longest}
+use Rattle.wb_model.specs.cells.CellRow.{room_after}
+use Rattle.wb_model.specs.heap.Row.{IsSpacedFrom, end_of, is_at, place_from, top_from}
+use Rattle.wb_model.specs.heap.Space.{free_runs, longest}
 use Rattle.wb_model.proofs.Places.{top_from-above}
 use Rattle.wb_cells.specs.Maxima.{IsFirstLong, IsThere}
 use Rattle.wb_cells.specs.RowGaps.{gap_from, found_or}

@@ -2,8 +2,8 @@
 use Rattle.std.proofs.Common.{◌≡◌, ℕ, suc, ◌+◌, ◌<◌, ◌⊎◌, inl, inr, List, [], ◌∷◌, Bool, true, false, cond, refl, arith, Any}
 use Rattle.std.specs.Prelude.{nat_le}
 use Rattle.wb_model.specs.declared.heap.Header.{Header}
-use Rattle.wb_model.specs.Row.{IsSpacedFrom, end_of, place_from, place_of}
-use Rattle.wb_model.specs.CellRow.{IsGap}
+use Rattle.wb_model.specs.heap.Row.{IsSpacedFrom, end_of, place_from, place_of}
+use Rattle.wb_model.specs.cells.CellRow.{IsGap}
 use Rattle.wb_model.proofs.Places.{place_of-least}
 
 any_later : (P : Header → Type 0) (h : Header) (hs : List Header) → Any P hs → Any P (h ∷ hs)

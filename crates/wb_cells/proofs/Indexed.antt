@@ -3,9 +3,9 @@ use Rattle.std.proofs.Common.{◌≡◌, ℕ, ◌+◌, ◌-◌, ◌*◌, ◌/◌
 use Rattle.std.proofs.lemmas.List.{length-replicate}
 use Rattle.wb_chunk.specs.declared.TheConstants.{MOST_WORDS}
 use Rattle.wb_model.specs.declared.heap.Ptr.{Ptr}
-use Rattle.wb_model.specs.Row.{Cell, headers, end_of, is_at}
-use Rattle.wb_model.specs.CellRow.{with_level}
-use Rattle.wb_model.specs.Spelling.{spelled}
+use Rattle.wb_model.specs.heap.Row.{Cell, headers, end_of, is_at}
+use Rattle.wb_model.specs.cells.CellRow.{with_level}
+use Rattle.wb_model.specs.cells.Spelling.{spelled}
 use Rattle.wb_model.proofs.Rows.{headers-changed}
 use Rattle.wb_cells.specs.FreeList.{NO_PLACE}
 use Rattle.wb_cells.specs.Inside.{cells_in, IsIndexed}

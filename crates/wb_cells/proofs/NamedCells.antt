@@ -5,8 +5,8 @@ use Rattle.std.proofs.lemmas.List.{get_or_at}
 use Rattle.std.proofs.lemmas.Bool.{eq-eqb, cond-true}
 use Rattle.wb_model.specs.declared.heap.Header.{Header}
 use Rattle.wb_model.specs.declared.heap.Ptr.{Ptr}
-use Rattle.wb_model.specs.Row.{IsSpacedFrom, headers, end_of, is_at, cell_at}
-use Rattle.wb_model.specs.Spelling.{spelled}
+use Rattle.wb_model.specs.heap.Row.{IsSpacedFrom, headers, end_of, is_at, cell_at}
+use Rattle.wb_model.specs.cells.Spelling.{spelled}
 use Rattle.wb_model.proofs.Rows.{head-cell_at}
 use Rattle.wb_cells.specs.Inside.{IsLaid}
 use Rattle.wb_cells.specs.Segments.{Segment, cell_from, row_from}

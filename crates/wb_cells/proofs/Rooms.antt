@@ -3,8 +3,8 @@ use Rattle.std.proofs.Common.{◌≡◌, ◌≢◌, ℕ, zero, suc, ◌+◌, ◌
 use Rattle.std.proofs.lemmas.Bool.{le-ltb, lt-ltb}
 use Rattle.wb_model.specs.declared.heap.Kind.{Kind}
 use Rattle.wb_model.specs.declared.heap.Header.{Header}
-use Rattle.wb_model.specs.Row.{Cell, headers, end_of, inserted, IsFree, Misses}
-use Rattle.wb_model.specs.CellRow.{IsGap}
+use Rattle.wb_model.specs.heap.Row.{Cell, headers, end_of, inserted, IsFree, Misses}
+use Rattle.wb_model.specs.cells.CellRow.{IsGap}
 use Rattle.wb_cells.specs.Segments.{Segment, live, free, total, cell_from, row_from, BeginsLive, AreMerged}
 use Rattle.wb_cells.proofs.Laying.{total-append}
 

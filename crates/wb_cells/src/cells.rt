@@ -3,10 +3,10 @@
 
 ghost use Rattle.std.specs.Prelude.{◌≡◌, ◌≢◌, ◌+◌, ◌*◌, ◌%◌, ◌<◌, ◌≤◌, [], ◌++◌, max, length, take, drop, slice_index, slice_set, All, IfOk, OnOk, OnErr, option_map, IsOk, IsSome};
 ghost use Rattle.wb_chunk.specs.Halves.{half_of, with_half};
-ghost use Rattle.wb_model.specs.CellRow.{CellRow, FitsInPlace, IsGap, IsSoundCells, payload_of, room_after, with_length, with_level, with_payload};
-ghost use Rattle.wb_model.specs.LimitedHeap.{next_live_of, zero_words};
-ghost use Rattle.wb_model.specs.Space.{free_runs, longest};
-ghost use Rattle.wb_model.specs.Row.{IsLeastPlace, cell_at, headers, inserted, place_of, top_of, without};
+ghost use Rattle.wb_model.specs.cells.CellRow.{CellRow, FitsInPlace, IsGap, IsSoundCells, payload_of, room_after, with_length, with_level, with_payload};
+ghost use Rattle.wb_model.specs.heap.LimitedHeap.{next_live_of, zero_words};
+ghost use Rattle.wb_model.specs.heap.Space.{free_runs, longest};
+ghost use Rattle.wb_model.specs.heap.Row.{IsLeastPlace, cell_at, headers, inserted, place_of, top_of, without};
 
 use crate::bits::Bits;
 use crate::free_list::{self, Ends};
@@ -35,7 +35,7 @@ pub struct Cells {
 }
 
 impl Model for Cells {
-    ghost use Rattle.wb_model.specs.CellRow.{CellRow};
+    ghost use Rattle.wb_model.specs.cells.CellRow.{CellRow};
     ghost use Rattle.wb_cells.specs.Inside.{cells_in, IsIndexed};
 
     ghost Value = { CellRow };

@@ -3,7 +3,7 @@
 
 ghost use Rattle.std.specs.Prelude.{◌≡◌, ◌+◌, ◌*◌, ◌/◌, ◌<◌, ◌≤◌, ◌-◌, [], ◌∷◌, ◌++◌, length, drop, replicate, slice_index, Some, IsOk, OnOk, OnErr};
 ghost use Rattle.std.specs.List.{replace_range};
-ghost use Rattle.wb_model.specs.Spelling.{header_at, kind_of};
+ghost use Rattle.wb_model.specs.cells.Spelling.{header_at, kind_of};
 ghost use Rattle.wb_cells.specs.Segments.{state_of};
 ghost use Rattle.wb_cells.specs.States.{IsState};
 

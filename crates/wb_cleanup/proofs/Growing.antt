@@ -12,14 +12,14 @@ use Rattle.wb_model.specs.declared.heap.Answer.{Answer}
 use Rattle.wb_model.specs.declared.heap.Answer.TheVariants.{Granted, Simulated, Refused}
 use Rattle.wb_model.specs.declared.heap.Gave.{Gave}
 use Rattle.wb_model.specs.declared.heap.Gave.TheVariants as G
-use Rattle.wb_model.specs.Row.{Cell, headers, cell_at, cell_length, end_of, inserted, place_of, pointer_to, without}
-use Rattle.wb_model.specs.CellRow.{resized_words}
-use Rattle.wb_model.specs.CleanupCells.{IsItem, IsCleanup, IsCleanupAt}
-use Rattle.wb_model.specs.Rules.{Request, answer_to, refusal_of, unless_refused}
-use Rattle.wb_model.specs.Heap.{alloc_request, new_cell, after_alloc, realloc_request, moved, after_realloc}
-use Rattle.wb_model.specs.LimitedHeap.{zero_words}
-use Rattle.wb_model.specs.Space.{limit_under}
-use Rattle.wb_model.specs.Debug.{Debug, IsLiveIn, Made, IsSoundDebug, made_by, answer_in, number_of_next, alloc_made, longer_made, shorter_made, realloc_made}
+use Rattle.wb_model.specs.heap.Row.{Cell, headers, cell_at, cell_length, end_of, inserted, place_of, pointer_to, without}
+use Rattle.wb_model.specs.cells.CellRow.{resized_words}
+use Rattle.wb_model.specs.cells.CleanupCells.{IsItem, IsCleanup, IsCleanupAt}
+use Rattle.wb_model.specs.heap.Rules.{Request, answer_to, refusal_of, unless_refused}
+use Rattle.wb_model.specs.heap.Heap.{alloc_request, new_cell, after_alloc, realloc_request, moved, after_realloc}
+use Rattle.wb_model.specs.heap.LimitedHeap.{zero_words}
+use Rattle.wb_model.specs.heap.Space.{limit_under}
+use Rattle.wb_model.specs.heap.Debug.{Debug, IsLiveIn, Made, IsSoundDebug, made_by, answer_in, number_of_next, alloc_made, longer_made, shorter_made, realloc_made}
 use Rattle.wb_model.proofs.LimitedHeaps.{limit_under-ceiling}
 use Rattle.wb_model.proofs.NewCells.{found-inserted}
 use Rattle.wb_model.proofs.Reallocations.{found-all, found-head, length-resized}

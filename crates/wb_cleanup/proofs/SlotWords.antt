@@ -6,7 +6,7 @@ use Rattle.std.proofs.Math.Numerals.{unary_clauses}
 use Rattle.wb_model.specs.declared.heap.Ptr.{Ptr}
 use Rattle.wb_model.specs.declared.heap.Item.{Item}
 use Rattle.wb_model.specs.declared.heap.Item.TheVariants.{Free, Delete, Call}
-use Rattle.wb_model.specs.CleanupCells.{slot_words, items_words}
+use Rattle.wb_model.specs.cells.CleanupCells.{slot_words, items_words}
 use Rattle.wb_cleanup.specs.Slots.{with_words, words_of_slot}
 
 -- four words that are written one after another

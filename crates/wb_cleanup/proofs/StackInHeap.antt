@@ -6,11 +6,11 @@ use Rattle.std.proofs.lemmas.List.{length-take-le}
 use Rattle.std.proofs.lemmas.List.Elements.{All-append, All-cons, All-nil, All-take}
 use Rattle.wb_model.specs.declared.limits.TheConstants.{CEILING}
 use Rattle.wb_model.specs.declared.heap.Item.{Item}
-use Rattle.wb_model.specs.Row.{cell_at}
-use Rattle.wb_model.specs.CellRow.{content_or_nil, payload_of}
-use Rattle.wb_model.specs.CleanupCells.{slot_words, IsItem, IsCleanup, IsCleanupAt, items_in}
-use Rattle.wb_model.specs.Debug.{Debug, debug_changed}
-use Rattle.wb_model.specs.Statements.{newest}
+use Rattle.wb_model.specs.heap.Row.{cell_at}
+use Rattle.wb_model.specs.cells.CellRow.{content_or_nil, payload_of}
+use Rattle.wb_model.specs.cells.CleanupCells.{slot_words, IsItem, IsCleanup, IsCleanupAt, items_in}
+use Rattle.wb_model.specs.heap.Debug.{Debug, debug_changed}
+use Rattle.wb_model.specs.meaning.Statements.{newest}
 use Rattle.wb_model.proofs.CleanupCells.{cleanup-read}
 use Rattle.wb_model.proofs.TextCellsHeap.{found-changed}
 use Rattle.wb_cleanup.specs.declared.cleanup.Cleanup.{Cleanup}

@@ -4,9 +4,9 @@ use Rattle.wb_model.specs.declared.heap.Ptr.{Ptr}
 use Rattle.wb_model.specs.declared.heap.Item.{Item}
 use Rattle.wb_model.specs.declared.heap.Gave.{Gave}
 use Rattle.wb_model.specs.declared.heap.Gave.TheVariants as G
-use Rattle.wb_model.specs.Row.{Cell, cell_at}
-use Rattle.wb_model.specs.CellRow.{payload_of}
-use Rattle.wb_model.specs.Debug.{Debug, Made, debug_changed, realloc_made}
+use Rattle.wb_model.specs.heap.Row.{Cell, cell_at}
+use Rattle.wb_model.specs.cells.CellRow.{payload_of}
+use Rattle.wb_model.specs.heap.Debug.{Debug, Made, debug_changed, realloc_made}
 use Rattle.wb_cleanup.specs.declared.cleanup.Cleanup.{Cleanup}
 use Rattle.wb_cleanup.specs.declared.cleanup.Pushed.{Pushed}
 use Rattle.wb_cleanup.specs.declared.cleanup.Pushed.TheVariants.{Fine, Leave, Ceiling}

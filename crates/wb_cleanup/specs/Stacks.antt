@@ -5,11 +5,11 @@ use Rattle.wb_model.specs.declared.limits.TheConstants.{CEILING}
 use Rattle.wb_model.specs.declared.heap.Ptr.{Ptr}
 use Rattle.wb_model.specs.declared.heap.Item.{Item}
 use Rattle.wb_model.specs.declared.heap.Panic.{Panic}
-use Rattle.wb_model.specs.CellRow.{payload_of}
-use Rattle.wb_model.specs.CleanupCells.{IsCleanupAt, items_in}
-use Rattle.wb_model.specs.Debug.{Debug}
-use Rattle.wb_model.specs.Reading.{is_same_pointer}
-use Rattle.wb_model.specs.Statements.{item_pointer, newest}
+use Rattle.wb_model.specs.cells.CellRow.{payload_of}
+use Rattle.wb_model.specs.cells.CleanupCells.{IsCleanupAt, items_in}
+use Rattle.wb_model.specs.heap.Debug.{Debug}
+use Rattle.wb_model.specs.meaning.Reading.{is_same_pointer}
+use Rattle.wb_model.specs.meaning.Statements.{item_pointer, newest}
 use Rattle.wb_cleanup.specs.declared.cleanup.Cleanup.{Cleanup}
 
 -- the pointer to the stack's cell

@@ -5,7 +5,7 @@ ghost use Rattle.std.specs.Prelude.{option_map, IfErr, IfNone, IfOk, IfSome, IsO
 ghost use Rattle.wb_cleanup.specs.Pushes.{growth, GrowthLeaves, IsButForWords, IsFree, IsUnchanged};
 ghost use Rattle.wb_cleanup.specs.Pushes.{KeepsItems, PushLeaves, RoomLeaves};
 ghost use Rattle.wb_cleanup.specs.Stacks.{IsPopped, IsStack, cell_of, count_of, expected_refusal, items_of, newest_above, pop_refusal, slots_of};
-ghost use Rattle.wb_model.specs.Debug.{IsSoundDebug, alloc_made, gave_of};
+ghost use Rattle.wb_model.specs.heap.Debug.{IsSoundDebug, alloc_made, gave_of};
 
 use crate::slots;
 use wb_debug::DebugHeap;

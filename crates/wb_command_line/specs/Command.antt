@@ -1,6 +1,6 @@
 -- What every command that words spell keeps.
 use Rattle.std.specs.Prelude.{ℕ, Bool, true, ◌&&◌, ◌%◌, nat_eq, nat_le, nat_lt}
-use Rattle.wb_model.specs.Space.{is_shape}
+use Rattle.wb_model.specs.heap.Space.{is_shape}
 use Rattle.wb_model.specs.declared.limits.TheConstants.{CEILING, LARGEST_BUDGET}
 use Rattle.wb_model.specs.declared.heap.Rule.TheVariants.{Every, Limit, Number, Pair, Unlimited}
 use Rattle.wb_model.specs.declared.heap.Shape.{Shape}

@@ -4,7 +4,7 @@
 ghost use Rattle.std.specs.Prelude.{◌≡◌, ◌≤◌, All, IfErr, IfOk, IsSome, IsTrue, List, Some, OnErr, OnOk, codes, false, map, true};
 ghost use Rattle.std.specs.Str.{IsUtf8};
 ghost use Rattle.clap.specs.Words.{Text, first_of, found_of, rows_of, takes};
-ghost use Rattle.wb_model.specs.Space.{is_shape};
+ghost use Rattle.wb_model.specs.heap.Space.{is_shape};
 ghost use Rattle.wb_command_line.specs.Command.{is_answerable, is_in_range, is_sixteenfold};
 ghost use Rattle.wb_command_line.specs.CommandLine.{command_line, joined_level};
 ghost use Rattle.wb_command_line.specs.Fault.{IsAfterUsage, IsFaultOf, IsFaultOfOptions, IsFaultOfRule, IsFaultOfTask};

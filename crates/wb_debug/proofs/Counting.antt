@@ -3,8 +3,8 @@ use Rattle.std.proofs.Common.{◌≡◌, ℕ, ◌+◌, ◌*◌, ◌≤◌, ◌&&
 use Rattle.std.specs.Prelude.{nat_le, nat_lt}
 use Rattle.std.proofs.lemmas.Bool.{leb-false, lt-ltb}
 use Rattle.wb_model.specs.declared.heap.Header.{Header}
-use Rattle.wb_model.specs.LimitedHeap.{next_live_of}
-use Rattle.wb_model.specs.Row.{end_of, IsSpacedFrom, top_from}
+use Rattle.wb_model.specs.heap.LimitedHeap.{next_live_of}
+use Rattle.wb_model.specs.heap.Row.{end_of, IsSpacedFrom, top_from}
 use Rattle.wb_model.proofs.Onward.{onward, onward_none, IsNextCell}
 use Rattle.wb_debug.specs.Tally.{is_below, number}
 use Rattle.wb_debug.proofs.Tallies.{number-cons, ones}

@@ -9,11 +9,11 @@ use Rattle.wb_model.specs.declared.heap.Answer.TheVariants.{Simulated, Refused}
 use Rattle.wb_model.specs.declared.heap.Attempt.{Attempt}
 use Rattle.wb_model.specs.declared.heap.Shape.{Shape}
 use Rattle.wb_model.specs.declared.size.Rise.{Rise}
-use Rattle.wb_model.specs.Debug.{Debug, IsLiveIn, IsSoundDebug}
-use Rattle.wb_model.specs.LimitedHeap.{LimitedHeap, IsSoundHeap, space_in, place_in, fresh_cell, heap_with, heap_without, heap_changed, heap_compressed}
-use Rattle.wb_model.specs.Rises.{end_of_line, granted_end, rise_of, rises_with, top_of_rises, trace_with}
-use Rattle.wb_model.specs.Row.{Cell, IsSpacedFrom, headers, end_of, inserted, is_at, cell_at, without}
-use Rattle.wb_model.specs.Space.{bound_below, space_below}
+use Rattle.wb_model.specs.heap.Debug.{Debug, IsLiveIn, IsSoundDebug}
+use Rattle.wb_model.specs.heap.LimitedHeap.{LimitedHeap, IsSoundHeap, space_in, place_in, fresh_cell, heap_with, heap_without, heap_changed, heap_compressed}
+use Rattle.wb_model.specs.runs.Rises.{end_of_line, granted_end, rise_of, rises_with, top_of_rises, trace_with}
+use Rattle.wb_model.specs.heap.Row.{Cell, IsSpacedFrom, headers, end_of, inserted, is_at, cell_at, without}
+use Rattle.wb_model.specs.heap.Space.{bound_below, space_below}
 use Rattle.wb_model.proofs.AccountLemmas.{last-rise}
 use Rattle.wb_model.proofs.LimitedHeaps.{top_of-committed, All-heap_with, All-heap_without}
 use Rattle.wb_model.proofs.Rows.{headers-changed, head-cell_at}

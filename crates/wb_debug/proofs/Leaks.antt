@@ -2,10 +2,10 @@
 use Rattle.std.proofs.Common.{◌≡◌, ℕ, true, false, not, List, [], ◌∷◌, ◌++◌, map, ap, ◌∙◌, sym, cond, None, append_assoc, append-nil}
 use Rattle.wb_model.specs.declared.heap.Header.{Header}
 use Rattle.wb_model.specs.declared.run.Leak.{Leak}
-use Rattle.wb_model.specs.Row.{end_of}
-use Rattle.wb_model.specs.Heap.{is_cleanup, cells_of_all_levels}
-use Rattle.wb_model.specs.Run.{leak_of}
-use Rattle.wb_model.specs.LimitedHeap.{next_live_of}
+use Rattle.wb_model.specs.heap.Row.{end_of}
+use Rattle.wb_model.specs.heap.Heap.{is_cleanup, cells_of_all_levels}
+use Rattle.wb_model.specs.runs.Run.{leak_of}
+use Rattle.wb_model.specs.heap.LimitedHeap.{next_live_of}
 use Rattle.wb_model.proofs.Onward.{onward, onward_none, IsNextCell}
 
 -- the leaks of a row

@@ -3,8 +3,8 @@ use Rattle.std.proofs.Common.{◌≡◌, ◌≢◌, ℕ, ◌+◌, ◌-◌, ◌�
 use Rattle.std.specs.Prelude.{nat_eq, nat_lt}
 use Rattle.std.proofs.lemmas.Bool.{eq-eqb, ne_eqb}
 use Rattle.wb_model.specs.declared.heap.Header.{Header}
-use Rattle.wb_model.specs.Heap.{is_cleanup, lower, lowered}
-use Rattle.wb_model.specs.Row.{Cell, headers}
+use Rattle.wb_model.specs.heap.Heap.{is_cleanup, lower, lowered}
+use Rattle.wb_model.specs.heap.Row.{Cell, headers}
 use Rattle.wb_debug.specs.declared.level_counts.Counted.{Counted}
 use Rattle.wb_debug.specs.declared.level_counts.LevelCount.{LevelCount}
 use Rattle.wb_debug.specs.declared.marks.Levels.TheVariants.{One, All}

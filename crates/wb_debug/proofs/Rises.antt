@@ -8,13 +8,13 @@ use Rattle.wb_model.specs.declared.heap.Answer.TheVariants.{Granted, Simulated, 
 use Rattle.wb_model.specs.declared.heap.Attempt.{Attempt}
 use Rattle.wb_model.specs.declared.heap.Rule.{Rule}
 use Rattle.wb_model.specs.declared.size.Rise.{Rise}
-use Rattle.wb_model.specs.Debug.{Debug, made_by, number_of_next, trace_line, answer_in}
-use Rattle.wb_model.specs.Heap.{AfterAnswer, alloc_request, request_at}
-use Rattle.wb_model.specs.LimitedHeap.{place_in, space_in}
-use Rattle.wb_model.specs.Rises.{end_of_line, granted_end, rise_of, rises_with, top_of_rises}
-use Rattle.wb_model.specs.Row.{cell_length, headers, place_of}
-use Rattle.wb_model.specs.Rules.{Request, answer_to, limit_of, refusal_of, refusal_past, simulates, unless_refused}
-use Rattle.wb_model.specs.Space.{below_ceiling, committed_by, limit_under}
+use Rattle.wb_model.specs.heap.Debug.{Debug, made_by, number_of_next, trace_line, answer_in}
+use Rattle.wb_model.specs.heap.Heap.{AfterAnswer, alloc_request, request_at}
+use Rattle.wb_model.specs.heap.LimitedHeap.{place_in, space_in}
+use Rattle.wb_model.specs.runs.Rises.{end_of_line, granted_end, rise_of, rises_with, top_of_rises}
+use Rattle.wb_model.specs.heap.Row.{cell_length, headers, place_of}
+use Rattle.wb_model.specs.heap.Rules.{Request, answer_to, limit_of, refusal_of, refusal_past, simulates, unless_refused}
+use Rattle.wb_model.specs.heap.Space.{below_ceiling, committed_by, limit_under}
 use Rattle.wb_model.proofs.LimitedHeaps.{shape_is}
 use Rattle.wb_rheap.specs.declared.fault.HeapFault.{HeapFault}
 use Rattle.wb_rheap.specs.declared.fault.HeapFault.TheVariants as faults

@@ -4,8 +4,8 @@ use Rattle.std.specs.Prelude.{nat_eq, nat_lt}
 use Rattle.std.proofs.lemmas.Bool.Decides.{nat_tests}
 use Rattle.wb_model.specs.declared.heap.Header.{Header}
 use Rattle.wb_model.specs.declared.heap.Ptr.{Ptr}
-use Rattle.wb_model.specs.Heap.{is_cleanup}
-use Rattle.wb_model.specs.Row.{Cell, headers, is_at, cell_at, inserted, without}
+use Rattle.wb_model.specs.heap.Heap.{is_cleanup}
+use Rattle.wb_model.specs.heap.Row.{Cell, headers, is_at, cell_at, inserted, without}
 use Rattle.wb_model.proofs.Reallocations.{without-absent, others-apart}
 use Rattle.wb_debug.specs.declared.level_counts.Counted.{Counted}
 use Rattle.wb_debug.specs.declared.level_counts.LevelCount.{LevelCount}

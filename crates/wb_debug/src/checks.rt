@@ -1,8 +1,8 @@
 //! Nested marks, and the checks that the cells of a level are as many as expected.
 
 ghost use Rattle.std.specs.Prelude.{◌≡◌, ◌+◌, ◌<◌, ◌^◌, None, Some, IfErr, OnOk, OnErr};
-ghost use Rattle.wb_model.specs.Debug.{IsSoundDebug, check_all_refusal, check_refusal};
-ghost use Rattle.wb_model.specs.Heap.{after_mark, after_mark_end, mark_end_refusal};
+ghost use Rattle.wb_model.specs.heap.Debug.{IsSoundDebug, check_all_refusal, check_refusal};
+ghost use Rattle.wb_model.specs.heap.Heap.{after_mark, after_mark_end, mark_end_refusal};
 
 use crate::debug_heap::DebugHeap;
 use crate::marks;

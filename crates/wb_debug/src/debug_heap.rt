@@ -3,11 +3,11 @@
 
 ghost use Rattle.std.specs.Prelude.{◌≡◌, ◌≢◌, ◌+◌, ◌^◌, ◌<◌, ◌≤◌, ◌↔◌, [], false, true, None, Some, is_some, length, option_map, IfOk, IfErr, IfSome, IsOk, IsErr, IsOkAnd, IsSome, OnOk, OnErr};
 ghost use Rattle.wb_debug.specs.Log.{IsTakenBack};
-ghost use Rattle.wb_model.specs.Debug.{IsSoundDebug, alloc_made, answer_in, debug_without, first_debug, first_debug_of, leaks_of_heap, keeps_rises, trace_line, number_of_next, realloc_made, release_refusal};
-ghost use Rattle.wb_model.specs.Heap.{alloc_request, realloc_request, request_at};
-ghost use Rattle.wb_model.specs.Rises.{first_rises};
-ghost use Rattle.wb_model.specs.Row.{cell_at, cell_length};
-ghost use Rattle.wb_model.specs.Space.{is_shape};
+ghost use Rattle.wb_model.specs.heap.Debug.{IsSoundDebug, alloc_made, answer_in, debug_without, first_debug, first_debug_of, leaks_of_heap, keeps_rises, trace_line, number_of_next, realloc_made, release_refusal};
+ghost use Rattle.wb_model.specs.heap.Heap.{alloc_request, realloc_request, request_at};
+ghost use Rattle.wb_model.specs.runs.Rises.{first_rises};
+ghost use Rattle.wb_model.specs.heap.Row.{cell_at, cell_length};
+ghost use Rattle.wb_model.specs.heap.Space.{is_shape};
 ghost use Rattle.wb_model.specs.declared.heap.Attempt.{Attempt};
 ghost use Rattle.wb_model.specs.declared.heap.Rule.TheVariants.{Unlimited};
 
@@ -49,7 +49,7 @@ pub struct DebugHeap {
 }
 
 impl Model for DebugHeap {
-    ghost use Rattle.wb_model.specs.Debug.{Debug};
+    ghost use Rattle.wb_model.specs.heap.Debug.{Debug};
 
     ghost Value = { Debug };
 

@@ -1,9 +1,9 @@
 //! What is to fail: the rule, and the script's own setting, of which each call replaces what an earlier one set.
 
 ghost use Rattle.std.specs.Prelude.{◌≡◌, ◌≤◌, false};
-ghost use Rattle.wb_model.specs.Debug.{IsSoundDebug, keeps_rises, with_setting};
-ghost use Rattle.wb_model.specs.Rest.{SameSoFar};
-ghost use Rattle.wb_model.specs.Rules.{each, never, next};
+ghost use Rattle.wb_model.specs.heap.Debug.{IsSoundDebug, keeps_rises, with_setting};
+ghost use Rattle.wb_model.specs.runs.Rest.{SameSoFar};
+ghost use Rattle.wb_model.specs.heap.Rules.{each, never, next};
 
 use crate::debug_heap::DebugHeap;
 use crate::setting::Setting;

@@ -1,8 +1,8 @@
 //! What a heap keeps of its attempts: a line of each, or the rises alone. How an attempt is answered is not known here.
 
 ghost use Rattle.std.specs.Prelude.{◌≡◌, ◌<◌, ◌^◌, false, true, IfOk, IsOk, OnOk, OnErr, IsSome, Some};
-ghost use Rattle.wb_model.specs.Rises.{end_of_line};
-ghost use Rattle.wb_model.specs.Traces.{end_of_attempt};
+ghost use Rattle.wb_model.specs.runs.Rises.{end_of_line};
+ghost use Rattle.wb_model.specs.runs.Traces.{end_of_attempt};
 ghost use Rattle.wb_debug.specs.Log.{IsTakenBack, adds, first_log, logged, top_in};
 
 use std::alloc::Global;

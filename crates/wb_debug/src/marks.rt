@@ -4,10 +4,10 @@
 ghost use Rattle.std.specs.Prelude.{◌≡◌, ◌≤◌, None, Some, filter, length, map, not, IfOk, IfErr, OnOk};
 ghost use Rattle.wb_debug.specs.Levels.{is_counted};
 ghost use Rattle.wb_debug.specs.Tally.{IsTally, is_below, number};
-ghost use Rattle.wb_model.specs.Heap.{cells_of_all_levels, checked, is_cleanup, lowered, lowest};
-ghost use Rattle.wb_model.specs.LimitedHeap.{IsSoundHeap};
-ghost use Rattle.wb_model.specs.Row.{headers};
-ghost use Rattle.wb_model.specs.Run.{leak_of};
+ghost use Rattle.wb_model.specs.heap.Heap.{cells_of_all_levels, checked, is_cleanup, lowered, lowest};
+ghost use Rattle.wb_model.specs.heap.LimitedHeap.{IsSoundHeap};
+ghost use Rattle.wb_model.specs.heap.Row.{headers};
+ghost use Rattle.wb_model.specs.runs.Run.{leak_of};
 
 use crate::tally::Tally;
 use std::alloc::Global;

@@ -2,9 +2,9 @@
 
 ghost use Rattle.std.specs.Prelude.{◌≡◌, ◌+◌, ◌*◌, ◌<◌, ◌≤◌, ◌++◌, length, take, drop, replicate, slice_index, slice_set, option_map, IfSome, IsSome};
 ghost use Rattle.wb_chunk.specs.Halves.{half_of, halves_from, with_half, with_halves};
-ghost use Rattle.wb_model.specs.CellRow.{payload_of};
-ghost use Rattle.wb_model.specs.Debug.{IsLiveIn, IsSoundDebug, debug_changed};
-ghost use Rattle.wb_model.specs.Row.{cell_at, usable_of};
+ghost use Rattle.wb_model.specs.cells.CellRow.{payload_of};
+ghost use Rattle.wb_model.specs.heap.Debug.{IsLiveIn, IsSoundDebug, debug_changed};
+ghost use Rattle.wb_model.specs.heap.Row.{cell_at, usable_of};
 
 use crate::debug_heap::DebugHeap;
 use wb_model::heap::{Header, Ptr};

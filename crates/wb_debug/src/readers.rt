@@ -2,8 +2,8 @@
 //! open. Nothing here changes a heap.
 
 ghost use Rattle.std.specs.Prelude.{◌≡◌, length};
-ghost use Rattle.wb_model.specs.LimitedHeap.{next_live_of};
-ghost use Rattle.wb_model.specs.Row.{headers, total_length};
+ghost use Rattle.wb_model.specs.heap.LimitedHeap.{next_live_of};
+ghost use Rattle.wb_model.specs.heap.Row.{headers, total_length};
 
 use crate::debug_heap::DebugHeap;
 use wb_model::heap::Header;

@@ -1,10 +1,10 @@
 //! What is answered to an attempt, and how long a cell and a heap may be, in bytes. Nothing here knows a heap.
 
 ghost use Rattle.std.specs.Prelude.{◌≡◌, ◌≤◌, if◌then◌else◌};
-ghost use Rattle.wb_model.specs.LimitedHeap.{IsCellLength};
-ghost use Rattle.wb_model.specs.Row.{cell_length};
-ghost use Rattle.wb_model.specs.Rules.{refusal_of, unless_refused};
-ghost use Rattle.wb_model.specs.Space.{limit_under};
+ghost use Rattle.wb_model.specs.heap.LimitedHeap.{IsCellLength};
+ghost use Rattle.wb_model.specs.heap.Row.{cell_length};
+ghost use Rattle.wb_model.specs.heap.Rules.{refusal_of, unless_refused};
+ghost use Rattle.wb_model.specs.heap.Space.{limit_under};
 
 use wb_model::heap::{Answer, Rule};
 use wb_model::limits::CEILING;

@@ -3,8 +3,8 @@
 
 ghost use Rattle.std.specs.Prelude.{◌≡◌, ℕ, ◌+◌, ◌<◌, ◌≤◌, ◌^◌, IfOk, IfSome, List, Some, None, [], option_map};
 ghost use Rattle.wb_model.specs.declared.heap.Header.{Header};
-ghost use Rattle.wb_model.specs.Heap.{lowered};
-ghost use Rattle.wb_model.specs.Row.{Cell, headers};
+ghost use Rattle.wb_model.specs.heap.Heap.{lowered};
+ghost use Rattle.wb_model.specs.heap.Row.{Cell, headers};
 ghost use Rattle.wb_debug.specs.LevelCounts.{SetsOnly, counted_at, lowered_at, one_less, with_more};
 ghost use Rattle.wb_debug.specs.Tally.{Edits, IsMore, IsOther, IsTally};
 

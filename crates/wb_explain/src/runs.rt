@@ -3,7 +3,7 @@
 //! The script is run once more for this, and watched turn by turn, so that lines can be named.
 
 ghost use Rattle.std.specs.Prelude.{◌≤◌, IsTrue};
-ghost use Rattle.wb_model.specs.Sound.{is_script};
+ghost use Rattle.wb_model.specs.language.Sound.{is_script};
 
 mod attempts;
 mod blame;

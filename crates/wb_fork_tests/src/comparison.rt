@@ -1,7 +1,7 @@
 //! What the comparisons of a script's run find.
 
 ghost use Rattle.std.specs.Prelude.{IsTrue};
-ghost use Rattle.wb_model.specs.Sound.{is_script};
+ghost use Rattle.wb_model.specs.language.Sound.{is_script};
 
 use crate::copies::compare_copies;
 use crate::forks::compare_forks;

@@ -1,8 +1,8 @@
 //! Forks of a run, each beside the whole run that it stands for.
 
 ghost use Rattle.std.specs.Prelude.{◌≡◌, ◌+◌, false, IsTrue};
-ghost use Rattle.wb_model.specs.Sound.{is_script};
-ghost use Rattle.wb_model.specs.Sweeps.{rule_of};
+ghost use Rattle.wb_model.specs.language.Sound.{is_script};
+ghost use Rattle.wb_model.specs.runs.Sweeps.{rule_of};
 
 use crate::comparison::Comparison;
 use crate::results::{BUDGET, MOST_TURNS, SHAPE, comes_to_run, is_result};

@@ -2,7 +2,7 @@
 //! which both fail.
 
 ghost use Rattle.std.specs.Prelude.{◌≡◌, ◌+◌, ◌≤◌, false, IsTrue};
-ghost use Rattle.wb_model.specs.Sound.{is_script};
+ghost use Rattle.wb_model.specs.language.Sound.{is_script};
 ghost use Rattle.wb_model.specs.declared.heap.Rule.TheVariants as rules;
 
 use crate::comparison::Comparison;

@@ -1,7 +1,7 @@
 //! What runs come to, beside one another: all that a run tells is compared.
 
 ghost use Rattle.std.specs.Prelude.{IsTrue};
-ghost use Rattle.wb_model.specs.Sound.{is_script};
+ghost use Rattle.wb_model.specs.language.Sound.{is_script};
 
 use std::alloc::Global;
 use wb_machine::{Machine, RunFault, run};

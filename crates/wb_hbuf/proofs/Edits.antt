@@ -5,10 +5,10 @@ use Rattle.std.proofs.lemmas.List.{length-append, length-drop, length-take-le, l
 use Rattle.wb_model.specs.declared.heap.TheConstants.Panic.{TOO_LONG, POSITION_OUT_OF_BOUNDS}
 use Rattle.wb_model.specs.declared.heap.Ptr.{Ptr}
 use Rattle.wb_model.specs.declared.heap.Panic.{Panic}
-use Rattle.wb_model.specs.CellRow.{content_or_nil, payload_of}
-use Rattle.wb_model.specs.Texts.{Edited, exactly, units_of_part, answer_of, at_most, insert_text, delete_text, set_length_text}
-use Rattle.wb_model.specs.Debug.{Debug, IsSoundDebug, debug_changed}
-use Rattle.wb_model.specs.TextCells.{joined, room_in, units_after, text_in, text_at, IsTextAt, debug_edited}
+use Rattle.wb_model.specs.cells.CellRow.{content_or_nil, payload_of}
+use Rattle.wb_model.specs.meaning.Texts.{Edited, exactly, units_of_part, answer_of, at_most, insert_text, delete_text, set_length_text}
+use Rattle.wb_model.specs.heap.Debug.{Debug, IsSoundDebug, debug_changed}
+use Rattle.wb_model.specs.cells.TextCells.{joined, room_in, units_after, text_in, text_at, IsTextAt, debug_edited}
 use Rattle.wb_model.proofs.TextCells.{length-exactly}
 use Rattle.wb_model.proofs.TextCellsHeap.{IsTextNow, found-other}
 use Rattle.wb_hbuf.specs.declared.sources.Source.{Source}

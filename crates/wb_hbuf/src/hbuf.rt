@@ -3,12 +3,12 @@
 ghost use Rattle.std.specs.Prelude.{◌≡◌, ◌+◌, ◌*◌, ◌^◌, ◌<◌, ◌≤◌, ◌++◌, [], length, take, None, IfOk, IfSome, IsOk, OnErr, OnOk};
 ghost use Rattle.wb_hbuf.specs.Drafts.{IsEdited, IsMeasured};
 ghost use Rattle.wb_hbuf.specs.Sources.{IsApart, IsForeign, IsReadableAlone, IsSource, SuitsEdit, cell_edited, edit_text, source_units};
-ghost use Rattle.wb_model.specs.Debug.{IsSoundDebug, alloc_made, answer_in, realloc_made};
-ghost use Rattle.wb_model.specs.Heap.{alloc_request, realloc_request};
-ghost use Rattle.wb_model.specs.Reading.{printed, printed_unit};
-ghost use Rattle.wb_model.specs.Row.{cell_at, cell_length};
-ghost use Rattle.wb_model.specs.TextCells.{IsGrantedText, IsRemadeText, IsTextAt, debug_edited, max_at, text_at};
-ghost use Rattle.wb_model.specs.Texts.{answer_of, at_most, delete_text, edited, set_length_text};
+ghost use Rattle.wb_model.specs.heap.Debug.{IsSoundDebug, alloc_made, answer_in, realloc_made};
+ghost use Rattle.wb_model.specs.heap.Heap.{alloc_request, realloc_request};
+ghost use Rattle.wb_model.specs.meaning.Reading.{printed, printed_unit};
+ghost use Rattle.wb_model.specs.heap.Row.{cell_at, cell_length};
+ghost use Rattle.wb_model.specs.cells.TextCells.{IsGrantedText, IsRemadeText, IsTextAt, debug_edited, max_at, text_at};
+ghost use Rattle.wb_model.specs.meaning.Texts.{answer_of, at_most, delete_text, edited, set_length_text};
 
 use crate::reading::{Part, count, foreign_unit};
 use crate::sources::{Edit, Source};

@@ -3,11 +3,11 @@ use Rattle.std.proofs.Common.{◌≡◌, ℕ, List, refl, ap, ◌∙◌, Result,
 use Rattle.std.specs.Prelude.{IsSome, nat_lt}
 use Rattle.wb_model.specs.declared.heap.Answer.{Answer}
 use Rattle.wb_model.specs.declared.heap.Answer.TheVariants.{Granted, Simulated, Refused}
-use Rattle.wb_model.specs.CellRow.{resized_words}
-use Rattle.wb_model.specs.Debug.{Debug, number_of_next, made_by, answer_in, longer_made, shorter_made, realloc_made}
-use Rattle.wb_model.specs.Heap.{after_realloc, realloc_request}
-use Rattle.wb_model.specs.Row.{Cell, cell_length}
-use Rattle.wb_model.specs.Rules.{Request}
+use Rattle.wb_model.specs.cells.CellRow.{resized_words}
+use Rattle.wb_model.specs.heap.Debug.{Debug, number_of_next, made_by, answer_in, longer_made, shorter_made, realloc_made}
+use Rattle.wb_model.specs.heap.Heap.{after_realloc, realloc_request}
+use Rattle.wb_model.specs.heap.Row.{Cell, cell_length}
+use Rattle.wb_model.specs.heap.Rules.{Request}
 
 realloc_level : (d : Debug) (c : Cell (List ℕ)) (bytes : ℕ) → (realloc_made d c bytes).debug.heap.level ≡ d.heap.level
 realloc_level d c bytes = by (nat_lt c.head.length (cell_length bytes))

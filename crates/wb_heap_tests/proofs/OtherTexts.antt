@@ -1,9 +1,9 @@
 -- an edit of one text leaves the others
 use Rattle.std.proofs.Common.{◌≡◌, ◌≢◌, Ok, Err, subst, sym}
 use Rattle.wb_model.specs.declared.heap.Ptr.{Ptr}
-use Rattle.wb_model.specs.Texts.{Edited}
-use Rattle.wb_model.specs.Debug.{Debug}
-use Rattle.wb_model.specs.TextCells.{IsTextAt, debug_edited}
+use Rattle.wb_model.specs.meaning.Texts.{Edited}
+use Rattle.wb_model.specs.heap.Debug.{Debug}
+use Rattle.wb_model.specs.cells.TextCells.{IsTextAt, debug_edited}
 use Rattle.wb_model.proofs.TextCellsHeap.{text-other}
 
 pub text-edited : (p q : Ptr) (d e : Debug) (edit : Edited) → q ≢ p → e ≡ debug_edited d p edit → IsTextAt q d → IsTextAt q e

@@ -1,7 +1,7 @@
 //! `wb_hbuf`: worked edits of texts in cells and in a buffer, by what they answer and what the texts read as then.
 
 ghost use Rattle.std.specs.Prelude.{◌≤◌, IfOk};
-ghost use Rattle.wb_model.specs.TextCells.{IsTextAt};
+ghost use Rattle.wb_model.specs.cells.TextCells.{IsTextAt};
 
 use crate::literals::literal;
 use crate::texts::{Change, Taken, Target, WorkedTexts, first_other, grant_text, printed_line};

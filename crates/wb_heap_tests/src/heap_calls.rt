@@ -1,8 +1,8 @@
 //! Calls of a heap with the answers that they must give, so that a worked heap is a table of calls.
 
 ghost use Rattle.std.specs.Prelude.{◌<◌, ◌≤◌, All, IsTrue};
-ghost use Rattle.wb_model.specs.LimitedHeap.{IsCellLength};
-ghost use Rattle.wb_model.specs.Row.{headers};
+ghost use Rattle.wb_model.specs.heap.LimitedHeap.{IsCellLength};
+ghost use Rattle.wb_model.specs.heap.Row.{headers};
 
 use std::alloc::Global;
 use wb_model::heap::{Header, Kind, Ptr, Shape};

@@ -1,8 +1,8 @@
 //! Calls on objects with the answers that they must give, so that worked objects are a table of calls.
 
 ghost use Rattle.std.specs.Prelude.{◌≡◌, ℕ, ◌+◌, ◌^◌, ◌<◌, ◌≤◌, length, true};
-ghost use Rattle.wb_model.specs.Statements.{payload_of_object};
-ghost use Rattle.wb_model.specs.Bodies.{class_at};
+ghost use Rattle.wb_model.specs.meaning.Statements.{payload_of_object};
+ghost use Rattle.wb_model.specs.meaning.Bodies.{class_at};
 ghost use Rattle.wb_objects.specs.Objects.{HasField};
 
 use crate::heap_calls::{Cell, pointer};

@@ -2,8 +2,8 @@
 
 ghost use Rattle.std.specs.Prelude.{◌≢◌, ◌≤◌, IfOk};
 ghost use Rattle.wb_hbuf.specs.Sources.{IsApart, IsSource, SuitsEdit};
-ghost use Rattle.wb_model.specs.Debug.{IsSoundDebug};
-ghost use Rattle.wb_model.specs.TextCells.{IsTextAt};
+ghost use Rattle.wb_model.specs.heap.Debug.{IsSoundDebug};
+ghost use Rattle.wb_model.specs.cells.TextCells.{IsTextAt};
 
 use crate::literals::literal;
 use std::alloc::Global;

@@ -3,8 +3,8 @@ use Rattle.std.specs.Prelude.{List, map}
 use Rattle.std.specs.Borrow.{Bor}
 use Rattle.wb_model.specs.declared.script_lines.Form.{Form}
 use Rattle.wb_model.specs.declared.script_lines.Operand.{Operand}
-use Rattle.wb_model.specs.Forms.{renamed, renamed_operand}
-use Rattle.wb_model.specs.Names.{Text}
+use Rattle.wb_model.specs.language.Forms.{renamed, renamed_operand}
+use Rattle.wb_model.specs.language.Names.{Text}
 
 abbrev pub bytes_of_text : Bor Text → Text
 bytes_of_text text = text.now

@@ -10,9 +10,9 @@ use Rattle.wb_model.specs.declared.script_lines.Form.{Form}
 use Rattle.wb_model.specs.declared.script_lines.Form.TheVariants.{Line}
 use Rattle.wb_model.specs.declared.script_lines.WordKind.{WordKind}
 use Rattle.wb_model.specs.declared.script_lines.WordKind.TheVariants as word
-use Rattle.wb_model.specs.LineKinds.{operand_places_for, word_kinds}
-use Rattle.wb_model.specs.Names.{Text}
-use Rattle.wb_model.specs.Sound.{is_literal_text}
+use Rattle.wb_model.specs.language.LineKinds.{operand_places_for, word_kinds}
+use Rattle.wb_model.specs.language.Names.{Text}
+use Rattle.wb_model.specs.language.Sound.{is_literal_text}
 
 -- at most nine digits
 abbrev pub is_short : ℤ → Bool

@@ -2,7 +2,7 @@
 
 ghost use Rattle.std.specs.Prelude.{◌≡◌, false};
 ghost use Rattle.std.specs.List.{list_any};
-ghost use Rattle.wb_model.specs.Lines.{is_foreign, first_foreign_line, is_too_long};
+ghost use Rattle.wb_model.specs.language.Lines.{is_foreign, first_foreign_line, is_too_long};
 
 use wb_model::limits::LONGEST_SCRIPT;
 

@@ -4,9 +4,9 @@ ghost use Rattle.std.specs.Prelude.{◌≡◌, ◌<◌, ℕ, [], ◌∷◌, ◌+
 ghost use Rattle.std.specs.Option.{option_and_then, option_map};
 ghost use Rattle.std.specs.Str.{bytes_eq};
 ghost use Rattle.wb_model.specs.declared.script_lines.Operand.TheVariants.{Name, Number, Literal};
-ghost use Rattle.wb_model.specs.Forms.{renamed_parameter_type, size_of, field_of, parameter_of, operand_as, operand_among, operand_of, operands_of, operands_if, form_in, form_of, forms_of, line_form, begins_comment, role_of_form};
+ghost use Rattle.wb_model.specs.language.Forms.{renamed_parameter_type, size_of, field_of, parameter_of, operand_as, operand_among, operand_of, operands_of, operands_if, form_in, form_of, forms_of, line_form, begins_comment, role_of_form};
 ghost use Rattle.wb_model.specs.declared.script_lines.WordKind.TheVariants as kind;
-ghost use Rattle.wb_model.specs.LineKinds.{line_kinds, operand_places_with, operand_places_for, text_of};
+ghost use Rattle.wb_model.specs.language.LineKinds.{line_kinds, operand_places_with, operand_places_for, text_of};
 ghost use Rattle.wb_lines.specs.BytesOf.{bytes_of_text, bytes_of_texts, bytes_of_operand, bytes_of_operands, bytes_of_form, bytes_of_forms};
 
 use crate::first_bytes::line_kinds_with_first;

@@ -1,7 +1,7 @@
 //! The tables of the language: a row for each line kind, and one for each operand place. No line's meaning stands here.
 
 ghost use Rattle.std.specs.Prelude.{◌≡◌, ◌<◌, ℕ, length, nat_eq, slice_get};
-ghost use Rattle.wb_model.specs.LineKinds.{line_kinds, text_of, operand_places_of, rest_of, operand_places_with, operand_places_for, role_of, word_kinds};
+ghost use Rattle.wb_model.specs.language.LineKinds.{line_kinds, text_of, operand_places_of, rest_of, operand_places_with, operand_places_for, role_of, word_kinds};
 
 use wb_model::script_lines::{Keyword, LineKind, OperandPlace, Role, WordKind};
 

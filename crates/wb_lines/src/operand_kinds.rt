@@ -1,7 +1,7 @@
 //! Which kinds of operands are right in a place of a line.
 
 ghost use Rattle.std.specs.Prelude.{◌≡◌};
-ghost use Rattle.wb_model.specs.LineKinds.{is_pointer_kind, takes};
+ghost use Rattle.wb_model.specs.language.LineKinds.{is_pointer_kind, takes};
 ghost use Rattle.wb_model.specs.declared.script_lines.OperandPlace.TheVariants as operand_place;
 
 use wb_model::script_lines::{OperandKind, OperandPlace};

@@ -4,9 +4,9 @@ ghost use Rattle.std.specs.Prelude.{◌≡◌, ◌<◌, ◌≤◌, ◌^◌, IfSo
 ghost use Rattle.std.specs.List.{list_all, list_any};
 ghost use Rattle.std.specs.Option.{option_copied, option_map};
 ghost use Rattle.std.specs.Str.{bytes_eq};
-ghost use Rattle.wb_model.specs.Sound.{is_quotable};
-ghost use Rattle.wb_model.specs.Words.{is_letter, is_digit, is_name_byte, is_name, is_reserved, declared_name, used_name, length_before, before_first, after_first_of, digits_of, number_spelled, literal_spelled, base_name, field_name, parameter_type_after_colon, parameter_name, parameter_type_of_word, text_of_keyword};
-ghost use Rattle.wb_model.specs.Forms.{renamed_parameter_type};
+ghost use Rattle.wb_model.specs.language.Sound.{is_quotable};
+ghost use Rattle.wb_model.specs.language.Words.{is_letter, is_digit, is_name_byte, is_name, is_reserved, declared_name, used_name, length_before, before_first, after_first_of, digits_of, number_spelled, literal_spelled, base_name, field_name, parameter_type_after_colon, parameter_name, parameter_type_of_word, text_of_keyword};
+ghost use Rattle.wb_model.specs.language.Forms.{renamed_parameter_type};
 ghost use Rattle.wb_lines.specs.BytesOf.{bytes_of_text};
 
 use wb_model::script_lines::{Keyword, ParameterType};

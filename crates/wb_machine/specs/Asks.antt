@@ -4,12 +4,12 @@ use Rattle.wb_model.specs.declared.limits.TheConstants.{LARGEST_REQUEST, MOST_UN
 use Rattle.wb_model.specs.declared.heap.Ptr.{Ptr}
 use Rattle.wb_model.specs.declared.script.Script.{Script}
 use Rattle.wb_model.specs.declared.script.Statement.TheOpen.{Statement-F}
-use Rattle.wb_model.specs.State.{Process, asks, notes}
-use Rattle.wb_model.specs.Row.{Cell, cell_at, cell_length}
-use Rattle.wb_model.specs.Operands.{within}
-use Rattle.wb_model.specs.TextCells.{text_in}
-use Rattle.wb_model.specs.Statements.{Layer, is_null, is_raw}
-use Rattle.wb_model.specs.Rest.{Progress, not_begun, going, has_stopped, resume}
+use Rattle.wb_model.specs.meaning.State.{Process, asks, notes}
+use Rattle.wb_model.specs.heap.Row.{Cell, cell_at, cell_length}
+use Rattle.wb_model.specs.meaning.Operands.{within}
+use Rattle.wb_model.specs.cells.TextCells.{text_in}
+use Rattle.wb_model.specs.meaning.Statements.{Layer, is_null, is_raw}
+use Rattle.wb_model.specs.runs.Rest.{Progress, not_begun, going, has_stopped, resume}
 use Rattle.wb_machine.specs.RunState.{RunState}
 use Rattle.wb_machine.specs.Effects.{pointer_read, number_read}
 use Rattle.wb_machine.specs.PointerOperands.{operands_refusal}

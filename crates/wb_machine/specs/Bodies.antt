@@ -7,7 +7,7 @@ use Rattle.wb_objects.specs.Objects.{class_found}
 use Rattle.wb_machine.specs.declared.bodies.BodyContent.{BodyContent}
 use Rattle.wb_machine.specs.declared.pieces.After.{After}
 use Rattle.wb_machine.specs.declared.pieces.After.TheVariants.{Nothing, Gives, Releases}
-use Rattle.wb_model.specs.State.{pointer}
+use Rattle.wb_model.specs.meaning.State.{pointer}
 use Rattle.wb_machine.specs.RunState.{RunState}
 use Rattle.wb_machine.specs.Effects.{Effect, gone_on, stored, free_effect}
 

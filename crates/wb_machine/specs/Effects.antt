@@ -21,15 +21,15 @@ use Rattle.wb_model.specs.declared.script.Condition.{Condition}
 use Rattle.wb_model.specs.declared.script.Condition.TheVariants.{IsNull, NotNull, Equal, Less}
 use Rattle.wb_model.specs.declared.script.Refusal.{Refusal}
 use Rattle.wb_model.specs.declared.script.Refusal.TheVariants as refusals
-use Rattle.wb_model.specs.Row.{Cell, cell_at, usable_of, without}
-use Rattle.wb_model.specs.CellRow.{payload_of}
-use Rattle.wb_model.specs.State.{Value, pointer, number, initial, number_in, null}
-use Rattle.wb_model.specs.Operands.{within}
-use Rattle.wb_model.specs.Statements.{is_null, is_raw, index_in, in_range}
-use Rattle.wb_model.specs.Rules.{Setting}
-use Rattle.wb_model.specs.Heap.{is_cleanup, after_mark, after_mark_end, mark_end_refusal}
-use Rattle.wb_model.specs.Spelling.{signed}
-use Rattle.wb_model.specs.Debug.{Made, alloc_made, realloc_made, with_row, debug_changed, with_setting, debug_compressed, note_of_heap, note_of_available, note_of_compress}
+use Rattle.wb_model.specs.heap.Row.{Cell, cell_at, usable_of, without}
+use Rattle.wb_model.specs.cells.CellRow.{payload_of}
+use Rattle.wb_model.specs.meaning.State.{Value, pointer, number, initial, number_in, null}
+use Rattle.wb_model.specs.meaning.Operands.{within}
+use Rattle.wb_model.specs.meaning.Statements.{is_null, is_raw, index_in, in_range}
+use Rattle.wb_model.specs.heap.Rules.{Setting}
+use Rattle.wb_model.specs.heap.Heap.{is_cleanup, after_mark, after_mark_end, mark_end_refusal}
+use Rattle.wb_model.specs.cells.Spelling.{signed}
+use Rattle.wb_model.specs.heap.Debug.{Made, alloc_made, realloc_made, with_row, debug_changed, with_setting, debug_compressed, note_of_heap, note_of_available, note_of_compress}
 use Rattle.wb_machine.specs.declared.pieces.Ending.{Ending}
 use Rattle.wb_machine.specs.declared.pieces.Ending.TheVariants.{GoesOn, Returns, Leaves, Panics, Cut, NoCleanup}
 use Rattle.wb_machine.specs.RunState.{Values, RunState, with_debug, value_in}

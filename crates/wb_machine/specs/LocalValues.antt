@@ -12,9 +12,9 @@ use Rattle.wb_model.specs.declared.script.Number.TheVariants.{Constant, Variable
 use Rattle.wb_model.specs.declared.text.Base.{Base}
 use Rattle.wb_model.specs.declared.text.Base.TheVariants.{Nothing}
 use Rattle.wb_model.specs.declared.text.View.{View}
-use Rattle.wb_model.specs.Texts.{Buffer}
-use Rattle.wb_model.specs.State.{Value, pointer, number, buffer, view, initial, number_in}
-use Rattle.wb_model.specs.Reading.{buffer_text, max_in}
+use Rattle.wb_model.specs.meaning.Texts.{Buffer}
+use Rattle.wb_model.specs.meaning.State.{Value, pointer, number, buffer, view, initial, number_in}
+use Rattle.wb_model.specs.meaning.Reading.{buffer_text, max_in}
 use Rattle.wb_machine.specs.declared.arguments.CallArguments.{CallArguments}
 use Rattle.wb_machine.specs.declared.arguments.CallArguments.TheVariants.{Arguments, Item}
 use Rattle.wb_machine.specs.declared.locals.Slot.{Slot}
@@ -22,7 +22,7 @@ use Rattle.wb_machine.specs.declared.locals.Slot.TheVariants as S
 use Rattle.wb_machine.specs.declared.locals.Stored.{Stored}
 use Rattle.wb_machine.specs.declared.locals.Stored.TheVariants as T
 use Rattle.wb_machine.specs.declared.locals.Locals.TheInside.{Inside}
-use Rattle.wb_model.specs.Debug.{Debug}
+use Rattle.wb_model.specs.heap.Debug.{Debug}
 use Rattle.wb_machine.specs.RunState.{Values, RunState, value_in}
 use Rattle.wb_machine.specs.PointerOperands.{pointer_over}
 

@@ -19,12 +19,12 @@ use Rattle.wb_model.specs.declared.script.Readable.TheVariants.{Of, ViewOf, Quot
 use Rattle.wb_model.specs.declared.script.Condition.{Condition}
 use Rattle.wb_model.specs.declared.script.Condition.TheVariants.{IsNull, NotNull, Equal, Less}
 use Rattle.wb_model.specs.declared.script.Statement.TheOpen.{Statement-F}
-use Rattle.wb_model.specs.Row.{Cell, cell_at}
-use Rattle.wb_model.specs.CellRow.{with_payload}
-use Rattle.wb_model.specs.Spelling.{fields_in}
-use Rattle.wb_model.specs.State.{null, pointer_in}
-use Rattle.wb_model.specs.Statements.{Layer}
-use Rattle.wb_model.specs.Debug.{Debug}
+use Rattle.wb_model.specs.heap.Row.{Cell, cell_at}
+use Rattle.wb_model.specs.cells.CellRow.{with_payload}
+use Rattle.wb_model.specs.cells.Spelling.{fields_in}
+use Rattle.wb_model.specs.meaning.State.{null, pointer_in}
+use Rattle.wb_model.specs.meaning.Statements.{Layer}
+use Rattle.wb_model.specs.heap.Debug.{Debug}
 use Rattle.wb_objects.specs.Objects.{words_found, with_field}
 use Rattle.wb_machine.specs.RunState.{Values, RunState, field_count, value_in}
 

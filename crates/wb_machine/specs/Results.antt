@@ -4,8 +4,8 @@ use Rattle.wb_model.specs.declared.run.Leak.{Leak}
 use Rattle.wb_model.specs.declared.run.Outcome.{Outcome}
 use Rattle.wb_model.specs.declared.run.Outcome.TheVariants as outcomes
 use Rattle.wb_model.specs.declared.run.RunResult.{RunResult}
-use Rattle.wb_model.specs.Debug.{leaks_of_heap}
-use Rattle.wb_model.specs.Run.{WholeRun}
+use Rattle.wb_model.specs.heap.Debug.{leaks_of_heap}
+use Rattle.wb_model.specs.runs.Run.{WholeRun}
 use Rattle.wb_machine.specs.declared.pieces.Ending.{Ending}
 use Rattle.wb_machine.specs.declared.pieces.Ending.TheVariants.{GoesOn, Returns, Leaves, Panics, Cut, NoCleanup}
 use Rattle.wb_machine.specs.RunState.{RunState}

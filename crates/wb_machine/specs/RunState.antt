@@ -7,13 +7,13 @@ use Rattle.wb_model.specs.declared.heap.Shape.{Shape}
 use Rattle.wb_model.specs.declared.run.Note.{Note}
 use Rattle.wb_model.specs.declared.script.Body.{Body}
 use Rattle.wb_model.specs.declared.script.Script.{Script}
-use Rattle.wb_model.specs.Row.{Cell}
-use Rattle.wb_model.specs.Heap.{Heap}
-use Rattle.wb_model.specs.State.{Content, Value, number, State, null}
-use Rattle.wb_model.specs.Bodies.{class_at, procedure_at}
-use Rattle.wb_model.specs.Account.{Account}
-use Rattle.wb_model.specs.Debug.{Debug, first_debug_of}
-use Rattle.wb_model.specs.Spelling.{read_as}
+use Rattle.wb_model.specs.heap.Row.{Cell}
+use Rattle.wb_model.specs.heap.Heap.{Heap}
+use Rattle.wb_model.specs.meaning.State.{Content, Value, number, State, null}
+use Rattle.wb_model.specs.meaning.Bodies.{class_at, procedure_at}
+use Rattle.wb_model.specs.runs.Account.{Account}
+use Rattle.wb_model.specs.heap.Debug.{Debug, first_debug_of}
+use Rattle.wb_model.specs.cells.Spelling.{read_as}
 
 -- the locals of a body, by their index
 abbrev pub Values : Type 0

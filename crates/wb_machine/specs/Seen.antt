@@ -4,8 +4,8 @@ use Rattle.wb_model.specs.declared.heap.Header.{Header}
 use Rattle.wb_model.specs.declared.heap.Rule.{Rule}
 use Rattle.wb_model.specs.declared.heap.Shape.{Shape}
 use Rattle.wb_model.specs.declared.script.Script.{Script}
-use Rattle.wb_model.specs.Run.{WholeRun, whole_run}
-use Rattle.wb_model.specs.Space.{space_of}
+use Rattle.wb_model.specs.runs.Run.{WholeRun, whole_run}
+use Rattle.wb_model.specs.heap.Space.{space_of}
 
 pub record Seen : Type 0 where
   pub script : Script

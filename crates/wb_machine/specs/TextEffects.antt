@@ -12,15 +12,15 @@ use Rattle.wb_model.specs.declared.script.Refusal.TheVariants.{GivesNull}
 use Rattle.wb_model.specs.declared.text.Base.{Base}
 use Rattle.wb_model.specs.declared.text.Base.TheVariants as B
 use Rattle.wb_model.specs.declared.text.View.{View}
-use Rattle.wb_model.specs.Row.{Cell, cell_at}
+use Rattle.wb_model.specs.heap.Row.{Cell, cell_at}
 use Rattle.wb_model.specs.declared.script.Readable.{Readable}
 use Rattle.wb_model.specs.declared.script.Number.{Number}
-use Rattle.wb_model.specs.Texts.{Edited, delete_text, set_length_text, left_part, right_part, mid_part, view_of_part}
-use Rattle.wb_model.specs.State.{number, buffer, view}
-use Rattle.wb_model.specs.Operands.{within, not_negative}
-use Rattle.wb_model.specs.Reading.{is_same_base, printed}
-use Rattle.wb_model.specs.Debug.{alloc_made, realloc_made}
-use Rattle.wb_model.specs.TextCells.{text_in, text_at, text_changed}
+use Rattle.wb_model.specs.meaning.Texts.{Edited, delete_text, set_length_text, left_part, right_part, mid_part, view_of_part}
+use Rattle.wb_model.specs.meaning.State.{number, buffer, view}
+use Rattle.wb_model.specs.meaning.Operands.{within, not_negative}
+use Rattle.wb_model.specs.meaning.Reading.{is_same_base, printed}
+use Rattle.wb_model.specs.heap.Debug.{alloc_made, realloc_made}
+use Rattle.wb_model.specs.cells.TextCells.{text_in, text_at, text_changed}
 use Rattle.wb_hbuf.specs.declared.sources.Edit.{Edit}
 use Rattle.wb_hbuf.specs.declared.sources.Edit.TheVariants.{Insert}
 use Rattle.wb_hbuf.specs.Sources.{edit_text}

@@ -12,10 +12,10 @@ use Rattle.wb_model.specs.declared.script.Readable.TheVariants.{Of, ViewOf, Quot
 use Rattle.wb_model.specs.declared.text.Base.{Base}
 use Rattle.wb_model.specs.declared.text.Base.TheVariants as B
 use Rattle.wb_model.specs.declared.text.View.{View}
-use Rattle.wb_model.specs.Row.{Cell, cell_at}
-use Rattle.wb_model.specs.Texts.{Buffer, units_of_part}
-use Rattle.wb_model.specs.Reading.{literal_at, buffer_text, max_in}
-use Rattle.wb_model.specs.TextCells.{text_at, max_at}
+use Rattle.wb_model.specs.heap.Row.{Cell, cell_at}
+use Rattle.wb_model.specs.meaning.Texts.{Buffer, units_of_part}
+use Rattle.wb_model.specs.meaning.Reading.{literal_at, buffer_text, max_in}
+use Rattle.wb_model.specs.cells.TextCells.{text_at, max_at}
 use Rattle.wb_machine.specs.RunState.{RunState, value_in}
 use Rattle.wb_machine.specs.LocalValues.{buffer_in, whole_window, window_in}
 use Rattle.wb_machine.specs.PointerOperands.{pointer_read}

@@ -2,11 +2,11 @@
 use Rattle.std.specs.Prelude.{◌≡◌, ◌≤◌, Bool, true, false, not, ◌&&◌}
 use Rattle.wb_model.specs.declared.limits.TheConstants.{LARGEST_BUDGET}
 use Rattle.wb_model.specs.declared.heap.Rule.{Rule}
-use Rattle.wb_model.specs.Sound.{is_script}
-use Rattle.wb_model.specs.Debug.{keeps_rises}
-use Rattle.wb_model.specs.Row.{headers}
-use Rattle.wb_model.specs.Run.{WholeRun, whole_run}
-use Rattle.wb_model.specs.Rest.{Fits, Progress, next_line}
+use Rattle.wb_model.specs.language.Sound.{is_script}
+use Rattle.wb_model.specs.heap.Debug.{keeps_rises}
+use Rattle.wb_model.specs.heap.Row.{headers}
+use Rattle.wb_model.specs.runs.Run.{WholeRun, whole_run}
+use Rattle.wb_model.specs.runs.Rest.{Fits, Progress, next_line}
 use Rattle.wb_machine.specs.declared.machine.Machine.TheInside.{Inside}
 use Rattle.wb_machine.specs.RunState.{state_of}
 use Rattle.wb_machine.specs.Asks.{asks_next}

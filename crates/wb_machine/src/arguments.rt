@@ -1,7 +1,7 @@
 //! What a body is handed by whoever calls it.
 
 ghost use Rattle.std.specs.Prelude.{◌≡◌, ℕ, ◌≤◌, List, ◌++◌, map, drop, vec_len, OnOk};
-ghost use Rattle.wb_model.specs.Texts.{Buffer};
+ghost use Rattle.wb_model.specs.meaning.Texts.{Buffer};
 ghost use Rattle.wb_machine.specs.LocalValues.{value_of, values_stored, AreAscending, number_over, passed_over, values_over};
 
 use crate::locals::{Slot, Stored, push_slot};

@@ -1,8 +1,8 @@
 //! Whether a statement that is to begin asks for an attempt. Nothing here changes a state.
 
 ghost use Rattle.std.specs.Prelude.{◌≡◌, ◌≤◌};
-ghost use Rattle.wb_model.specs.Operands.{within};
-ghost use Rattle.wb_model.specs.Row.{cell_at, cell_length};
+ghost use Rattle.wb_model.specs.meaning.Operands.{within};
+ghost use Rattle.wb_model.specs.heap.Row.{cell_at, cell_length};
 ghost use Rattle.wb_model.specs.declared.limits.TheConstants.{LARGEST_REQUEST, MOST_UNITS, CEILING};
 ghost use Rattle.wb_model.specs.declared.script.Statement.TheViews.{out-Statement};
 ghost use Rattle.wb_machine.specs.Effects.{pointer_read, number_read};

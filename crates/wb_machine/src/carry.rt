@@ -1,7 +1,7 @@
 //! Which function carries out which statement. Those on texts stand in `carry_text`.
 
 ghost use Rattle.std.specs.Prelude.{◌≡◌, ◌+◌, ◌^◌, ◌<◌, length, None, IfOk, OnOk, IsTrue};
-ghost use Rattle.wb_model.specs.Sound.{is_script};
+ghost use Rattle.wb_model.specs.language.Sound.{is_script};
 ghost use Rattle.wb_model.specs.declared.script.Statement.TheViews.{out-Statement};
 ghost use Rattle.wb_machine.specs.Flow.{IsSimple, IsCarriedOut};
 ghost use Rattle.wb_machine.specs.Owed.{HasStack, KeepsCount, MayAttempt};

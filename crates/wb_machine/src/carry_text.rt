@@ -1,7 +1,7 @@
 //! Which function carries out which statement on texts.
 
 ghost use Rattle.std.specs.Prelude.{◌≡◌, ℕ, None, IfOk, IsTrue};
-ghost use Rattle.wb_model.specs.Sound.{is_script};
+ghost use Rattle.wb_model.specs.language.Sound.{is_script};
 ghost use Rattle.wb_model.specs.declared.script.Statement.TheViews.{out-Statement};
 ghost use Rattle.wb_machine.specs.Flow.{IsSimple, IsCarriedOut};
 ghost use Rattle.wb_machine.specs.TextStatements.{is_on_text};

@@ -2,10 +2,10 @@
 
 ghost use Rattle.std.specs.Prelude.{◌≡◌, ◌≢◌, false, ◌+◌, ◌^◌, ◌<◌, ◌≤◌, length, IfOk, IfSome, IsSome, OnErr, OnOk};
 ghost use Rattle.wb_model.specs.declared.heap.Kind.TheVariants.{Raw, Text};
-ghost use Rattle.wb_model.specs.Debug.{alloc_made, realloc_made, with_row};
-ghost use Rattle.wb_model.specs.Row.{cell_at, without};
-ghost use Rattle.wb_model.specs.Heap.{is_cleanup};
-ghost use Rattle.wb_model.specs.Operands.{within};
+ghost use Rattle.wb_model.specs.heap.Debug.{alloc_made, realloc_made, with_row};
+ghost use Rattle.wb_model.specs.heap.Row.{cell_at, without};
+ghost use Rattle.wb_model.specs.heap.Heap.{is_cleanup};
+ghost use Rattle.wb_model.specs.meaning.Operands.{within};
 ghost use Rattle.wb_machine.specs.RunState.{with_debug};
 ghost use Rattle.wb_machine.specs.Effects.{pointer_read, number_read, refused_effect, given_effect, alloc_effect, realloc_within, realloc_effect, usable_effect, free_effect};
 ghost use Rattle.wb_machine.specs.Owed.{CarriesOut, KeepsCount, MayAttempt};

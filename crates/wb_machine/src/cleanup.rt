@@ -3,13 +3,13 @@
 ghost use Rattle.std.specs.Prelude.{◌≡◌, ◌≢◌, ◌-◌, ◌^◌, ◌<◌, length, take, true, None, Some, IfErr, IfOk, OnErr, OnOk};
 ghost use Rattle.wb_model.specs.declared.heap.Gave.TheVariants.{Ceiling};
 ghost use Rattle.wb_model.specs.declared.heap.Item.TheVariants as I;
-ghost use Rattle.wb_model.specs.CellRow.{payload_of};
-ghost use Rattle.wb_model.specs.Operands.{not_negative};
-ghost use Rattle.wb_model.specs.Statements.{newest};
+ghost use Rattle.wb_model.specs.cells.CellRow.{payload_of};
+ghost use Rattle.wb_model.specs.meaning.Operands.{not_negative};
+ghost use Rattle.wb_model.specs.meaning.Statements.{newest};
 ghost use Rattle.wb_cleanup.specs.Pushes.{pushed_by};
 ghost use Rattle.wb_cleanup.specs.Stacks.{expected_refusal, pop_refusal};
 ghost use Rattle.wb_machine.specs.RunState.{first_state, with_debug};
-ghost use Rattle.wb_model.specs.Debug.{keeps_rises};
+ghost use Rattle.wb_model.specs.heap.Debug.{keeps_rises};
 ghost use Rattle.wb_machine.specs.Effects.{first_made, started_by, is_granted, number_read, pointer_read};
 ghost use Rattle.wb_machine.specs.CleanupEffects.{IsPushed, IsStackThere, growth_made, is_filled, pop_check_effect, pop_within, push_effect, without_newest};
 ghost use Rattle.wb_machine.specs.Owed.{CarriesOut, HasStack, KeepsCount, MayAttempt, Stays};

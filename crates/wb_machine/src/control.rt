@@ -3,12 +3,12 @@
 //! `running`.
 
 ghost use Rattle.std.specs.Prelude.{IfOk, List, take, vec_len, ◌-◌, ◌≡◌, ◌+◌, ◌^◌, ◌<◌, ◌≤◌, ◌⊎◌, ◌++◌, ◌∷◌, [], ℕ, true, false, if◌then◌else◌, length, unwrap_or, max, IsTrue, OnOk};
-ghost use Rattle.wb_model.specs.Sound.{is_script};
-ghost use Rattle.wb_model.specs.Statements.{turns};
-ghost use Rattle.wb_model.specs.Bodies.{procedure_at};
-ghost use Rattle.wb_model.specs.Rest.{doing, first_line, Fits};
-ghost use Rattle.wb_model.specs.Debug.{keeps_rises};
-ghost use Rattle.wb_model.specs.Run.{whole_run};
+ghost use Rattle.wb_model.specs.language.Sound.{is_script};
+ghost use Rattle.wb_model.specs.meaning.Statements.{turns};
+ghost use Rattle.wb_model.specs.meaning.Bodies.{procedure_at};
+ghost use Rattle.wb_model.specs.runs.Rest.{doing, first_line, Fits};
+ghost use Rattle.wb_model.specs.heap.Debug.{keeps_rises};
+ghost use Rattle.wb_model.specs.runs.Run.{whole_run};
 ghost use Rattle.wb_model.specs.declared.heap.Rule.{Rule};
 ghost use Rattle.wb_model.specs.declared.script.Script.{Script};
 ghost use Rattle.wb_model.specs.declared.script.Statement.TheViews.{out-Statement};

@@ -1,7 +1,7 @@
 //! What a run leaves once it is over.
 
 ghost use Rattle.std.specs.Prelude.{◌≡◌, ◌↔◌, true, false, length, IfOk};
-ghost use Rattle.wb_model.specs.Run.{rises_result_of, run};
+ghost use Rattle.wb_model.specs.runs.Run.{rises_result_of, run};
 ghost use Rattle.wb_model.specs.declared.run.Outcome.TheVariants.{Cut};
 ghost use Rattle.wb_model.specs.declared.run.Why.TheVariants.{Ceiling};
 ghost use Rattle.wb_machine.specs.Seen.{whole_run_of};

@@ -3,7 +3,7 @@
 ghost use Rattle.std.specs.Prelude.{ℕ, ◌<◌};
 ghost use Rattle.wb_model.specs.declared.heap.Ptr.{Ptr};
 ghost use Rattle.wb_model.specs.declared.script.Script.{Script};
-ghost use Rattle.wb_model.specs.Debug.{Debug};
+ghost use Rattle.wb_model.specs.heap.Debug.{Debug};
 ghost use Rattle.wb_objects.specs.Objects.{HasField};
 ghost use Rattle.wb_machine.specs.ObjectInvariant.{AreWhole};
 ghost use Rattle.wb_machine.specs.RunState.{field_count};

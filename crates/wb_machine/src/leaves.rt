@@ -1,8 +1,8 @@
 //! What an `if` asks, and statements that end a body or leave.
 
 ghost use Rattle.std.specs.Prelude.{◌≡◌, pos, int_lt};
-ghost use Rattle.wb_model.specs.State.{null};
-ghost use Rattle.wb_model.specs.Statements.{is_null};
+ghost use Rattle.wb_model.specs.meaning.State.{null};
+ghost use Rattle.wb_model.specs.meaning.Statements.{is_null};
 ghost use Rattle.wb_model.specs.declared.heap.TheConstants.{KERR_NO_MEMORY};
 ghost use Rattle.wb_machine.specs.Effects.{pointer_read, number_read, condition_read, left_with, left_where, returned};
 ghost use Rattle.wb_machine.specs.Owed.{CarriesOut};

@@ -2,10 +2,10 @@
 
 ghost use Rattle.std.specs.Prelude.{◌≡◌, ℕ, List, ◌∷◌, ◌++◌, [], map, length, slice_set, vec_len, ◌≤◌, IsTrue, IfOk, OnOk};
 ghost use Rattle.std.specs.List.{list_all};
-ghost use Rattle.wb_model.specs.Texts.{Buffer, answer_of, delete_text, set_length_text};
+ghost use Rattle.wb_model.specs.meaning.Texts.{Buffer, answer_of, delete_text, set_length_text};
 ghost use Rattle.wb_hbuf.specs.Sources.{IsSource, SuitsEdit, edit_text, source_units};
-ghost use Rattle.wb_model.specs.Reading.{max_in};
-ghost use Rattle.wb_model.specs.State.{initial};
+ghost use Rattle.wb_model.specs.meaning.Reading.{max_in};
+ghost use Rattle.wb_model.specs.meaning.State.{initial};
 ghost use Rattle.wb_machine.specs.RunState.{value_in};
 ghost use Rattle.wb_machine.specs.LocalValues.{is_small, value_of, value_of_buffer, values_stored, no_buffer, stored_at, AreAscending, first_buffer, number_over, values_over, framed, unframed, buffer_in, window_in};
 ghost use Rattle.wb_machine.specs.BufferEdits.{frames_edited, frames_put_back};

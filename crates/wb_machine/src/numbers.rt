@@ -1,7 +1,7 @@
 //! Statements that set locals.
 
 ghost use Rattle.std.specs.Prelude.{◌≡◌};
-ghost use Rattle.wb_model.specs.State.{number, null};
+ghost use Rattle.wb_model.specs.meaning.State.{number, null};
 ghost use Rattle.wb_machine.specs.declared.pieces.Ending.TheVariants.{GoesOn};
 ghost use Rattle.wb_machine.specs.Effects.{gone_on, pointer_read, number_read, pointer_stored, stored, add_effect};
 ghost use Rattle.wb_machine.specs.Owed.{CarriesOut};

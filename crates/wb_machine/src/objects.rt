@@ -1,10 +1,10 @@
 //! Statements that make objects, what objects tell of themselves, and their fields.
 
 ghost use Rattle.std.specs.Prelude.{◌≡◌, ◌+◌, ◌*◌, ◌^◌, ◌<◌, ◌≤◌, Ok, length, IfOk, OnErr, OnOk, IsTrue};
-ghost use Rattle.wb_model.specs.Bodies.{class_at};
-ghost use Rattle.wb_model.specs.Sound.{is_script};
-ghost use Rattle.wb_model.specs.CellRow.{payload_of};
-ghost use Rattle.wb_model.specs.Debug.{debug_changed, with_row};
+ghost use Rattle.wb_model.specs.meaning.Bodies.{class_at};
+ghost use Rattle.wb_model.specs.language.Sound.{is_script};
+ghost use Rattle.wb_model.specs.cells.CellRow.{payload_of};
+ghost use Rattle.wb_model.specs.heap.Debug.{debug_changed, with_row};
 ghost use Rattle.wb_objects.specs.Objects.{object_made, with_field};
 ghost use Rattle.wb_machine.specs.Bodies.{class_read};
 ghost use Rattle.wb_machine.specs.ObjectEffects.{new_effect};

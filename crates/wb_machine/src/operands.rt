@@ -1,8 +1,8 @@
 //! The ranges that numbers are asked for, and the units of literals. Nothing here changes a state.
 
 ghost use Rattle.std.specs.Prelude.{◌≡◌, ◌≤◌, IfSome};
-ghost use Rattle.wb_model.specs.Operands.{within, not_negative};
-ghost use Rattle.wb_model.specs.Statements.{index_in, at_least_one};
+ghost use Rattle.wb_model.specs.meaning.Operands.{within, not_negative};
+ghost use Rattle.wb_model.specs.meaning.Statements.{index_in, at_least_one};
 
 /// A number from 0 to a greatest one.
 pub fn number_within(greatest: u32, number: i32) -> Option<u32>

@@ -1,8 +1,8 @@
 //! Pointer operands over the locals of a frame: what a local holds, `self`, and fields of objects.
 
 ghost use Rattle.std.specs.Prelude.{◌≡◌, ◌+◌, ◌*◌, List, length, nat_le};
-ghost use Rattle.wb_model.specs.CellRow.{payload_of};
-ghost use Rattle.wb_model.specs.Texts.{Buffer};
+ghost use Rattle.wb_model.specs.cells.CellRow.{payload_of};
+ghost use Rattle.wb_model.specs.meaning.Texts.{Buffer};
 ghost use Rattle.wb_objects.specs.Objects.{words_found};
 ghost use Rattle.wb_machine.specs.RunState.{field_count};
 ghost use Rattle.wb_machine.specs.LocalValues.{values_stored};

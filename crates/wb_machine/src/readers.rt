@@ -2,8 +2,8 @@
 //! open, and the steps. Nothing here takes a turn.
 
 ghost use Rattle.std.specs.Prelude.{◌≡◌, length};
-ghost use Rattle.wb_model.specs.LimitedHeap.{next_live_of};
-ghost use Rattle.wb_model.specs.Row.{total_length};
+ghost use Rattle.wb_model.specs.heap.LimitedHeap.{next_live_of};
+ghost use Rattle.wb_model.specs.heap.Row.{total_length};
 
 use crate::machine::Machine;
 use wb_model::heap::Header;

@@ -3,11 +3,11 @@
 
 ghost use Rattle.std.specs.Prelude.{◌≡◌, ◌+◌, ◌^◌, ◌<◌, ◌↔◌, [], length, false, true, IfOk, OnOk, IsSome, IsTrue, Some};
 ghost use Rattle.std.specs.List.{list_all};
-ghost use Rattle.wb_model.specs.Debug.{first_debug_of, keeps_rises};
-ghost use Rattle.wb_model.specs.Rest.{SameSoFar};
+ghost use Rattle.wb_model.specs.heap.Debug.{first_debug_of, keeps_rises};
+ghost use Rattle.wb_model.specs.runs.Rest.{SameSoFar};
 ghost use Rattle.wb_model.specs.declared.heap.Rule.TheVariants.{Unlimited};
-ghost use Rattle.wb_model.specs.Space.{is_shape};
-ghost use Rattle.wb_model.specs.State.{null};
+ghost use Rattle.wb_model.specs.heap.Space.{is_shape};
+ghost use Rattle.wb_model.specs.meaning.State.{null};
 ghost use Rattle.wb_machine.specs.RunState.{first_state};
 ghost use Rattle.wb_machine.specs.Results.{leaks_at_end, outcome_by, run_result_by};
 ghost use Rattle.wb_machine.specs.Effects.{pointer_read, number_read, pointer_stored, stored, stepped, entered, framed_with, called_back};

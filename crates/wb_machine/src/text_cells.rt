@@ -1,10 +1,10 @@
 //! Statements that allocate and reallocate texts.
 
 ghost use Rattle.std.specs.Prelude.{◌≡◌, ◌+◌, ◌*◌, ◌^◌, ◌<◌, ◌≤◌, None, length, IfOk, IfSome, OnErr, OnOk};
-ghost use Rattle.wb_model.specs.Debug.{realloc_made};
-ghost use Rattle.wb_model.specs.Row.{cell_at};
-ghost use Rattle.wb_model.specs.TextCells.{debug_edited, max_at, text_at};
-ghost use Rattle.wb_model.specs.Texts.{answer_of, delete_text, set_length_text};
+ghost use Rattle.wb_model.specs.heap.Debug.{realloc_made};
+ghost use Rattle.wb_model.specs.heap.Row.{cell_at};
+ghost use Rattle.wb_model.specs.cells.TextCells.{debug_edited, max_at, text_at};
+ghost use Rattle.wb_model.specs.meaning.Texts.{answer_of, delete_text, set_length_text};
 ghost use Rattle.wb_hbuf.specs.Sources.{IsApart, IsSource, SuitsEdit, cell_edited};
 ghost use Rattle.wb_machine.specs.RunState.{with_debug};
 ghost use Rattle.wb_machine.specs.TextOperands.{text_refusal};

@@ -1,8 +1,8 @@
 //! Statements that read texts: views of parts, lengths, maxima, and what is printed.
 
 ghost use Rattle.std.specs.Prelude.{◌≡◌, ◌^◌, ◌<◌, None, IfOk, OnOk, IsTrue};
-ghost use Rattle.wb_model.specs.Operands.{not_negative};
-ghost use Rattle.wb_model.specs.Sound.{is_script};
+ghost use Rattle.wb_model.specs.meaning.Operands.{not_negative};
+ghost use Rattle.wb_model.specs.language.Sound.{is_script};
 ghost use Rattle.wb_machine.specs.Effects.{number_read};
 ghost use Rattle.wb_machine.specs.TextOperands.{base_named, base_refusal, base_max, window_read, window_units};
 ghost use Rattle.wb_machine.specs.TextEffects.{unless_panics, part_stored, count_read, left_read, right_read, mid_read, length_effect, max_effect, print_effect};

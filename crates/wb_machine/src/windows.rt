@@ -1,7 +1,7 @@
 //! Parts of texts that a script names.
 
 ghost use Rattle.std.specs.Prelude.{◌≡◌, ◌+◌, ◌^◌, ◌<◌};
-ghost use Rattle.wb_model.specs.Texts.{left_part, right_part, mid_part, view_of_part};
+ghost use Rattle.wb_model.specs.meaning.Texts.{left_part, right_part, mid_part, view_of_part};
 ghost use Rattle.wb_machine.specs.LocalValues.{whole_window, no_window};
 
 use std::marker::Model;

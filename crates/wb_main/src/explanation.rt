@@ -1,7 +1,7 @@
 //! What is said on standard error of an answer, beside the answer itself.
 
 ghost use Rattle.std.specs.Prelude.{◌≤◌, IsTrue};
-ghost use Rattle.wb_model.specs.Sound.{is_script};
+ghost use Rattle.wb_model.specs.language.Sound.{is_script};
 
 use crate::recorded::FirstFault;
 use std::alloc::Global;

@@ -10,18 +10,18 @@ use Rattle.wb_model.specs.declared.heap.Attempt.{Attempt}
 use Rattle.wb_model.specs.declared.run.Why.TheVariants.{Ceiling}
 use Rattle.wb_model.specs.declared.script.Script.{Script}
 use Rattle.wb_model.specs.declared.size.Rise.{Rise}
-use Rattle.wb_model.specs.Account.{stopped, Account, Settled, settled, on_answer, recorded, noted, next_number, trace_line}
-use Rattle.wb_model.specs.CellRow.{resized_words}
-use Rattle.wb_model.specs.Debug.{Debug, Made, made_by, made_with_rises, answer_in, keeps_rises, number_of_next, alloc_made, longer_made, shorter_made, realloc_made}
-use Rattle.wb_model.specs.Debug as debugs
-use Rattle.wb_model.specs.Heap.{AfterAnswer, alloc_request, after_alloc, realloc_request, after_realloc}
-use Rattle.wb_model.specs.LimitedHeap.{zero_words}
-use Rattle.wb_model.specs.Row.{Cell, cell_length}
-use Rattle.wb_model.specs.Rises.{end_of_line, highest_end, rise_of, rises_above, top_from, top_of_rises, with_line, rises_with, trace_with}
-use Rattle.wb_model.specs.Rules.{answer_to, Request}
-use Rattle.wb_model.specs.Run.{process, before, run, run_with_rises, whole_of, whole_run, WholeRun}
-use Rattle.wb_model.specs.Space.{Space, space_of}
-use Rattle.wb_model.specs.State.{is_cut, Query, heap_note, available_note, compress_note, Process, ends, stops, asks, notes}
+use Rattle.wb_model.specs.runs.Account.{stopped, Account, Settled, settled, on_answer, recorded, noted, next_number, trace_line}
+use Rattle.wb_model.specs.cells.CellRow.{resized_words}
+use Rattle.wb_model.specs.heap.Debug.{Debug, Made, made_by, made_with_rises, answer_in, keeps_rises, number_of_next, alloc_made, longer_made, shorter_made, realloc_made}
+use Rattle.wb_model.specs.heap.Debug as debugs
+use Rattle.wb_model.specs.heap.Heap.{AfterAnswer, alloc_request, after_alloc, realloc_request, after_realloc}
+use Rattle.wb_model.specs.heap.LimitedHeap.{zero_words}
+use Rattle.wb_model.specs.heap.Row.{Cell, cell_length}
+use Rattle.wb_model.specs.runs.Rises.{end_of_line, highest_end, rise_of, rises_above, top_from, top_of_rises, with_line, rises_with, trace_with}
+use Rattle.wb_model.specs.heap.Rules.{answer_to, Request}
+use Rattle.wb_model.specs.runs.Run.{process, before, run, run_with_rises, whole_of, whole_run, WholeRun}
+use Rattle.wb_model.specs.heap.Space.{Space, space_of}
+use Rattle.wb_model.specs.meaning.State.{is_cut, Query, heap_note, available_note, compress_note, Process, ends, stops, asks, notes}
 
 -- an account that keeps a line of each attempt
 pub record KeepsLines (a : Account) : Type 0 where

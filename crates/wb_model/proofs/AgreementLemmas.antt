@@ -7,14 +7,14 @@ use Rattle.wb_model.specs.declared.heap.Answer.TheVariants.{Granted, Simulated, 
 use Rattle.wb_model.specs.declared.heap.Attempt.{Attempt}
 use Rattle.wb_model.specs.declared.run.Why.TheVariants.{Ceiling}
 use Rattle.wb_model.specs.declared.script.Script.{Script}
-use Rattle.wb_model.specs.Rules.{refusal_of, unless_refused, answer_to, Request}
-use Rattle.wb_model.specs.State.{is_cut, State, Query, heap_note, available_note, compress_note, Process, ends, stops, asks, notes}
-use Rattle.wb_model.specs.Space.{Space, space_below, bound_below, below_ceiling, space_of}
+use Rattle.wb_model.specs.heap.Rules.{refusal_of, unless_refused, answer_to, Request}
+use Rattle.wb_model.specs.meaning.State.{is_cut, State, Query, heap_note, available_note, compress_note, Process, ends, stops, asks, notes}
+use Rattle.wb_model.specs.heap.Space.{Space, space_below, bound_below, below_ceiling, space_of}
 use Rattle.wb_model.specs.declared.size.Rise.{Rise}
-use Rattle.wb_model.specs.Account.{stopped, Account, Settled, settled, on_answer, recorded, noted, next_number, trace_line}
-use Rattle.wb_model.specs.Rises.{trace_with}
-use Rattle.wb_model.specs.Run.{process, before, result_of, outcome_of}
-use Rattle.wb_model.specs.Agreement.{RefusesAtLeast, IsNoLimit, IsSameRun, PartsAt, Agrees}
+use Rattle.wb_model.specs.runs.Account.{stopped, Account, Settled, settled, on_answer, recorded, noted, next_number, trace_line}
+use Rattle.wb_model.specs.runs.Rises.{trace_with}
+use Rattle.wb_model.specs.runs.Run.{process, before, result_of, outcome_of}
+use Rattle.wb_model.specs.runs.Agreement.{RefusesAtLeast, IsNoLimit, IsSameRun, PartsAt, Agrees}
 use Rattle.wb_model.proofs.AccountLemmas.{KeepsLines, before-lines, recorded-trace, recorded-lines, noted-lines}
 
 -- a note leaves the trace

@@ -23,17 +23,17 @@ use Rattle.wb_model.specs.declared.script.Writable.{Writable}
 use Rattle.wb_model.specs.declared.script.Writable.TheVariants.{OwnBuffer, InCell}
 use Rattle.wb_model.specs.declared.script.Readable.{Readable}
 use Rattle.wb_model.specs.declared.script.Readable.TheVariants.{Of, ViewOf, Quoted}
-use Rattle.wb_model.specs.Row.{Cell, cell_at, cell_length, changed, without}
-use Rattle.wb_model.specs.Rules.{Request, Setting, is_due}
-use Rattle.wb_model.specs.Heap.{Heap, AfterAnswer, alloc_request, after_alloc, realloc_request, after_realloc, shortened, after_mark, after_mark_end}
-use Rattle.wb_model.specs.Printable.{ArePrintable}
-use Rattle.wb_model.specs.Throughout.{IsNoteOf, SuitsKind, HoldsItsKind}
-use Rattle.wb_model.specs.Texts.{Edited, Part}
-use Rattle.wb_model.specs.State.{Content, words, fields, units, none, State, Way, goes_on, returns, leaves, Process, ends, stops, asks, notes, and_then, on_plain_end, then_do, require, with_some, unless, set_heap}
-use Rattle.wb_model.specs.Operands.{raw_words_of, set_field, with_cell, with_fields, with_pointer, set_pointer, set_row}
-use Rattle.wb_model.specs.Attempts.{attempt, allocate, resized, reallocate, reallocate_longer, grow_if, push, after_growth}
-use Rattle.wb_model.specs.Reading.{Source, whole, part, set_units, with_writable, with_readable, with_base, with_units, with_room, with_text_cell, write, write_view}
-use Rattle.wb_model.specs.Statements.{with_words, with_class, Todo, Context, Meaning, given_to, released, of_script, release, is_null}
+use Rattle.wb_model.specs.heap.Row.{Cell, cell_at, cell_length, changed, without}
+use Rattle.wb_model.specs.heap.Rules.{Request, Setting, is_due}
+use Rattle.wb_model.specs.heap.Heap.{Heap, AfterAnswer, alloc_request, after_alloc, realloc_request, after_realloc, shortened, after_mark, after_mark_end}
+use Rattle.wb_model.specs.meaning.Printable.{ArePrintable}
+use Rattle.wb_model.specs.runs.Throughout.{IsNoteOf, SuitsKind, HoldsItsKind}
+use Rattle.wb_model.specs.meaning.Texts.{Edited, Part}
+use Rattle.wb_model.specs.meaning.State.{Content, words, fields, units, none, State, Way, goes_on, returns, leaves, Process, ends, stops, asks, notes, and_then, on_plain_end, then_do, require, with_some, unless, set_heap}
+use Rattle.wb_model.specs.meaning.Operands.{raw_words_of, set_field, with_cell, with_fields, with_pointer, set_pointer, set_row}
+use Rattle.wb_model.specs.meaning.Attempts.{attempt, allocate, resized, reallocate, reallocate_longer, grow_if, push, after_growth}
+use Rattle.wb_model.specs.meaning.Reading.{Source, whole, part, set_units, with_writable, with_readable, with_base, with_units, with_room, with_text_cell, write, write_view}
+use Rattle.wb_model.specs.meaning.Statements.{with_words, with_class, Todo, Context, Meaning, given_to, released, of_script, release, is_null}
 
 -- the heap with other cells
 abbrev pub with_cells : Heap Content → List (Cell Content) → Heap Content

@@ -3,9 +3,9 @@ use Rattle.std.proofs.Common.{◌≡◌, ℕ, zero, suc, ◌+◌, ◌<◌, ◌�
 use Rattle.std.specs.Prelude.{nat_lt}
 use Rattle.std.proofs.lemmas.Bool.{ltb-true}
 use Rattle.wb_model.specs.declared.script.Statement.TheViews.{out-Statement}
-use Rattle.wb_model.specs.State.{State, Process, ends, stops, asks, notes}
-use Rattle.wb_model.specs.Statements.{Todo, all, turns, destroy_items, destroy_object, Context, Meaning}
-use Rattle.wb_model.specs.Meaning.{begun, begun_if, piece, meaning_within}
+use Rattle.wb_model.specs.meaning.State.{State, Process, ends, stops, asks, notes}
+use Rattle.wb_model.specs.meaning.Statements.{Todo, all, turns, destroy_items, destroy_object, Context, Meaning}
+use Rattle.wb_model.specs.meaning.Meaning.{begun, begun_if, piece, meaning_within}
 use Rattle.wb_model.proofs.AlikeLemmas.{Lasting, Fine, Keeps, Alike, AlikeAll, then_do-alike, with_some-alike, with_class-alike, release-alike}
 use Rattle.wb_model.proofs.AlikeStatements.{plain-alike, in_frame-alike, destroyed_item-alike, statement-alike}
 

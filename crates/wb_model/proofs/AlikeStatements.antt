@@ -14,12 +14,12 @@ use Rattle.wb_model.specs.declared.script.Condition.TheVariants.{IsNull, NotNull
 use Rattle.wb_model.specs.declared.script.Argument.{Argument}
 use Rattle.wb_model.specs.declared.script.Argument.TheVariants.{Passed, Given}
 use Rattle.wb_model.specs.declared.script.Statement.TheOpen.{Statement-F}
-use Rattle.wb_model.specs.Bodies.{class_at}
-use Rattle.wb_model.specs.Rules.{never, next, each}
-use Rattle.wb_model.specs.State.{null, State, Value, Way, goes_on, returns, leaves, Process}
-use Rattle.wb_model.specs.Operands.{number_of}
-use Rattle.wb_model.specs.Reading.{printed}
-use Rattle.wb_model.specs.Statements.{new_object, alloc_raw, Context, Meaning, Layer, realloc_of, realloc_raw, in_frame, plain, with_arguments, destroyed_object, destroyed_item, trapped, with_condition, leave_if, realloc_text, statement}
+use Rattle.wb_model.specs.meaning.Bodies.{class_at}
+use Rattle.wb_model.specs.heap.Rules.{never, next, each}
+use Rattle.wb_model.specs.meaning.State.{null, State, Value, Way, goes_on, returns, leaves, Process}
+use Rattle.wb_model.specs.meaning.Operands.{number_of}
+use Rattle.wb_model.specs.meaning.Reading.{printed}
+use Rattle.wb_model.specs.meaning.Statements.{new_object, alloc_raw, Context, Meaning, Layer, realloc_of, realloc_raw, in_frame, plain, with_arguments, destroyed_object, destroyed_item, trapped, with_condition, leave_if, realloc_text, statement}
 use Rattle.wb_model.proofs.AlikeLemmas.{Lasting, Fine, Alike, AlikeAll, and_then-alike, then_do-alike, require-alike, with_some-alike, unless-alike, with_cell-alike, with_pointer-alike, set_pointer-fine, stored-fine, given_to-alike, allocate-alike, reallocate-alike, push-alike, with_writable-alike, with_readable-alike, with_units-alike, with_room-alike, write-alike, write_view-alike, release-alike, with_words-alike, with_class-alike}
 use Rattle.wb_model.proofs.PrintableLemmas.{printed-printable, signed_decimal-printable}
 

@@ -7,7 +7,7 @@ use Rattle.std.proofs.lemmas.Option.{same_Some}
 use Rattle.wb_model.specs.declared.heap.Ptr.{Ptr}
 use Rattle.wb_model.specs.declared.heap.Item.{Item}
 use Rattle.wb_model.specs.declared.heap.Item.TheVariants.{Free, Delete, Call}
-use Rattle.wb_model.specs.CleanupCells.{items_words, IsItem, IsCleanup, items_in}
+use Rattle.wb_model.specs.cells.CleanupCells.{items_words, IsItem, IsCleanup, items_in}
 
 -- the words of items are read as these items, whatever follows
 pub items-read : (items : List Item) (rest : List ℕ) → All IsItem items → items_in (length items) (items_words items ++ rest) ≡ Some items

@@ -4,8 +4,8 @@ use Rattle.std.specs.Prelude.{nat_le}
 use Rattle.std.proofs.lemmas.Bool.{leb-true, leb-false}
 use Rattle.std.proofs.lemmas.List.Sums.{sum_by-cons}
 use Rattle.wb_model.specs.declared.heap.Header.{Header}
-use Rattle.wb_model.specs.Row.{end_of, IsSpacedFrom, Misses, IsFree, top_from, top_of, total_length}
-use Rattle.wb_model.specs.Space.{IsFreeBelow, AreFreeRuns, free_runs, longest}
+use Rattle.wb_model.specs.heap.Row.{end_of, IsSpacedFrom, Misses, IsFree, top_from, top_of, total_length}
+use Rattle.wb_model.specs.heap.Space.{IsFreeBelow, AreFreeRuns, free_runs, longest}
 use Rattle.wb_model.proofs.Places.{below_free, top_from-above}
 
 -- a stretch that is free from a place on, and has this length

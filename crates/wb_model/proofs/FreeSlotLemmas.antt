@@ -8,17 +8,17 @@ use Rattle.wb_model.specs.declared.script.Script.{Script}
 use Rattle.wb_model.specs.declared.script.Body.{Body}
 use Rattle.wb_model.specs.declared.script.Statement.TheOpen.{Statement-F}
 use Rattle.wb_model.specs.declared.script.Statement.TheViews.{out-Statement}
-use Rattle.wb_model.specs.State.{Value, State, Way, goes_on, returns, leaves, Process, ends, stops, asks, notes, and_then, is_cut}
-use Rattle.wb_model.specs.Statements.{Todo, all, turns, destroy_items, destroy_object, Context, Meaning, Layer, new_object, realloc_text, in_frame, drop_newest, destroyed_object, destroyed_item, trapped, statement}
+use Rattle.wb_model.specs.meaning.State.{Value, State, Way, goes_on, returns, leaves, Process, ends, stops, asks, notes, and_then, is_cut}
+use Rattle.wb_model.specs.meaning.Statements.{Todo, all, turns, destroy_items, destroy_object, Context, Meaning, Layer, new_object, realloc_text, in_frame, drop_newest, destroyed_object, destroyed_item, trapped, statement}
 use Rattle.wb_model.specs.declared.heap.Rule.{Rule}
 use Rattle.wb_model.specs.declared.heap.Answer.{Answer}
 use Rattle.wb_model.specs.declared.run.Why.TheVariants.{Ceiling}
-use Rattle.wb_model.specs.Rules.{answer_to}
-use Rattle.wb_model.specs.Space.{Space}
-use Rattle.wb_model.specs.Account.{End, over, stopped, Account, settled, on_answer, next_number, recorded, noted}
-use Rattle.wb_model.specs.Meaning.{begun_if, begun, piece, meaning_within, meaning_of}
-use Rattle.wb_model.specs.Run.{start, main_trapped, in_main, started, process}
-use Rattle.wb_model.specs.FreeSlots.{HasFreeSlot, WhereverItGoesOn}
+use Rattle.wb_model.specs.heap.Rules.{answer_to}
+use Rattle.wb_model.specs.heap.Space.{Space}
+use Rattle.wb_model.specs.runs.Account.{End, over, stopped, Account, settled, on_answer, next_number, recorded, noted}
+use Rattle.wb_model.specs.meaning.Meaning.{begun_if, begun, piece, meaning_within, meaning_of}
+use Rattle.wb_model.specs.runs.Run.{start, main_trapped, in_main, started, process}
+use Rattle.wb_model.specs.runs.FreeSlots.{HasFreeSlot, WhereverItGoesOn}
 use Rattle.wb_model.proofs.FreeSlots.{HasFree, EndsFree, KeepsFree, fewer, and_then-free, then_do-free, require-free, with_some-free, unless-free, with_cell-free, with_pointer-free, with_words-free, with_class-free, with_condition-free, with_arguments-free, with_writable-free, with_readable-free, with_units-free, with_room-free, write-free, write_view-free, set_pointer-free, given_to-free, allocate-free, reallocate-free, push-free, release-free, leave_if-free, alloc_raw-free, realloc_of-free, plain-free, framed-free}
 
 -- The stack as a piece may find it. A push that filled the last slot and left is followed by the destruction of an item, if of any.

@@ -22,15 +22,15 @@ use Rattle.wb_model.specs.declared.script.Writable.{Writable}
 use Rattle.wb_model.specs.declared.script.Writable.TheVariants.{OwnBuffer, InCell}
 use Rattle.wb_model.specs.declared.script.Readable.{Readable}
 use Rattle.wb_model.specs.declared.script.Readable.TheVariants.{Of, ViewOf, Quoted}
-use Rattle.wb_model.specs.Row.{Cell, cell_at, cell_length}
-use Rattle.wb_model.specs.Rules.{Request}
-use Rattle.wb_model.specs.Heap.{Heap, AfterAnswer}
-use Rattle.wb_model.specs.Texts.{Edited, Part}
-use Rattle.wb_model.specs.State.{Content, Value, Frame, State, Way, goes_on, returns, leaves, Process, ends, stops, asks, notes, and_then, on_plain_end, then_do, require, with_some, unless, set_heap}
-use Rattle.wb_model.specs.Operands.{with_cell, with_fields, with_pointer, set_pointer}
-use Rattle.wb_model.specs.Attempts.{attempt, allocate, reallocate, reallocate_longer, grow_if, push, after_growth}
-use Rattle.wb_model.specs.Reading.{Source, whole, part, set_text, with_writable, with_readable, with_base, with_units, with_room, with_text_cell, write, write_view}
-use Rattle.wb_model.specs.Statements.{with_words, with_class, with_condition, with_arguments, leave_if, plain, given_to, released, of_script, release, is_null, alloc_raw, realloc_of, realloc_raw}
+use Rattle.wb_model.specs.heap.Row.{Cell, cell_at, cell_length}
+use Rattle.wb_model.specs.heap.Rules.{Request}
+use Rattle.wb_model.specs.heap.Heap.{Heap, AfterAnswer}
+use Rattle.wb_model.specs.meaning.Texts.{Edited, Part}
+use Rattle.wb_model.specs.meaning.State.{Content, Value, Frame, State, Way, goes_on, returns, leaves, Process, ends, stops, asks, notes, and_then, on_plain_end, then_do, require, with_some, unless, set_heap}
+use Rattle.wb_model.specs.meaning.Operands.{with_cell, with_fields, with_pointer, set_pointer}
+use Rattle.wb_model.specs.meaning.Attempts.{attempt, allocate, reallocate, reallocate_longer, grow_if, push, after_growth}
+use Rattle.wb_model.specs.meaning.Reading.{Source, whole, part, set_text, with_writable, with_readable, with_base, with_units, with_room, with_text_cell, write, write_view}
+use Rattle.wb_model.specs.meaning.Statements.{with_words, with_class, with_condition, with_arguments, leave_if, plain, given_to, released, of_script, release, is_null, alloc_raw, realloc_of, realloc_raw}
 
 -- at least this many slots, one of them free
 abbrev pub HasFree : ℕ → State → Type 0

@@ -10,11 +10,11 @@ use Rattle.wb_model.specs.declared.heap.Kind.TheVariants as K
 use Rattle.wb_model.specs.declared.heap.Answer.{Answer}
 use Rattle.wb_model.specs.declared.heap.Answer.TheVariants.{Granted, Simulated, Refused}
 use Rattle.wb_model.specs.declared.script.Script.{Script}
-use Rattle.wb_model.specs.Row.{Cell, headers, end_of, pointer_to, is_at, cell_at, cell_length, inserted, without, changed, place_of, IsSpacedFrom, IsRow, IsFree}
-use Rattle.wb_model.specs.Heap.{Heap, new_cell, moved, alloc_request, after_alloc, realloc_request, after_realloc, shortened, fits_in_place, lower, lowered, is_cleanup}
-use Rattle.wb_model.specs.Throughout.{SuitsKind, HoldsItsKind, AreCellsAfter}
-use Rattle.wb_model.specs.State.{Content, words, fields, units, none}
-use Rattle.wb_model.specs.Attempts.{resized}
+use Rattle.wb_model.specs.heap.Row.{Cell, headers, end_of, pointer_to, is_at, cell_at, cell_length, inserted, without, changed, place_of, IsSpacedFrom, IsRow, IsFree}
+use Rattle.wb_model.specs.heap.Heap.{Heap, new_cell, moved, alloc_request, after_alloc, realloc_request, after_realloc, shortened, fits_in_place, lower, lowered, is_cleanup}
+use Rattle.wb_model.specs.runs.Throughout.{SuitsKind, HoldsItsKind, AreCellsAfter}
+use Rattle.wb_model.specs.meaning.State.{Content, words, fields, units, none}
+use Rattle.wb_model.specs.meaning.Attempts.{resized}
 use Rattle.wb_model.proofs.Places.{place_of-least}
 use Rattle.wb_model.proofs.Rows.{headers-without, headers-changed, IsRow-filter, IsRow-inserted, All-inserted, All-placed}
 use Rattle.wb_model.proofs.Reallocations.{pointer-at, found-from, found-all, found-head, fits-words, fits-free, fits-shorter, free-filter}

@@ -11,11 +11,11 @@ use Rattle.wb_model.specs.declared.heap.Kind.{Kind}
 use Rattle.wb_model.specs.declared.heap.Ptr.{Ptr}
 use Rattle.wb_model.specs.declared.heap.Rule.{Rule}
 use Rattle.wb_model.specs.declared.heap.Shape.{Shape}
-use Rattle.wb_model.specs.CellRow.{payload_of}
-use Rattle.wb_model.specs.Rules.{limit_of}
-use Rattle.wb_model.specs.Row.{headers, end_of, IsSpacedFrom, IsRow, IsLeastPlace, top_of}
-use Rattle.wb_model.specs.Space.{Space, below_ceiling, committed_by, compressed_to, limit_under, round_up, is_shape}
-use Rattle.wb_model.specs.LimitedHeap.{LimitedHeap, IsSoundHeap, IsCellLength, IsLiveBelow, IsFilled, space_in, place_in, zero_words, fresh_cell, empty_heap, heap_with, heap_without, heap_changed, compressed_length, heap_compressed}
+use Rattle.wb_model.specs.cells.CellRow.{payload_of}
+use Rattle.wb_model.specs.heap.Rules.{limit_of}
+use Rattle.wb_model.specs.heap.Row.{headers, end_of, IsSpacedFrom, IsRow, IsLeastPlace, top_of}
+use Rattle.wb_model.specs.heap.Space.{Space, below_ceiling, committed_by, compressed_to, limit_under, round_up, is_shape}
+use Rattle.wb_model.specs.heap.LimitedHeap.{LimitedHeap, IsSoundHeap, IsCellLength, IsLiveBelow, IsFilled, space_in, place_in, zero_words, fresh_cell, empty_heap, heap_with, heap_without, heap_changed, compressed_length, heap_compressed}
 use Rattle.wb_model.proofs.Places.{place_of-least}
 use Rattle.wb_model.proofs.Rows.{headers-without, headers-changed, IsRow-filter, IsRow-inserted, All-inserted, All-placed, place_from-top, top_from-within, ends-within}
 use Rattle.wb_model.proofs.Payloads.{filled-changed}

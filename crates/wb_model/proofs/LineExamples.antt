@@ -6,10 +6,10 @@ use Rattle.wb_model.specs.declared.script_lines.Operand.TheVariants as spelled
 use Rattle.wb_model.specs.declared.script_lines.Operand.TheVariants.{Name, Number, Size, Literal, Parameter, Keyword}
 use Rattle.wb_model.specs.declared.script_lines.ParameterType.TheVariants as parameter_type
 use Rattle.wb_model.specs.declared.script_lines.Form.TheVariants.{Skip, Unknown, Line}
-use Rattle.wb_model.specs.Lines.{lines_of, words_of, first_foreign_line}
-use Rattle.wb_model.specs.Words.{declared_name, number_spelled}
-use Rattle.wb_model.specs.LineKinds.{line_kinds}
-use Rattle.wb_model.specs.Forms.{line_form}
+use Rattle.wb_model.specs.language.Lines.{lines_of, words_of, first_foreign_line}
+use Rattle.wb_model.specs.language.Words.{declared_name, number_spelled}
+use Rattle.wb_model.specs.language.LineKinds.{line_kinds}
+use Rattle.wb_model.specs.language.Forms.{line_form}
 
 -- Lines.
 

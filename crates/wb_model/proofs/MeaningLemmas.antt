@@ -1,8 +1,8 @@
 -- The meaning without its bound.
 use Rattle.std.proofs.Common.{ℕ, suc, ◌+◌, [], arith}
 use Rattle.wb_model.specs.declared.script.Script.{Script}
-use Rattle.wb_model.specs.Meaning.{meaning_within, meaning_of}
-use Rattle.wb_model.specs.Rest.{Unfolds}
+use Rattle.wb_model.specs.meaning.Meaning.{meaning_within, meaning_of}
+use Rattle.wb_model.specs.runs.Rest.{Unfolds}
 use Rattle.wb_model.proofs.AlikeLemmas.{Lasting}
 use Rattle.wb_model.proofs.AlikePieces.{meaning_within-alike, piece-alike, shows_weaker}
 

@@ -5,9 +5,9 @@ use Rattle.std.proofs.lemmas.Bool.{cases_lt}
 use Rattle.wb_model.specs.declared.heap.Answer.{Answer}
 use Rattle.wb_model.specs.declared.heap.Answer.TheVariants.{Granted, Simulated, Refused}
 use Rattle.wb_model.specs.declared.heap.Attempt.{Attempt}
-use Rattle.wb_model.specs.Run.{granted_end, end_of_line, highest_end}
-use Rattle.wb_model.specs.Traces.{end_of_attempt}
-use Rattle.wb_model.specs.Sizes.{refused_or_later, first_refusal, NoneIsRefused, IsFirstRefused, IsEndOfGrant, IsGreatestEnd}
+use Rattle.wb_model.specs.runs.Run.{granted_end, end_of_line, highest_end}
+use Rattle.wb_model.specs.runs.Traces.{end_of_attempt}
+use Rattle.wb_model.specs.runs.Sizes.{refused_or_later, first_refusal, NoneIsRefused, IsFirstRefused, IsEndOfGrant, IsGreatestEnd}
 
 -- one line more at the front
 later_refused : (t : Attempt) (ts : List Attempt) (number : ℕ) → t.answer ≢ Refused → IsFirstRefused ts number → IsFirstRefused (t ∷ ts) number

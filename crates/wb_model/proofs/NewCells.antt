@@ -2,7 +2,7 @@
 use Rattle.std.proofs.Common.{◌≡◌, ◌≢◌, ℕ, suc, ◌<◌, Bool, true, false, cond, List, [], ◌∷◌, length, Some, None, AllPairs, refl, sym, ap, ◌∙◌, arith, get_or}
 use Rattle.std.specs.Prelude.{nat_lt}
 use Rattle.wb_model.specs.declared.heap.Header.{Header}
-use Rattle.wb_model.specs.Row.{Cell, headers, pointer_to, cell_at, inserted}
+use Rattle.wb_model.specs.heap.Row.{Cell, headers, pointer_to, cell_at, inserted}
 use Rattle.wb_model.proofs.Reallocations.{at-own, not_at-number}
 
 -- where a new cell stands

@@ -1,8 +1,8 @@
 -- Objects in words: their class and fields are read as they were written, and other words are no object's.
 use Rattle.std.proofs.Common.{◌≡◌, ℕ, ◌-◌, ◌*◌, List, [], ◌∷◌, ◌++◌, length, take, slice_index, refl, ap, ◌∙◌, arith}
 use Rattle.wb_model.specs.declared.heap.Ptr.{Ptr}
-use Rattle.wb_model.specs.Spelling.{pointers, fields_in}
-use Rattle.wb_model.specs.ObjectCells.{pointer_words, IsObject}
+use Rattle.wb_model.specs.cells.Spelling.{pointers, fields_in}
+use Rattle.wb_model.specs.cells.ObjectCells.{pointer_words, IsObject}
 use Rattle.wb_model.proofs.TextCells.{exactly-longer, zeros}
 
 length-pointer_words : (ps : List Ptr) → length (pointer_words ps) ≡ 2 * length ps

@@ -12,10 +12,10 @@ use Rattle.wb_model.specs.declared.run.Outcome.TheVariants.{Cut}
 use Rattle.wb_model.specs.declared.run.RunResult.{RunResult}
 use Rattle.wb_model.specs.declared.run.Why.{Why}
 use Rattle.wb_model.specs.declared.script.Script.{Script}
-use Rattle.wb_model.specs.Pairs.{pair_run, ArePairsFineBefore, IsCutPair, IsFoundPair}
-use Rattle.wb_model.specs.Run.{run, is_bad, is_bad_outcome}
-use Rattle.wb_model.specs.SweepAnswers.{IsCutShort, IsFound, IsNoneFound}
-use Rattle.wb_model.specs.Sweeps.{failing_at, is_cut_outcome, is_fine, rule_for, runs_under, AreAllFine, AreFineBelow, IsCutAmong, IsFoundAmong}
+use Rattle.wb_model.specs.runs.Pairs.{pair_run, ArePairsFineBefore, IsCutPair, IsFoundPair}
+use Rattle.wb_model.specs.runs.Run.{run, is_bad, is_bad_outcome}
+use Rattle.wb_model.specs.runs.SweepAnswers.{IsCutShort, IsFound, IsNoneFound}
+use Rattle.wb_model.specs.runs.Sweeps.{failing_at, is_cut_outcome, is_fine, rule_for, runs_under, AreAllFine, AreFineBelow, IsCutAmong, IsFoundAmong}
 
 -- ---- one run is bad, cut or fine
 

@@ -3,8 +3,8 @@ use Rattle.std.proofs.Common.{◌≡◌, ℕ, ◌≤◌, ◌<◌, Bool, true, fa
 use Rattle.std.specs.Prelude.{nat_le}
 use Rattle.std.proofs.lemmas.Bool.{leb-true, leb-false, le-leb, lt-leb}
 use Rattle.wb_model.specs.declared.heap.Header.{Header}
-use Rattle.wb_model.specs.Row.{end_of, IsSpacedFrom}
-use Rattle.wb_model.specs.LimitedHeap.{next_live_of}
+use Rattle.wb_model.specs.heap.Row.{end_of, IsSpacedFrom}
+use Rattle.wb_model.specs.heap.LimitedHeap.{next_live_of}
 
 -- the cells that begin at a place or above it
 abbrev pub onward : ℕ → List Header → List Header

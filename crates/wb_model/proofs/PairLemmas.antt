@@ -14,13 +14,13 @@ use Rattle.wb_model.specs.declared.run.RunResult.{RunResult}
 use Rattle.wb_model.specs.declared.run.Outcome.TheVariants.{Cut}
 use Rattle.wb_model.specs.declared.run.Why.TheVariants.{Ceiling}
 use Rattle.wb_model.specs.declared.script.Script.{Script}
-use Rattle.wb_model.specs.Agreement.{RefusesAtLeast, RefusesNoGrant, IsNoLimit}
-use Rattle.wb_model.specs.Pairs.{failing_with, pair_run, AreAllPairsFine, ArePairsFineWith}
-use Rattle.wb_model.specs.Rest.{SameSoFar}
-use Rattle.wb_model.specs.Rules.{refusal_of}
-use Rattle.wb_model.specs.Run.{run}
-use Rattle.wb_model.specs.Sweeps.{is_fine, rule_for, runs_of, runs_under, AreAllFine, AreFineBelow}
-use Rattle.wb_model.specs.Traces.{end_of_attempt}
+use Rattle.wb_model.specs.runs.Agreement.{RefusesAtLeast, RefusesNoGrant, IsNoLimit}
+use Rattle.wb_model.specs.runs.Pairs.{failing_with, pair_run, AreAllPairsFine, ArePairsFineWith}
+use Rattle.wb_model.specs.runs.Rest.{SameSoFar}
+use Rattle.wb_model.specs.heap.Rules.{refusal_of}
+use Rattle.wb_model.specs.runs.Run.{run}
+use Rattle.wb_model.specs.runs.Sweeps.{is_fine, rule_for, runs_of, runs_under, AreAllFine, AreFineBelow}
+use Rattle.wb_model.specs.runs.Traces.{end_of_attempt}
 use Rattle.wb_model.proofs.RuleLemmas.{unsimulated-open}
 use Rattle.wb_model.proofs.SameRuns.{same_run, zero-least}
 use Rattle.wb_model.proofs.SweepLemmas.{fine_all, fine_uncut}

@@ -5,8 +5,8 @@ use Rattle.wb_model.specs.declared.failures.Failures.TheVariants.{Single}
 use Rattle.wb_model.specs.declared.heap.Shape.{Shape}
 use Rattle.wb_model.specs.declared.run.RunResult.{RunResult}
 use Rattle.wb_model.specs.declared.script.Script.{Script}
-use Rattle.wb_model.specs.Pairs.{least_bad_or_cut_pair, least_from, least_pair_from, pair_or, pair_run, AreAllPairsFine, ArePairsFineBefore, ComesBefore}
-use Rattle.wb_model.specs.Sweeps.{is_fine, or_else, runs_of, AreAllFine}
+use Rattle.wb_model.specs.runs.Pairs.{least_bad_or_cut_pair, least_from, least_pair_from, pair_or, pair_run, AreAllPairsFine, ArePairsFineBefore, ComesBefore}
+use Rattle.wb_model.specs.runs.Sweeps.{is_fine, or_else, runs_of, AreAllFine}
 use Rattle.wb_model.proofs.PairLemmas.{all-made-fine, second-past}
 use Rattle.wb_model.proofs.SweepLemmas.{fine_uncut}
 

@@ -2,7 +2,7 @@
 use Rattle.std.proofs.Common.{◌≡◌, ℕ, ◌+◌, ◌≤◌, ◌<◌, List, length, take, drop, get_or, arith, ◌∙◌, ap, sym}
 use Rattle.std.proofs.lemmas.Grind.{same_number_lists, common_steps}
 use Rattle.std.proofs.lemmas.List.{get_or-take, get_or-drop, length-take, length-drop}
-use Rattle.wb_model.specs.Texts.{exactly, units_of_part}
+use Rattle.wb_model.specs.meaning.Texts.{exactly, units_of_part}
 
 pub length-exactly : (n : ℕ) (t : List ℕ) → length (exactly n t) ≡ n
 length-exactly n t = grind (arith, common_steps)

@@ -2,9 +2,9 @@
 use Rattle.std.proofs.Common.{◌≡◌, ℕ, suc, ◌*◌, Bool, true, false, cond, List, [], ◌∷◌, length, All, Some, arith, ap, ◌∙◌}
 use Rattle.std.proofs.lemmas.List.Elements.{All-cons, All-nil}
 use Rattle.wb_model.specs.declared.heap.Ptr.{Ptr}
-use Rattle.wb_model.specs.CellRow.{content_or_nil, payload_of, with_payload}
-use Rattle.wb_model.specs.LimitedHeap.{IsFilled}
-use Rattle.wb_model.specs.Row.{Cell, is_at, cell_at}
+use Rattle.wb_model.specs.cells.CellRow.{content_or_nil, payload_of, with_payload}
+use Rattle.wb_model.specs.heap.LimitedHeap.{IsFilled}
+use Rattle.wb_model.specs.heap.Row.{Cell, is_at, cell_at}
 
 pub filled-changed : (p : Ptr) (words : List ℕ) (row : List (Cell (List ℕ))) → length words ≡ length (payload_of p row) → All IsFilled row →
     All IsFilled (with_payload p words row)

@@ -5,8 +5,8 @@ use Rattle.std.specs.List.{list_all}
 use Rattle.std.proofs.lemmas.Bool.{and_parts}
 use Rattle.std.proofs.lemmas.List.Elements.{All-nil, All-cons, All-map}
 use Rattle.wb_model.specs.declared.limits.TheConstants.{LONGEST_PRINTED}
-use Rattle.wb_model.specs.Printable.{IsPrintable, ArePrintable}
-use Rattle.wb_model.specs.Reading.{printed_unit, printed}
+use Rattle.wb_model.specs.meaning.Printable.{IsPrintable, ArePrintable}
+use Rattle.wb_model.specs.meaning.Reading.{printed_unit, printed}
 
 -- a text that is written out, by a test of its bytes
 abbrev pub is_printable : ℕ → Bool

@@ -22,15 +22,15 @@ use Rattle.wb_model.specs.declared.script.Readable.{Readable}
 use Rattle.wb_model.specs.declared.script.Readable.TheVariants.{Of, ViewOf, Quoted}
 use Rattle.wb_model.specs.declared.script.Statement.TheOpen.{Statement-F}
 use Rattle.wb_model.specs.declared.script.Statement.TheViews.{out-Statement}
-use Rattle.wb_model.specs.Row.{Cell, cell_at}
-use Rattle.wb_model.specs.State.{Content, Value, State, Way, goes_on, returns, leaves, Process, ends, stops, asks, notes, and_then, on_plain_end, then_do, require, with_some}
-use Rattle.wb_model.specs.Operands.{with_cell, with_fields, with_pointer, set_pointer}
-use Rattle.wb_model.specs.Reading.{Source, whole, part, with_writable, with_readable, with_text_cell, with_base, with_units}
-use Rattle.wb_model.specs.Statements.{Todo, all, turns, destroy_items, destroy_object, Context, Meaning, Layer, is_null, released, of_script, release, with_words, in_frame, plain, with_class, destroyed_object, destroyed_item, with_condition, choice, statement}
-use Rattle.wb_model.specs.Bodies.{no_body, operation_at, class_at}
-use Rattle.wb_model.specs.Meaning.{begun_if, begun, piece, meaning_within, meaning_of}
-use Rattle.wb_model.specs.Quiet.{is_quiet, is_quiet_body, is_quiet_if_there, is_quiet_local, is_quiet_statement, are_quiet}
-use Rattle.wb_model.specs.Destructions.{GoesOnWith}
+use Rattle.wb_model.specs.heap.Row.{Cell, cell_at}
+use Rattle.wb_model.specs.meaning.State.{Content, Value, State, Way, goes_on, returns, leaves, Process, ends, stops, asks, notes, and_then, on_plain_end, then_do, require, with_some}
+use Rattle.wb_model.specs.meaning.Operands.{with_cell, with_fields, with_pointer, set_pointer}
+use Rattle.wb_model.specs.meaning.Reading.{Source, whole, part, with_writable, with_readable, with_text_cell, with_base, with_units}
+use Rattle.wb_model.specs.meaning.Statements.{Todo, all, turns, destroy_items, destroy_object, Context, Meaning, Layer, is_null, released, of_script, release, with_words, in_frame, plain, with_class, destroyed_object, destroyed_item, with_condition, choice, statement}
+use Rattle.wb_model.specs.meaning.Bodies.{no_body, operation_at, class_at}
+use Rattle.wb_model.specs.meaning.Meaning.{begun_if, begun, piece, meaning_within, meaning_of}
+use Rattle.wb_model.specs.meaning.Quiet.{is_quiet, is_quiet_body, is_quiet_if_there, is_quiet_local, is_quiet_statement, are_quiet}
+use Rattle.wb_model.specs.meaning.Destructions.{GoesOnWith}
 
 both : (a b : Bool) → (a && b) ≡ true → (a ≡ true) × (b ≡ true)
 both true b e = (refl, e)

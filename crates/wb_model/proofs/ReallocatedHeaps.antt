@@ -7,10 +7,10 @@ use Rattle.std.proofs.lemmas.List.Elements.{All-cons, All-nil, All-filter}
 use Rattle.std.proofs.lemmas.List.Kept.{AllPairs-cons}
 use Rattle.wb_model.specs.declared.heap.Header.{Header}
 use Rattle.wb_model.specs.declared.heap.Ptr.{Ptr}
-use Rattle.wb_model.specs.CellRow.{FitsInPlace, resized_words, with_level}
-use Rattle.wb_model.specs.Heap.{fits_in_place}
-use Rattle.wb_model.specs.LimitedHeap.{LimitedHeap, IsSoundHeap, IsCellLength, IsFilled, space_in, place_in, place_to_grow, grown_pointer, grown_cell, committed_grown, heap_grown, heap_shortened, heap_reallocated, heap_leveled}
-use Rattle.wb_model.specs.Row.{Cell, headers, end_of, pointer_to, is_at, cell_at, inserted, without, IsSpacedFrom, IsRow, IsFree, Misses, place_of}
+use Rattle.wb_model.specs.cells.CellRow.{FitsInPlace, resized_words, with_level}
+use Rattle.wb_model.specs.heap.Heap.{fits_in_place}
+use Rattle.wb_model.specs.heap.LimitedHeap.{LimitedHeap, IsSoundHeap, IsCellLength, IsFilled, space_in, place_in, place_to_grow, grown_pointer, grown_cell, committed_grown, heap_grown, heap_shortened, heap_reallocated, heap_leveled}
+use Rattle.wb_model.specs.heap.Row.{Cell, headers, end_of, pointer_to, is_at, cell_at, inserted, without, IsSpacedFrom, IsRow, IsFree, Misses, place_of}
 use Rattle.wb_model.proofs.LimitedHeaps.{shape_is, committed_by-is, IsCommitted, place_in-least, place_in-committed}
 use Rattle.wb_model.proofs.Reallocations.{at-place, pointer-at, found-from, found-all, found-missed, found-head, fits-words, fits-free, fits-shorter, free-filter, resized-filled}
 use Rattle.wb_model.proofs.Rows.{headers-without, IsRow-filter, IsRow-inserted, All-inserted, All-placed}

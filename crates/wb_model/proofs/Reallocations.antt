@@ -6,10 +6,10 @@ use Rattle.std.proofs.lemmas.Bool.{eqb-true, eq-eqb, ne_eqb, leb-true, leb-false
 use Rattle.std.proofs.lemmas.List.{length-take, length-replicate, take_all, drop-replicate}
 use Rattle.wb_model.specs.declared.heap.Header.{Header}
 use Rattle.wb_model.specs.declared.heap.Ptr.{Ptr}
-use Rattle.wb_model.specs.CellRow.{room_after, Clears, FitsInPlace, resized_words, resized_cell, with_length}
-use Rattle.wb_model.specs.Heap.{fits_in_place}
-use Rattle.wb_model.specs.LimitedHeap.{zero_words}
-use Rattle.wb_model.specs.Row.{Cell, headers, end_of, pointer_to, is_at, cell_at, inserted, without, changed, IsSpacedFrom, Misses, IsFree}
+use Rattle.wb_model.specs.cells.CellRow.{room_after, Clears, FitsInPlace, resized_words, resized_cell, with_length}
+use Rattle.wb_model.specs.heap.Heap.{fits_in_place}
+use Rattle.wb_model.specs.heap.LimitedHeap.{zero_words}
+use Rattle.wb_model.specs.heap.Row.{Cell, headers, end_of, pointer_to, is_at, cell_at, inserted, without, changed, IsSpacedFrom, Misses, IsFree}
 use Rattle.wb_model.proofs.Rows.{head-cell_at, headers-without, spaced-filter}
 
 -- whether a pointer is a cell's

@@ -12,11 +12,11 @@ use Rattle.wb_model.specs.declared.script.Condition.TheVariants.{IsNull, NotNull
 use Rattle.wb_model.specs.declared.script.StatementAt.{StatementAt}
 use Rattle.wb_model.specs.declared.script.Statement.TheOpen.{Statement-F}
 use Rattle.wb_model.specs.declared.script.Statement.TheViews.{out-Statement}
-use Rattle.wb_model.specs.State.{State, Way, goes_on, Process, ends, stops, asks, notes, and_then, on_plain_end, then_do, with_some}
-use Rattle.wb_model.specs.Operands.{with_cell, with_fields, with_pointer}
-use Rattle.wb_model.specs.Statements.{all, turns, Context, statement, with_condition, choice}
-use Rattle.wb_model.specs.Meaning.{begun, begun_if, piece, meaning_of}
-use Rattle.wb_model.specs.Rest.{Pending, doing, resumed, resume}
+use Rattle.wb_model.specs.meaning.State.{State, Way, goes_on, Process, ends, stops, asks, notes, and_then, on_plain_end, then_do, with_some}
+use Rattle.wb_model.specs.meaning.Operands.{with_cell, with_fields, with_pointer}
+use Rattle.wb_model.specs.meaning.Statements.{all, turns, Context, statement, with_condition, choice}
+use Rattle.wb_model.specs.meaning.Meaning.{begun, begun_if, piece, meaning_of}
+use Rattle.wb_model.specs.runs.Rest.{Pending, doing, resumed, resume}
 use Rattle.wb_model.proofs.MeaningLemmas.{meaning_of-unfolds}
 
 abbrev Go : Type 0

@@ -7,7 +7,7 @@ use Rattle.std.proofs.lemmas.List.Elements.{All-cons, All-nil}
 use Rattle.std.proofs.lemmas.List.Kept.{AllPairs-cons, AllPairs-filter}
 use Rattle.wb_model.specs.declared.heap.Header.{Header}
 use Rattle.wb_model.specs.declared.heap.Ptr.{Ptr}
-use Rattle.wb_model.specs.Row.{Cell, headers, end_of, is_at, cell_at, inserted, without, changed, IsSpacedFrom, IsRow, Misses, IsFree, place_from, top_from}
+use Rattle.wb_model.specs.heap.Row.{Cell, headers, end_of, is_at, cell_at, inserted, without, changed, IsSpacedFrom, IsRow, Misses, IsFree, place_from, top_from}
 use Rattle.wb_model.proofs.Places.{top_from-above}
 
 -- a row that is spaced from a place is spaced from a lower one

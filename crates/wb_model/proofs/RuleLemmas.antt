@@ -9,11 +9,11 @@ use Rattle.wb_model.specs.declared.failures.Failures.TheVariants.{Single, Every,
 use Rattle.wb_model.specs.declared.heap.Answer.TheVariants.{Simulated}
 use Rattle.wb_model.specs.declared.heap.Rule.{Rule}
 use Rattle.wb_model.specs.declared.heap.Rule.TheVariants.{Number}
-use Rattle.wb_model.specs.Agreement.{IsNoLimit}
-use Rattle.wb_model.specs.Rest.{Fits, SameSoFar}
-use Rattle.wb_model.specs.Rules.{limit_of, refusal_of, refusal_past, simulates}
-use Rattle.wb_model.specs.Space.{below_ceiling, limit_under}
-use Rattle.wb_model.specs.Sweeps.{rule_of}
+use Rattle.wb_model.specs.runs.Agreement.{IsNoLimit}
+use Rattle.wb_model.specs.runs.Rest.{Fits, SameSoFar}
+use Rattle.wb_model.specs.heap.Rules.{limit_of, refusal_of, refusal_past, simulates}
+use Rattle.wb_model.specs.heap.Space.{below_ceiling, limit_under}
+use Rattle.wb_model.specs.runs.Sweeps.{rule_of}
 
 pub same-limit : (r own : Rule) (attempts : ℕ) → SameSoFar r own attempts → limit_under r ≡ limit_under own
 same-limit r own attempts s = ap below_ceiling (s.no_limit ∙ sym s.own_no_limit)

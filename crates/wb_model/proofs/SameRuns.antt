@@ -14,11 +14,11 @@ use Rattle.wb_model.specs.declared.heap.Attempt.{Attempt}
 use Rattle.wb_model.specs.declared.run.Why.TheVariants.{Ceiling}
 use Rattle.wb_model.specs.declared.run.Outcome.TheVariants.{Cut}
 use Rattle.wb_model.specs.declared.script.Script.{Script}
-use Rattle.wb_model.specs.Rules.{limit_of, simulates, refusal_past, refusal_of, unless_refused}
-use Rattle.wb_model.specs.Run.{run}
-use Rattle.wb_model.specs.Agreement.{RefusesAtLeast, RefusesNoGrant, IsNoLimit, IsSameRun, PartsAt}
-use Rattle.wb_model.specs.Sweeps.{rule_of, runs_of}
-use Rattle.wb_model.specs.Traces.{refusal_by, end_of_attempt}
+use Rattle.wb_model.specs.heap.Rules.{limit_of, simulates, refusal_past, refusal_of, unless_refused}
+use Rattle.wb_model.specs.runs.Run.{run}
+use Rattle.wb_model.specs.runs.Agreement.{RefusesAtLeast, RefusesNoGrant, IsNoLimit, IsSameRun, PartsAt}
+use Rattle.wb_model.specs.runs.Sweeps.{rule_of, runs_of}
+use Rattle.wb_model.specs.runs.Traces.{refusal_by, end_of_attempt}
 use Rattle.wb_model.proofs.AgreementLemmas.{rules_agree-law}
 use Rattle.wb_model.proofs.RuleLemmas.{failures-no_limit, later-refuses_none, zero-refuses_none}
 use Rattle.wb_model.proofs.TraceLemmas.{run-numbered}

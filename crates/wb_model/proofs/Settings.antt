@@ -4,7 +4,7 @@ use Rattle.std.specs.Prelude.{nat_eq}
 use Rattle.std.proofs.Math.Nat.{add-mod_right, mod_self, mod-eq_of_lt}
 use Rattle.std.proofs.lemmas.Bool.{eq-eqb, ne_eqb}
 use Rattle.std.proofs.lemmas.Bool.Decides.{eqb_tells}
-use Rattle.wb_model.specs.Rules.{never, next, each, is_due, after_attempts}
+use Rattle.wb_model.specs.heap.Rules.{never, next, each, is_due, after_attempts}
 
 -- two tests for equal numbers that hold alike
 same_test : (a b c d : ℕ) → (a ≡ b → c ≡ d) → (c ≡ d → a ≡ b) → nat_eq a b ≡ nat_eq c d

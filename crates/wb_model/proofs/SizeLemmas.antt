@@ -12,11 +12,11 @@ use Rattle.wb_model.specs.declared.heap.Attempt.{Attempt}
 use Rattle.wb_model.specs.declared.run.Why.TheVariants.{Ceiling}
 use Rattle.wb_model.specs.declared.run.Outcome.TheVariants.{Cut}
 use Rattle.wb_model.specs.declared.script.Script.{Script}
-use Rattle.wb_model.specs.Run.{run, granted_end, end_of_line, highest_end, required, rises_above, rises, first_rise_above, refused_at}
-use Rattle.wb_model.specs.Agreement.{RefusesAtLeast, RefusesNoGrant, IsSameButNotes, PartsAt}
-use Rattle.wb_model.specs.Rules.{Request}
-use Rattle.wb_model.specs.Sizes.{refused_or_later, first_refusal, IsTable}
-use Rattle.wb_model.specs.Traces.{IsLine, AreAnsweredLines, end_of_attempt}
+use Rattle.wb_model.specs.runs.Run.{run, granted_end, end_of_line, highest_end, required, rises_above, rises, first_rise_above, refused_at}
+use Rattle.wb_model.specs.runs.Agreement.{RefusesAtLeast, RefusesNoGrant, IsSameButNotes, PartsAt}
+use Rattle.wb_model.specs.heap.Rules.{Request}
+use Rattle.wb_model.specs.runs.Sizes.{refused_or_later, first_refusal, IsTable}
+use Rattle.wb_model.specs.runs.Traces.{IsLine, AreAnsweredLines, end_of_attempt}
 use Rattle.wb_model.proofs.AgreementLemmas.{rules_agree-law}
 use Rattle.wb_model.proofs.SameRuns.{same_run}
 use Rattle.wb_model.proofs.TraceLemmas.{run-lines, unlimited_refuses_none, limit_grants_within}

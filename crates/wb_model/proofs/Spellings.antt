@@ -1,7 +1,7 @@
 -- Small words, and the cells that they spell: state words that are no live cell's spell none.
 use Rattle.std.proofs.Common.{◌≡◌, [], ◌∷◌, Some, None, refl}
 use Rattle.wb_model.specs.declared.heap.Kind.TheVariants.{Raw, Object, Text, Cleanup}
-use Rattle.wb_model.specs.Spelling.{kind_of, spelled}
+use Rattle.wb_model.specs.cells.Spelling.{kind_of, spelled}
 
 free_state : kind_of 0 ≡ None
 free_state = refl

@@ -8,8 +8,8 @@ use Rattle.wb_model.specs.declared.run.RunResult.{RunResult}
 use Rattle.wb_model.specs.declared.run.Why.TheVariants.{Ceiling}
 use Rattle.wb_model.specs.declared.run.Outcome.TheVariants.{Cut}
 use Rattle.wb_model.specs.declared.script.Script.{Script}
-use Rattle.wb_model.specs.Run.{is_bad}
-use Rattle.wb_model.specs.Sweeps.{is_fine, is_cut_outcome, runs_of, AreFineBelow, AreAllFine, IsLeastUnfine, or_else, least_unfine, least_bad_or_cut}
+use Rattle.wb_model.specs.runs.Run.{is_bad}
+use Rattle.wb_model.specs.runs.Sweeps.{is_fine, is_cut_outcome, runs_of, AreFineBelow, AreAllFine, IsLeastUnfine, or_else, least_unfine, least_bad_or_cut}
 use Rattle.wb_model.proofs.SameRuns.{past_the_last}
 
 -- a run that is cut isn't fine

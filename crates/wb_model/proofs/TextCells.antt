@@ -2,10 +2,10 @@
 use Rattle.std.proofs.Common.{◌≡◌, ℕ, zero, suc, ◌+◌, ◌-◌, ◌*◌, ◌/◌, ◌%◌, ◌^◌, ◌<◌, ◌≤◌, List, [], ◌∷◌, ◌++◌, length, take, replicate, slice_index, refl, sym, ap, subst, ◌∙◌, arith}
 use Rattle.std.proofs.lemmas.List.{length-take, length-append, length-replicate, take_all, take_at}
 use Rattle.std.proofs.lemmas.List.Elements.{All-nil, All-append, All-take, All-replicate}
-use Rattle.wb_model.specs.CellRow.{resized_words}
-use Rattle.wb_model.specs.Texts.{AreUnits, exactly}
-use Rattle.wb_model.specs.Spelling.{halves}
-use Rattle.wb_model.specs.TextCells.{joined, room_in, text_words, units_after, text_in, IsText}
+use Rattle.wb_model.specs.cells.CellRow.{resized_words}
+use Rattle.wb_model.specs.meaning.Texts.{AreUnits, exactly}
+use Rattle.wb_model.specs.cells.Spelling.{halves}
+use Rattle.wb_model.specs.cells.TextCells.{joined, room_in, text_words, units_after, text_in, IsText}
 
 -- a unit has 16 bits
 abbrev pub IsUnit : ℕ → Type 0

@@ -4,11 +4,11 @@ use Rattle.std.specs.Prelude.{◌&&◌}
 use Rattle.std.proofs.lemmas.Bool.{eqb-true, false≢true}
 use Rattle.wb_model.specs.declared.heap.Ptr.{Ptr}
 use Rattle.wb_model.specs.declared.heap.Header.{Header}
-use Rattle.wb_model.specs.Row.{Cell, is_at, cell_at, inserted}
-use Rattle.wb_model.specs.CellRow.{content_or_nil, payload_of, with_payload}
-use Rattle.wb_model.specs.Texts.{AreUnits}
-use Rattle.wb_model.specs.Debug.{Debug, debug_changed}
-use Rattle.wb_model.specs.TextCells.{room_in, text_words, text_in, IsText, text_at, IsTextAt, text_changed}
+use Rattle.wb_model.specs.heap.Row.{Cell, is_at, cell_at, inserted}
+use Rattle.wb_model.specs.cells.CellRow.{content_or_nil, payload_of, with_payload}
+use Rattle.wb_model.specs.meaning.Texts.{AreUnits}
+use Rattle.wb_model.specs.heap.Debug.{Debug, debug_changed}
+use Rattle.wb_model.specs.cells.TextCells.{room_in, text_words, text_in, IsText, text_at, IsTextAt, text_changed}
 use Rattle.wb_model.proofs.Reallocations.{cell_at-inserted_other, not_at-number}
 use Rattle.wb_model.proofs.TextCells.{text-is, text-read}
 

@@ -11,18 +11,18 @@ use Rattle.wb_model.specs.declared.run.Leak.{Leak}
 use Rattle.wb_model.specs.declared.run.Why.TheVariants.{Ceiling}
 use Rattle.wb_model.specs.declared.run.Outcome.TheVariants.{Ended}
 use Rattle.wb_model.specs.declared.script.Script.{Script}
-use Rattle.wb_model.specs.Row.{headers}
-use Rattle.wb_model.specs.Heap.{cells_of_all_levels}
-use Rattle.wb_model.specs.Rules.{answer_to}
-use Rattle.wb_model.specs.Space.{Space, space_of}
-use Rattle.wb_model.specs.State.{State, Way, goes_on, returns, leaves, Query, heap_note, available_note, compress_note, panics, is_cut, no_cleanup, Process, ends, stops, asks, notes}
-use Rattle.wb_model.specs.Statements.{Context}
-use Rattle.wb_model.specs.Meaning.{meaning_of, meaning_within}
-use Rattle.wb_model.specs.Account.{over, stopped, End, Account, Settled, settled, on_answer, recorded, noted, next_number}
-use Rattle.wb_model.specs.Run.{start, main_trapped, in_main, started, process, before, run, outcome_of}
-use Rattle.wb_model.specs.Printable.{ArePrintable}
-use Rattle.wb_model.specs.Throughout.{Throughout, AreCellsAfter, AreLeaksAfter}
-use Rattle.wb_model.specs.Traces.{TellsSettings}
+use Rattle.wb_model.specs.heap.Row.{headers}
+use Rattle.wb_model.specs.heap.Heap.{cells_of_all_levels}
+use Rattle.wb_model.specs.heap.Rules.{answer_to}
+use Rattle.wb_model.specs.heap.Space.{Space, space_of}
+use Rattle.wb_model.specs.meaning.State.{State, Way, goes_on, returns, leaves, Query, heap_note, available_note, compress_note, panics, is_cut, no_cleanup, Process, ends, stops, asks, notes}
+use Rattle.wb_model.specs.meaning.Statements.{Context}
+use Rattle.wb_model.specs.meaning.Meaning.{meaning_of, meaning_within}
+use Rattle.wb_model.specs.runs.Account.{over, stopped, End, Account, Settled, settled, on_answer, recorded, noted, next_number}
+use Rattle.wb_model.specs.runs.Run.{start, main_trapped, in_main, started, process, before, run, outcome_of}
+use Rattle.wb_model.specs.meaning.Printable.{ArePrintable}
+use Rattle.wb_model.specs.runs.Throughout.{Throughout, AreCellsAfter, AreLeaksAfter}
+use Rattle.wb_model.specs.runs.Traces.{TellsSettings}
 use Rattle.wb_model.proofs.AccountLemmas.{before-lines, settled-keeps}
 use Rattle.wb_model.proofs.AlikeLemmas.{Lasting, Shows, Fine, Keeps, Alike, AlikeAll, and_then-alike, then_do-alike, require-alike, allocate-alike}
 use Rattle.wb_model.proofs.AlikePieces.{between, shows_weaker, meaning_within-alike}

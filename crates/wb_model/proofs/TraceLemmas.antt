@@ -11,13 +11,13 @@ use Rattle.wb_model.specs.declared.heap.Answer.TheVariants.{Granted, Simulated, 
 use Rattle.wb_model.specs.declared.heap.Attempt.{Attempt}
 use Rattle.wb_model.specs.declared.run.Why.TheVariants.{Ceiling}
 use Rattle.wb_model.specs.declared.script.Script.{Script}
-use Rattle.wb_model.specs.Rules.{limit_of, simulates, refusal_past, refusal_of, unless_refused, answer_to, Request}
-use Rattle.wb_model.specs.State.{is_cut, Query, heap_note, available_note, compress_note, Process, ends, stops, asks, notes}
-use Rattle.wb_model.specs.Space.{Space, space_of}
-use Rattle.wb_model.specs.Account.{stopped, Account, settled, on_answer, recorded, noted, next_number, trace_line}
-use Rattle.wb_model.specs.Run.{process, before, run, granted_end, highest_end, required}
+use Rattle.wb_model.specs.heap.Rules.{limit_of, simulates, refusal_past, refusal_of, unless_refused, answer_to, Request}
+use Rattle.wb_model.specs.meaning.State.{is_cut, Query, heap_note, available_note, compress_note, Process, ends, stops, asks, notes}
+use Rattle.wb_model.specs.heap.Space.{Space, space_of}
+use Rattle.wb_model.specs.runs.Account.{stopped, Account, settled, on_answer, recorded, noted, next_number, trace_line}
+use Rattle.wb_model.specs.runs.Run.{process, before, run, granted_end, highest_end, required}
 use Rattle.wb_model.proofs.AccountLemmas.{KeepsLines, before-lines, recorded-trace, recorded-lines, noted-lines}
-use Rattle.wb_model.specs.Traces.{asked_before, asked_for, end_of_attempt, IsLine, AreAnsweredLines}
+use Rattle.wb_model.specs.runs.Traces.{asked_before, asked_for, end_of_attempt, IsLine, AreAnsweredLines}
 
 -- what a rule refuses, by the answer
 record IsRefusal (rule : Rule) (number end : ℕ) (w : Answer) : Type 0 where

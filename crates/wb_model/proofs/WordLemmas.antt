@@ -18,13 +18,13 @@ use Rattle.wb_model.specs.declared.script_lines.Keyword as model
 use Rattle.wb_model.specs.declared.script_lines.Keyword.TheVariants as keyword
 use Rattle.wb_model.specs.declared.script_lines.Form.{Form}
 use Rattle.wb_model.specs.declared.script_lines.Form.TheVariants.{Line}
-use Rattle.wb_model.specs.Lines.{is_blank, words_of}
-use Rattle.wb_model.specs.Words.{is_reserved, with_digit, is_digit, is_name_byte, is_name, is_letter, declared_name, used_name, digits_of, number_spelled, literal_spelled, length_before, before_first, after_first_of, base_name, field_name, parameter_type_after_colon, parameter_name, parameter_type_of_word, text_of_keyword}
+use Rattle.wb_model.specs.language.Lines.{is_blank, words_of}
+use Rattle.wb_model.specs.language.Words.{is_reserved, with_digit, is_digit, is_name_byte, is_name, is_letter, declared_name, used_name, digits_of, number_spelled, literal_spelled, length_before, before_first, after_first_of, base_name, field_name, parameter_type_after_colon, parameter_name, parameter_type_of_word, text_of_keyword}
 use Rattle.wb_model.specs.declared.script_lines.WordKind.{WordKind}
 use Rattle.wb_model.specs.declared.script_lines.WordKind.TheVariants as kind
-use Rattle.wb_model.specs.LineKinds.{line_kinds, text_of, operand_places_for, word_kinds}
-use Rattle.wb_model.specs.Forms.{operand_of, operand_as, operand_among, operands_of, operands_if, either, size_of, parameter_of, field_of, onto, line_or, form_in, begins_comment, skipped_or, form_of}
-use Rattle.wb_model.specs.Writing.{is_plain, IsWord, AreWords, IsMadeOfWords}
+use Rattle.wb_model.specs.language.LineKinds.{line_kinds, text_of, operand_places_for, word_kinds}
+use Rattle.wb_model.specs.language.Forms.{operand_of, operand_as, operand_among, operands_of, operands_if, either, size_of, parameter_of, field_of, onto, line_or, form_in, begins_comment, skipped_or, form_of}
+use Rattle.wb_model.specs.language.Writing.{is_plain, IsWord, AreWords, IsMadeOfWords}
 use Rattle.wb_model.proofs.WritingLemmas.{both, quoted_of_literal}
 
 -- bytes of names and numbers are neither blanks nor quotes

@@ -4,10 +4,10 @@ use Rattle.std.specs.List.{list_all, flat_map}
 use Rattle.std.proofs.lemmas.List.{take_more}
 use Rattle.std.proofs.Math.Seq.{take-append_seam, get_or-append_seam}
 use borrow.Author.Tests.{leb-true, le-leb, eq-eqb, eqb-true}
-use Rattle.wb_model.specs.Lines.{is_blank, ends_line, ends_word, quoted_after, onto_first, pieces_from, lines_of, unless_empty, words_of}
-use Rattle.wb_model.specs.Sound.{is_quotable}
-use Rattle.wb_model.specs.Words.{inside, is_literal, literal_spelled}
-use Rattle.wb_model.specs.Writing.{is_line, ended, ReadsLines, is_quoted_text, quoted, ReadsLiterals, is_plain, IsWord, spaced, ReadsWords}
+use Rattle.wb_model.specs.language.Lines.{is_blank, ends_line, ends_word, quoted_after, onto_first, pieces_from, lines_of, unless_empty, words_of}
+use Rattle.wb_model.specs.language.Sound.{is_quotable}
+use Rattle.wb_model.specs.language.Words.{inside, is_literal, literal_spelled}
+use Rattle.wb_model.specs.language.Writing.{is_line, ended, ReadsLines, is_quoted_text, quoted, ReadsLiterals, is_plain, IsWord, spaced, ReadsWords}
 
 pub both : (a b : Bool) → a && b ≡ true → (a ≡ true) × (b ≡ true)
 both true b h = (refl, h)

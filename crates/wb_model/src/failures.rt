@@ -1,7 +1,7 @@
 //! Which failures a sweep tries, and which one it speaks of.
 
 ghost use Rattle.std.specs.Prelude.{◌≡◌};
-ghost use Rattle.wb_model.specs.Sweeps.{failing_at, rule_for};
+ghost use Rattle.wb_model.specs.runs.Sweeps.{failing_at, rule_for};
 
 use crate::heap::Rule;
 

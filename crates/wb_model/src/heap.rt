@@ -2,7 +2,7 @@
 //! place from where the chunk begins; the first attempt has number 1.
 
 ghost use Rattle.std.specs.Prelude.{◌≡◌, ◌+◌, ◌/◌, ◌^◌, ◌<◌, ◌≤◌};
-ghost use Rattle.wb_model.specs.Row.{end_of, pointer_to, usable_of};
+ghost use Rattle.wb_model.specs.heap.Row.{end_of, pointer_to, usable_of};
 
 /// A cell, by its place and its allocation number. Number 0 is null.
 #[derive(Clone, Copy, Debug, PartialEq, Eq)]

@@ -2,7 +2,7 @@
 //! that the gate proves it.
 
 ghost use Rattle.std.specs.Prelude.{ℕ, List};
-ghost use Rattle.wb_model.specs.Writing.{ReadsLines, ReadsWords, ReadsLiterals, IsMadeOfWords};
+ghost use Rattle.wb_model.specs.language.Writing.{ReadsLines, ReadsWords, ReadsLiterals, IsMadeOfWords};
 
 /// Lines, each ended by a line feed or only the last without one, are read as these lines.
 pub fn lines_are_read()

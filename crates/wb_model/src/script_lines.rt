@@ -1,5 +1,5 @@
 //! What a line of a script says, before its names are looked up. The tables of the language are in
-//! `specs/LineKinds.antt`.
+//! `specs/language/LineKinds.antt`.
 
 use crate::items::Items;
 

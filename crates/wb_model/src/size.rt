@@ -1,7 +1,7 @@
 //! How long a heap a script needs.
 
 ghost use Rattle.std.specs.Prelude.{◌≡◌};
-ghost use Rattle.wb_model.specs.Rises.{top_of_rises};
+ghost use Rattle.wb_model.specs.runs.Rises.{top_of_rises};
 
 use crate::items::Items;
 

@@ -2,10 +2,10 @@
 //! nothing, so that the gate proves it.
 
 ghost use Rattle.std.specs.Prelude.{◌≡◌, ◌≢◌, ℕ, ◌<◌, ◌≤◌, Some, None, false, length, true};
-ghost use Rattle.wb_model.specs.Pairs.{least_bad_or_cut_pair, pair_run, AreAllPairsFine, ArePairsFineBefore};
-ghost use Rattle.wb_model.specs.Run.{run};
-ghost use Rattle.wb_model.specs.SweepAnswers.{IsCutShort, IsFound, IsNoneFound};
-ghost use Rattle.wb_model.specs.Sweeps.{is_fine, rule_for, runs_of, AreAllFine};
+ghost use Rattle.wb_model.specs.runs.Pairs.{least_bad_or_cut_pair, pair_run, AreAllPairsFine, ArePairsFineBefore};
+ghost use Rattle.wb_model.specs.runs.Run.{run};
+ghost use Rattle.wb_model.specs.runs.SweepAnswers.{IsCutShort, IsFound, IsNoneFound};
+ghost use Rattle.wb_model.specs.runs.Sweeps.{is_fine, rule_for, runs_of, AreAllFine};
 ghost use Rattle.wb_model.specs.declared.failures.Failing.{Failing};
 ghost use Rattle.wb_model.specs.declared.failures.Failures.{Failures};
 ghost use Rattle.wb_model.specs.declared.failures.Failures.TheVariants.{Single};

@@ -9,7 +9,7 @@ use Rattle.wb_nesting.specs.declared.open.Open.TheVariants.{Fields, Made, Destro
 use Rattle.wb_nesting.specs.declared.open.Move.{Move}
 use Rattle.wb_nesting.specs.declared.open.Move.TheVariants.{Close, Stay, Enter}
 use Rattle.wb_nesting.specs.Machine.{statement, move_of, after, moved, step}
-use Rattle.wb_model.specs.Grammar.{AreStatements, IsBody, AreFields, IsOptional, AreItems}
+use Rattle.wb_model.specs.language.Grammar.{AreStatements, IsBody, AreFields, IsOptional, AreItems}
 
 -- the open blocks after some lines
 abbrev pub run : List Open → List Role → Option (List Open)

@@ -1,7 +1,7 @@
 //! Reads the lines of a script by their roles, with the blocks that are open, up to the first line without a place.
 
 ghost use Rattle.std.specs.Prelude.{◌≡◌, ◌∷◌, IfOk, OnOk, MatchOption, MatchBool, reverse};
-ghost use Rattle.wb_model.specs.Grammar.{IsGrammatical, IsFirstMisfit};
+ghost use Rattle.wb_model.specs.language.Grammar.{IsGrammatical, IsFirstMisfit};
 ghost use Rattle.wb_nesting.specs.Machine.{move_of, after, step, after_line};
 
 use crate::open::{Move, Open};

@@ -3,9 +3,9 @@ use Rattle.std.proofs.Common.{◌≡◌, ℕ, zero, suc, ◌+◌, ◌-◌, ◌*�
 use Rattle.std.specs.Prelude.{slice_get, slice_set, unwrap_or}
 use Rattle.std.proofs.lemmas.List.{length-set}
 use Rattle.wb_model.specs.declared.heap.Ptr.{Ptr}
-use Rattle.wb_model.specs.State.{null}
-use Rattle.wb_model.specs.Spelling.{pointers, fields_in}
-use Rattle.wb_model.specs.ObjectCells.{pointer_words, object_words, IsObject}
+use Rattle.wb_model.specs.meaning.State.{null}
+use Rattle.wb_model.specs.cells.Spelling.{pointers, fields_in}
+use Rattle.wb_model.specs.cells.ObjectCells.{pointer_words, object_words, IsObject}
 use Rattle.wb_model.proofs.TextCells.{exactly-longer, zeros}
 use Rattle.wb_objects.specs.Objects.{field_in, with_field}
 

@@ -11,17 +11,17 @@ use Rattle.wb_model.specs.declared.heap.Gave.{Gave}
 use Rattle.wb_model.specs.declared.heap.Gave.TheVariants.{Granted}
 use Rattle.wb_model.specs.declared.script.Class.{Class}
 use Rattle.wb_model.specs.declared.script.Script.{Script}
-use Rattle.wb_model.specs.Row.{Cell, headers, pointer_to, cell_at, inserted, cell_length}
-use Rattle.wb_model.specs.CellRow.{content_or_nil, payload_of, with_payload}
-use Rattle.wb_model.specs.Rules.{Request}
-use Rattle.wb_model.specs.Heap.{alloc_request, new_cell, after_alloc}
-use Rattle.wb_model.specs.LimitedHeap.{zero_words}
-use Rattle.wb_model.specs.State.{null}
-use Rattle.wb_model.specs.Statements.{payload_of_object}
-use Rattle.wb_model.specs.Bodies.{class_at}
-use Rattle.wb_model.specs.Spelling.{fields_in}
-use Rattle.wb_model.specs.ObjectCells.{pointer_words, object_words, IsObject, IsObjectAt}
-use Rattle.wb_model.specs.Debug.{Debug, IsSoundDebug, made_by, answer_in, number_of_next, alloc_made, debug_changed, with_row}
+use Rattle.wb_model.specs.heap.Row.{Cell, headers, pointer_to, cell_at, inserted, cell_length}
+use Rattle.wb_model.specs.cells.CellRow.{content_or_nil, payload_of, with_payload}
+use Rattle.wb_model.specs.heap.Rules.{Request}
+use Rattle.wb_model.specs.heap.Heap.{alloc_request, new_cell, after_alloc}
+use Rattle.wb_model.specs.heap.LimitedHeap.{zero_words}
+use Rattle.wb_model.specs.meaning.State.{null}
+use Rattle.wb_model.specs.meaning.Statements.{payload_of_object}
+use Rattle.wb_model.specs.meaning.Bodies.{class_at}
+use Rattle.wb_model.specs.cells.Spelling.{fields_in}
+use Rattle.wb_model.specs.cells.ObjectCells.{pointer_words, object_words, IsObject, IsObjectAt}
+use Rattle.wb_model.specs.heap.Debug.{Debug, IsSoundDebug, made_by, answer_in, number_of_next, alloc_made, debug_changed, with_row}
 use Rattle.wb_model.proofs.TextCells.{zeros}
 use Rattle.wb_model.proofs.ObjectCells.{object-read}
 use Rattle.wb_model.proofs.Reallocations.{at-own, cell_at-inserted, changed-inserted}

@@ -9,14 +9,14 @@ use Rattle.wb_model.specs.declared.heap.Gave.{Gave}
 use Rattle.wb_model.specs.declared.heap.Gave.TheVariants.{Granted}
 use Rattle.wb_model.specs.declared.heap.Panic.{Panic}
 use Rattle.wb_model.specs.declared.script.Class.{Class}
-use Rattle.wb_model.specs.Row.{Cell, cell_at}
-use Rattle.wb_model.specs.CellRow.{payload_of}
-use Rattle.wb_model.specs.Heap.{alloc_request, after_alloc}
-use Rattle.wb_model.specs.State.{null}
-use Rattle.wb_model.specs.Statements.{class_of, payload_of_object}
-use Rattle.wb_model.specs.Spelling.{pointers, fields_in}
-use Rattle.wb_model.specs.ObjectCells.{object_words, IsObjectAt}
-use Rattle.wb_model.specs.Debug.{Debug, Made, made_by, answer_in, debug_changed}
+use Rattle.wb_model.specs.heap.Row.{Cell, cell_at}
+use Rattle.wb_model.specs.cells.CellRow.{payload_of}
+use Rattle.wb_model.specs.heap.Heap.{alloc_request, after_alloc}
+use Rattle.wb_model.specs.meaning.State.{null}
+use Rattle.wb_model.specs.meaning.Statements.{class_of, payload_of_object}
+use Rattle.wb_model.specs.cells.Spelling.{pointers, fields_in}
+use Rattle.wb_model.specs.cells.ObjectCells.{object_words, IsObjectAt}
+use Rattle.wb_model.specs.heap.Debug.{Debug, Made, made_by, answer_in, debug_changed}
 
 -- the class of a cell: WORKBENCH 1 where there is none, and WORKBENCH 2 where it is no object
 abbrev pub class_of_cell : Option (Cell (List ℕ)) → Result ℕ Panic

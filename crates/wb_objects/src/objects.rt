@@ -2,14 +2,14 @@
 //! reads the words alone.
 
 ghost use Rattle.std.specs.Prelude.{◌≡◌, ℕ, ◌+◌, ◌*◌, ◌^◌, ◌<◌, ◌≤◌, length, None, Some, IfOk, IsOk, OnErr, OnOk, slice_get, slice_set};
-ghost use Rattle.wb_model.specs.CellRow.{payload_of};
-ghost use Rattle.wb_model.specs.Debug.{IsSoundDebug, answer_in};
-ghost use Rattle.wb_model.specs.Heap.{alloc_request};
-ghost use Rattle.wb_model.specs.ObjectCells.{IsObjectAt};
-ghost use Rattle.wb_model.specs.Spelling.{fields_in};
-ghost use Rattle.wb_model.specs.Statements.{payload_of_object};
-ghost use Rattle.wb_model.specs.Bodies.{class_at};
-ghost use Rattle.wb_model.specs.Texts.{answer_of};
+ghost use Rattle.wb_model.specs.cells.CellRow.{payload_of};
+ghost use Rattle.wb_model.specs.heap.Debug.{IsSoundDebug, answer_in};
+ghost use Rattle.wb_model.specs.heap.Heap.{alloc_request};
+ghost use Rattle.wb_model.specs.cells.ObjectCells.{IsObjectAt};
+ghost use Rattle.wb_model.specs.cells.Spelling.{fields_in};
+ghost use Rattle.wb_model.specs.meaning.Statements.{payload_of_object};
+ghost use Rattle.wb_model.specs.meaning.Bodies.{class_at};
+ghost use Rattle.wb_model.specs.meaning.Texts.{answer_of};
 ghost use Rattle.wb_objects.specs.Objects.{HasField, IsNewObject, class_found, field_changed, field_of, object_made, words_found};
 
 use wb_debug::DebugHeap;

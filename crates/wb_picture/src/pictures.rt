@@ -1,7 +1,7 @@
 //! The pictures of the four commands: which runs each shows, and how they are put on a page.
 
 ghost use Rattle.std.specs.Prelude.{◌≤◌, IsTrue};
-ghost use Rattle.wb_model.specs.Sound.{is_script};
+ghost use Rattle.wb_model.specs.language.Sound.{is_script};
 
 use crate::columns::Columns;
 use crate::labels::{close_line, close_text, open_line, open_text};

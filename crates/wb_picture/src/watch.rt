@@ -1,7 +1,7 @@
 //! A run that is watched turn by turn: its cells over time, its attempts, and how deep it is.
 
 ghost use Rattle.std.specs.Prelude.{◌≤◌, IsTrue};
-ghost use Rattle.wb_model.specs.Sound.{is_script};
+ghost use Rattle.wb_model.specs.language.Sound.{is_script};
 
 use crate::cells::Cells;
 use crate::series::Series;

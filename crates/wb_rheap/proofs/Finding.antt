@@ -3,9 +3,9 @@ use Rattle.std.proofs.Common.{◌≡◌, ℕ, suc, ◌+◌, ◌*◌, ◌⊎◌, 
 use Rattle.std.specs.Prelude.{nat_le, Any}
 use Rattle.wb_model.specs.declared.heap.Header.{Header}
 use Rattle.wb_model.specs.declared.heap.Ptr.{Ptr}
-use Rattle.wb_model.specs.CellRow.{IsGap, content_or_nil, payload_of}
-use Rattle.wb_model.specs.LimitedHeap.{LimitedHeap, IsCellLength, IsSoundHeap, IsFilled, place_in}
-use Rattle.wb_model.specs.Row.{Cell, headers, end_of, usable_of, is_at, cell_at, place_from}
+use Rattle.wb_model.specs.cells.CellRow.{IsGap, content_or_nil, payload_of}
+use Rattle.wb_model.specs.heap.LimitedHeap.{LimitedHeap, IsCellLength, IsSoundHeap, IsFilled, place_in}
+use Rattle.wb_model.specs.heap.Row.{Cell, headers, end_of, usable_of, is_at, cell_at, place_from}
 use Rattle.wb_model.proofs.LimitedHeaps.{place_in-least}
 
 -- the place of a request is where it is looked for, or right behind a cell

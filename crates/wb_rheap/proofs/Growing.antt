@@ -4,10 +4,10 @@ use Rattle.std.specs.Prelude.{nat_eq, nat_le, nat_lt}
 use Rattle.std.proofs.lemmas.Bool.{leb-true, leb-false, le-leb, lt-leb, lt-ltb, le-ltb, cond-true, cond-false, false_from_ne_true}
 use Rattle.wb_model.specs.declared.heap.Header.{Header}
 use Rattle.wb_model.specs.declared.heap.Ptr.{Ptr}
-use Rattle.wb_model.specs.CellRow.{FitsInPlace, payload_of, resized_words, with_length, content_or_nil, room_after, IsGap}
-use Rattle.wb_model.specs.Heap.{fits_in_place}
-use Rattle.wb_model.specs.LimitedHeap.{LimitedHeap, IsSoundHeap, IsCellLength, place_in, place_to_grow, committed_grown, grown_cell, heap_grown, heap_shortened, heap_reallocated, reallocated_pointer, grown_pointer, IsFilled}
-use Rattle.wb_model.specs.Row.{Cell, IsRow, IsLeastPlace, headers, cell_at, end_of, inserted, without, pointer_to, usable_of}
+use Rattle.wb_model.specs.cells.CellRow.{FitsInPlace, payload_of, resized_words, with_length, content_or_nil, room_after, IsGap}
+use Rattle.wb_model.specs.heap.Heap.{fits_in_place}
+use Rattle.wb_model.specs.heap.LimitedHeap.{LimitedHeap, IsSoundHeap, IsCellLength, place_in, place_to_grow, committed_grown, grown_cell, heap_grown, heap_shortened, heap_reallocated, reallocated_pointer, grown_pointer, IsFilled}
+use Rattle.wb_model.specs.heap.Row.{Cell, IsRow, IsLeastPlace, headers, cell_at, end_of, inserted, without, pointer_to, usable_of}
 use Rattle.wb_model.proofs.LimitedHeaps.{place_in-least}
 use Rattle.wb_model.proofs.Reallocations.{IsFoundFrom, found-from, found-head, pointer-at, found-all, fits-room, fits-words, fits-shorter, words-fit, has_room, with_length-inserted}
 use Rattle.wb_model.proofs.ReallocatedHeaps.{place_to_grow-is}

@@ -2,9 +2,9 @@
 use Rattle.std.proofs.Common.{◌≡◌, ◌≢◌, ℕ, ◌-◌, ◌/◌, ◌≤◌, ◌++◌, List, length, take, drop, false, All, Option, Some, None, IsSome, refl, sym, ◌∙◌, ap, subst}
 use Rattle.wb_model.specs.declared.heap.Header.{Header}
 use Rattle.wb_model.specs.declared.heap.Ptr.{Ptr}
-use Rattle.wb_model.specs.CellRow.{CellRow, content_or_nil, payload_of, with_payload, resized_words}
-use Rattle.wb_model.specs.LimitedHeap.{zero_words}
-use Rattle.wb_model.specs.Row.{Cell, headers, cell_at, is_at, inserted, without, pointer_to, IsSpacedFrom}
+use Rattle.wb_model.specs.cells.CellRow.{CellRow, content_or_nil, payload_of, with_payload, resized_words}
+use Rattle.wb_model.specs.heap.LimitedHeap.{zero_words}
+use Rattle.wb_model.specs.heap.Row.{Cell, headers, cell_at, is_at, inserted, without, pointer_to, IsSpacedFrom}
 use Rattle.wb_model.proofs.Reallocations.{at-own, at-number, not_at-number, found-all, found-from, found-head, cell_at-inserted, cell_at-inserted_other, changed-inserted, without-inserted, copied-resized}
 
 -- the cell that a live pointer names

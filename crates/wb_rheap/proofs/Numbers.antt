@@ -3,8 +3,8 @@ use Rattle.std.proofs.Common.{◌≡◌, ℕ, ◌<◌, All, Bool, true, false, c
 use Rattle.std.specs.Prelude.{OnOk, OnErr, nat_eq}
 use Rattle.wb_model.specs.declared.heap.Kind.{Kind}
 use Rattle.wb_model.specs.declared.heap.Ptr.{Ptr}
-use Rattle.wb_model.specs.LimitedHeap.{LimitedHeap, heap_with, heap_without, heap_changed, heap_leveled, heap_reallocated, place_to_grow}
-use Rattle.wb_model.specs.Row.{Cell, headers, cell_at}
+use Rattle.wb_model.specs.heap.LimitedHeap.{LimitedHeap, heap_with, heap_without, heap_changed, heap_leveled, heap_reallocated, place_to_grow}
+use Rattle.wb_model.specs.heap.Row.{Cell, headers, cell_at}
 use Rattle.wb_model.proofs.LimitedHeaps.{All-heap_with, All-heap_without}
 use Rattle.wb_model.proofs.Reallocations.{found-all, found-head}
 use Rattle.wb_model.proofs.ReallocatedHeaps.{All-heap_reallocated, All-headers_leveled}

@@ -2,10 +2,10 @@
 //! `payloads`, the cells in the crate below, and the committed length in `space`.
 
 ghost use Rattle.std.specs.Prelude.{◌≡◌, ◌≢◌, ◌+◌, ◌*◌, ◌<◌, ◌≤◌, ◌↔◌, false, length, take, sum, All, IfOk, IfErr, IfSome, OnOk, OnErr, Some, None, option_map};
-ghost use Rattle.wb_model.specs.CellRow.{payload_of};
-ghost use Rattle.wb_model.specs.LimitedHeap.{IsCellLength, IsLiveBelow, IsSoundHeap, empty_heap, place_in, committed_with, heap_with, heap_without, heap_compressed, reclaimed_from, runs_in, next_live_of};
-ghost use Rattle.wb_model.specs.Row.{IsLeastPlace, cell_at, headers, total_length, usable_of};
-ghost use Rattle.wb_model.specs.Space.{is_shape, longest};
+ghost use Rattle.wb_model.specs.cells.CellRow.{payload_of};
+ghost use Rattle.wb_model.specs.heap.LimitedHeap.{IsCellLength, IsLiveBelow, IsSoundHeap, empty_heap, place_in, committed_with, heap_with, heap_without, heap_compressed, reclaimed_from, runs_in, next_live_of};
+ghost use Rattle.wb_model.specs.heap.Row.{IsLeastPlace, cell_at, headers, total_length, usable_of};
+ghost use Rattle.wb_model.specs.heap.Space.{is_shape, longest};
 
 use crate::fault::HeapFault;
 use crate::{room, runs, space};
@@ -34,7 +34,7 @@ pub struct Heap {
 }
 
 impl Model for Heap {
-    ghost use Rattle.wb_model.specs.LimitedHeap.{LimitedHeap};
+    ghost use Rattle.wb_model.specs.heap.LimitedHeap.{LimitedHeap};
 
     ghost Value = { LimitedHeap };
 

@@ -1,9 +1,9 @@
 //! A cell that becomes longer, where it stands or elsewhere. Where it goes, and whether it may, is not decided here.
 
 ghost use Rattle.std.specs.Prelude.{◌≡◌, ◌≢◌, ◌+◌, ◌-◌, ◌/◌, ◌%◌, ◌<◌, ◌≤◌, All, Some, IsSome, option_map, length, nat_eq, if◌then◌else◌};
-ghost use Rattle.wb_model.specs.CellRow.{FitsInPlace, IsGap, payload_of, resized_words};
-ghost use Rattle.wb_model.specs.LimitedHeap.{IsFilled};
-ghost use Rattle.wb_model.specs.Row.{IsRow, IsSpacedFrom, cell_at, headers, inserted, pointer_to, without};
+ghost use Rattle.wb_model.specs.cells.CellRow.{FitsInPlace, IsGap, payload_of, resized_words};
+ghost use Rattle.wb_model.specs.heap.LimitedHeap.{IsFilled};
+ghost use Rattle.wb_model.specs.heap.Row.{IsRow, IsSpacedFrom, cell_at, headers, inserted, pointer_to, without};
 
 use wb_cells::Cells;
 use wb_model::heap::{Header, Ptr};

@@ -2,9 +2,9 @@
 
 ghost use Rattle.std.specs.Prelude.{◌≡◌, ◌+◌, ◌*◌, ◌<◌, ◌≤◌, ◌++◌, length, take, drop, replicate, slice_index, slice_set, IsSome};
 ghost use Rattle.wb_chunk.specs.Halves.{half_of, halves_from, with_half, with_halves};
-ghost use Rattle.wb_model.specs.CellRow.{payload_of};
-ghost use Rattle.wb_model.specs.LimitedHeap.{IsSoundHeap, heap_changed};
-ghost use Rattle.wb_model.specs.Row.{cell_at};
+ghost use Rattle.wb_model.specs.cells.CellRow.{payload_of};
+ghost use Rattle.wb_model.specs.heap.LimitedHeap.{IsSoundHeap, heap_changed};
+ghost use Rattle.wb_model.specs.heap.Row.{cell_at};
 
 use crate::heap::Heap;
 use wb_model::heap::Ptr;

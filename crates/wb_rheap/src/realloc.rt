@@ -2,10 +2,10 @@
 //! cell.
 
 ghost use Rattle.std.specs.Prelude.{◌≡◌, ◌≢◌, ◌+◌, ◌<◌, ◌≤◌, ◌%◌, ◌↔◌, All, IfOk, IfErr, IfSome, IsOk, IsSome, IsSomeAnd, OnOk, OnErr, Some, None, option_map};
-ghost use Rattle.wb_model.specs.CellRow.{FitsInPlace, payload_of};
-ghost use Rattle.wb_model.specs.Heap.{fits_in_place};
-ghost use Rattle.wb_model.specs.LimitedHeap.{IsCellLength, IsSoundHeap, heap_grown, heap_shortened, heap_leveled, heap_reallocated, place_to_grow, committed_grown, grown_pointer, reallocated_pointer};
-ghost use Rattle.wb_model.specs.Row.{IsLeastPlace, cell_at, headers, pointer_to, usable_of};
+ghost use Rattle.wb_model.specs.cells.CellRow.{FitsInPlace, payload_of};
+ghost use Rattle.wb_model.specs.heap.Heap.{fits_in_place};
+ghost use Rattle.wb_model.specs.heap.LimitedHeap.{IsCellLength, IsSoundHeap, heap_grown, heap_shortened, heap_leveled, heap_reallocated, place_to_grow, committed_grown, grown_pointer, reallocated_pointer};
+ghost use Rattle.wb_model.specs.heap.Row.{IsLeastPlace, cell_at, headers, pointer_to, usable_of};
 
 use crate::fault::HeapFault;
 use crate::heap::Heap;

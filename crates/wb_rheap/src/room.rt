@@ -1,7 +1,7 @@
 //! Memory of the workbench itself for the simulated chunk.
 
 ghost use Rattle.std.specs.Prelude.{◌≡◌, ◌≢◌, ◌≤◌, ◌<◌, ◌%◌, ◌↔◌, true, max, IfOk, IfErr, OnOk, OnErr};
-ghost use Rattle.wb_model.specs.Space.{is_shape, space_below, bound_below, committed_by};
+ghost use Rattle.wb_model.specs.heap.Space.{is_shape, space_below, bound_below, committed_by};
 
 use crate::fault::HeapFault;
 use crate::space;

@@ -1,8 +1,8 @@
 //! The free runs between live cells.
 
 ghost use Rattle.std.specs.Prelude.{◌≡◌, ◌≤◌};
-ghost use Rattle.wb_model.specs.Row.{headers, top_of};
-ghost use Rattle.wb_model.specs.Space.{free_runs, longest};
+ghost use Rattle.wb_model.specs.heap.Row.{headers, top_of};
+ghost use Rattle.wb_model.specs.heap.Space.{free_runs, longest};
 
 use wb_cells::Cells;
 

@@ -1,7 +1,7 @@
 //! The committed length of the chunk, in bytes.
 
 ghost use Rattle.std.specs.Prelude.{◌≡◌, ◌≤◌, true, min};
-ghost use Rattle.wb_model.specs.Space.{is_shape, space_below, bound_below, round_up, committed_by, compressed_to};
+ghost use Rattle.wb_model.specs.heap.Space.{is_shape, space_below, bound_below, round_up, committed_by, compressed_to};
 
 use wb_model::heap::Shape;
 use wb_model::limits::{CEILING, LARGEST_MINIMUM, LARGEST_STEP, SMALLEST_STEP};

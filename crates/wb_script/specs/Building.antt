@@ -24,14 +24,14 @@ use Rattle.wb_model.specs.declared.script.Local.TheVariants.{OfPointer, OfNumber
 use Rattle.wb_model.specs.declared.script.StatementAt.{StatementAt}
 use Rattle.wb_model.specs.declared.script.Statement.{Statement}
 use Rattle.wb_model.specs.declared.script.Statement.TheViews.{out-Statement}
-use Rattle.wb_model.specs.Forms.{role_of_form}
-use Rattle.wb_model.specs.LineKinds.{role_of}
-use Rattle.wb_model.specs.Kinds.{ends_body, is_trap}
-use Rattle.wb_model.specs.Resolved.{class_in}
-use Rattle.wb_model.specs.Names.{with_one, item_kind_in, parameters_in, blocks_after}
-use Rattle.wb_model.specs.Passes.{first_bad, state_after}
-use Rattle.wb_model.specs.Sound.{Declared, Scope, is_condition, is_number, is_variable, is_nested, are_within, local_of_parameter}
-use Rattle.wb_model.specs.Trees.{Indexed, Marked, lines_of_statement, line, number_operand, variable_operand, condition_line, statement_lines, else_line, end_line}
+use Rattle.wb_model.specs.language.Forms.{role_of_form}
+use Rattle.wb_model.specs.language.LineKinds.{role_of}
+use Rattle.wb_model.specs.language.Kinds.{ends_body, is_trap}
+use Rattle.wb_model.specs.language.Resolved.{class_in}
+use Rattle.wb_model.specs.language.Names.{with_one, item_kind_in, parameters_in, blocks_after}
+use Rattle.wb_model.specs.language.Passes.{first_bad, state_after}
+use Rattle.wb_model.specs.language.Sound.{Declared, Scope, is_condition, is_number, is_variable, is_nested, are_within, local_of_parameter}
+use Rattle.wb_model.specs.language.Trees.{Indexed, Marked, lines_of_statement, line, number_operand, variable_operand, condition_line, statement_lines, else_line, end_line}
 use Rattle.wb_nesting.specs.declared.open.Open.{Open}
 use Rattle.wb_nesting.specs.declared.open.Open.TheVariants.{Declarations, Statements, Branch, Block}
 use Rattle.wb_script.specs.declared.tree.blocks.Head.{Head}

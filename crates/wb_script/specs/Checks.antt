@@ -5,12 +5,12 @@ use Rattle.wb_model.specs.declared.fault.ScriptFault.TheVariants.{UnknownName, D
 use Rattle.wb_model.specs.declared.script_lines.Form.{Form}
 use Rattle.wb_model.specs.declared.script_lines.Operand.{Operand}
 use Rattle.wb_model.specs.declared.script_lines.Operand.TheVariants.{Size}
-use Rattle.wb_model.specs.Names.{Text, Declaration, names_of, nothing_known, known_after, first_refused, declares_again, passes_limit, literals_of}
-use Rattle.wb_model.specs.Names as model
-use Rattle.wb_model.specs.Passes.{state_after}
-use Rattle.wb_model.specs.Kinds.{has_wrong_kind, may_leave}
-use Rattle.wb_model.specs.Resolved.{resolved_among, item_referent, uses_unknown}
-use Rattle.wb_model.specs.Scripts.{number_of_line, procedure_referent}
+use Rattle.wb_model.specs.language.Names.{Text, Declaration, names_of, nothing_known, known_after, first_refused, declares_again, passes_limit, literals_of}
+use Rattle.wb_model.specs.language.Names as model
+use Rattle.wb_model.specs.language.Passes.{state_after}
+use Rattle.wb_model.specs.language.Kinds.{has_wrong_kind, may_leave}
+use Rattle.wb_model.specs.language.Resolved.{resolved_among, item_referent, uses_unknown}
+use Rattle.wb_model.specs.language.Scripts.{number_of_line, procedure_referent}
 use Rattle.wb_lines.specs.BytesOf.{bytes_of_texts}
 use Rattle.wb_script.specs.BytesOf.{bytes_of_kind}
 use Rattle.wb_script.specs.declared.checks.names_so_far.NamesSoFar.{NamesSoFar}

@@ -15,10 +15,10 @@ use Rattle.wb_model.specs.declared.script.Pointer.TheVariants as P
 use Rattle.wb_model.specs.declared.script.Parameter as model
 use Rattle.wb_model.specs.declared.script.Parameter.TheVariants as parameter
 use Rattle.wb_model.specs.declared.script.Number.TheVariants.{Constant}
-use Rattle.wb_model.specs.LineKinds.{operand_places_for, takes}
-use Rattle.wb_model.specs.Kinds.{operand_kind_of}
-use Rattle.wb_model.specs.Trees.{Spelled}
-use Rattle.wb_model.specs.Sound.{Scope, Declared, is_pointer, is_pointer_local, is_buffer_local, is_view, is_variable, is_number}
+use Rattle.wb_model.specs.language.LineKinds.{operand_places_for, takes}
+use Rattle.wb_model.specs.language.Kinds.{operand_kind_of}
+use Rattle.wb_model.specs.language.Trees.{Spelled}
+use Rattle.wb_model.specs.language.Sound.{Scope, Declared, is_pointer, is_pointer_local, is_buffer_local, is_view, is_variable, is_number}
 
 -- what a name stands for is there
 abbrev pub is_name_there : Scope → Referent → Bool

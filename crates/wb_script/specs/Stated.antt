@@ -26,14 +26,14 @@ use Rattle.wb_model.specs.declared.script.Pointer.TheVariants.{Held}
 use Rattle.wb_model.specs.declared.script.Number.{Number}
 use Rattle.wb_model.specs.declared.script.Refusal.{Refusal}
 use Rattle.wb_model.specs.declared.script.Refusal.TheVariants.{GivesNull, Leaves}
-use Rattle.wb_model.specs.Forms.{renamed_parameter_type}
-use Rattle.wb_model.specs.LineKinds.{is_pointer_kind, role_of}
-use Rattle.wb_model.specs.Kinds.{is_trap, operand_kind_of_name}
-use Rattle.wb_model.specs.Names as names
-use Rattle.wb_model.specs.Names.{Text}
-use Rattle.wb_model.specs.Sound as model
-use Rattle.wb_model.specs.Sound.{Declared, is_pointer_local, is_pointer, is_target, is_number, is_statement, is_simple, is_nested, are_passed, is_call}
-use Rattle.wb_model.specs.Trees.{Spelled, all_spelled, argument_operand, holder_referent, keyword_operand, set_line_kind, pointer_operand, number_operand, procedure_operand, operation_operand, statement_line, lines_of_statement}
+use Rattle.wb_model.specs.language.Forms.{renamed_parameter_type}
+use Rattle.wb_model.specs.language.LineKinds.{is_pointer_kind, role_of}
+use Rattle.wb_model.specs.language.Kinds.{is_trap, operand_kind_of_name}
+use Rattle.wb_model.specs.language.Names as names
+use Rattle.wb_model.specs.language.Names.{Text}
+use Rattle.wb_model.specs.language.Sound as model
+use Rattle.wb_model.specs.language.Sound.{Declared, is_pointer_local, is_pointer, is_target, is_number, is_statement, is_simple, is_nested, are_passed, is_call}
+use Rattle.wb_model.specs.language.Trees.{Spelled, all_spelled, argument_operand, holder_referent, keyword_operand, set_line_kind, pointer_operand, number_operand, procedure_operand, operation_operand, statement_line, lines_of_statement}
 use Rattle.std.specs.Prelude.{slice_get}
 use Rattle.wb_script.specs.declared.tree.scope.Scope.{Scope}
 use Rattle.wb_script.specs.declared.tree.blocks.Head.{Head}

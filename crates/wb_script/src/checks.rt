@@ -10,10 +10,10 @@ pub(crate) mod resolved;
 
 ghost use Rattle.std.specs.Prelude.{◌≡◌, ◌+◌, ◌<◌, ◌≤◌, [], ◌∷◌, ◌++◌, List, length, IfOk, OnOk};
 ghost use Rattle.wb_model.specs.declared.script_lines.Form as model;
-ghost use Rattle.wb_model.specs.Kinds.{has_wrong_kind, may_leave};
-ghost use Rattle.wb_model.specs.Names as space;
-ghost use Rattle.wb_model.specs.Names.{Text, declares_again, items_before, names_of, passes_limit};
-ghost use Rattle.wb_model.specs.Resolved.{uses_unknown, resolved_line};
+ghost use Rattle.wb_model.specs.language.Kinds.{has_wrong_kind, may_leave};
+ghost use Rattle.wb_model.specs.language.Names as space;
+ghost use Rattle.wb_model.specs.language.Names.{Text, declares_again, items_before, names_of, passes_limit};
+ghost use Rattle.wb_model.specs.language.Resolved.{uses_unknown, resolved_line};
 ghost use Rattle.wb_lines.specs.BytesOf.{bytes_of_form, bytes_of_forms};
 ghost use Rattle.wb_script.specs.BytesOf.{bytes_of_items};
 ghost use Rattle.wb_script.specs.Checks.{known_in, or_here, AreChecked, IsFew};

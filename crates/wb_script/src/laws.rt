@@ -5,10 +5,10 @@ ghost use Rattle.std.specs.Prelude.{◌≡◌, ℕ, List, length};
 ghost use Rattle.wb_model.specs.declared.fault.ScriptFault.{ScriptFault};
 ghost use Rattle.wb_model.specs.declared.script.Script.{Script};
 ghost use Rattle.wb_model.specs.declared.fault.ScriptFault.TheVariants.{UnknownName};
-ghost use Rattle.wb_model.specs.Forms.{forms_of};
-ghost use Rattle.wb_model.specs.Lines.{lines_of};
-ghost use Rattle.wb_model.specs.Scripts.{IsScriptOf, IsFaultOf};
-ghost use Rattle.wb_model.specs.Undeclared.{UsesDeclaredUpTo, IsFirstUndeclaredLine};
+ghost use Rattle.wb_model.specs.language.Forms.{forms_of};
+ghost use Rattle.wb_model.specs.language.Lines.{lines_of};
+ghost use Rattle.wb_model.specs.language.Scripts.{IsScriptOf, IsFaultOf};
+ghost use Rattle.wb_model.specs.language.Undeclared.{UsesDeclaredUpTo, IsFirstUndeclaredLine};
 
 /// Bytes spell at most one script.
 pub fn one_script()

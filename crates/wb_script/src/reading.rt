@@ -2,11 +2,11 @@
 
 ghost use Rattle.std.specs.Prelude.{◌≡◌, ◌≢◌, ◌≤◌, ◌<◌, ◌^◌, [], ◌∷◌, ◌++◌, length, map, slice_get, true, IsTrue, IfOk, IfErr, OnOk, MatchOption};
 ghost use Rattle.std.specs.List.{list_all};
-ghost use Rattle.wb_model.specs.Forms.{role_of_form};
-ghost use Rattle.wb_model.specs.Grammar.{IsGrammatical, IsFirstMisfit};
-ghost use Rattle.wb_model.specs.Scripts.{IsPlainText, IsScriptOf, IsFaultOf, IsTreeOf, IsLinesFault};
-ghost use Rattle.wb_model.specs.Sound.{is_script, is_sound_script, is_entry, is_literal_text};
-ghost use Rattle.wb_model.specs.Trees.{script_lines, counted_from};
+ghost use Rattle.wb_model.specs.language.Forms.{role_of_form};
+ghost use Rattle.wb_model.specs.language.Grammar.{IsGrammatical, IsFirstMisfit};
+ghost use Rattle.wb_model.specs.language.Scripts.{IsPlainText, IsScriptOf, IsFaultOf, IsTreeOf, IsLinesFault};
+ghost use Rattle.wb_model.specs.language.Sound.{is_script, is_sound_script, is_entry, is_literal_text};
+ghost use Rattle.wb_model.specs.language.Trees.{script_lines, counted_from};
 ghost use Rattle.wb_script.specs.Building.{AllFit, counts_of};
 ghost use Rattle.wb_script.specs.Checks.{IsMain, IsFirstFault};
 ghost use Rattle.wb_lines.specs.BytesOf.{bytes_of_texts, bytes_of_forms};

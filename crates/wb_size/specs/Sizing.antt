@@ -5,8 +5,8 @@ use Rattle.wb_model.specs.declared.heap.Shape.{Shape}
 use Rattle.wb_model.specs.declared.run.Outcome.TheVariants.{Cut}
 use Rattle.wb_model.specs.declared.run.Why.{Why}
 use Rattle.wb_model.specs.declared.script.Script.{Script}
-use Rattle.wb_model.specs.Run.{run, required, rises, first_rise_above}
-use Rattle.wb_model.specs.Sizes.{refused_first, IsHeapLength}
+use Rattle.wb_model.specs.runs.Run.{run, required, rises, first_rise_above}
+use Rattle.wb_model.specs.runs.Sizes.{refused_first, IsHeapLength}
 use Rattle.wb_size.specs.declared.sizing.Sizing.{Sizing}
 
 -- the attempt that a sizing names for a length

@@ -1,7 +1,7 @@
 //! The length that a script needs, and the table of what shorter heaps refuse.
 
 ghost use Rattle.std.specs.Prelude.{◌≡◌};
-ghost use Rattle.wb_model.specs.Rises.{top_of_rises};
+ghost use Rattle.wb_model.specs.runs.Rises.{top_of_rises};
 ghost use Rattle.wb_size.specs.Sizing.{refusal_in};
 
 use wb_model::size::{Rises, top_of_rises};

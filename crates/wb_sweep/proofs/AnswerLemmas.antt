@@ -7,8 +7,8 @@ use Rattle.wb_model.specs.declared.heap.Shape.{Shape}
 use Rattle.wb_model.specs.declared.run.RunResult.{RunResult}
 use Rattle.wb_model.specs.declared.run.Why.{Why}
 use Rattle.wb_model.specs.declared.script.Script.{Script}
-use Rattle.wb_model.specs.SweepAnswers.{IsCutShort, IsFound}
-use Rattle.wb_model.specs.Sweeps.{failing_at, IsCutAmong, IsFoundAmong}
+use Rattle.wb_model.specs.runs.SweepAnswers.{IsCutShort, IsFound}
+use Rattle.wb_model.specs.runs.Sweeps.{failing_at, IsCutAmong, IsFoundAmong}
 
 pub map_ok : {A E : Type 0} {P Q : A → Type 0} (r : Result A E) → ((a : A) → P a → Q a) → IfOk r P → IfOk r Q
 map_ok (Ok a) f is = f a is

@@ -4,8 +4,8 @@ use Rattle.std.proofs.lemmas.Bool.{le-leb}
 use Rattle.wb_model.specs.declared.failures.Failing.TheVariants.{Number, Pair}
 use Rattle.wb_model.specs.declared.heap.Rule.{Rule}
 use Rattle.wb_model.specs.declared.heap.Rule.TheVariants as rules
-use Rattle.wb_model.specs.Rest.{SameSoFar}
-use Rattle.wb_model.specs.Sweeps.{rule_for}
+use Rattle.wb_model.specs.runs.Rest.{SameSoFar}
+use Rattle.wb_model.specs.runs.Sweeps.{rule_for}
 use Rattle.wb_model.proofs.PairLemmas.{with-fits}
 use Rattle.wb_model.proofs.RuleLemmas.{failures-fit}
 use Rattle.wb_sweep.specs.declared.family.Family.{Family}

@@ -8,9 +8,9 @@ use Rattle.wb_model.specs.declared.heap.Shape.{Shape}
 use Rattle.wb_model.specs.declared.run.RunResult.{RunResult}
 use Rattle.wb_model.specs.declared.run.Why.{Why}
 use Rattle.wb_model.specs.declared.script.Script.{Script}
-use Rattle.wb_model.specs.Pairs.{failing_with, pair_run, ArePairsFineBefore, ArePairsFineWith, IsCutPair, IsFoundPair}
-use Rattle.wb_model.specs.Run.{is_bad}
-use Rattle.wb_model.specs.Sweeps.{is_fine, AreAllFine, AreFineBelow, IsCutAmong, IsFoundAmong}
+use Rattle.wb_model.specs.runs.Pairs.{failing_with, pair_run, ArePairsFineBefore, ArePairsFineWith, IsCutPair, IsFoundPair}
+use Rattle.wb_model.specs.runs.Run.{is_bad}
+use Rattle.wb_model.specs.runs.Sweeps.{is_fine, AreAllFine, AreFineBelow, IsCutAmong, IsFoundAmong}
 use Rattle.wb_model.proofs.OnceFound.{bad-unfine, cut-unfine}
 use Rattle.wb_model.proofs.PairLemmas.{alone, runs_with, with_later, with_none}
 

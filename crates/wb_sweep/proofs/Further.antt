@@ -4,7 +4,7 @@ use Rattle.std.proofs.lemmas.Bool.{cases_lt}
 use Rattle.wb_machine.specs.Seen.{Seen}
 use Rattle.wb_model.specs.declared.heap.Shape.{Shape}
 use Rattle.wb_model.specs.declared.script.Script.{Script}
-use Rattle.wb_model.specs.Sweeps.{is_fine, runs_under, AreFineBelow}
+use Rattle.wb_model.specs.runs.Sweeps.{is_fine, runs_under, AreFineBelow}
 use Rattle.wb_sweep.specs.declared.family.Family.{Family}
 use Rattle.wb_sweep.specs.Families.{failing_in, next_run, runs_beside}
 

@@ -3,7 +3,7 @@ use Rattle.std.proofs.Common.{◌≡◌, ◌+◌, ◌≤◌, ℕ, arith, inl, in
 use Rattle.std.proofs.lemmas.Bool.{cases_lt}
 use Rattle.wb_machine.specs.Seen.{Seen}
 use Rattle.wb_model.specs.declared.run.RunResult.{RunResult}
-use Rattle.wb_model.specs.Pairs.{ArePairsFineWith}
+use Rattle.wb_model.specs.runs.Pairs.{ArePairsFineWith}
 
 -- the pairs whose first attempt is one of so many are fine
 abbrev pub ArePairsFineUpTo : (ℕ → ℕ → RunResult) → ℕ → Type 0

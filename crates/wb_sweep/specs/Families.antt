@@ -4,8 +4,8 @@ use Rattle.wb_machine.specs.Seen.{Seen}
 use Rattle.wb_model.specs.declared.failures.Failing.{Failing}
 use Rattle.wb_model.specs.declared.heap.Rule.{Rule}
 use Rattle.wb_model.specs.declared.run.RunResult.{RunResult}
-use Rattle.wb_model.specs.Pairs.{failing_with}
-use Rattle.wb_model.specs.Sweeps.{failing_at, rule_for, runs_under}
+use Rattle.wb_model.specs.runs.Pairs.{failing_with}
+use Rattle.wb_model.specs.runs.Sweeps.{failing_at, rule_for, runs_under}
 use Rattle.wb_sweep.specs.declared.family.Family.{Family}
 use Rattle.wb_sweep.specs.declared.family.Family.TheVariants.{Of, With}
 

@@ -6,9 +6,9 @@ use Rattle.wb_model.specs.declared.heap.Attempt.{Attempt}
 use Rattle.wb_model.specs.declared.heap.Shape.{Shape}
 use Rattle.wb_model.specs.declared.run.RunResult.{RunResult}
 use Rattle.wb_model.specs.declared.script.Script.{Script}
-use Rattle.wb_model.specs.Run.{is_bad}
-use Rattle.wb_model.specs.SweepAnswers.{IsFound, IsNoneFound}
-use Rattle.wb_model.specs.Sweeps.{runs_of}
+use Rattle.wb_model.specs.runs.Run.{is_bad}
+use Rattle.wb_model.specs.runs.SweepAnswers.{IsFound, IsNoneFound}
+use Rattle.wb_model.specs.runs.Sweeps.{runs_of}
 use Rattle.wb_sweep.specs.declared.found.Found.{Found}
 use Rattle.wb_sweep.specs.declared.found.Sweep.{Sweep}
 

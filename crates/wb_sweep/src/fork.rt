@@ -1,8 +1,8 @@
 //! Copies of a run that go on under another rule. Which rules a sweep tries is not decided here.
 
 ghost use Rattle.std.specs.Prelude.{◌≡◌, false, IfOk};
-ghost use Rattle.wb_model.specs.Rest.{SameSoFar};
-ghost use Rattle.wb_model.specs.Run.{run};
+ghost use Rattle.wb_model.specs.runs.Rest.{SameSoFar};
+ghost use Rattle.wb_model.specs.runs.Run.{run};
 
 use wb_machine::{Finished, Heap, Machine};
 use wb_model::heap::Rule;

@@ -2,10 +2,10 @@
 //! one along each run in which an attempt fails.
 
 ghost use Rattle.std.specs.Prelude.{◌≡◌, ◌≢◌, ◌+◌, ◌≤◌, None, true, false, length, IfOk, IfSome, IsTrue};
-ghost use Rattle.wb_model.specs.Pairs.{failing_with, pair_run, AreAllPairsFine, ArePairsFineWith, IsCutPair, IsFoundPair};
-ghost use Rattle.wb_model.specs.Sound.{is_script};
-ghost use Rattle.wb_model.specs.Space.{is_shape};
-ghost use Rattle.wb_model.specs.Sweeps.{runs_of, AreAllFine, IsCutAmong, IsFoundAmong};
+ghost use Rattle.wb_model.specs.runs.Pairs.{failing_with, pair_run, AreAllPairsFine, ArePairsFineWith, IsCutPair, IsFoundPair};
+ghost use Rattle.wb_model.specs.language.Sound.{is_script};
+ghost use Rattle.wb_model.specs.heap.Space.{is_shape};
+ghost use Rattle.wb_model.specs.runs.Sweeps.{runs_of, AreAllFine, IsCutAmong, IsFoundAmong};
 ghost use Rattle.wb_model.specs.declared.failures.Failures.TheVariants.{Single};
 ghost use Rattle.wb_model.specs.declared.heap.Rule.TheVariants as rules;
 ghost use Rattle.wb_model.specs.declared.run.Why.{Why};

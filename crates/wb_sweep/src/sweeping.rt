@@ -1,10 +1,10 @@
 //! A sweep over failures: one run without failure, which each of the others parts from at the first attempt that it lets fail.
 
 ghost use Rattle.std.specs.Prelude.{◌≡◌, ◌≤◌, ◌↔◌, None, true, false, length, IfOk, IfSome, IsTrue};
-ghost use Rattle.wb_model.specs.Sound.{is_script};
-ghost use Rattle.wb_model.specs.Space.{is_shape};
-ghost use Rattle.wb_model.specs.SweepAnswers.{IsCutShort, IsFound, IsNoneFound};
-ghost use Rattle.wb_model.specs.Sweeps.{failing_at, is_fine, runs_of, AreAllFine, IsCutAmong, IsFoundAmong};
+ghost use Rattle.wb_model.specs.language.Sound.{is_script};
+ghost use Rattle.wb_model.specs.heap.Space.{is_shape};
+ghost use Rattle.wb_model.specs.runs.SweepAnswers.{IsCutShort, IsFound, IsNoneFound};
+ghost use Rattle.wb_model.specs.runs.Sweeps.{failing_at, is_fine, runs_of, AreAllFine, IsCutAmong, IsFoundAmong};
 ghost use Rattle.wb_model.specs.declared.run.Why.{Why};
 ghost use Rattle.wb_sweep.specs.Sweeping.{IsSweep};
 

@@ -1,7 +1,7 @@
 //! A walk along a run, from which copies part under failures: each before the attempt that is the first to fail in it.
 
 ghost use Rattle.std.specs.Prelude.{◌≡◌, ◌≢◌, ◌⊎◌, ◌+◌, ◌≤◌, None, true, false, length, IfOk, IfErr, IfSome};
-ghost use Rattle.wb_model.specs.Sweeps.{is_fine, AreFineBelow, IsCutAmong, IsFoundAmong};
+ghost use Rattle.wb_model.specs.runs.Sweeps.{is_fine, AreFineBelow, IsCutAmong, IsFoundAmong};
 ghost use Rattle.wb_model.specs.declared.run.Outcome.TheVariants as outcomes;
 ghost use Rattle.wb_model.specs.declared.run.Why.{Why};
 ghost use Rattle.wb_sweep.specs.Families.{failing_in, next_failing, next_run, rule_in, runs_beside};

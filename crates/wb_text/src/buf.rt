@@ -1,7 +1,7 @@
 //! The buffer of a stated maximum, TBuf.
 
 ghost use Rattle.std.specs.Prelude.{◌≡◌, ◌+◌, ◌-◌, ◌<◌, ◌≤◌, [], ◌++◌, length, take, drop, replicate, slice_index};
-ghost use Rattle.wb_model.specs.Texts.{AreUnits, IsBuffer, answer_of, at_most, delete_text, edited, insert_text, set_length_text};
+ghost use Rattle.wb_model.specs.meaning.Texts.{AreUnits, IsBuffer, answer_of, at_most, delete_text, edited, insert_text, set_length_text};
 
 use crate::units::{Units, append_units};
 use arrayvec::ArrayVec;
@@ -18,7 +18,7 @@ pub struct Buf {
 }
 
 impl Model for Buf {
-    ghost use Rattle.wb_model.specs.Texts.{Buffer, IsBuffer};
+    ghost use Rattle.wb_model.specs.meaning.Texts.{Buffer, IsBuffer};
 
     ghost Value = { Buffer };
 

@@ -1,7 +1,7 @@
 //! Texts that can be read, unit by unit or as a whole.
 
 ghost use Rattle.std.specs.Prelude.{ℕ, ◌≡◌, ◌+◌, ◌<◌, ◌≤◌, ◌^◌, ◌++◌, List, length, slice_index};
-ghost use Rattle.wb_model.specs.Texts.{AreUnits};
+ghost use Rattle.wb_model.specs.meaning.Texts.{AreUnits};
 
 use arrayvec::ArrayVec;
 use wb_model::script::Chars;

@@ -30,10 +30,10 @@ use Rattle.wb_model.specs.declared.run.Why.{Why}
 use Rattle.wb_model.specs.declared.run.Why.TheVariants.{Budget, Ceiling}
 use Rattle.wb_model.specs.declared.script.Script.{Script}
 use Rattle.wb_model.specs.declared.size.Rise.{Rise}
-use Rattle.wb_model.specs.Lines.{ends_line, onto_first, pieces_from, quoted_after}
-use Rattle.wb_model.specs.Printable.{IsPrintable, ArePrintable}
-use Rattle.wb_model.specs.Run.{run}
-use Rattle.wb_model.specs.Sweeps.{rule_for}
+use Rattle.wb_model.specs.language.Lines.{ends_line, onto_first, pieces_from, quoted_after}
+use Rattle.wb_model.specs.meaning.Printable.{IsPrintable, ArePrintable}
+use Rattle.wb_model.specs.runs.Run.{run}
+use Rattle.wb_model.specs.runs.Sweeps.{rule_for}
 use Rattle.wb_model.proofs.OnceFound.{found-run}
 use Rattle.wb_model.proofs.PrintableLemmas.{is_printable, printable_by_test, decimal-printable, hexadecimal-printable, signed_decimal-printable}
 use Rattle.wb_model.proofs.ThroughoutLemmas.{run-prints}

@@ -11,7 +11,7 @@ use Rattle.wb_model.specs.declared.failures.Failing.TheVariants as failings
 use Rattle.wb_model.specs.declared.failures.Failures.{Failures}
 use Rattle.wb_model.specs.declared.failures.Failures.TheVariants.{Single, Every, Pairs}
 use Rattle.wb_model.specs.declared.size.Rise.{Rise}
-use Rattle.wb_model.specs.Lines.{ends_line, lines_of, onto_first, pieces_from, quoted_after}
+use Rattle.wb_model.specs.language.Lines.{ends_line, lines_of, onto_first, pieces_from, quoted_after}
 use Rattle.workbench.specs.declared.report_values.FailingNumber.{FailingNumber}
 use Rattle.workbench.specs.declared.report_values.FailingNumber.TheVariants.{At, Never}
 use Rattle.workbench.specs.declared.report_values.ReportValues.{ReportValues}

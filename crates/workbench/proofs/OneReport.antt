@@ -10,14 +10,14 @@ use Rattle.wb_model.specs.declared.run.Outcome.TheVariants.{Cut}
 use Rattle.wb_model.specs.declared.run.Why.{Why}
 use Rattle.wb_model.specs.declared.script.Script.{Script}
 use Rattle.wb_model.specs.declared.size.Rise.{Rise}
-use Rattle.wb_model.specs.Sizes.{IsHeapLength}
-use Rattle.wb_model.specs.SweepAnswers.{IsNoneFound}
+use Rattle.wb_model.specs.runs.Sizes.{IsHeapLength}
+use Rattle.wb_model.specs.runs.SweepAnswers.{IsNoneFound}
 use Rattle.wb_model.proofs.OnceFound.{cut-some, found-some, found-uncut, once-cut, once-found}
 use Rattle.wb_command_line.specs.declared.command.Command.{Command}
 use Rattle.wb_command_line.specs.declared.command.Task.{Task}
 use Rattle.wb_command_line.specs.declared.command.Task.TheVariants as T
-use Rattle.wb_script.proofs.FaultLaws.{fault_once, no_fault}
-use Rattle.wb_script.proofs.ScriptLaws.{script_once}
+use Rattle.wb_script.proofs.one_script.FaultLaws.{fault_once, no_fault}
+use Rattle.wb_script.proofs.one_script.ScriptLaws.{script_once}
 use Rattle.workbench.specs.declared.report_values.ReportValues.{ReportValues}
 use Rattle.workbench.specs.declared.report_values.FailingNumber.TheVariants.{At}
 use Rattle.workbench.specs.ReportValues.{both_values, size_values, sweep_values}

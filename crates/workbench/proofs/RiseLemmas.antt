@@ -6,8 +6,8 @@ use Rattle.wb_model.specs.declared.heap.Answer.{Answer}
 use Rattle.wb_model.specs.declared.heap.Answer.TheVariants.{Granted, Simulated, Refused}
 use Rattle.wb_model.specs.declared.heap.Attempt.{Attempt}
 use Rattle.wb_model.specs.declared.size.Rise.{Rise}
-use Rattle.wb_model.specs.Run.{granted_end, end_of_line, rises_above}
-use Rattle.wb_model.specs.Traces.{end_of_attempt}
+use Rattle.wb_model.specs.runs.Run.{granted_end, end_of_line, rises_above}
+use Rattle.wb_model.specs.runs.Traces.{end_of_attempt}
 use Rattle.workbench.specs.Rises.{AreRises, IsListed, IsRiseOf}
 
 -- a line that ends past a length, and past every line before it, where one that isn't granted ends at 0

@@ -7,8 +7,8 @@ use Rattle.wb_model.specs.declared.fault.ScriptFault.TheVariants.{TooLong, NotAs
 use Rattle.wb_model.specs.declared.heap.Shape.{Shape}
 use Rattle.wb_model.specs.declared.run.RunResult.{RunResult}
 use Rattle.wb_model.specs.declared.script.Script.{Script}
-use Rattle.wb_model.specs.Run.{run}
-use Rattle.wb_model.specs.Scripts.{IsScriptOf, IsFaultOf}
+use Rattle.wb_model.specs.runs.Run.{run}
+use Rattle.wb_model.specs.language.Scripts.{IsScriptOf, IsFaultOf}
 use Rattle.wb_command_line.specs.declared.command.Command.{Command}
 use Rattle.wb_command_line.specs.declared.command.Task.{Task}
 use Rattle.wb_command_line.specs.declared.command.Task.TheVariants as T

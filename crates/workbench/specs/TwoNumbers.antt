@@ -18,10 +18,10 @@ use Rattle.wb_model.specs.declared.run.Why.{Why}
 use Rattle.wb_model.specs.declared.run.Why.TheVariants.{Budget, Ceiling}
 use Rattle.wb_model.specs.declared.script.Script.{Script}
 use Rattle.wb_model.specs.declared.size.Rise.{Rise}
-use Rattle.wb_model.specs.Run.{run, rises as rises_of}
-use Rattle.wb_model.specs.Sizes.{IsHeapLength}
-use Rattle.wb_model.specs.SweepAnswers.{IsCutShort, IsFound, IsNoneFound}
-use Rattle.wb_model.specs.Sweeps.{runs_of}
+use Rattle.wb_model.specs.runs.Run.{run, rises as rises_of}
+use Rattle.wb_model.specs.runs.Sizes.{IsHeapLength}
+use Rattle.wb_model.specs.runs.SweepAnswers.{IsCutShort, IsFound, IsNoneFound}
+use Rattle.wb_model.specs.runs.Sweeps.{runs_of}
 use Rattle.wb_sweep.specs.declared.found.Sweep.{Sweep}
 use Rattle.workbench.specs.declared.report_values.FailingNumber.TheVariants.{At, Never}
 use Rattle.workbench.specs.declared.report_values.ReportValues.{ReportValues}

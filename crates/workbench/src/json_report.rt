@@ -2,8 +2,8 @@
 
 ghost use Rattle.std.specs.Prelude.{◌≡◌, ◌≢◌, ◌∷◌, ◌<◌, [], length, IfOk, map};
 ghost use Rattle.serde_json.specs.View.{view};
-ghost use Rattle.wb_model.specs.Lines.{lines_of};
-ghost use Rattle.wb_model.specs.Printable.{ArePrintable};
+ghost use Rattle.wb_model.specs.language.Lines.{lines_of};
+ghost use Rattle.wb_model.specs.meaning.Printable.{ArePrintable};
 ghost use Rattle.workbench.specs.Ascii.{HasPrintableLines};
 ghost use Rattle.workbench.specs.JsonReport.{count_or_null, count_pair, failing_number, failing_value, failures_kind, json_text, kind_of, line_string, line_strings, report_object, rise_pair, rise_pairs};
 

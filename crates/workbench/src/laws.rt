@@ -6,7 +6,7 @@ ghost use Rattle.wb_command_line.specs.Command.{is_answerable};
 ghost use Rattle.wb_command_line.specs.Spelled.{IsSpelledBy};
 ghost use Rattle.wb_command_line.specs.declared.command.Command.{Command};
 ghost use Rattle.wb_command_line.specs.declared.command.CommandFault.TheVariants.{NoMemory};
-ghost use Rattle.wb_model.specs.Run.{rises, run};
+ghost use Rattle.wb_model.specs.runs.Run.{rises, run};
 ghost use Rattle.wb_model.specs.declared.heap.Rule.TheVariants.{Unlimited};
 ghost use Rattle.wb_model.specs.declared.heap.Shape.{Shape};
 ghost use Rattle.wb_model.specs.declared.script.Script.{Script};

@@ -1,9 +1,9 @@
 //! What each task comes to on a script: the text, its values, and the exit status. Nothing is read or written here.
 
 ghost use Rattle.std.specs.Prelude.{◌≡◌, ◌≤◌, IfOk, IsTrue};
-ghost use Rattle.wb_model.specs.Run.{run};
-ghost use Rattle.wb_model.specs.Sound.{is_script};
-ghost use Rattle.wb_model.specs.Space.{is_shape};
+ghost use Rattle.wb_model.specs.runs.Run.{run};
+ghost use Rattle.wb_model.specs.language.Sound.{is_script};
+ghost use Rattle.wb_model.specs.heap.Space.{is_shape};
 ghost use Rattle.wb_command_line.specs.Command.{is_answerable};
 ghost use Rattle.workbench.specs.ReportValues.{no_values};
 ghost use Rattle.workbench.specs.Report.{IsRunReport, IsTaskReport};

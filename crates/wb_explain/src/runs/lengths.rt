@@ -2,7 +2,7 @@
 //! more for this, without a trace, up to the last of these attempts that is named.
 
 ghost use Rattle.std.specs.Prelude.{◌≤◌, IsTrue};
-ghost use Rattle.wb_model.specs.Sound.{is_script};
+ghost use Rattle.wb_model.specs.language.Sound.{is_script};
 
 use crate::runs::script_page::{ScriptPage, number};
 use std::alloc::Global;

@@ -1,7 +1,7 @@
 //! A run that is watched turn by turn: its result, which line made which attempt, and what raised its panic.
 
 ghost use Rattle.std.specs.Prelude.{◌≤◌, IsTrue};
-ghost use Rattle.wb_model.specs.Sound.{is_script};
+ghost use Rattle.wb_model.specs.language.Sound.{is_script};
 
 use crate::runs::Setting;
 use crate::runs::bodies::Bodies;

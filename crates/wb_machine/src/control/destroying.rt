@@ -2,10 +2,10 @@
 
 ghost use Rattle.std.specs.Prelude.{◌≡◌, ◌+◌, ◌^◌, ◌<◌, ◌≤◌, ◌∷◌, [], ℕ, IsTrue, OnOk};
 ghost use Rattle.std.specs.List.{list_all};
-ghost use Rattle.wb_model.specs.Sound.{is_script};
-ghost use Rattle.wb_model.specs.Statements.{destroy_items, destroy_object, destroyed_item, destroyed_object, is_null};
-ghost use Rattle.wb_model.specs.Meaning.{meaning_of};
-ghost use Rattle.wb_model.specs.Rest.{doing};
+ghost use Rattle.wb_model.specs.language.Sound.{is_script};
+ghost use Rattle.wb_model.specs.meaning.Statements.{destroy_items, destroy_object, destroyed_item, destroyed_object, is_null};
+ghost use Rattle.wb_model.specs.meaning.Meaning.{meaning_of};
+ghost use Rattle.wb_model.specs.runs.Rest.{doing};
 ghost use Rattle.wb_model.specs.declared.heap.Rule.{Rule};
 ghost use Rattle.wb_model.specs.declared.script.Body.{Body};
 ghost use Rattle.wb_model.specs.declared.script.Script.{Script};

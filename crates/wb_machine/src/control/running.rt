@@ -2,8 +2,8 @@
 
 ghost use Rattle.std.specs.Prelude.{◌≡◌, ◌+◌, ◌<◌, ◌≤◌, ◌&&◌, ℕ, true, false, if◌then◌else◌};
 ghost use Rattle.std.specs.Prelude.{nat_lt, unwrap_or, min, IsTrue, OnOk};
-ghost use Rattle.wb_model.specs.Sound.{is_script};
-ghost use Rattle.wb_model.specs.Rest.{first_line, Fits};
+ghost use Rattle.wb_model.specs.language.Sound.{is_script};
+ghost use Rattle.wb_model.specs.runs.Rest.{first_line, Fits};
 ghost use Rattle.wb_model.specs.declared.heap.Rule.{Rule};
 ghost use Rattle.wb_model.specs.declared.run.Why.TheVariants.{Budget};
 ghost use Rattle.wb_model.specs.declared.script.Script.{Script};

@@ -1,8 +1,8 @@
 //! What becomes of pieces that are done, and of how the piece above them ended.
 
 ghost use Rattle.std.specs.Prelude.{◌≡◌, ◌+◌, ◌-◌, ◌<◌, ◌≤◌, ◌⊎◌, ◌++◌, ◌∷◌, [], ℕ, List, true, false, length, max, take, drop, vec_len, IsTrue, OnOk};
-ghost use Rattle.wb_model.specs.Statements.{destroy_items};
-ghost use Rattle.wb_model.specs.Rest.{doing, catching, caught, calling, main_catching, main_caught};
+ghost use Rattle.wb_model.specs.meaning.Statements.{destroy_items};
+ghost use Rattle.wb_model.specs.runs.Rest.{doing, catching, caught, calling, main_catching, main_caught};
 ghost use Rattle.wb_model.specs.declared.heap.Rule.{Rule};
 ghost use Rattle.wb_model.specs.declared.script.Script.{Script};
 ghost use Rattle.wb_machine.specs.declared.pieces.PendingPiece.{PendingPiece};

@@ -17,7 +17,7 @@ use Rattle.wb_model.specs.declared.script.Condition.TheVariants.{IsNull, NotNull
 use Rattle.wb_model.specs.declared.script.Argument.TheVariants.{Passed}
 use Rattle.wb_model.specs.declared.script.Refusal.TheVariants.{GivesNull, Leaves}
 use Rattle.wb_model.specs.declared.script.Statement.TheOpen.{Statement-F}
-use Rattle.wb_model.specs.Run.{run}
+use Rattle.wb_model.specs.runs.Run.{run}
 use Rattle.wb_model.proofs.WorkedCases.Shorthands.{everything, on, script, class_of, procedure, operation, body, result, leak, shaped, line}
 
 abbrev script_new_into_a_field_that_is_refused_gives_null_run : Script

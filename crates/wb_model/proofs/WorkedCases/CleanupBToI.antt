@@ -13,7 +13,7 @@ use Rattle.wb_model.specs.declared.script.Number.TheVariants.{Constant, Variable
 use Rattle.wb_model.specs.declared.script.Readable.TheVariants.{Quoted}
 use Rattle.wb_model.specs.declared.script.Refusal.TheVariants.{GivesNull, Leaves}
 use Rattle.wb_model.specs.declared.script.Statement.TheOpen.{Statement-F}
-use Rattle.wb_model.specs.Run.{run}
+use Rattle.wb_model.specs.runs.Run.{run}
 use Rattle.wb_model.proofs.WorkedCases.Shorthands.{everything, on, script, procedure, body, result, leak, shaped, line}
 
 abbrev script_budget_cuts_before_the_first_item_run : Script

@@ -14,7 +14,7 @@ use Rattle.wb_model.specs.declared.script.Number.TheVariants.{Constant, Variable
 use Rattle.wb_model.specs.declared.script.Argument.TheVariants.{Passed}
 use Rattle.wb_model.specs.declared.script.Refusal.TheVariants.{GivesNull, Leaves}
 use Rattle.wb_model.specs.declared.script.Statement.TheOpen.{Statement-F}
-use Rattle.wb_model.specs.Run.{run}
+use Rattle.wb_model.specs.runs.Run.{run}
 use Rattle.wb_model.proofs.WorkedCases.Shorthands.{everything, on, script, procedure, body, result, shaped, line}
 
 abbrev script_leave_destroys_a_stale_item_run : Script

@@ -15,7 +15,7 @@ use Rattle.wb_model.specs.declared.script.Condition.TheVariants.{Equal}
 use Rattle.wb_model.specs.declared.script.Argument.TheVariants.{Given}
 use Rattle.wb_model.specs.declared.script.Refusal.TheVariants.{GivesNull, Leaves}
 use Rattle.wb_model.specs.declared.script.Statement.TheOpen.{Statement-F}
-use Rattle.wb_model.specs.Run.{run}
+use Rattle.wb_model.specs.runs.Run.{run}
 use Rattle.wb_model.proofs.WorkedCases.Shorthands.{everything, on, script, procedure, body, result, leak, shaped, line}
 
 abbrev script_pop_below_the_trap_run : Script

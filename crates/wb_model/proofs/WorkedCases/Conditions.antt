@@ -12,7 +12,7 @@ use Rattle.wb_model.specs.declared.script.Readable.TheVariants.{Quoted}
 use Rattle.wb_model.specs.declared.script.Condition.TheVariants.{NotNull, Equal, Less}
 use Rattle.wb_model.specs.declared.script.Refusal.TheVariants.{GivesNull}
 use Rattle.wb_model.specs.declared.script.Statement.TheOpen.{Statement-F}
-use Rattle.wb_model.specs.Run.{run}
+use Rattle.wb_model.specs.runs.Run.{run}
 use Rattle.wb_model.proofs.WorkedCases.Shorthands.{everything, on, script, procedure, body, result, shaped, line}
 
 abbrev script_freed_pointer_is_not_null_run : Script

@@ -15,9 +15,9 @@ use Rattle.wb_model.specs.declared.script.Readable.TheVariants.{Of, Quoted}
 use Rattle.wb_model.specs.declared.script.Condition.TheVariants.{IsNull, NotNull}
 use Rattle.wb_model.specs.declared.script.Refusal.TheVariants.{GivesNull, Leaves}
 use Rattle.wb_model.specs.declared.script.Statement.TheOpen.{Statement-F}
-use Rattle.wb_model.specs.Run.{run, required, rises}
-use Rattle.wb_model.specs.Pairs.{pair_run, least_bad_or_cut_pair}
-use Rattle.wb_model.specs.Sweeps.{runs_of, least_bad_or_cut}
+use Rattle.wb_model.specs.runs.Run.{run, required, rises}
+use Rattle.wb_model.specs.runs.Pairs.{pair_run, least_bad_or_cut_pair}
+use Rattle.wb_model.specs.runs.Sweeps.{runs_of, least_bad_or_cut}
 use Rattle.wb_model.proofs.WorkedCases.Shorthands.{everything, on, script, class_of, procedure, body, result, leak, shaped, line, rise}
 
 abbrev script_fallback_leaks_check : Script

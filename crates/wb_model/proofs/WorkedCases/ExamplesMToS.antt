@@ -18,8 +18,8 @@ use Rattle.wb_model.specs.declared.script.Condition.TheVariants.{IsNull, NotNull
 use Rattle.wb_model.specs.declared.script.Argument.TheVariants.{Passed, Given}
 use Rattle.wb_model.specs.declared.script.Refusal.TheVariants.{GivesNull, Leaves}
 use Rattle.wb_model.specs.declared.script.Statement.TheOpen.{Statement-F}
-use Rattle.wb_model.specs.Run.{run, required, rises}
-use Rattle.wb_model.specs.Sweeps.{runs_of, least_bad_or_cut}
+use Rattle.wb_model.specs.runs.Run.{run, required, rises}
+use Rattle.wb_model.specs.runs.Sweeps.{runs_of, least_bad_or_cut}
 use Rattle.wb_model.proofs.WorkedCases.Shorthands.{everything, on, script, class_of, procedure, body, result, leak, shaped, line, rise}
 
 abbrev script_member_not_cleared_check : Script

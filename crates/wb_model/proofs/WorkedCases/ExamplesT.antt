@@ -14,8 +14,8 @@ use Rattle.wb_model.specs.declared.script.Readable.TheVariants.{Quoted}
 use Rattle.wb_model.specs.declared.script.Condition.TheVariants.{Less}
 use Rattle.wb_model.specs.declared.script.Refusal.TheVariants.{Leaves}
 use Rattle.wb_model.specs.declared.script.Statement.TheOpen.{Statement-F}
-use Rattle.wb_model.specs.Run.{run, required, rises}
-use Rattle.wb_model.specs.Sweeps.{runs_of, least_bad_or_cut}
+use Rattle.wb_model.specs.runs.Run.{run, required, rises}
+use Rattle.wb_model.specs.runs.Sweeps.{runs_of, least_bad_or_cut}
 use Rattle.wb_model.proofs.WorkedCases.Shorthands.{everything, on, script, procedure, body, result, leak, shaped, line, rise}
 
 abbrev script_test_loop_check : Script

@@ -12,7 +12,7 @@ use Rattle.wb_model.specs.declared.script.Pointer.TheVariants.{Held}
 use Rattle.wb_model.specs.declared.script.Number.TheVariants.{Constant}
 use Rattle.wb_model.specs.declared.script.Refusal.TheVariants.{GivesNull}
 use Rattle.wb_model.specs.declared.script.Statement.TheOpen.{Statement-F}
-use Rattle.wb_model.specs.Run.{run}
+use Rattle.wb_model.specs.runs.Run.{run}
 use Rattle.wb_model.proofs.WorkedCases.Shorthands.{everything, on, script, procedure, body, result, leak, shaped, line}
 
 abbrev script_empty_main_run : Script

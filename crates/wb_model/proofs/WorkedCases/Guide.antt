@@ -16,7 +16,7 @@ use Rattle.wb_model.specs.declared.script.Condition.TheVariants.{NotNull, Less}
 use Rattle.wb_model.specs.declared.script.Argument.TheVariants.{Passed, Given}
 use Rattle.wb_model.specs.declared.script.Refusal.TheVariants.{GivesNull, Leaves}
 use Rattle.wb_model.specs.declared.script.Statement.TheOpen.{Statement-F}
-use Rattle.wb_model.specs.Run.{run}
+use Rattle.wb_model.specs.runs.Run.{run}
 use Rattle.wb_model.proofs.WorkedCases.Shorthands.{everything, on, script, class_of, procedure, operation, body, result, leak, shaped, line}
 
 abbrev script_cell_in_a_mark_run : Script

@@ -14,7 +14,7 @@ use Rattle.wb_model.specs.declared.script.Condition.TheVariants.{NotNull}
 use Rattle.wb_model.specs.declared.script.Argument.TheVariants.{Passed}
 use Rattle.wb_model.specs.declared.script.Refusal.TheVariants.{Leaves}
 use Rattle.wb_model.specs.declared.script.Statement.TheOpen.{Statement-F}
-use Rattle.wb_model.specs.Run.{run}
+use Rattle.wb_model.specs.runs.Run.{run}
 use Rattle.wb_model.proofs.WorkedCases.Shorthands.{everything, on, script, procedure, body, result, leak, shaped, line}
 
 abbrev script_leak_of_a_cell_that_a_frame_named_run : Script

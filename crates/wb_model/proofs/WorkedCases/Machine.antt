@@ -15,7 +15,7 @@ use Rattle.wb_model.specs.declared.script.Readable.TheVariants.{Of, Quoted}
 use Rattle.wb_model.specs.declared.script.Condition.TheVariants.{IsNull}
 use Rattle.wb_model.specs.declared.script.Refusal.TheVariants.{GivesNull, Leaves}
 use Rattle.wb_model.specs.declared.script.Statement.TheOpen.{Statement-F}
-use Rattle.wb_model.specs.Run.{run}
+use Rattle.wb_model.specs.runs.Run.{run}
 use Rattle.wb_model.proofs.WorkedCases.Shorthands.{everything, on, script, procedure, body, result, leak, shaped, line}
 
 abbrev script_budget_ends_before_the_frames_do_run : Script

@@ -17,7 +17,7 @@ use Rattle.wb_model.specs.declared.script.Condition.TheVariants.{IsNull, Less}
 use Rattle.wb_model.specs.declared.script.Argument.TheVariants.{Given}
 use Rattle.wb_model.specs.declared.script.Refusal.TheVariants.{GivesNull, Leaves}
 use Rattle.wb_model.specs.declared.script.Statement.TheOpen.{Statement-F}
-use Rattle.wb_model.specs.Run.{run}
+use Rattle.wb_model.specs.runs.Run.{run}
 use Rattle.wb_model.proofs.WorkedCases.Shorthands.{everything, on, script, procedure, operation, body, result, shaped, line}
 
 abbrev script_as_many_operations_as_may_be_run : Script

@@ -12,9 +12,9 @@ use Rattle.wb_model.specs.declared.script.Number.TheVariants.{Constant}
 use Rattle.wb_model.specs.declared.script.Condition.TheVariants.{IsNull}
 use Rattle.wb_model.specs.declared.script.Refusal.TheVariants.{GivesNull, Leaves}
 use Rattle.wb_model.specs.declared.script.Statement.TheOpen.{Statement-F}
-use Rattle.wb_model.specs.Run.{run}
-use Rattle.wb_model.specs.Pairs.{pair_run, least_bad_or_cut_pair}
-use Rattle.wb_model.specs.Sweeps.{runs_of, least_bad_or_cut}
+use Rattle.wb_model.specs.runs.Run.{run}
+use Rattle.wb_model.specs.runs.Pairs.{pair_run, least_bad_or_cut_pair}
+use Rattle.wb_model.specs.runs.Sweeps.{runs_of, least_bad_or_cut}
 use Rattle.wb_model.proofs.WorkedCases.Shorthands.{everything, on, script, procedure, body, result, leak, shaped, line}
 
 abbrev script_eighth_push_grows_the_cleanup_cell_pairs_sweep : Script

@@ -9,7 +9,7 @@ use Rattle.wb_model.specs.declared.script.Local.TheVariants.{OfNumber}
 use Rattle.wb_model.specs.declared.script.Number.TheVariants.{Constant, Variable}
 use Rattle.wb_model.specs.declared.script.Readable.TheVariants.{Quoted}
 use Rattle.wb_model.specs.declared.script.Statement.TheOpen.{Statement-F}
-use Rattle.wb_model.specs.Run.{run}
+use Rattle.wb_model.specs.runs.Run.{run}
 use Rattle.wb_model.proofs.WorkedCases.Shorthands.{everything, on, script, procedure, body, result, shaped, line}
 
 abbrev script_fewer_turns_than_none_run : Script

@@ -20,7 +20,7 @@ use Rattle.wb_model.specs.declared.script.Statement.{Statement}
 use Rattle.wb_model.specs.declared.script.StatementAt.{StatementAt}
 use Rattle.wb_model.specs.declared.script.Statement.TheOpen.{Statement-F}
 use Rattle.wb_model.specs.declared.script.Statement.TheViews.{out-Statement, roll-Statement}
-use Rattle.wb_model.specs.Run.{run}
+use Rattle.wb_model.specs.runs.Run.{run}
 
 -- what a run computes through
 unfoldable pub everything : Unit {0}
@@ -32,58 +32,58 @@ unfolding out-Statement
     denote.Hole.Carrier.hidden
     Rattle.wb_model.specs.declared.script.Statement.TheBlock.shown-the_row-StatementAt-0
     digits
-    Rattle.wb_model.specs.Attempts.attempt
-    Rattle.wb_model.specs.Attempts.allocate
-    Rattle.wb_model.specs.Attempts.reallocate_longer
-    Rattle.wb_model.specs.Attempts.reallocate
-    Rattle.wb_model.specs.Attempts.after_growth
-    Rattle.wb_model.specs.Attempts.grow_if
-    Rattle.wb_model.specs.Attempts.push
-    Rattle.wb_model.specs.Meaning.begun_if
-    Rattle.wb_model.specs.Meaning.begun
-    Rattle.wb_model.specs.Meaning.piece
-    Rattle.wb_model.specs.Meaning.meaning_within
-    Rattle.wb_model.specs.Meaning.meaning_of
-    Rattle.wb_model.specs.Operands.with_cell
-    Rattle.wb_model.specs.Operands.with_fields
-    Rattle.wb_model.specs.Operands.with_pointer
-    Rattle.wb_model.specs.Reading.with_writable
-    Rattle.wb_model.specs.Reading.with_readable
-    Rattle.wb_model.specs.Reading.with_text_cell
-    Rattle.wb_model.specs.Reading.with_base
-    Rattle.wb_model.specs.Reading.with_units
-    Rattle.wb_model.specs.Reading.with_room
-    Rattle.wb_model.specs.Reading.write
-    Rattle.wb_model.specs.Reading.write_view
-    Rattle.wb_model.specs.Run.main_trapped
-    Rattle.wb_model.specs.Run.in_main
-    Rattle.wb_model.specs.Run.started
-    Rattle.wb_model.specs.Run.process
-    Rattle.wb_model.specs.State.and_then
-    Rattle.wb_model.specs.State.on_plain_end
-    Rattle.wb_model.specs.State.then_do
-    Rattle.wb_model.specs.State.require
-    Rattle.wb_model.specs.State.with_some
-    Rattle.wb_model.specs.State.unless
-    Rattle.wb_model.specs.Statements.given_to
-    Rattle.wb_model.specs.Statements.alloc_raw
-    Rattle.wb_model.specs.Statements.released
-    Rattle.wb_model.specs.Statements.release
-    Rattle.wb_model.specs.Statements.realloc_raw
-    Rattle.wb_model.specs.Statements.realloc_of
-    Rattle.wb_model.specs.Statements.with_words
-    Rattle.wb_model.specs.Statements.in_frame
-    Rattle.wb_model.specs.Statements.plain
-    Rattle.wb_model.specs.Statements.with_arguments
-    Rattle.wb_model.specs.Statements.with_class
-    Rattle.wb_model.specs.Statements.destroyed_object
-    Rattle.wb_model.specs.Statements.destroyed_item
-    Rattle.wb_model.specs.Statements.trapped
-    Rattle.wb_model.specs.Statements.with_condition
-    Rattle.wb_model.specs.Statements.leave_if
-    Rattle.wb_model.specs.Statements.new_object
-    Rattle.wb_model.specs.Statements.realloc_text
-    Rattle.wb_model.specs.Statements.statement
+    Rattle.wb_model.specs.meaning.Attempts.attempt
+    Rattle.wb_model.specs.meaning.Attempts.allocate
+    Rattle.wb_model.specs.meaning.Attempts.reallocate_longer
+    Rattle.wb_model.specs.meaning.Attempts.reallocate
+    Rattle.wb_model.specs.meaning.Attempts.after_growth
+    Rattle.wb_model.specs.meaning.Attempts.grow_if
+    Rattle.wb_model.specs.meaning.Attempts.push
+    Rattle.wb_model.specs.meaning.Meaning.begun_if
+    Rattle.wb_model.specs.meaning.Meaning.begun
+    Rattle.wb_model.specs.meaning.Meaning.piece
+    Rattle.wb_model.specs.meaning.Meaning.meaning_within
+    Rattle.wb_model.specs.meaning.Meaning.meaning_of
+    Rattle.wb_model.specs.meaning.Operands.with_cell
+    Rattle.wb_model.specs.meaning.Operands.with_fields
+    Rattle.wb_model.specs.meaning.Operands.with_pointer
+    Rattle.wb_model.specs.meaning.Reading.with_writable
+    Rattle.wb_model.specs.meaning.Reading.with_readable
+    Rattle.wb_model.specs.meaning.Reading.with_text_cell
+    Rattle.wb_model.specs.meaning.Reading.with_base
+    Rattle.wb_model.specs.meaning.Reading.with_units
+    Rattle.wb_model.specs.meaning.Reading.with_room
+    Rattle.wb_model.specs.meaning.Reading.write
+    Rattle.wb_model.specs.meaning.Reading.write_view
+    Rattle.wb_model.specs.runs.Run.main_trapped
+    Rattle.wb_model.specs.runs.Run.in_main
+    Rattle.wb_model.specs.runs.Run.started
+    Rattle.wb_model.specs.runs.Run.process
+    Rattle.wb_model.specs.meaning.State.and_then
+    Rattle.wb_model.specs.meaning.State.on_plain_end
+    Rattle.wb_model.specs.meaning.State.then_do
+    Rattle.wb_model.specs.meaning.State.require
+    Rattle.wb_model.specs.meaning.State.with_some
+    Rattle.wb_model.specs.meaning.State.unless
+    Rattle.wb_model.specs.meaning.Statements.given_to
+    Rattle.wb_model.specs.meaning.Statements.alloc_raw
+    Rattle.wb_model.specs.meaning.Statements.released
+    Rattle.wb_model.specs.meaning.Statements.release
+    Rattle.wb_model.specs.meaning.Statements.realloc_raw
+    Rattle.wb_model.specs.meaning.Statements.realloc_of
+    Rattle.wb_model.specs.meaning.Statements.with_words
+    Rattle.wb_model.specs.meaning.Statements.in_frame
+    Rattle.wb_model.specs.meaning.Statements.plain
+    Rattle.wb_model.specs.meaning.Statements.with_arguments
+    Rattle.wb_model.specs.meaning.Statements.with_class
+    Rattle.wb_model.specs.meaning.Statements.destroyed_object
+    Rattle.wb_model.specs.meaning.Statements.destroyed_item
+    Rattle.wb_model.specs.meaning.Statements.trapped
+    Rattle.wb_model.specs.meaning.Statements.with_condition
+    Rattle.wb_model.specs.meaning.Statements.leave_if
+    Rattle.wb_model.specs.meaning.Statements.new_object
+    Rattle.wb_model.specs.meaning.Statements.realloc_text
+    Rattle.wb_model.specs.meaning.Statements.statement
 everything = tt
 
 abbrev pub on : ℕ → Statement-F Statement StatementAt → StatementAt

@@ -15,7 +15,7 @@ use Rattle.wb_model.specs.declared.script.Condition.TheVariants.{IsNull}
 use Rattle.wb_model.specs.declared.script.Argument.TheVariants.{Given}
 use Rattle.wb_model.specs.declared.script.Refusal.TheVariants.{GivesNull, Leaves}
 use Rattle.wb_model.specs.declared.script.Statement.TheOpen.{Statement-F}
-use Rattle.wb_model.specs.Run.{run, required, rises}
+use Rattle.wb_model.specs.runs.Run.{run, required, rises}
 use Rattle.wb_model.proofs.WorkedCases.Shorthands.{everything, on, script, class_of, procedure, body, shaped, rise}
 
 abbrev script_cell_for_zero_bytes_size : Script

@@ -16,8 +16,8 @@ use Rattle.wb_model.specs.declared.script.Condition.TheVariants.{IsNull}
 use Rattle.wb_model.specs.declared.script.Argument.TheVariants.{Given}
 use Rattle.wb_model.specs.declared.script.Refusal.TheVariants.{GivesNull, Leaves}
 use Rattle.wb_model.specs.declared.script.Statement.TheOpen.{Statement-F}
-use Rattle.wb_model.specs.Run.{required, rises}
-use Rattle.wb_model.specs.Sweeps.{runs_of, least_bad_or_cut}
+use Rattle.wb_model.specs.runs.Run.{required, rises}
+use Rattle.wb_model.specs.runs.Sweeps.{runs_of, least_bad_or_cut}
 use Rattle.wb_model.proofs.WorkedCases.Shorthands.{everything, on, script, class_of, procedure, body, result, leak, shaped, line, rise}
 
 abbrev script_budget_is_enough_for_each_item_check : Script

@@ -3,8 +3,8 @@
 ghost use Rattle.std.specs.Prelude.{◌≡◌, IfOk, OnOk, ◌++◌, map};
 ghost use Rattle.std.specs.List.{flat_map};
 ghost use Rattle.std.specs.Option.{option_map, option_to_list};
-ghost use Rattle.wb_model.specs.Forms.{renamed_parameter_type};
-ghost use Rattle.wb_model.specs.Names.{count_among, fields_in_item, following_fields, first_declaration_of, is_same_kind, item_kind_in, declaration_of, item_of_kind, items_by, items_of, item_kind_of, names_of, parameters_in, parameter_type_of};
+ghost use Rattle.wb_model.specs.language.Forms.{renamed_parameter_type};
+ghost use Rattle.wb_model.specs.language.Names.{count_among, fields_in_item, following_fields, first_declaration_of, is_same_kind, item_kind_in, declaration_of, item_of_kind, items_by, items_of, item_kind_of, names_of, parameters_in, parameter_type_of};
 ghost use Rattle.wb_lines.specs.BytesOf.{bytes_of_form, bytes_of_forms, bytes_of_operand, bytes_of_operands, bytes_of_text, bytes_of_texts};
 ghost use Rattle.wb_script.specs.BytesOf.{bytes_of_item, bytes_of_items};
 

@@ -2,11 +2,11 @@
 
 ghost use Rattle.std.specs.Prelude.{◌≡◌, length, map, not};
 ghost use Rattle.std.specs.List.{flat_map, list_any};
-ghost use Rattle.wb_model.specs.Forms.{renamed_parameter_type};
-ghost use Rattle.wb_model.specs.LineKinds.{is_pointer_kind, operand_places_for};
-ghost use Rattle.wb_model.specs.Kinds.{are_given, are_right, arguments_agree, call_agrees, ends_body, has_wrong_kind, is_class_line_kind, is_given, is_nothing, is_of_procedure, is_right, is_right_line, is_trap, misuses_main, returns_in_trap, returns_outside, returns_pointer, sides_agree, operand_kind_of_name, operand_kind_of, operand_kind_of_class, operand_kind_of_field, operand_kind_of_type};
-ghost use Rattle.wb_model.specs.Names.{parameter_type_of};
-ghost use Rattle.wb_model.specs.Resolved.{resolved_line};
+ghost use Rattle.wb_model.specs.language.Forms.{renamed_parameter_type};
+ghost use Rattle.wb_model.specs.language.LineKinds.{is_pointer_kind, operand_places_for};
+ghost use Rattle.wb_model.specs.language.Kinds.{are_given, are_right, arguments_agree, call_agrees, ends_body, has_wrong_kind, is_class_line_kind, is_given, is_nothing, is_of_procedure, is_right, is_right_line, is_trap, misuses_main, returns_in_trap, returns_outside, returns_pointer, sides_agree, operand_kind_of_name, operand_kind_of, operand_kind_of_class, operand_kind_of_field, operand_kind_of_type};
+ghost use Rattle.wb_model.specs.language.Names.{parameter_type_of};
+ghost use Rattle.wb_model.specs.language.Resolved.{resolved_line};
 ghost use Rattle.wb_script.specs.Checks.{known_in};
 ghost use Rattle.wb_lines.specs.BytesOf.{bytes_of_form, bytes_of_operands, bytes_of_text};
 ghost use Rattle.wb_script.specs.BytesOf.{bytes_of_items};

@@ -1,7 +1,7 @@
 //! Which lines may leave where nothing may.
 
 ghost use Rattle.std.specs.Prelude.{◌≡◌};
-ghost use Rattle.wb_model.specs.Kinds.{is_loud, is_outside, is_quiet, may_leave, may_leave_in};
+ghost use Rattle.wb_model.specs.language.Kinds.{is_loud, is_outside, is_quiet, may_leave, may_leave_in};
 ghost use Rattle.wb_script.specs.Checks.{known_in};
 ghost use Rattle.wb_lines.specs.BytesOf.{bytes_of_form};
 

@@ -2,8 +2,8 @@
 
 ghost use Rattle.std.specs.Prelude.{◌≡◌};
 ghost use Rattle.std.specs.List.{flat_map, list_any};
-ghost use Rattle.wb_model.specs.Names.{first_declaration_of, is_among, is_item_before, has_double, name_passed, names_of, parameter_names, is_declared_there, declares_again};
-ghost use Rattle.wb_model.specs.Resolved.{has_unknown, refers_to_nothing, means_nothing, takes_nothing};
+ghost use Rattle.wb_model.specs.language.Names.{first_declaration_of, is_among, is_item_before, has_double, name_passed, names_of, parameter_names, is_declared_there, declares_again};
+ghost use Rattle.wb_model.specs.language.Resolved.{has_unknown, refers_to_nothing, means_nothing, takes_nothing};
 ghost use Rattle.wb_script.specs.Checks.{known_in, IsFew};
 ghost use Rattle.wb_lines.specs.BytesOf.{bytes_of_texts, bytes_of_operands, bytes_of_form};
 ghost use Rattle.wb_script.specs.BytesOf.{bytes_of_items};

@@ -3,8 +3,8 @@
 ghost use Rattle.std.specs.Prelude.{◌≡◌, ◌+◌, ◌≤◌, [], ◌++◌, length, map, OnOk};
 ghost use Rattle.std.specs.Option.{option_map, option_to_list};
 ghost use Rattle.std.specs.List.{flat_map};
-ghost use Rattle.wb_model.specs.Names.{blocks_after, bodies_before, body_after, body_kind_of, body_in, count_begun, fields_after, first_name, items_before, line_kind_in, local_kind_of, local_kind_in, kind_of_parameter, kinds_after, known_after, literal_text, literals_in, locals_after, name_passed, nothing_known, parameter_names, parameters_in, second_name, parameter_type_of, with_one};
-ghost use Rattle.wb_model.specs.Forms.{renamed_parameter_type, role_of_form};
+ghost use Rattle.wb_model.specs.language.Names.{blocks_after, bodies_before, body_after, body_kind_of, body_in, count_begun, fields_after, first_name, items_before, line_kind_in, local_kind_of, local_kind_in, kind_of_parameter, kinds_after, known_after, literal_text, literals_in, locals_after, name_passed, nothing_known, parameter_names, parameters_in, second_name, parameter_type_of, with_one};
+ghost use Rattle.wb_model.specs.language.Forms.{renamed_parameter_type, role_of_form};
 ghost use Rattle.wb_model.specs.declared.script_lines.ItemKind.TheVariants as item;
 ghost use Rattle.wb_lines.specs.BytesOf.{bytes_of_text, bytes_of_texts, bytes_of_operand, bytes_of_operands, bytes_of_form};
 ghost use Rattle.wb_script.specs.BytesOf.{bytes_of_kind};

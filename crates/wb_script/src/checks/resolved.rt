@@ -2,10 +2,10 @@
 
 ghost use Rattle.std.specs.Prelude.{◌≡◌, length, map, slice_get, IfOk, Some};
 ghost use Rattle.std.specs.Option.{option_map};
-ghost use Rattle.wb_model.specs.Forms.{renamed_parameter_type};
-ghost use Rattle.wb_model.specs.LineKinds.{operand_places_for};
-ghost use Rattle.wb_model.specs.Names.{first_declaration_of, names_before};
-ghost use Rattle.wb_model.specs.Resolved.{class_in, class_named, class_of_base, class_of_kind, class_of_local, class_of_this, field_at, field_referent, has_this, is_this, item_at, item_referent, referent_of_kind, local_referent, referent_at, name_referent, own_referent, resolved_line, resolved_operand, resolved_operands, resolved_parameter_type, this_referent};
+ghost use Rattle.wb_model.specs.language.Forms.{renamed_parameter_type};
+ghost use Rattle.wb_model.specs.language.LineKinds.{operand_places_for};
+ghost use Rattle.wb_model.specs.language.Names.{first_declaration_of, names_before};
+ghost use Rattle.wb_model.specs.language.Resolved.{class_in, class_named, class_of_base, class_of_kind, class_of_local, class_of_this, field_at, field_referent, has_this, is_this, item_at, item_referent, referent_of_kind, local_referent, referent_at, name_referent, own_referent, resolved_line, resolved_operand, resolved_operands, resolved_parameter_type, this_referent};
 ghost use Rattle.wb_lines.specs.BytesOf.{bytes_of_operand, bytes_of_operands, bytes_of_form, bytes_of_text};
 ghost use Rattle.wb_script.specs.BytesOf.{bytes_of_kind, bytes_of_items};
 ghost use Rattle.wb_script.specs.Checks.{known_in};

@@ -2,7 +2,7 @@
 
 ghost use Rattle.std.specs.Prelude.{◌≡◌, [], ◌∷◌, ◌++◌, IfOk};
 ghost use Rattle.std.specs.List.{list_any};
-ghost use Rattle.wb_model.specs.Kinds.{is_trap};
+ghost use Rattle.wb_model.specs.language.Kinds.{is_trap};
 ghost use Rattle.wb_script.specs.Building.{head_line_kind, line_kinds_of_blocks, IsWhole, IsClosed, TurnsToElse};
 
 use std::alloc::{AllocError, Global};

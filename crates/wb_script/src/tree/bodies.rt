@@ -4,7 +4,7 @@ ghost use Rattle.std.specs.Prelude.{◌≡◌, ◌≤◌, ◌++◌, ◌∷◌, [
 ghost use Rattle.wb_model.specs.declared.script_lines.Role.TheVariants as role;
 ghost use Rattle.wb_model.specs.declared.script_lines.Form.TheVariants.{Line};
 ghost use Rattle.wb_model.specs.declared.script_lines.LineKind.TheVariants as line_kind;
-ghost use Rattle.wb_model.specs.LineKinds.{role_of};
+ghost use Rattle.wb_model.specs.language.LineKinds.{role_of};
 ghost use Rattle.wb_script.specs.Building.{begins_block, line_kinds_of_blocks};
 ghost use Rattle.wb_script.specs.declared.tree.bodies.BodyProgress.TheVariants.{Inside};
 ghost use Rattle.wb_script.specs.Growing.{AddsWhereFit, IsSoundOpen, TakesWhereFit, declared_in_space, if_added, scope_in_body, with_statement};

@@ -4,9 +4,9 @@ ghost use Rattle.std.specs.Prelude.{◌≡◌, ◌≤◌, false, length, map, If
 ghost use Rattle.std.specs.Option.{option_map};
 ghost use Rattle.wb_model.specs.declared.limits.TheConstants.{LONGEST_SCRIPT};
 ghost use Rattle.wb_model.specs.declared.script_lines.LineKind.TheVariants as line_kind;
-ghost use Rattle.wb_model.specs.Names as model;
-ghost use Rattle.wb_model.specs.Sound.{is_passed};
-ghost use Rattle.wb_model.specs.Trees.{argument_operand};
+ghost use Rattle.wb_model.specs.language.Names as model;
+ghost use Rattle.wb_model.specs.language.Sound.{is_passed};
+ghost use Rattle.wb_model.specs.language.Trees.{argument_operand};
 ghost use Rattle.wb_script.specs.Fitting.{argument_fits};
 ghost use Rattle.wb_script.specs.BytesOf.{declared_by, bytes_of_items, signatures_among};
 ghost use Rattle.wb_script.specs.Stated.{ArePassed, IsCalled, IsNestedOf, bytes_of_parameter, scope_in};

@@ -8,9 +8,9 @@ ghost use Rattle.wb_model.specs.declared.script_lines.OperandPlace.TheVariants a
 ghost use Rattle.wb_model.specs.declared.script_lines.Referent.TheVariants as referent;
 ghost use Rattle.wb_model.specs.declared.script_lines.Operand.TheVariants.{Name, Size};
 ghost use Rattle.wb_model.specs.declared.script_lines.Role.TheVariants as role;
-ghost use Rattle.wb_model.specs.LineKinds.{role_of};
-ghost use Rattle.wb_model.specs.Sound.{Declared, Scope, is_class_among};
-ghost use Rattle.wb_model.specs.Trees.{field_line};
+ghost use Rattle.wb_model.specs.language.LineKinds.{role_of};
+ghost use Rattle.wb_model.specs.language.Sound.{Declared, Scope, is_class_among};
+ghost use Rattle.wb_model.specs.language.Trees.{field_line};
 ghost use Rattle.wb_script.specs.Building.{declares, is_small};
 ghost use Rattle.wb_script.specs.Fitting.{operand_places_fit, operands_fit};
 ghost use Rattle.wb_script.specs.Growing.{GrowsWhereFit, IsBelow, IsSound, OpensWhereFit, SaysWhereFit, building_after, declared_in_space, in_class, new_body, outside};

@@ -8,9 +8,9 @@ ghost use Rattle.wb_model.specs.declared.script_lines.LineKind.TheVariants as li
 ghost use Rattle.wb_model.specs.declared.script_lines.OperandPlace.TheVariants as operand_place;
 ghost use Rattle.wb_model.specs.declared.script_lines.Referent.TheVariants as referent;
 ghost use Rattle.wb_model.specs.declared.script_lines.Operand.TheVariants.{Name};
-ghost use Rattle.wb_model.specs.LineKinds.{role_of};
-ghost use Rattle.wb_model.specs.Sound.{Declared, Scope, is_local};
-ghost use Rattle.wb_model.specs.Trees.{local_line};
+ghost use Rattle.wb_model.specs.language.LineKinds.{role_of};
+ghost use Rattle.wb_model.specs.language.Sound.{Declared, Scope, is_local};
+ghost use Rattle.wb_model.specs.language.Trees.{local_line};
 ghost use Rattle.wb_script.specs.Building.{local_of, declares, is_small};
 ghost use Rattle.wb_script.specs.Fitting.{operand_places_fit, operands_fit};
 

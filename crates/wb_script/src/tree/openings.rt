@@ -4,7 +4,7 @@ ghost use Rattle.std.specs.Prelude.{◌≡◌, ◌≤◌, ◌+◌, length, map, 
 ghost use Rattle.wb_model.specs.declared.limits.TheConstants.{MOST_CLASSES, MOST_PROCEDURES};
 ghost use Rattle.wb_model.specs.declared.script_lines.Form.TheVariants.{Line};
 ghost use Rattle.wb_model.specs.declared.script_lines.LineKind.TheVariants as line_kind;
-ghost use Rattle.wb_model.specs.Sound.{local_of_parameter};
+ghost use Rattle.wb_model.specs.language.Sound.{local_of_parameter};
 ghost use Rattle.wb_script.specs.Growing.{AreParametersOf, AreTaken, IsBelow, IsSound, IsTaken, OpensWhereFit, declared_in_space, has_room, is_operation_head, new_body, outside};
 
 use crate::tree::blocks::BlockStack;

@@ -5,8 +5,8 @@
 ghost use Rattle.std.specs.Prelude.{◌≡◌, [], ◌∷◌, false, IsTrue, MatchOption};
 ghost use Rattle.wb_model.specs.declared.script_lines.LineKind.TheVariants as line_kind;
 ghost use Rattle.wb_model.specs.declared.script_lines.OperandPlace.TheVariants as operand_place;
-ghost use Rattle.wb_model.specs.Sound.{is_pointer, is_number};
-ghost use Rattle.wb_model.specs.Trees.{pointer_operand, number_operand};
+ghost use Rattle.wb_model.specs.language.Sound.{is_pointer, is_number};
+ghost use Rattle.wb_model.specs.language.Trees.{pointer_operand, number_operand};
 ghost use Rattle.wb_script.specs.Fitting.{operand_places_fit};
 ghost use Rattle.wb_script.specs.Stated.{IsStatementOf, IsOnlySpelled, IsPairSpelled, IsTripleSpelled, IsReturnOf, alloc_line_kind, is_lasting, new_line_kind, new_text_line_kind, realloc_line_kind, scope_in, takes_number, takes_pointer};
 

@@ -1,5 +1,5 @@
 use Rattle.std.proofs.Common.{◌≡◌, ◌∙◌, ap, length, sym, arith}
-use Rattle.wb_model.specs.Row.{headers}
+use Rattle.wb_model.specs.heap.Row.{headers}
 use Rattle.wb_model.proofs.LimitedHeaps.{top_of-committed}
 use Rattle.wb_model.proofs.Onward.{onward_zero, onward_next, onward_fewer}
 use Rattle.wb_debug.specs.Levels.{is_counted}

@@ -1,5 +1,5 @@
 use Rattle.std.proofs.Common.{◌≡◌, ◌+◌, length}
-use Rattle.wb_model.specs.Row.{headers}
+use Rattle.wb_model.specs.heap.Row.{headers}
 use Rattle.wb_model.proofs.Onward.{onward}
 use Rattle.wb_debug.specs.Levels.{is_counted}
 use Rattle.wb_debug.specs.Tally.{number}

@@ -1,5 +1,5 @@
 use Rattle.std.proofs.Common.{◌≡◌, ◌++◌, length}
-use Rattle.wb_model.specs.Row.{headers}
+use Rattle.wb_model.specs.heap.Row.{headers}
 use Rattle.wb_model.proofs.Onward.{onward}
 use Rattle.wb_debug.proofs.Leaks.{leaks_of}
 use Rattle.wb_debug.proofs.marks.leaks.Given as goal

@@ -1,6 +1,6 @@
 use Rattle.std.proofs.Common.{◌≡◌, length}
-use Rattle.wb_model.specs.LimitedHeap.{IsSoundHeap}
-use Rattle.wb_model.specs.Row.{headers}
+use Rattle.wb_model.specs.heap.LimitedHeap.{IsSoundHeap}
+use Rattle.wb_model.specs.heap.Row.{headers}
 use Rattle.wb_model.proofs.Onward.{onward}
 use Rattle.wb_debug.specs.declared.marks.Levels.TheVariants.{One}
 use Rattle.wb_debug.specs.Levels.{is_counted}

@@ -1,7 +1,7 @@
 use Rattle.std.proofs.Common.{◌+◌, ap, ◌∙◌, sym, subst}
 use Rattle.wb_model.specs.declared.heap.Rule.{Rule}
-use Rattle.wb_model.specs.Rest.{SameSoFar}
-use Rattle.wb_model.specs.Sweeps.{failing_at, rule_for, rule_of}
+use Rattle.wb_model.specs.runs.Rest.{SameSoFar}
+use Rattle.wb_model.specs.runs.Sweeps.{failing_at, rule_for, rule_of}
 use Rattle.wb_model.proofs.RuleLemmas.{failures-fit}
 use Rattle.wb_fork_tests.proofs.forks.is_fork_as_run.Goals as goal
 

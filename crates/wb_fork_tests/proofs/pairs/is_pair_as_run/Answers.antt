@@ -3,9 +3,9 @@ use Rattle.std.proofs.lemmas.Bool.{lt-leb}
 use Rattle.wb_model.specs.declared.failures.Failing.TheVariants as failings
 use Rattle.wb_model.specs.declared.heap.Rule.{Rule}
 use Rattle.wb_model.specs.declared.heap.Rule.TheVariants.{Number, Pair}
-use Rattle.wb_model.specs.Pairs.{failing_with}
-use Rattle.wb_model.specs.Rest.{SameSoFar}
-use Rattle.wb_model.specs.Sweeps.{rule_for}
+use Rattle.wb_model.specs.runs.Pairs.{failing_with}
+use Rattle.wb_model.specs.runs.Rest.{SameSoFar}
+use Rattle.wb_model.specs.runs.Sweeps.{rule_for}
 use Rattle.wb_model.proofs.PairLemmas.{with-fits}
 use Rattle.wb_fork_tests.proofs.pairs.is_pair_as_run.Goals as goal
 

@@ -5,12 +5,12 @@ use Rattle.wb_model.specs.declared.script.Argument.{Argument}
 use Rattle.wb_model.specs.declared.script.Argument.TheVariants.{Passed}
 use Rattle.wb_model.specs.declared.script.Pointer.TheVariants.{Held}
 use Rattle.wb_model.specs.declared.script.Holder.TheVariants.{Local}
-use Rattle.wb_model.specs.Texts.{Buffer}
+use Rattle.wb_model.specs.meaning.Texts.{Buffer}
 use Rattle.wb_machine.specs.declared.locals.Stored.{Stored}
-use Rattle.wb_model.specs.State.{Value}
+use Rattle.wb_model.specs.meaning.State.{Value}
 use Rattle.wb_machine.specs.RunState.{Values}
 use Rattle.wb_machine.specs.LocalValues.{value_of, value_stored, values_stored, passed_over}
-use Rattle.wb_machine.proofs.Frames.{one_more, frame_below}
+use Rattle.wb_machine.proofs.frames.Frames.{one_more, frame_below}
 use Rattle.wb_machine.proofs.arguments.pass.Goals as goal
 
 pub loop-argument-preserved : goal.loop-argument-preserved

@@ -1,7 +1,7 @@
 use Rattle.std.proofs.Common.{List, subst, sym}
 use Rattle.wb_machine.specs.LocalValues.{AreAscending}
 use Rattle.wb_machine.specs.declared.locals.Stored.{Stored}
-use Rattle.wb_machine.proofs.Buffers.{small_after}
+use Rattle.wb_machine.proofs.frames.Buffers.{small_after}
 use Rattle.wb_machine.proofs.locals.push_slot.Goals as goal
 
 pub returns-clause-ascending : goal.returns-clause-ascending

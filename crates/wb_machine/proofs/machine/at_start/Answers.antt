@@ -3,8 +3,8 @@ use Rattle.std.proofs.lemmas.List.Elements.{All-nil}
 use Rattle.wb_machine.specs.RunState.{RunState}
 use Rattle.wb_machine.specs.ObjectInvariant.{AreWhole}
 use Rattle.wb_machine.specs.Flow.{AreSound, IsFirst}
-use Rattle.wb_machine.proofs.FirstTurn.{rest_first}
-use Rattle.wb_machine.proofs.Fitting.{fits-limit}
+use Rattle.wb_machine.proofs.turns.FirstTurn.{rest_first}
+use Rattle.wb_machine.proofs.whole_runs.Fitting.{fits-limit}
 use Rattle.wb_machine.proofs.machine.at_start.Goals as goal
 
 pub invariant_of-result : goal.invariant_of-result

@@ -1,6 +1,6 @@
 use Rattle.std.proofs.Common.{sym, ◌∙◌}
 use Rattle.wb_machine.specs.RunState.{field_count}
-use Rattle.wb_machine.proofs.ObjectFields.{field_absent}
+use Rattle.wb_machine.proofs.kept.ObjectFields.{field_absent}
 use Rattle.wb_machine.proofs.pointers.field_over.Goals as goal
 
 pub returns-then-not-has_words : goal.returns-then-not-has_words

@@ -3,7 +3,7 @@ use Rattle.std.proofs.lemmas.List.{take_all}
 use Rattle.wb_script.specs.Checks.{AreChecked}
 use Rattle.wb_lines.specs.BytesOf.{bytes_of_form, bytes_of_forms}
 use Rattle.wb_script.specs.BytesOf.{bytes_of_items}
-use Rattle.wb_script.proofs.Passes.{map_more}
+use Rattle.wb_script.proofs.lists.Passes.{map_more}
 use Rattle.wb_script.proofs.checks.checked_lines.Goals as goal
 
 pub loop-form-init : goal.loop-form-init

@@ -1,4 +1,4 @@
-use Rattle.wb_script.proofs.ScriptLaws.{script_once}
+use Rattle.wb_script.proofs.one_script.ScriptLaws.{script_once}
 use Rattle.wb_script.proofs.laws.one_script.Goals as goal
 
 pub returns : goal.returns

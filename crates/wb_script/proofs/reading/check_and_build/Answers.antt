@@ -3,26 +3,26 @@ use Rattle.std.specs.Prelude.{codes}
 use Rattle.std.specs.List.{list_all}
 use Rattle.std.proofs.lemmas.List.{length-map}
 use Rattle.wb_model.specs.declared.script_lines.ItemKind.TheVariants as item
-use Rattle.wb_model.specs.Forms.{role_of_form}
-use Rattle.wb_model.specs.Grammar.{IsGrammatical}
-use Rattle.wb_model.specs.Names.{nothing_known, known_after, count_among, items_of, literals_of}
-use Rattle.wb_model.specs.Resolved.{resolved_line, item_referent}
-use Rattle.wb_model.specs.Scripts.{main_of, procedure_referent}
-use Rattle.wb_model.specs.Quiet.{is_quiet}
-use Rattle.wb_model.specs.Sound.{Declared, is_literal_text, is_sound_script}
-use Rattle.wb_model.specs.Trees.{counted_from}
+use Rattle.wb_model.specs.language.Forms.{role_of_form}
+use Rattle.wb_model.specs.language.Grammar.{IsGrammatical}
+use Rattle.wb_model.specs.language.Names.{nothing_known, known_after, count_among, items_of, literals_of}
+use Rattle.wb_model.specs.language.Resolved.{resolved_line, item_referent}
+use Rattle.wb_model.specs.language.Scripts.{main_of, procedure_referent}
+use Rattle.wb_model.specs.meaning.Quiet.{is_quiet}
+use Rattle.wb_model.specs.language.Sound.{Declared, is_literal_text, is_sound_script}
+use Rattle.wb_model.specs.language.Trees.{counted_from}
 use Rattle.wb_script.specs.Building.{AllFit, counts_of}
 use Rattle.wb_script.specs.Checks.{AreChecked, IsFirstFault}
 use Rattle.wb_lines.specs.BytesOf.{bytes_of_text, bytes_of_texts, bytes_of_form, bytes_of_forms}
 use Rattle.wb_script.specs.BytesOf.{declared_by, bytes_of_items, signatures_among, fields_among}
-use Rattle.wb_script.proofs.CountedClasses.{counted_classes}
-use Rattle.wb_script.proofs.FitLemmas.{declared_among}
-use Rattle.wb_script.proofs.LiteralLemmas.{few_literals, literals_sound}
-use Rattle.wb_script.proofs.Passes.{each_length}
-use Rattle.wb_script.proofs.QuietTrees.{quiet_script}
-use Rattle.wb_script.proofs.Tests.{together}
-use Rattle.wb_script.proofs.ReadLemmas.{no_line, main_entry, all_named, lines_fault}
-use Rattle.wb_script.proofs.ResolvedLemmas.{roles-resolved, all_fit, procedures-resolved, operations-resolved}
+use Rattle.wb_script.proofs.counts.CountedClasses.{counted_classes}
+use Rattle.wb_script.proofs.names.FitLemmas.{declared_among}
+use Rattle.wb_script.proofs.names.LiteralLemmas.{few_literals, literals_sound}
+use Rattle.wb_script.proofs.lists.Passes.{each_length}
+use Rattle.wb_script.proofs.leaving.QuietTrees.{quiet_script}
+use Rattle.wb_script.proofs.lists.Tests.{together}
+use Rattle.wb_script.proofs.names.ReadLemmas.{no_line, main_entry, all_named, lines_fault}
+use Rattle.wb_script.proofs.names.ResolvedLemmas.{roles-resolved, all_fit, procedures-resolved, operations-resolved}
 use Rattle.wb_script.proofs.reading.check_and_build.Goals as goal
 
 pub script_of-requires-clause-grammar : goal.script_of-requires-clause-grammar

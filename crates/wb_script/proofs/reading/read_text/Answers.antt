@@ -1,12 +1,12 @@
 use Rattle.std.proofs.Common.{◌∙◌, sym, ap, subst, length, arith}
 use Rattle.std.proofs.lemmas.List.{length-map}
-use Rattle.wb_model.specs.Forms.{forms_of}
-use Rattle.wb_model.specs.Lines.{lines_of}
+use Rattle.wb_model.specs.language.Forms.{forms_of}
+use Rattle.wb_model.specs.language.Lines.{lines_of}
 use Rattle.wb_lines.specs.BytesOf.{bytes_of_texts, bytes_of_forms}
 use Rattle.wb_lines.specs.Typed.{AreTyped}
 use Rattle.wb_lines.proofs.Cuts.{lines_within}
 use Rattle.wb_lines.proofs.Foreign.{at_most}
-use Rattle.wb_script.proofs.TextLemmas.{few_lines, faults_of_lines, scripts_of_lines}
+use Rattle.wb_script.proofs.one_script.TextLemmas.{few_lines, faults_of_lines, scripts_of_lines}
 use Rattle.wb_lines.proofs.TypedLemmas.{lines_typed}
 use Rattle.wb_script.proofs.reading.read_text.Goals as goal
 

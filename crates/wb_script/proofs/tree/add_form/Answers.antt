@@ -1,6 +1,6 @@
 use Rattle.std.proofs.Common.{sym, subst}
 use Rattle.wb_script.specs.Growing.{Grows, declared_in_space}
-use Rattle.wb_script.proofs.Growth.{skip_grows}
+use Rattle.wb_script.proofs.building.Growth.{skip_grows}
 use Rattle.wb_script.proofs.tree.add_form.Goals as goal
 
 pub returns-in-Skip : goal.returns-in-Skip

@@ -1,11 +1,11 @@
 use Rattle.std.proofs.Common.{IsTrue, ◌++◌, sym, ap, subst, ◌∙◌, Some}
 use Rattle.wb_model.specs.declared.script_lines.Form.TheVariants.{Line}
-use Rattle.wb_model.specs.LineKinds.{role_of}
+use Rattle.wb_model.specs.language.LineKinds.{role_of}
 use Rattle.wb_script.specs.declared.tree.bodies.BodyProgress.TheVariants.{Inside}
 use Rattle.wb_script.specs.Building.{fits, block_stack_places}
 use Rattle.wb_script.specs.Growing.{AddsWhereFit, Grows, counts_owned, declared_in_space, in_body, owner_places}
-use Rattle.wb_script.proofs.Growth.{done_grows, inside_grows, same_step}
-use Rattle.wb_script.proofs.OpenPlaces.{inner_stuck}
+use Rattle.wb_script.proofs.building.Growth.{done_grows, inside_grows, same_step}
+use Rattle.wb_script.proofs.building.OpenPlaces.{inner_stuck}
 use Rattle.wb_script.proofs.tree.add_inside.Goals as goal
 
 pub returns-in-None : goal.returns-in-None

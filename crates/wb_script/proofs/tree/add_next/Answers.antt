@@ -1,11 +1,11 @@
 use Rattle.std.proofs.Common.{◌≡◌, sym, subst}
 use Rattle.std.specs.Prelude.{IfOk}
 use Rattle.wb_model.specs.declared.script_lines.Form.TheVariants.{Line}
-use Rattle.wb_model.specs.Trees.{Indexed}
+use Rattle.wb_model.specs.language.Trees.{Indexed}
 use Rattle.wb_script.specs.declared.tree.whole.Stage.{Stage}
 use Rattle.wb_script.specs.declared.tree.whole.Stage.TheVariants.{InBody}
 use Rattle.wb_script.specs.Growing.{GrowsWhereFit, IsBelowWhere, IsSoundWhere, declared_in_space, if_added, in_body}
-use Rattle.wb_script.proofs.Growth.{result_grows}
+use Rattle.wb_script.proofs.building.Growth.{result_grows}
 use Rattle.wb_script.proofs.tree.add_next.Goals as goal
 
 pub returns-in-InBody : goal.returns-in-InBody

@@ -1,7 +1,7 @@
 use Rattle.std.proofs.Common.{◌≤◌, List, ℕ, IsTrue, length, sym, subst, ◌∙◌}
 use Rattle.wb_model.specs.declared.limits.TheConstants.{MOST_CLASSES}
 use Rattle.wb_script.specs.BytesOf.{declared_by}
-use Rattle.wb_script.proofs.FewCounts.{are_small, few_counted, few_declared}
+use Rattle.wb_script.proofs.counts.FewCounts.{are_small, few_counted, few_declared}
 use Rattle.wb_script.proofs.tree.bodies_of.Goals as goal
 
 pub field_counts-requires : goal.field_counts-requires

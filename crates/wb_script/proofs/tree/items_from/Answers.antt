@@ -1,13 +1,13 @@
 use Rattle.std.proofs.Common.{◌∙◌, sym, ap, subst, map, take, ◌++◌, ◌+◌, IsTrue}
 use Rattle.std.proofs.lemmas.List.{take_all}
-use Rattle.wb_model.specs.Forms.{role_of_form}
-use Rattle.wb_model.specs.Trees.{counted, counted_from}
+use Rattle.wb_model.specs.language.Forms.{role_of_form}
+use Rattle.wb_model.specs.language.Trees.{counted, counted_from}
 use Rattle.wb_script.specs.Building.{counts_of, fits}
 use Rattle.wb_script.specs.Growing.{AreCounts, GrowsWhereFit, building_places, declared_in_space, if_added}
 use Rattle.wb_nesting.specs.Machine.{after_line}
 use Rattle.wb_nesting.proofs.Misfits.{blocks_after, none_open}
-use Rattle.wb_script.proofs.OpenPlaces.{never_in_body, never_in_class, unknown_stuck}
-use Rattle.wb_script.proofs.Steps.{counted_more, line_step, never_none, line_fits, counts_more}
+use Rattle.wb_script.proofs.building.OpenPlaces.{never_in_body, never_in_class, unknown_stuck}
+use Rattle.wb_script.proofs.building.Steps.{counted_more, line_step, never_none, line_fits, counts_more}
 use Rattle.wb_script.proofs.tree.items_from.Goals as goal
 
 pub add_next-requires-clause-known : goal.add_next-requires-clause-known

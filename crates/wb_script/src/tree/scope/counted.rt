@@ -2,7 +2,7 @@
 
 ghost use Rattle.std.specs.Prelude.{◌≡◌, [], ◌∷◌, ℕ, false, MatchOption};
 ghost use Rattle.wb_model.specs.declared.script_lines.OperandPlace as model;
-ghost use Rattle.wb_model.specs.Sound.{Scope};
+ghost use Rattle.wb_model.specs.language.Sound.{Scope};
 ghost use Rattle.wb_script.specs.Fitting.{operand_places_fit};
 
 use wb_model::script_lines::{Operand, Referent};

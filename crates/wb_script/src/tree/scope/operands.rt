@@ -5,8 +5,8 @@ ghost use Rattle.wb_model.specs.declared.script.Pointer.TheVariants as P;
 ghost use Rattle.wb_model.specs.declared.limits.TheConstants.{MOST_LOCALS};
 ghost use Rattle.wb_model.specs.declared.script_lines.LineKind.TheVariants as line_kind;
 ghost use Rattle.wb_model.specs.declared.script_lines.OperandPlace.TheVariants as operand_place;
-ghost use Rattle.wb_model.specs.Sound.{is_pointer, is_target, is_variable, is_number, is_view, is_writable, is_readable};
-ghost use Rattle.wb_model.specs.Trees.{class_operand, pointer_operand, variable_operand, number_operand, view_operand, writable_operand, text_operand, set_line_kind};
+ghost use Rattle.wb_model.specs.language.Sound.{is_pointer, is_target, is_variable, is_number, is_view, is_writable, is_readable};
+ghost use Rattle.wb_model.specs.language.Trees.{class_operand, pointer_operand, variable_operand, number_operand, view_operand, writable_operand, text_operand, set_line_kind};
 ghost use Rattle.wb_script.specs.Fitting.{IsSpelled};
 ghost use Rattle.wb_script.specs.Stated.{IsFieldOf, IsHolderOf, IsPointerLocal, IsReceiver, scope_in};
 
@@ -53,7 +53,7 @@ impl<'a> Scope<'a> {
 
     /// The class that a local or `self` is declared with.
     fn class_of_holder(&self, holder: Holder) -> Option<u16>
-        ensures { result ≡ Rattle.wb_model.specs.Sound.class_of_holder (scope_in self.now) holder }
+        ensures { result ≡ Rattle.wb_model.specs.language.Sound.class_of_holder (scope_in self.now) holder }
     {
         match holder {
             Holder::Local(index) => match self.local(index as usize) {

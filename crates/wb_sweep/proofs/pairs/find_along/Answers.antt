@@ -3,8 +3,8 @@ use Rattle.std.proofs.Common.{rules, ◌≡◌, ◌+◌, ◌≤◌, ℕ, None, I
 use Rattle.wb_model.specs.declared.heap.Shape.{Shape}
 use Rattle.wb_model.specs.declared.run.RunResult.{RunResult}
 use Rattle.wb_model.specs.declared.script.Script.{Script}
-use Rattle.wb_model.specs.Pairs.{failing_with}
-use Rattle.wb_model.specs.Sweeps.{is_fine, runs_under, AreFineBelow, IsCutAmong, IsFoundAmong}
+use Rattle.wb_model.specs.runs.Pairs.{failing_with}
+use Rattle.wb_model.specs.runs.Sweeps.{is_fine, runs_under, AreFineBelow, IsCutAmong, IsFoundAmong}
 use Rattle.wb_model.proofs.PairLemmas.{pairs-fine, with_none}
 use Rattle.wb_sweep.specs.declared.family.Family.TheVariants.{With}
 use Rattle.wb_sweep.proofs.AnswerLemmas.{map_ok}

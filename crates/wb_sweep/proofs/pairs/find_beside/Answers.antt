@@ -2,8 +2,8 @@
 use Rattle.std.proofs.Common.{rules, ◌≡◌, ◌+◌, ℕ, arith, Err, IfSome, sym, subst, ◌∙◌}
 use Rattle.wb_model.specs.declared.heap.Shape.{Shape}
 use Rattle.wb_model.specs.declared.script.Script.{Script}
-use Rattle.wb_model.specs.Pairs.{failing_with, pair_run, ArePairsFineWith}
-use Rattle.wb_model.specs.Sweeps.{IsCutAmong, IsFoundAmong}
+use Rattle.wb_model.specs.runs.Pairs.{failing_with, pair_run, ArePairsFineWith}
+use Rattle.wb_model.specs.runs.Sweeps.{IsCutAmong, IsFoundAmong}
 use Rattle.wb_model.proofs.PairLemmas.{all-pairs-fine}
 use Rattle.wb_sweep.specs.declared.fault.SweepFault.TheVariants.{Cut}
 use Rattle.wb_sweep.proofs.AnswerLemmas.{map_some, nothing}

@@ -1,6 +1,6 @@
 use Rattle.std.proofs.Common.{◌≡◌, ◌+◌, ◌-◌, ◌≤◌, false, cond}
 use Rattle.wb_model.specs.declared.heap.Rule.TheVariants as rules
-use Rattle.wb_model.specs.Pairs.{pair_run}
+use Rattle.wb_model.specs.runs.Pairs.{pair_run}
 use Rattle.wb_sweep.proofs.PairsFurther.{ArePairsFineUpTo}
 use Rattle.wb_sweep.proofs.pairs.find_beside.Given as goal
 

@@ -1,6 +1,6 @@
 use Rattle.std.proofs.Common.{◌≡◌, Err, None, IfOk, IfSome, subst}
 use Rattle.wb_machine.specs.Seen.{Seen}
-use Rattle.wb_model.specs.Pairs.{pair_run, AreAllPairsFine, IsCutPair, IsFoundPair}
+use Rattle.wb_model.specs.runs.Pairs.{pair_run, AreAllPairsFine, IsCutPair, IsFoundPair}
 use Rattle.wb_model.specs.declared.failures.Failing.{Failing}
 use Rattle.wb_model.specs.declared.run.Why.{Why}
 use Rattle.wb_sweep.specs.declared.fault.SweepFault.TheVariants.{Cut}

@@ -5,9 +5,9 @@ use Rattle.wb_model.specs.declared.heap.Rule.{Rule}
 use Rattle.wb_model.specs.declared.heap.Rule.TheVariants.{Number}
 use Rattle.wb_model.specs.declared.heap.Shape.{Shape}
 use Rattle.wb_model.specs.declared.script.Script.{Script}
-use Rattle.wb_model.specs.Pairs.{failing_with, pair_run, ArePairsFineWith}
-use Rattle.wb_model.specs.Rest.{SameSoFar}
-use Rattle.wb_model.specs.Sweeps.{runs_of, AreAllFine, IsCutAmong, IsFoundAmong}
+use Rattle.wb_model.specs.runs.Pairs.{failing_with, pair_run, ArePairsFineWith}
+use Rattle.wb_model.specs.runs.Rest.{SameSoFar}
+use Rattle.wb_model.specs.runs.Sweeps.{runs_of, AreAllFine, IsCutAmong, IsFoundAmong}
 use Rattle.wb_machine.specs.Seen.{Seen}
 use Rattle.wb_sweep.specs.declared.family.Family.TheVariants.{Of}
 use Rattle.wb_sweep.proofs.AnswerLemmas.{map_ok}

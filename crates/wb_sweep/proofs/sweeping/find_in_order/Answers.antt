@@ -1,6 +1,6 @@
 use Rattle.std.proofs.Common.{◌≡◌, ◌+◌, None, IfOk, IfSome, arith, subst}
 use Rattle.wb_machine.specs.Seen.{Seen}
-use Rattle.wb_model.specs.Sweeps.{failing_at, AreFineBelow, IsCutAmong, IsFoundAmong}
+use Rattle.wb_model.specs.runs.Sweeps.{failing_at, AreFineBelow, IsCutAmong, IsFoundAmong}
 use Rattle.wb_model.proofs.SweepLemmas.{all_fine}
 use Rattle.wb_sweep.specs.declared.family.Family.TheVariants.{Of}
 use Rattle.wb_sweep.specs.Families.{runs_beside}

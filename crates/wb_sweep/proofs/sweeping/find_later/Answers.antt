@@ -1,8 +1,8 @@
 -- Proof: find_later. Where nothing is found in order there is nothing, but for pairs, which come next.
 use Rattle.std.proofs.Common.{rules, ◌≡◌, None, subst, sym}
 use Rattle.wb_model.specs.declared.failures.Failures.{Failures}
-use Rattle.wb_model.specs.SweepAnswers.{IsNoneFound}
-use Rattle.wb_model.specs.Sweeps.{runs_of, AreAllFine}
+use Rattle.wb_model.specs.runs.SweepAnswers.{IsNoneFound}
+use Rattle.wb_model.specs.runs.Sweeps.{runs_of, AreAllFine}
 use Rattle.wb_sweep.proofs.AnswerLemmas.{map_ok}
 use Rattle.wb_sweep.proofs.sweeping.find_later.Goals as goal
 

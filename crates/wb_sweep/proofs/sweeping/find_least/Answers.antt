@@ -3,8 +3,8 @@ use Rattle.wb_model.specs.declared.heap.Rule.{Rule}
 use Rattle.wb_model.specs.declared.run.Outcome.TheVariants as outcomes
 use Rattle.wb_model.specs.declared.run.RunResult.{RunResult}
 use Rattle.wb_model.specs.declared.run.Why.{Why}
-use Rattle.wb_model.specs.Run.{run, is_bad}
-use Rattle.wb_model.specs.Sweeps.{rule_for, rule_of, runs_of, IsLeastBad}
+use Rattle.wb_model.specs.runs.Run.{run, is_bad}
+use Rattle.wb_model.specs.runs.Sweeps.{rule_for, rule_of, runs_of, IsLeastBad}
 use Rattle.wb_model.proofs.TraceLemmas.{run-numbered}
 use Rattle.wb_sweep.specs.declared.fault.SweepFault.{SweepFault}
 use Rattle.wb_sweep.specs.declared.fault.SweepFault.TheVariants.{Cut}

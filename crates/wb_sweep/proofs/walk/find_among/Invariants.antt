@@ -1,5 +1,5 @@
 use Rattle.std.proofs.Common.{◌≡◌, ◌+◌, ◌-◌, ◌≤◌, false, cond}
-use Rattle.wb_model.specs.Sweeps.{AreFineBelow}
+use Rattle.wb_model.specs.runs.Sweeps.{AreFineBelow}
 use Rattle.wb_sweep.specs.Families.{rule_in, runs_beside}
 use Rattle.wb_sweep.proofs.walk.find_among.Given as goal
 

@@ -1,7 +1,7 @@
 use Rattle.std.proofs.Common.{◌+◌, ap, ◌∙◌, sym, subst}
 use Rattle.wb_model.specs.declared.heap.Rule.{Rule}
-use Rattle.wb_model.specs.Rest.{SameSoFar}
-use Rattle.wb_model.specs.Sweeps.{rule_for}
+use Rattle.wb_model.specs.runs.Rest.{SameSoFar}
+use Rattle.wb_model.specs.runs.Sweeps.{rule_for}
 use Rattle.wb_sweep.specs.Families.{failing_in, rule_in}
 use Rattle.wb_sweep.proofs.FamilyLemmas.{family-fits}
 use Rattle.wb_sweep.proofs.walk.try_next.Goals as goal

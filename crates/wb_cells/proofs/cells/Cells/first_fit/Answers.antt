@@ -1,5 +1,5 @@
 use Rattle.std.proofs.Common.{Some, None, ap, sym, ◌∙◌, arith}
-use Rattle.wb_model.specs.Row.{headers, place_of}
+use Rattle.wb_model.specs.heap.Row.{headers, place_of}
 use Rattle.wb_model.proofs.Places.{place_of-least}
 use Rattle.wb_model.proofs.Rows.{place_from-top}
 use Rattle.wb_cells.proofs.Gaps.{place_of-gap}

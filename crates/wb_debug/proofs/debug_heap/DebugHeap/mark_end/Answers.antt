@@ -1,6 +1,6 @@
 use Rattle.std.proofs.Common.{subst}
 use Rattle.std.proofs.lemmas.Result.{err_from_is_err_and}
-use Rattle.wb_model.specs.Debug.{IsSoundDebug}
+use Rattle.wb_model.specs.heap.Debug.{IsSoundDebug}
 use Rattle.wb_debug.specs.Debug.{debug_of}
 use Rattle.wb_debug.proofs.DebugFields.{kept-sound}
 use Rattle.wb_debug.proofs.Closing.{mark_end-checks, lowered-kept}

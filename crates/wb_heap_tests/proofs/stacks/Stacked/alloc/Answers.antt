@@ -3,7 +3,7 @@ use Rattle.wb_model.specs.declared.heap.Gave.{Gave}
 use Rattle.wb_model.specs.declared.heap.Kind.{Kind}
 use Rattle.wb_model.specs.declared.heap.Kind.TheVariants.{Raw}
 use Rattle.wb_model.specs.declared.memory.NoMemory.{NoMemory}
-use Rattle.wb_model.specs.Debug.{Debug, IsSoundDebug, alloc_made}
+use Rattle.wb_model.specs.heap.Debug.{Debug, IsSoundDebug, alloc_made}
 use Rattle.wb_cleanup.specs.declared.cleanup.Cleanup.{Cleanup}
 use Rattle.wb_cleanup.proofs.HeapBesideStack.{alloc-beside}
 use Rattle.wb_heap_tests.specs.Stacked.{IsStacked}

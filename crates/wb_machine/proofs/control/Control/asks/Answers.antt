@@ -1,6 +1,6 @@
 use Rattle.std.proofs.Common.{◌≡◌, ◌-◌, Some, None, length, slice_get, option_copied, ap, ◌∙◌, sym}
 use Rattle.wb_machine.specs.Flow.{first_statement}
-use Rattle.wb_machine.proofs.AskedPieces.{over_asks, asked_of, settled_asks}
+use Rattle.wb_machine.proofs.asking.AskedPieces.{over_asks, asked_of, settled_asks}
 use Rattle.wb_machine.proofs.control.Control.asks.Goals as goal
 
 pub returns-then-is_over : goal.returns-then-is_over

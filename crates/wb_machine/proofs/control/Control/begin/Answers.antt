@@ -4,16 +4,16 @@ use Rattle.wb_machine.specs.LocalValues.{is_small}
 use Rattle.wb_machine.specs.declared.pieces.Ending.TheVariants.{NoCleanup}
 use Rattle.wb_machine.specs.declared.pieces.PendingPiece.TheVariants.{Code}
 use Rattle.wb_machine.specs.declared.pieces.TheConstants.{IN_MAIN}
-use Rattle.wb_model.specs.Debug.{Debug}
+use Rattle.wb_model.specs.heap.Debug.{Debug}
 use Rattle.wb_machine.specs.Flow.{AreOwn}
 use Rattle.wb_machine.specs.ObjectInvariant.{AreWhole}
 use Rattle.wb_machine.specs.SlotInvariant.{slots_for_all}
 use Rattle.wb_machine.specs.RunState.{main_of, with_debug}
 use Rattle.wb_machine.specs.Effects.{entered, first_made, started_by}
-use Rattle.wb_machine.proofs.FirstTurn.{granted_enters, granted_goes, refused_ends, refused_stays, run_begun, begun_pieces}
-use Rattle.wb_machine.proofs.WholeCells.{started_whole}
-use Rattle.wb_machine.proofs.Scripts.{main_there, procedure_locals, procedure_statements, sound_begun}
-use Rattle.wb_machine.proofs.SlotsKept.{begun_room, stop_room}
+use Rattle.wb_machine.proofs.turns.FirstTurn.{granted_enters, granted_goes, refused_ends, refused_stays, run_begun, begun_pieces}
+use Rattle.wb_machine.proofs.kept.WholeCells.{started_whole}
+use Rattle.wb_machine.proofs.turns.Scripts.{main_there, procedure_locals, procedure_statements, sound_begun}
+use Rattle.wb_machine.proofs.kept.SlotsKept.{begun_room, stop_room}
 use Rattle.wb_machine.proofs.control.Control.begin.Goals as goal
 
 pub procedure_at-main-requires : goal.procedure_at-main-requires

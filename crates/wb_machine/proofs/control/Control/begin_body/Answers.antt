@@ -2,15 +2,15 @@ use Rattle.std.proofs.Common.{List, ◌∷◌, ◌+◌, take, drop, ap, ◌∙�
 use Rattle.wb_model.specs.declared.script.Local.{Local}
 use Rattle.wb_model.specs.declared.script.StatementAt.{StatementAt}
 use Rattle.wb_model.specs.declared.heap.Ptr.{Ptr}
-use Rattle.wb_model.specs.Statements.{all}
-use Rattle.wb_model.specs.Rest.{Pending, doing, calling}
+use Rattle.wb_model.specs.meaning.Statements.{all}
+use Rattle.wb_model.specs.runs.Rest.{Pending, doing, calling}
 use Rattle.wb_machine.specs.declared.pieces.PendingPiece.TheVariants.{Code, Call}
 use Rattle.wb_machine.specs.Effects.{framed_with}
 use Rattle.wb_machine.specs.LocalValues.{values_of_arguments}
 use Rattle.wb_machine.specs.Flow.{context_of, afterwards, frame_with, pending_in, rest_from}
-use Rattle.wb_machine.proofs.Heads.{body_rest, body_refused}
-use Rattle.wb_machine.proofs.Scripts.{sound_pushed}
-use Rattle.wb_machine.proofs.Steps.{pending_pushed}
+use Rattle.wb_machine.proofs.turns.Heads.{body_rest, body_refused}
+use Rattle.wb_machine.proofs.turns.Scripts.{sound_pushed}
+use Rattle.wb_machine.proofs.turns.Steps.{pending_pushed}
 use Rattle.wb_machine.proofs.control.Control.begin_body.Goals as goal
 
 pub returns-then-at-ge-MOST_FRAMES-clause-kept : goal.returns-then-at-ge-MOST_FRAMES-clause-kept

@@ -1,12 +1,12 @@
 use Rattle.std.proofs.Common.{ap, ◌∙◌, sym, subst}
 use Rattle.std.specs.List.{list_all}
 use Rattle.wb_model.specs.declared.script.Body.{Body}
-use Rattle.wb_model.specs.Bodies.{procedure_at}
+use Rattle.wb_model.specs.meaning.Bodies.{procedure_at}
 use Rattle.wb_machine.specs.LocalValues.{is_small}
 use Rattle.wb_machine.specs.Flow.{context_of, AreOwn}
-use Rattle.wb_machine.proofs.Outcomes.{on_ok_then}
-use Rattle.wb_machine.proofs.Heads.{call_to_as_body}
-use Rattle.wb_machine.proofs.Scripts.{procedure_locals, procedure_statements}
+use Rattle.wb_machine.proofs.effects.Outcomes.{on_ok_then}
+use Rattle.wb_machine.proofs.turns.Heads.{call_to_as_body}
+use Rattle.wb_machine.proofs.turns.Scripts.{procedure_locals, procedure_statements}
 use Rattle.wb_machine.proofs.control.Control.begin_call_to.Goals as goal
 
 pub begin_body-requires-clause-locals : goal.begin_body-requires-clause-locals

@@ -4,13 +4,13 @@ use Rattle.wb_model.specs.declared.script.Local.{Local}
 use Rattle.wb_machine.specs.LocalValues.{is_small}
 use Rattle.std.specs.Prelude.{unwrap_or}
 use Rattle.wb_model.specs.declared.heap.Ptr.{Ptr}
-use Rattle.wb_model.specs.Rest.{nothing_more}
-use Rattle.wb_model.specs.Bodies.{class_at, no_body}
+use Rattle.wb_model.specs.runs.Rest.{nothing_more}
+use Rattle.wb_model.specs.meaning.Bodies.{class_at, no_body}
 use Rattle.wb_machine.specs.Bodies.{class_read}
 use Rattle.wb_machine.specs.Flow.{context_of, AreOwn, rest_of_body}
-use Rattle.wb_machine.proofs.Outcomes.{on_ok_then}
-use Rattle.wb_machine.proofs.Heads.{construct_as_body, construct_refused}
-use Rattle.wb_machine.proofs.Scripts.{construct_own}
+use Rattle.wb_machine.proofs.effects.Outcomes.{on_ok_then}
+use Rattle.wb_machine.proofs.turns.Heads.{construct_as_body, construct_refused}
+use Rattle.wb_machine.proofs.turns.Scripts.{construct_own}
 use Rattle.wb_machine.proofs.control.Control.begin_construct.Goals as goal
 
 pub returns-in-Ok-clause-kept : goal.returns-in-Ok-clause-kept

@@ -2,9 +2,9 @@ use Rattle.std.proofs.Common.{ap, ◌∙◌}
 use Rattle.std.proofs.lemmas.Bool.{eq-eqb, ne_eqb}
 use Rattle.wb_machine.specs.declared.pieces.PendingPiece.TheVariants.{Object}
 use Rattle.wb_machine.specs.Flow.{context_of, rest_from}
-use Rattle.wb_machine.proofs.Heads.{null_deleted, object_deleted}
-use Rattle.wb_machine.proofs.Steps.{pending_pushed}
-use Rattle.wb_machine.proofs.Scripts.{sound_pushed}
+use Rattle.wb_machine.proofs.turns.Heads.{null_deleted, object_deleted}
+use Rattle.wb_machine.proofs.turns.Steps.{pending_pushed}
+use Rattle.wb_machine.proofs.turns.Scripts.{sound_pushed}
 use Rattle.wb_machine.proofs.control.Control.begin_delete.Goals as goal
 
 pub returns-in_ok-push-clause-kept : goal.returns-in_ok-push-clause-kept

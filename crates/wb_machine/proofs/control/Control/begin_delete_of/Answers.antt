@@ -1,12 +1,12 @@
 use Rattle.std.proofs.Common.{ap, ◌∙◌}
 use Rattle.wb_model.specs.declared.heap.Ptr.{Ptr}
-use Rattle.wb_model.specs.Statements.{destroyed_object, is_null}
-use Rattle.wb_model.specs.Meaning.{meaning_of}
+use Rattle.wb_model.specs.meaning.Statements.{destroyed_object, is_null}
+use Rattle.wb_model.specs.meaning.Meaning.{meaning_of}
 use Rattle.wb_machine.specs.RunState.{state_of}
 use Rattle.wb_machine.specs.Flow.{context_of, rest_after}
-use Rattle.wb_machine.proofs.Heads.{delete_asked}
-use Rattle.wb_machine.proofs.Outcomes.{on_ok_then}
-use Rattle.wb_machine.proofs.SlotsKept.{still_room}
+use Rattle.wb_machine.proofs.turns.Heads.{delete_asked}
+use Rattle.wb_machine.proofs.effects.Outcomes.{on_ok_then}
+use Rattle.wb_machine.proofs.kept.SlotsKept.{still_room}
 use Rattle.wb_machine.proofs.control.Control.begin_delete_of.Goals as goal
 
 pub returns-clause-kept : goal.returns-clause-kept

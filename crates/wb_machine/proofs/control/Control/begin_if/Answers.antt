@@ -2,13 +2,13 @@ use Rattle.std.proofs.Common.{◌≡◌, ap, ◌∙◌, sym, subst, arith}
 use Rattle.std.proofs.lemmas.Grind.{common_steps}
 use Rattle.std.proofs.lemmas.Bool.Decides.{nat_tests}
 use Rattle.std.proofs.lemmas.List.{nil_from_length}
-use Rattle.wb_model.specs.Statements.{choice}
+use Rattle.wb_model.specs.meaning.Statements.{choice}
 use Rattle.wb_machine.specs.declared.pieces.PendingPiece.TheVariants.{Code}
 use Rattle.wb_machine.specs.Effects.{condition_read}
 use Rattle.wb_machine.specs.Flow.{context_of, AreOwn, rest_from}
-use Rattle.wb_machine.proofs.Heads.{chosen_rest, nothing_chosen}
-use Rattle.wb_machine.proofs.Steps.{pending_pushed}
-use Rattle.wb_machine.proofs.Scripts.{sound_pushed}
+use Rattle.wb_machine.proofs.turns.Heads.{chosen_rest, nothing_chosen}
+use Rattle.wb_machine.proofs.turns.Steps.{pending_pushed}
+use Rattle.wb_machine.proofs.turns.Scripts.{sound_pushed}
 use Rattle.wb_machine.proofs.control.Control.begin_if.Goals.{then-holds, else-holds}
 use Rattle.wb_machine.proofs.control.Control.begin_if.Goals as goal
 

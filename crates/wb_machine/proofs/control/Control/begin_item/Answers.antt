@@ -3,18 +3,18 @@ use Rattle.std.specs.List.{list_all}
 use Rattle.wb_model.specs.declared.script.Local.{Local}
 use Rattle.wb_machine.specs.LocalValues.{is_small}
 use Rattle.wb_model.specs.declared.heap.Item.{Item}
-use Rattle.wb_model.specs.Statements.{release, destroyed_item}
-use Rattle.wb_model.specs.Bodies.{operation_at}
-use Rattle.wb_model.specs.Meaning.{meaning_of}
+use Rattle.wb_model.specs.meaning.Statements.{release, destroyed_item}
+use Rattle.wb_model.specs.meaning.Bodies.{operation_at}
+use Rattle.wb_model.specs.meaning.Meaning.{meaning_of}
 use Rattle.wb_machine.specs.RunState.{state_of}
 use Rattle.wb_machine.specs.Effects.{free_effect}
 use Rattle.wb_machine.specs.Flow.{context_of, AreOwn, rest_after}
-use Rattle.wb_machine.proofs.Outcomes.{on_ok_then}
-use Rattle.wb_machine.proofs.Unwinding.{effect_rest}
-use Rattle.wb_machine.proofs.Heads.{free_destroyed, delete_destroyed, call_destroyed}
-use Rattle.wb_machine.proofs.CellEffects.{release_kept}
-use Rattle.wb_machine.proofs.Scripts.{operation_own}
-use Rattle.wb_machine.proofs.WholeCells.{released_quiet}
+use Rattle.wb_machine.proofs.effects.Outcomes.{on_ok_then}
+use Rattle.wb_machine.proofs.turns.Unwinding.{effect_rest}
+use Rattle.wb_machine.proofs.turns.Heads.{free_destroyed, delete_destroyed, call_destroyed}
+use Rattle.wb_machine.proofs.effects.CellEffects.{release_kept}
+use Rattle.wb_machine.proofs.turns.Scripts.{operation_own}
+use Rattle.wb_machine.proofs.kept.WholeCells.{released_quiet}
 use Rattle.wb_machine.proofs.control.Control.begin_item.Goals as goal
 
 pub returns-in-Free-clause-kept : goal.returns-in-Free-clause-kept

@@ -1,11 +1,11 @@
 use Rattle.std.proofs.Common.{sym, ap, ◌∙◌, arith, rules, w32, FitsSigned}
 use Rattle.std.proofs.lemmas.Int.{to_z-of_z}
-use Rattle.wb_model.specs.Operands.{not_negative}
+use Rattle.wb_model.specs.meaning.Operands.{not_negative}
 use Rattle.wb_machine.specs.declared.pieces.PendingPiece.TheVariants.{Items}
 use Rattle.wb_machine.specs.Flow.{context_of, rest_from}
-use Rattle.wb_machine.proofs.Heads.{pop_rest, pop_below, pop_refused}
-use Rattle.wb_machine.proofs.Steps.{pending_pushed}
-use Rattle.wb_machine.proofs.Scripts.{sound_pushed}
+use Rattle.wb_machine.proofs.turns.Heads.{pop_rest, pop_below, pop_refused}
+use Rattle.wb_machine.proofs.turns.Steps.{pending_pushed}
+use Rattle.wb_machine.proofs.turns.Scripts.{sound_pushed}
 use Rattle.wb_machine.proofs.control.Control.begin_pop.Goals as goal
 
 pub returns-in_ok-push-clause-kept : goal.returns-in_ok-push-clause-kept

@@ -1,12 +1,12 @@
 use Rattle.std.proofs.Common.{sym, ap, ◌∙◌, rules, w32, FitsSigned}
 use Rattle.std.proofs.lemmas.Int.{to_z-of_z}
 use Rattle.wb_model.specs.declared.limits.TheConstants.{MOST_TURNS}
-use Rattle.wb_model.specs.Operands.{within}
+use Rattle.wb_model.specs.meaning.Operands.{within}
 use Rattle.wb_machine.specs.declared.pieces.PendingPiece.TheVariants.{Turns}
 use Rattle.wb_machine.specs.Flow.{context_of, rest_from}
-use Rattle.wb_machine.proofs.Heads.{turns_rest, turns_refused}
-use Rattle.wb_machine.proofs.Steps.{pending_pushed}
-use Rattle.wb_machine.proofs.Scripts.{sound_pushed}
+use Rattle.wb_machine.proofs.turns.Heads.{turns_rest, turns_refused}
+use Rattle.wb_machine.proofs.turns.Steps.{pending_pushed}
+use Rattle.wb_machine.proofs.turns.Scripts.{sound_pushed}
 use Rattle.wb_machine.proofs.control.Control.begin_repeat.Goals as goal
 
 pub returns-in_ok-push-in-Some-clause-kept : goal.returns-in_ok-push-in-Some-clause-kept

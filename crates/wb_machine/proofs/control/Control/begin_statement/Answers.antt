@@ -2,20 +2,20 @@ use Rattle.std.proofs.Common.{◌≡◌, List, [], refl, ap, ◌∙◌, sym, sub
 use Rattle.wb_model.specs.declared.script.StatementAt.{StatementAt}
 use Rattle.wb_model.specs.declared.script.Statement.TheOpen.{Statement-F}
 use Rattle.wb_model.specs.declared.script.Argument.{Argument}
-use Rattle.wb_model.specs.Statements.{Layer}
-use Rattle.wb_model.specs.Meaning.{meaning_of}
-use Rattle.wb_model.specs.Run.{whole_of}
-use Rattle.wb_model.specs.Rest.{resume}
-use Rattle.wb_machine.proofs.Steps.{rest_known}
+use Rattle.wb_model.specs.meaning.Statements.{Layer}
+use Rattle.wb_model.specs.meaning.Meaning.{meaning_of}
+use Rattle.wb_model.specs.runs.Run.{whole_of}
+use Rattle.wb_model.specs.runs.Rest.{resume}
+use Rattle.wb_machine.proofs.turns.Steps.{rest_known}
 use Rattle.wb_machine.specs.RunState.{Values}
 use Rattle.wb_model.specs.declared.script.Statement.TheViews.{out-Statement, outs-If, outs-IfElse, outs-Repeat, outs-Trap, outs-Call, outs-CallTo}
 use Rattle.wb_machine.specs.Flow.{context_of, pending_in, AreOwn, rest_of_statement}
 use Rattle.wb_machine.specs.PointerOperands.{first_refusal, of_arguments, operands_refusal}
-use Rattle.wb_machine.proofs.Outcomes.{on_ok_then, on_ok_anyhow}
-use Rattle.wb_machine.proofs.WholeCells.{effect_whole}
-use Rattle.wb_machine.proofs.Heads.{if_as_choice}
-use Rattle.wb_machine.proofs.Scripts.{own_if, own_choice, own_turns, own_trapped, own_none, own_call, own_call_to}
-use Rattle.wb_machine.proofs.SlotsKept.{effect_room, free_room, still_room, quiet_room}
+use Rattle.wb_machine.proofs.effects.Outcomes.{on_ok_then, on_ok_anyhow}
+use Rattle.wb_machine.proofs.kept.WholeCells.{effect_whole}
+use Rattle.wb_machine.proofs.turns.Heads.{if_as_choice}
+use Rattle.wb_machine.proofs.turns.Scripts.{own_if, own_choice, own_turns, own_trapped, own_none, own_call, own_call_to}
+use Rattle.wb_machine.proofs.kept.SlotsKept.{effect_room, free_room, still_room, quiet_room}
 use Rattle.wb_machine.proofs.control.Control.begin_statement.Goals as goal
 
 pub returns-in-If-clause-kept : goal.returns-in-If-clause-kept

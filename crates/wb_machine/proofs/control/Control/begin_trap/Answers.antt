@@ -1,9 +1,9 @@
 use Rattle.std.proofs.Common.{ap, ◌∙◌}
 use Rattle.wb_machine.specs.declared.pieces.PendingPiece.TheVariants.{Code, Trap}
 use Rattle.wb_machine.specs.Flow.{context_of, rest_from}
-use Rattle.wb_machine.proofs.Heads.{trap_rest}
-use Rattle.wb_machine.proofs.Steps.{pending_pushed}
-use Rattle.wb_machine.proofs.Scripts.{sound_pushed}
+use Rattle.wb_machine.proofs.turns.Heads.{trap_rest}
+use Rattle.wb_machine.proofs.turns.Steps.{pending_pushed}
+use Rattle.wb_machine.proofs.turns.Scripts.{sound_pushed}
 use Rattle.wb_machine.proofs.control.Control.begin_trap.Goals as goal
 
 pub returns-clause-kept : goal.returns-clause-kept

@@ -1,4 +1,4 @@
-use Rattle.wb_machine.proofs.Steps.{rest_cut}
+use Rattle.wb_machine.proofs.turns.Steps.{rest_cut}
 use Rattle.wb_machine.proofs.control.Control.cut.Goals as goal
 
 pub returns-clause-kept : goal.returns-clause-kept

@@ -1,6 +1,6 @@
 use Rattle.std.proofs.Common.{arith}
 use Rattle.wb_machine.specs.declared.pieces.PendingPiece.TheVariants.{Items}
-use Rattle.wb_machine.proofs.Scripts.{sound_pushed, weight_pushed}
+use Rattle.wb_machine.proofs.turns.Scripts.{sound_pushed, weight_pushed}
 use Rattle.wb_machine.proofs.control.Control.destroy_to.Goals as goal
 
 pub returns-clause-weight : goal.returns-clause-weight

@@ -1,4 +1,4 @@
-use Rattle.wb_machine.proofs.SlotsKept.{slots_pushed, first_pushed}
+use Rattle.wb_machine.proofs.kept.SlotsKept.{slots_pushed, first_pushed}
 use Rattle.wb_machine.proofs.control.Control.push.Goals as goal
 
 pub returns-clause-slots : goal.returns-clause-slots

@@ -1,5 +1,5 @@
 use Rattle.std.proofs.Common.{◌-◌, refl, arith, slice_set}
-use Rattle.wb_machine.proofs.Tops.{top_changed}
+use Rattle.wb_machine.proofs.turns.Tops.{top_changed}
 use Rattle.wb_machine.proofs.control.Control.replace_top.Goals as goal
 
 pub returns-clause-pieces : goal.returns-clause-pieces

@@ -1,10 +1,10 @@
 use Rattle.std.proofs.Common.{◌++◌, ◌∙◌, ap, sym, arith, ◌≡◌, ◌≤◌, ◌∷◌, []}
 use Rattle.std.specs.Prelude.{option_to_list}
 use Rattle.wb_machine.specs.Flow.{pending_of, callers_under, pending_in}
-use Rattle.wb_machine.proofs.Quiet.{quiet_then}
-use Rattle.wb_machine.proofs.Steps.{pending_pushed, rest_known}
-use Rattle.wb_machine.proofs.Scripts.{sound_below, weight_pushed}
-use Rattle.wb_machine.proofs.SlotsKept.{entered_under, room_under}
+use Rattle.wb_machine.proofs.asking.Quiet.{quiet_then}
+use Rattle.wb_machine.proofs.turns.Steps.{pending_pushed, rest_known}
+use Rattle.wb_machine.proofs.turns.Scripts.{sound_below, weight_pushed}
+use Rattle.wb_machine.proofs.kept.SlotsKept.{entered_under, room_under}
 use Rattle.wb_machine.proofs.control.Control.settle.Goals as goal
 
 pub loop-self-preserved-in-Continue-1 : goal.loop-self-preserved-in-Continue-1

@@ -1,15 +1,15 @@
 use Rattle.std.proofs.Common.{◌≡◌, ◌∷◌, ◌++◌, [], List, ◌-◌, take, drop, length, vec_len, refl, ap, ◌∙◌, sym, subst, arith}
 use Rattle.wb_model.specs.declared.script.StatementAt.{StatementAt}
-use Rattle.wb_model.specs.Statements.{all, turns, destroy_items, destroy_object}
-use Rattle.wb_model.specs.Rest.{doing}
+use Rattle.wb_model.specs.meaning.Statements.{all, turns, destroy_items, destroy_object}
+use Rattle.wb_model.specs.runs.Rest.{doing}
 use Rattle.wb_machine.specs.declared.pieces.PendingPiece.{PendingPiece}
 use Rattle.wb_machine.specs.declared.pieces.PendingPiece.TheVariants.{Code, Turns, Items, Object}
 use Rattle.wb_machine.specs.Flow.{context_of, AreOwn, rest_from, rest_of_piece}
-use Rattle.wb_machine.proofs.Outcomes.{on_ok_then, on_ok_anyhow, split_first}
-use Rattle.wb_machine.proofs.WholeCells.{stepped_whole}
-use Rattle.wb_machine.proofs.Steps.{pending_pushed, rest_on_top, rest_stepped}
-use Rattle.wb_machine.proofs.Scripts.{own_first, own_rest, sound_below, sound_pushed, sound_top}
-use Rattle.wb_machine.proofs.SlotsKept.{room_free, room_items, slots_pushed, stepped_free, still_room}
+use Rattle.wb_machine.proofs.effects.Outcomes.{on_ok_then, on_ok_anyhow, split_first}
+use Rattle.wb_machine.proofs.kept.WholeCells.{stepped_whole}
+use Rattle.wb_machine.proofs.turns.Steps.{pending_pushed, rest_on_top, rest_stepped}
+use Rattle.wb_machine.proofs.turns.Scripts.{own_first, own_rest, sound_below, sound_pushed, sound_top}
+use Rattle.wb_machine.proofs.kept.SlotsKept.{room_free, room_items, slots_pushed, stepped_free, still_room}
 use Rattle.wb_machine.proofs.control.Control.step.Goals as goal
 
 pub step_code-requires-clause-own : goal.step_code-requires-clause-own

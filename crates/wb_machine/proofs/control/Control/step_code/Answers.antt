@@ -2,9 +2,9 @@ use Rattle.std.proofs.Common.{ap, ◌∙◌, sym, subst, arith}
 use Rattle.wb_model.specs.declared.script.Statement.TheViews.{out-Statement}
 use Rattle.wb_machine.specs.RunState.{RunState}
 use Rattle.wb_machine.specs.Flow.{context_of, FitsStep, rest_of_statement}
-use Rattle.wb_machine.proofs.Outcomes.{on_ok_then}
-use Rattle.wb_machine.proofs.WholeCells.{stepped_whole}
-use Rattle.wb_machine.proofs.SlotsKept.{stepped_free}
+use Rattle.wb_machine.proofs.effects.Outcomes.{on_ok_then}
+use Rattle.wb_machine.proofs.kept.WholeCells.{stepped_whole}
+use Rattle.wb_machine.proofs.kept.SlotsKept.{stepped_free}
 use Rattle.wb_machine.proofs.control.Control.step_code.Goals as goal
 
 pub returns-clause-kept : goal.returns-clause-kept

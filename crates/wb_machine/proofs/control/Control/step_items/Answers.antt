@@ -1,17 +1,17 @@
 use Rattle.std.proofs.Common.{◌-◌, refl, ap, ◌∙◌, sym, arith}
 use Rattle.wb_model.specs.declared.heap.TheConstants.Panic.{POP_BELOW_TRAP}
-use Rattle.wb_model.specs.Statements.{newest, destroyed_item}
-use Rattle.wb_model.specs.Meaning.{meaning_of}
+use Rattle.wb_model.specs.meaning.Statements.{newest, destroyed_item}
+use Rattle.wb_model.specs.meaning.Meaning.{meaning_of}
 use Rattle.wb_machine.specs.declared.pieces.Ending.TheVariants.{Panics}
 use Rattle.wb_machine.specs.declared.pieces.PendingPiece.TheVariants.{Items}
 use Rattle.wb_machine.specs.RunState.{RunState, state_of}
 use Rattle.wb_machine.specs.Bodies.{without_newest}
 use Rattle.wb_machine.specs.Flow.{context_of, rest_from, rest_after}
-use Rattle.wb_machine.proofs.Outcomes.{on_ok_then, on_ok_anyhow}
-use Rattle.wb_machine.proofs.WholeCells.{taken_whole}
-use Rattle.wb_machine.proofs.Steps.{pending_pushed, rest_destroyed, rest_undestroyed}
-use Rattle.wb_machine.proofs.Scripts.{sound_pushed}
-use Rattle.wb_machine.proofs.SlotsKept.{taken_free, quiet_room, stop_room}
+use Rattle.wb_machine.proofs.effects.Outcomes.{on_ok_then, on_ok_anyhow}
+use Rattle.wb_machine.proofs.kept.WholeCells.{taken_whole}
+use Rattle.wb_machine.proofs.turns.Steps.{pending_pushed, rest_destroyed, rest_undestroyed}
+use Rattle.wb_machine.proofs.turns.Scripts.{sound_pushed}
+use Rattle.wb_machine.proofs.kept.SlotsKept.{taken_free, quiet_room, stop_room}
 use Rattle.wb_machine.proofs.control.Control.step_items.Goals as goal
 
 pub returns-in-Some-clause-kept : goal.returns-in-Some-clause-kept

@@ -3,19 +3,19 @@ use Rattle.std.specs.List.{list_all}
 use Rattle.wb_model.specs.declared.script.Local.{Local}
 use Rattle.wb_machine.specs.LocalValues.{is_small}
 use Rattle.std.specs.Prelude.{unwrap_or}
-use Rattle.wb_model.specs.Rest.{releases}
-use Rattle.wb_model.specs.Bodies.{class_at, no_body}
+use Rattle.wb_model.specs.runs.Rest.{releases}
+use Rattle.wb_model.specs.meaning.Bodies.{class_at, no_body}
 use Rattle.wb_machine.specs.declared.pieces.Ending.TheVariants.{Panics}
 use Rattle.wb_machine.specs.RunState.{RunState}
 use Rattle.wb_machine.specs.Bodies.{class_read}
 use Rattle.wb_machine.specs.Effects.{stepped}
 use Rattle.wb_machine.specs.Flow.{context_of, AreOwn, rest_from, rest_of_body}
-use Rattle.wb_machine.proofs.Outcomes.{on_ok_then, on_ok_anyhow}
-use Rattle.wb_machine.proofs.WholeCells.{stepped_whole}
-use Rattle.wb_machine.proofs.Heads.{destroy_as_body, destroy_refused}
-use Rattle.wb_machine.proofs.Steps.{rest_unmade}
-use Rattle.wb_machine.proofs.Scripts.{destroy_own}
-use Rattle.wb_machine.proofs.SlotsKept.{stepped_free, quiet_room, stop_room}
+use Rattle.wb_machine.proofs.effects.Outcomes.{on_ok_then, on_ok_anyhow}
+use Rattle.wb_machine.proofs.kept.WholeCells.{stepped_whole}
+use Rattle.wb_machine.proofs.turns.Heads.{destroy_as_body, destroy_refused}
+use Rattle.wb_machine.proofs.turns.Steps.{rest_unmade}
+use Rattle.wb_machine.proofs.turns.Scripts.{destroy_own}
+use Rattle.wb_machine.proofs.kept.SlotsKept.{stepped_free, quiet_room, stop_room}
 use Rattle.wb_machine.proofs.control.Control.step_object.Goals as goal
 
 pub returns-in-Ok-clause-kept : goal.returns-in-Ok-clause-kept

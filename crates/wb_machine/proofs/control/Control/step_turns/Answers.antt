@@ -3,9 +3,9 @@ use Rattle.wb_machine.specs.RunState.{RunState}
 use Rattle.wb_machine.specs.declared.pieces.Ending.TheVariants.{GoesOn}
 use Rattle.wb_machine.specs.declared.pieces.PendingPiece.TheVariants.{Code, Turns}
 use Rattle.wb_machine.specs.Flow.{context_of, rest_from}
-use Rattle.wb_machine.proofs.Steps.{pending_pushed, rest_turned}
-use Rattle.wb_machine.proofs.Scripts.{sound_pushed}
-use Rattle.wb_machine.proofs.SlotsKept.{slots_pushed}
+use Rattle.wb_machine.proofs.turns.Steps.{pending_pushed, rest_turned}
+use Rattle.wb_machine.proofs.turns.Scripts.{sound_pushed}
+use Rattle.wb_machine.proofs.kept.SlotsKept.{slots_pushed}
 use Rattle.wb_machine.proofs.control.Control.step_turns.Goals as goal
 
 pub returns-clause-kept : goal.returns-clause-kept

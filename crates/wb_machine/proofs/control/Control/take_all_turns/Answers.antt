@@ -1,7 +1,7 @@
 use Rattle.std.proofs.Common.{◌≡◌, ℕ, ◌+◌, ◌-◌, ◌<◌, ◌≤◌, Bool, true, false, cond, refl, ◌∙◌, sym, subst, arith}
-use Rattle.wb_model.specs.Rest.{Fits}
+use Rattle.wb_model.specs.runs.Rest.{Fits}
 use Rattle.wb_machine.specs.Flow.{is_over}
-use Rattle.wb_machine.proofs.Fitting.{fits-before}
+use Rattle.wb_machine.proofs.whole_runs.Fitting.{fits-before}
 use Rattle.wb_machine.proofs.control.Control.take_all_turns.Goals as goal
 
 -- a turn that goes on counted a step

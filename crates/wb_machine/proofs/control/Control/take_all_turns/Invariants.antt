@@ -1,5 +1,5 @@
 use Rattle.std.proofs.Common.{◌≡◌, ◌+◌, ◌-◌, true, cond}
-use Rattle.wb_model.specs.Rest.{Fits}
+use Rattle.wb_model.specs.runs.Rest.{Fits}
 use Rattle.wb_model.specs.declared.heap.Rule.{Rule}
 use Rattle.wb_machine.specs.BetweenTurns.{IsBetweenTurns, KeepsSetting}
 use Rattle.wb_machine.specs.Flow.{is_over, rest_from}

@@ -1,5 +1,5 @@
 use Rattle.std.proofs.Common.{ℕ, ◌-◌, ◌∷◌, ◌++◌, [], take, ap, ◌∙◌, arith}
-use Rattle.wb_machine.proofs.Tops.{top_front, top_there}
+use Rattle.wb_machine.proofs.turns.Tops.{top_front, top_there}
 use Rattle.wb_machine.proofs.control.Control.top.Goals as goal
 
 pub returns-clause-top : goal.returns-clause-top

@@ -1,20 +1,20 @@
 use Rattle.std.proofs.Common.{rules, ◌≡◌, ℕ, ◌+◌, ◌<◌, ◌≤◌, inl, inr, refl, ap, ◌∙◌, sym, subst, arith, Bool, true, false}
 use Rattle.wb_model.specs.declared.heap.Rule.{Rule}
 use Rattle.wb_model.specs.declared.script.Script.{Script}
-use Rattle.wb_model.specs.Rest.{Fits}
-use Rattle.wb_model.specs.Run.{WholeRun}
+use Rattle.wb_model.specs.runs.Rest.{Fits}
+use Rattle.wb_model.specs.runs.Run.{WholeRun}
 use Rattle.wb_machine.specs.declared.control.Control.{Control}
 use Rattle.wb_machine.specs.RunState.{RunState, state_of}
 use Rattle.wb_machine.specs.Asks.{asks_next, MakesAsked}
 use Rattle.wb_machine.specs.Flow.{pending_in, is_stop, is_over, has_met_ceiling, progress_of, AreSound, rest_from, rest_at}
 use Rattle.wb_machine.specs.ObjectInvariant.{AreWhole}
-use Rattle.wb_machine.proofs.AskedPieces.{settled_cut}
-use Rattle.wb_machine.proofs.FirstTurn.{rest_first}
-use Rattle.wb_machine.proofs.Counted.{made_as_asked}
-use Rattle.wb_machine.proofs.Fitting.{fits-limit, fits-before, going_on}
+use Rattle.wb_machine.proofs.asking.AskedPieces.{settled_cut}
+use Rattle.wb_machine.proofs.turns.FirstTurn.{rest_first}
+use Rattle.wb_machine.proofs.asking.Counted.{made_as_asked}
+use Rattle.wb_machine.proofs.whole_runs.Fitting.{fits-limit, fits-before, going_on}
 use Rattle.wb_machine.proofs.control.Control.turn.Goals.{then-not-begun+in_ok-begin, else-not-begun+then-steps-budget+in_ok-step, else-not-begun+else-steps-budget}
 use Rattle.wb_machine.specs.SlotInvariant.{HasRoom}
-use Rattle.wb_machine.proofs.SlotsKept.{moved_room, stop_room}
+use Rattle.wb_machine.proofs.kept.SlotsKept.{moved_room, stop_room}
 use Rattle.wb_machine.proofs.control.Control.turn.Goals as goal
 
 -- a fact of what one of the branches made

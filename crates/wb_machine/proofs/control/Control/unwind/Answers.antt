@@ -1,7 +1,7 @@
 use Rattle.std.proofs.Common.{◌∷◌, refl, ap, ◌∙◌, sym, arith}
 use Rattle.wb_machine.specs.Flow.{context_of, pending_of, callers_under, pending_in, needs_step, rest_under}
-use Rattle.wb_machine.proofs.Unwinding.{fallen_code, fallen_turns, fallen_items, fallen_object}
-use Rattle.wb_machine.proofs.SlotsKept.{room_stays}
+use Rattle.wb_machine.proofs.turns.Unwinding.{fallen_code, fallen_turns, fallen_items, fallen_object}
+use Rattle.wb_machine.proofs.kept.SlotsKept.{room_stays}
 use Rattle.wb_machine.proofs.control.Control.unwind.Goals as goal
 
 pub returns-in-Code-clause-kept : goal.returns-in-Code-clause-kept

@@ -1,11 +1,11 @@
 use Rattle.std.proofs.Common.{◌∷◌, refl, ap, ◌∙◌, sym, arith, rules, w32, FitsSigned}
 use Rattle.std.proofs.lemmas.Int.{to_z-of_z}
-use Rattle.wb_model.specs.State.{number}
-use Rattle.wb_model.specs.Rest.{caught}
+use Rattle.wb_model.specs.meaning.State.{number}
+use Rattle.wb_model.specs.runs.Rest.{caught}
 use Rattle.wb_machine.specs.Effects.{stored}
 use Rattle.wb_machine.specs.Flow.{pending_in, rest_from, rest_under}
-use Rattle.wb_machine.proofs.Unwinding.{caught_goes_on, caught_passes}
-use Rattle.wb_machine.proofs.SlotsKept.{stored_room, room_stays}
+use Rattle.wb_machine.proofs.turns.Unwinding.{caught_goes_on, caught_passes}
+use Rattle.wb_machine.proofs.kept.SlotsKept.{stored_room, room_stays}
 use Rattle.wb_machine.proofs.control.Control.unwind_caught.Goals as goal
 
 pub returns-in-GoesOn-clause-kept : goal.returns-in-GoesOn-clause-kept

@@ -1,12 +1,12 @@
 use Rattle.std.proofs.Common.{◌∷◌, ◌-◌, length, refl, ap, ◌∙◌, sym, arith, rules, w32, FitsSigned}
 use Rattle.std.proofs.lemmas.Int.{to_z-of_z}
 use Rattle.wb_model.specs.declared.heap.TheConstants.Panic.{ITEMS_LEFT}
-use Rattle.wb_model.specs.Statements.{destroy_items}
-use Rattle.wb_model.specs.Rest.{doing, catching, caught}
+use Rattle.wb_model.specs.meaning.Statements.{destroy_items}
+use Rattle.wb_model.specs.runs.Rest.{doing, catching, caught}
 use Rattle.wb_machine.specs.declared.pieces.Ending.TheVariants.{Panics}
 use Rattle.wb_machine.specs.Flow.{context_of, pending_in, rest_from, rest_under}
-use Rattle.wb_machine.proofs.Unwinding.{trap_goes_on, trap_items_left, trap_left, trap_returns}
-use Rattle.wb_machine.proofs.SlotsKept.{stored_room, stop_room, leave_room, room_stays}
+use Rattle.wb_machine.proofs.turns.Unwinding.{trap_goes_on, trap_items_left, trap_left, trap_returns}
+use Rattle.wb_machine.proofs.kept.SlotsKept.{stored_room, stop_room, leave_room, room_stays}
 use Rattle.wb_machine.proofs.control.Control.unwind_trap.Goals as goal
 
 pub returns-in-GoesOn-clause-kept : goal.returns-in-GoesOn-clause-kept

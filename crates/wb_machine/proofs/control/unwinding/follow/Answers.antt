@@ -1,4 +1,4 @@
-use Rattle.wb_machine.proofs.WholeCells.{released_quiet}
+use Rattle.wb_machine.proofs.kept.WholeCells.{released_quiet}
 use Rattle.wb_machine.proofs.control.unwinding.follow.Goals as goal
 
 pub returns-in-Releases-clause-quiet : goal.returns-in-Releases-clause-quiet

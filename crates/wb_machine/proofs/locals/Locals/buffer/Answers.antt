@@ -1,10 +1,10 @@
 use Rattle.std.proofs.Common.{◌≡◌, ◌+◌, arith, ap, ◌∙◌, sym, List, vec_len}
 use Rattle.std.proofs.lemmas.List.{get_or_default}
-use Rattle.wb_model.specs.State.{Value}
+use Rattle.wb_model.specs.meaning.State.{Value}
 use Rattle.wb_machine.specs.declared.locals.Stored.{Stored}
 use Rattle.wb_machine.specs.declared.locals.Stored.TheVariants.{Small, Buffer}
 use Rattle.wb_machine.specs.LocalValues.{buffer_in, no_buffer, stored_at, value_stored}
-use Rattle.wb_machine.proofs.Buffers.{not_past, read_stored, small_reads}
+use Rattle.wb_machine.proofs.frames.Buffers.{not_past, read_stored, small_reads}
 use Rattle.wb_machine.proofs.locals.Locals.buffer.Goals as goal
 
 pub index-requires : goal.index-requires

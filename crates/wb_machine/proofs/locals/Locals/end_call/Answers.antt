@@ -1,8 +1,8 @@
 use Rattle.std.proofs.Common.{arith, ap, ◌∙◌, take, vec_len}
 use Rattle.std.proofs.lemmas.List.{length-map}
 use Rattle.wb_machine.specs.LocalValues.{value_stored, values_stored}
-use Rattle.wb_machine.proofs.Frames.{cut_off}
-use Rattle.wb_machine.proofs.Buffers.{first_of_frame, frame_begins, frame_ascends, frame_dropped}
+use Rattle.wb_machine.proofs.frames.Frames.{cut_off}
+use Rattle.wb_machine.proofs.frames.Buffers.{first_of_frame, frame_begins, frame_ascends, frame_dropped}
 use Rattle.wb_machine.proofs.locals.Locals.end_call.Goals as goal
 
 pub invariant_of-self : goal.invariant_of-self

@@ -2,7 +2,7 @@ use Rattle.std.proofs.Common.{ap, ◌∙◌, w32, FitsSigned, rules}
 use Rattle.std.proofs.lemmas.Int.{to_z-of_z}
 use Rattle.wb_machine.specs.RunState.{Values}
 use Rattle.wb_machine.specs.LocalValues.{value_stored, number_over}
-use Rattle.wb_machine.proofs.Frames.{frame_is}
+use Rattle.wb_machine.proofs.frames.Frames.{frame_is}
 use Rattle.wb_machine.proofs.locals.Locals.number.Goals as goal
 
 pub returns : goal.returns

@@ -2,7 +2,7 @@ use Rattle.std.proofs.Common.{ap, ◌∙◌}
 use Rattle.wb_machine.specs.RunState.{Values}
 use Rattle.wb_machine.specs.LocalValues.{value_stored}
 use Rattle.wb_machine.specs.PointerOperands.{pointer_over}
-use Rattle.wb_machine.proofs.Frames.{frame_is}
+use Rattle.wb_machine.proofs.frames.Frames.{frame_is}
 use Rattle.wb_machine.proofs.locals.Locals.pointer.Goals as goal
 
 pub returns : goal.returns

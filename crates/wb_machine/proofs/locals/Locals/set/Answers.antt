@@ -2,8 +2,8 @@ use Rattle.std.proofs.Common.{vec_len, ◌+◌}
 use Rattle.std.proofs.lemmas.List.{map-set}
 use Rattle.wb_machine.specs.declared.locals.Stored.TheVariants.{Small}
 use Rattle.wb_machine.specs.LocalValues.{value_of, value_stored, values_stored}
-use Rattle.wb_machine.proofs.Frames.{local_set}
-use Rattle.wb_machine.proofs.Buffers.{small_set}
+use Rattle.wb_machine.proofs.frames.Frames.{local_set}
+use Rattle.wb_machine.proofs.frames.Buffers.{small_set}
 use Rattle.wb_machine.proofs.locals.Locals.set.Goals as goal
 
 pub invariant_of-self : goal.invariant_of-self

@@ -1,12 +1,12 @@
 use Rattle.std.proofs.Common.{◌≡◌, ◌+◌, arith, ap, ◌∙◌, sym, List, vec_len}
 use Rattle.std.specs.Prelude.{slice_set as set}
-use Rattle.wb_model.specs.Reading.{max_in}
-use Rattle.wb_model.specs.State.{Value}
+use Rattle.wb_model.specs.meaning.Reading.{max_in}
+use Rattle.wb_model.specs.meaning.State.{Value}
 use Rattle.wb_machine.specs.declared.locals.Stored.{Stored}
 use Rattle.wb_machine.specs.declared.locals.Stored.TheVariants.{Small, Buffer}
 use Rattle.wb_machine.specs.LocalValues.{stored_at, value_of_buffer, value_stored, values_stored}
-use Rattle.wb_machine.proofs.Frames.{local_set}
-use Rattle.wb_machine.proofs.Buffers.{not_past, read_stored, max_reads, no_units, buffer_changed}
+use Rattle.wb_machine.proofs.frames.Frames.{local_set}
+use Rattle.wb_machine.proofs.frames.Buffers.{not_past, read_stored, max_reads, no_units, buffer_changed}
 use Rattle.wb_machine.proofs.locals.Locals.set_buffer.Goals as goal
 
 pub index_mut-requires : goal.index_mut-requires

@@ -1,11 +1,11 @@
 use Rattle.std.proofs.Common.{◌≡◌, ◌+◌, arith, ap, ◌∙◌, sym, List, vec_len}
 use Rattle.std.proofs.lemmas.List.{get_or_default}
-use Rattle.wb_model.specs.Texts.{Buffer, set_length_text, answer_of}
+use Rattle.wb_model.specs.meaning.Texts.{Buffer, set_length_text, answer_of}
 use Rattle.wb_machine.specs.declared.locals.Stored.{Stored}
 use Rattle.wb_machine.specs.declared.locals.Stored.TheVariants as T
 use Rattle.wb_machine.specs.LocalValues.{no_buffer, stored_at}
-use Rattle.wb_machine.proofs.Buffers.{not_past}
-use Rattle.wb_machine.proofs.EditedBuffers.{held, edited_in_place}
+use Rattle.wb_machine.proofs.frames.Buffers.{not_past}
+use Rattle.wb_machine.proofs.frames.EditedBuffers.{held, edited_in_place}
 use Rattle.wb_machine.proofs.locals.Locals.set_buffer_length.Goals as goal
 
 pub index_mut-requires : goal.index_mut-requires

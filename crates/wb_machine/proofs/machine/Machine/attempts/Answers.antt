@@ -1,7 +1,7 @@
 use Rattle.std.proofs.Common.{ap, ◌∙◌}
-use Rattle.wb_model.specs.Run.{WholeRun}
+use Rattle.wb_model.specs.runs.Run.{WholeRun}
 use Rattle.wb_model.proofs.AccountLemmas.{whole-attempts}
-use Rattle.wb_machine.proofs.OverRuns.{run_over}
+use Rattle.wb_machine.proofs.whole_runs.OverRuns.{run_over}
 use Rattle.wb_machine.proofs.machine.Machine.attempts.Goals as goal
 
 -- what a run that is over has come to tells how many attempts it made

@@ -3,13 +3,13 @@ use Rattle.wb_model.specs.declared.run.Leak.{Leak}
 use Rattle.wb_model.specs.declared.run.Outcome.TheVariants as outcomes
 use Rattle.wb_model.specs.declared.run.RunResult.{RunResult}
 use Rattle.wb_model.specs.declared.run.Why.TheVariants.{Budget, Ceiling}
-use Rattle.wb_model.specs.Run.{WholeRun}
+use Rattle.wb_model.specs.runs.Run.{WholeRun}
 use Rattle.wb_machine.specs.declared.pieces.Ending.{Ending}
 use Rattle.wb_machine.specs.declared.pieces.Ending.TheVariants.{GoesOn, Returns, Leaves, Panics, Cut, NoCleanup}
 use Rattle.wb_machine.specs.Flow.{has_met_ceiling}
 use Rattle.wb_machine.specs.Seen.{Seen}
 use Rattle.wb_machine.specs.Results.{outcome_by, run_result_by}
-use Rattle.wb_machine.proofs.OverRuns.{run_over}
+use Rattle.wb_machine.proofs.whole_runs.OverRuns.{run_over}
 use Rattle.wb_machine.proofs.machine.Machine.into_finished.Goals as goal
 
 pub returns-clause-run_result : goal.returns-clause-run_result

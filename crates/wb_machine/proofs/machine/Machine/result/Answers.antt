@@ -1,6 +1,6 @@
 use Rattle.std.proofs.Common.{false, length, ap, sym, ◌∙◌}
 use Rattle.wb_model.specs.declared.run.RunResult.{RunResult}
-use Rattle.wb_model.specs.Run.{whole_run}
+use Rattle.wb_model.specs.runs.Run.{whole_run}
 use Rattle.wb_model.proofs.AccountLemmas.{whole-attempts}
 use Rattle.wb_machine.proofs.machine.Machine.result.Goals as goal
 

@@ -1,6 +1,6 @@
 use Rattle.std.proofs.Common.{ap, ◌∙◌}
 use Rattle.wb_machine.specs.Results.{outcome_by}
-use Rattle.wb_machine.proofs.OverRuns.{rises_over}
+use Rattle.wb_machine.proofs.whole_runs.OverRuns.{rises_over}
 use Rattle.wb_machine.proofs.machine.Machine.rises_result.Goals as goal
 
 pub returns : goal.returns

@@ -1,15 +1,15 @@
 use Rattle.std.proofs.Common.{rules, ◌≡◌, ap, ◌∙◌, sym, subst, Bool, true, false}
-use Rattle.wb_model.specs.Rest.{Fits}
+use Rattle.wb_model.specs.runs.Rest.{Fits}
 use Rattle.std.specs.Prelude.{not, ◌&&◌}
-use Rattle.wb_model.specs.Debug.{keeps_rises}
-use Rattle.wb_model.specs.Run.{whole_run}
+use Rattle.wb_model.specs.heap.Debug.{keeps_rises}
+use Rattle.wb_model.specs.runs.Run.{whole_run}
 use Rattle.wb_machine.specs.Asks.{asks_next}
 use Rattle.wb_machine.specs.Flow.{is_stop, is_over, pending_in, progress_of}
 use Rattle.wb_machine.specs.RunState.{state_of}
 use Rattle.wb_machine.specs.Seen.{Seen}
 use Rattle.wb_machine.specs.Whole.{has_ended}
-use Rattle.wb_machine.proofs.AskedPieces.{over_asks}
-use Rattle.wb_machine.proofs.Fitting.{fits-before}
+use Rattle.wb_machine.proofs.asking.AskedPieces.{over_asks}
+use Rattle.wb_machine.proofs.whole_runs.Fitting.{fits-before}
 use Rattle.wb_machine.proofs.machine.Machine.step.Goals.{else-self-2-via-then-self-2+else-is_over, else-self-2-via-else-self-2}
 use Rattle.wb_machine.proofs.machine.Machine.step.Goals as goal
 

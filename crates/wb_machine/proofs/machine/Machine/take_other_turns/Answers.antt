@@ -1,13 +1,13 @@
 use Rattle.std.proofs.Common.{◌≡◌, ap, ◌∙◌, sym, subst, false, true}
 use Rattle.std.specs.Prelude.{◌&&◌}
-use Rattle.wb_model.specs.Debug.{keeps_rises}
-use Rattle.wb_model.specs.Rest.{Fits}
-use Rattle.wb_model.specs.Run.{whole_run}
+use Rattle.wb_model.specs.heap.Debug.{keeps_rises}
+use Rattle.wb_model.specs.runs.Rest.{Fits}
+use Rattle.wb_model.specs.runs.Run.{whole_run}
 use Rattle.wb_machine.specs.BetweenTurns.{IsBetweenTurns}
 use Rattle.wb_machine.specs.Flow.{is_stop, is_over, rest_at}
 use Rattle.wb_machine.specs.Seen.{Seen}
 use Rattle.wb_machine.specs.Whole.{has_ended}
-use Rattle.wb_machine.proofs.Fitting.{fits-before}
+use Rattle.wb_machine.proofs.whole_runs.Fitting.{fits-before}
 use Rattle.wb_machine.proofs.machine.Machine.take_other_turns.Goals as goal
 
 pub take_all_turns-requires-clause-between : goal.take_all_turns-requires-clause-between

@@ -2,7 +2,7 @@ use Rattle.std.proofs.Common.{List, sym, subst}
 use Rattle.wb_model.specs.declared.run.Leak.{Leak}
 use Rattle.wb_machine.specs.RunState.{RunState}
 use Rattle.wb_machine.specs.Whole.{IsMachine}
-use Rattle.wb_machine.proofs.Copies.{same_control}
+use Rattle.wb_machine.proofs.turns.Copies.{same_control}
 use Rattle.wb_machine.proofs.machine.Machine.try_copy_over.Goals as goal
 
 -- a machine of equal parts keeps what the other does

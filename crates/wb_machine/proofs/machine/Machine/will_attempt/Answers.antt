@@ -6,7 +6,7 @@ use Rattle.wb_machine.specs.RunState.{state_of}
 use Rattle.wb_machine.specs.Flow.{is_over, pending_in, progress_by, progress_of}
 use Rattle.wb_machine.specs.Asks.{asks_next}
 use Rattle.wb_machine.specs.Seen.{Seen}
-use Rattle.wb_machine.proofs.AskedPieces.{over_asks, settled_cut}
+use Rattle.wb_machine.proofs.asking.AskedPieces.{over_asks, settled_cut}
 use Rattle.wb_machine.proofs.machine.Machine.will_attempt.Goals as goal
 
 pub returns-else-steps-self-clause-asks : goal.returns-else-steps-self-clause-asks

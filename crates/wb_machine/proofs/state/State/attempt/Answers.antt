@@ -1,10 +1,10 @@
 use Rattle.std.proofs.Common.{ap, ◌∙◌}
-use Rattle.wb_model.specs.Debug.{alloc_made}
+use Rattle.wb_model.specs.heap.Debug.{alloc_made}
 use Rattle.wb_machine.specs.RunState.{RunState}
 use Rattle.wb_machine.specs.StateView.{run_state}
-use Rattle.wb_machine.proofs.UnchangedByAttempts.{alloc_level, alloc_stays, called_keeps}
-use Rattle.wb_machine.proofs.StackBeside.{alloc_called, becomes_ok, keeps_seen}
-use Rattle.wb_machine.proofs.TextInvariant.{texts_called, texts_allocated}
+use Rattle.wb_machine.proofs.effects.UnchangedByAttempts.{alloc_level, alloc_stays, called_keeps}
+use Rattle.wb_machine.proofs.kept.StackBeside.{alloc_called, becomes_ok, keeps_seen}
+use Rattle.wb_machine.proofs.kept.TextInvariant.{texts_called, texts_allocated}
 use Rattle.wb_machine.proofs.state.State.attempt.Goals as goal
 
 pub invariant_of-self : goal.invariant_of-self

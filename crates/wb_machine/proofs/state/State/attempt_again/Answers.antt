@@ -1,12 +1,12 @@
 use Rattle.std.proofs.Common.{◌≡◌, subst, sym, refl, IsSome, IfSome}
 use Rattle.wb_model.specs.declared.heap.Kind.TheVariants.{Raw}
-use Rattle.wb_model.specs.Row.{cell_at}
-use Rattle.wb_model.specs.Debug.{realloc_made}
+use Rattle.wb_model.specs.heap.Row.{cell_at}
+use Rattle.wb_model.specs.heap.Debug.{realloc_made}
 use Rattle.wb_machine.specs.RunState.{RunState}
 use Rattle.wb_machine.specs.StateView.{run_state}
-use Rattle.wb_machine.proofs.UnchangedByAttempts.{realloc_keeps}
-use Rattle.wb_machine.proofs.StackBeside.{becomes_found, keeps_seen, raw_other, remade_beside}
-use Rattle.wb_machine.proofs.TextInvariant.{texts_raw_again}
+use Rattle.wb_machine.proofs.effects.UnchangedByAttempts.{realloc_keeps}
+use Rattle.wb_machine.proofs.kept.StackBeside.{becomes_found, keeps_seen, raw_other, remade_beside}
+use Rattle.wb_machine.proofs.kept.TextInvariant.{texts_raw_again}
 use Rattle.wb_machine.proofs.state.State.attempt_again.Goals as goal
 
 pub invariant_of-self : goal.invariant_of-self

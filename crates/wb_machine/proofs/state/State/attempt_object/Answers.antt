@@ -1,11 +1,11 @@
-use Rattle.wb_model.specs.Bodies.{class_at}
+use Rattle.wb_model.specs.meaning.Bodies.{class_at}
 use Rattle.wb_objects.specs.Objects.{object_made}
 use Rattle.wb_machine.specs.StateView.{run_state}
-use Rattle.wb_machine.proofs.UnchangedByAttempts.{called_keeps}
-use Rattle.wb_machine.proofs.StackBeside.{becomes_ok, keeps_seen}
-use Rattle.wb_machine.proofs.ObjectsMade.{object_called, object_stays, texts_with_object}
-use Rattle.wb_machine.proofs.Scripts.{object_fits}
-use Rattle.wb_machine.proofs.TextInvariant.{texts_called}
+use Rattle.wb_machine.proofs.effects.UnchangedByAttempts.{called_keeps}
+use Rattle.wb_machine.proofs.kept.StackBeside.{becomes_ok, keeps_seen}
+use Rattle.wb_machine.proofs.effects.ObjectsMade.{object_called, object_stays, texts_with_object}
+use Rattle.wb_machine.proofs.turns.Scripts.{object_fits}
+use Rattle.wb_machine.proofs.kept.TextInvariant.{texts_called}
 use Rattle.wb_machine.proofs.state.State.attempt_object.Goals as goal
 
 pub make-requires-clause-bytes : goal.make-requires-clause-bytes

@@ -1,7 +1,7 @@
 use Rattle.std.proofs.Common.{ap, ◌∙◌, sym, arith, length}
 use Rattle.wb_machine.specs.TextOperands.{base_text}
 use Rattle.wb_machine.specs.StateView.{run_state}
-use Rattle.wb_machine.proofs.TextInvariant.{text_of_base, text_small}
+use Rattle.wb_machine.proofs.kept.TextInvariant.{text_of_base, text_small}
 use Rattle.wb_machine.proofs.state.State.base_length.Goals as goal
 
 pub length-requires-in-Some : goal.length-requires-in-Some

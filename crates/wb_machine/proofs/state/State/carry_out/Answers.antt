@@ -3,13 +3,13 @@ use Rattle.wb_model.specs.declared.script.Statement.TheOpen.{Statement-F}
 use Rattle.wb_model.specs.declared.script.Statement.TheViews.{out-Statement, outs-Alloc, outs-Realloc, outs-PrintNumber, outs-NoteHeap, outs-NoteAvailable, outs-NoteCompress, outs-New, outs-Push, outs-PushObject, outs-PushOperation}
 use Rattle.wb_machine.specs.RunState.{RunState}
 use Rattle.wb_machine.specs.CleanupEffects.{IsStackThere}
-use Rattle.wb_machine.proofs.Outcomes.{if_ok_then}
-use Rattle.wb_machine.proofs.StatementEffects.{effect_of}
-use Rattle.wb_machine.proofs.CleanupEffectLemmas.{push_kept, push_operation_kept}
-use Rattle.wb_machine.proofs.CellEffects.{alloc_kept}
-use Rattle.wb_machine.proofs.ObjectEffectLemmas.{class_there, new_kept, push_object_kept}
-use Rattle.wb_machine.proofs.ReallocationEffects.{realloc_kept}
-use Rattle.wb_machine.proofs.LineEffects.{number_kept, heap_kept, available_kept, compress_kept}
+use Rattle.wb_machine.proofs.effects.Outcomes.{if_ok_then}
+use Rattle.wb_machine.proofs.effects.StatementEffects.{effect_of}
+use Rattle.wb_machine.proofs.effects.CleanupEffectLemmas.{push_kept, push_operation_kept}
+use Rattle.wb_machine.proofs.effects.CellEffects.{alloc_kept}
+use Rattle.wb_machine.proofs.effects.ObjectEffectLemmas.{class_there, new_kept, push_object_kept}
+use Rattle.wb_machine.proofs.effects.ReallocationEffects.{realloc_kept}
+use Rattle.wb_machine.proofs.effects.LineEffects.{number_kept, heap_kept, available_kept, compress_kept}
 use Rattle.wb_machine.proofs.state.State.carry_out.Goals as goal
 
 pub returns-in-Alloc-clause-kept : goal.returns-in-Alloc-clause-kept

@@ -4,13 +4,13 @@ use Rattle.wb_model.specs.declared.script.Statement.TheOpen.{Statement-F}
 use Rattle.wb_model.specs.declared.script.Statement.TheViews.{out-Statement, outs-Free, outs-AllocLen, outs-Store, outs-Load, outs-Set, outs-SetNumber, outs-SetNull, outs-Add, outs-Leave, outs-LeaveIfError, outs-LeaveIfNull, outs-Return, outs-ReturnPointer, outs-Mark, outs-MarkEnd, outs-Check, outs-CheckAll, outs-FailNext, outs-FailEvery, outs-FailNone, outs-Pop, outs-PopCheck}
 use Rattle.wb_machine.specs.Effects.{pointer_read, number_read, store_effect}
 use Rattle.wb_machine.specs.Owed.{CarriesOut}
-use Rattle.wb_machine.proofs.StatementEffects.{effect_of, effect_over}
-use Rattle.wb_machine.proofs.CleanupEffectLemmas.{pop_check_kept, pop_kept}
-use Rattle.wb_machine.proofs.CellEffects.{free_kept}
-use Rattle.wb_machine.proofs.WordEffects.{store_kept, load_kept, usable_kept}
-use Rattle.wb_machine.proofs.NumberEffects.{set_kept, set_number_kept, null_kept, add_kept}
-use Rattle.wb_machine.proofs.LeaveEffects.{leave_kept, leave_if_error_kept, leave_if_null_kept, return_kept, return_pointer_kept}
-use Rattle.wb_machine.proofs.MarkEffects.{mark_kept, mark_end_kept, check_kept, check_all_kept, fail_next_kept, fail_every_kept, fail_none_kept}
+use Rattle.wb_machine.proofs.effects.StatementEffects.{effect_of, effect_over}
+use Rattle.wb_machine.proofs.effects.CleanupEffectLemmas.{pop_check_kept, pop_kept}
+use Rattle.wb_machine.proofs.effects.CellEffects.{free_kept}
+use Rattle.wb_machine.proofs.effects.WordEffects.{store_kept, load_kept, usable_kept}
+use Rattle.wb_machine.proofs.effects.NumberEffects.{set_kept, set_number_kept, null_kept, add_kept}
+use Rattle.wb_machine.proofs.effects.LeaveEffects.{leave_kept, leave_if_error_kept, leave_if_null_kept, return_kept, return_pointer_kept}
+use Rattle.wb_machine.proofs.effects.MarkEffects.{mark_kept, mark_end_kept, check_kept, check_all_kept, fail_next_kept, fail_every_kept, fail_none_kept}
 use Rattle.wb_machine.proofs.state.State.carry_out_in_place.Goals as goal
 
 pub returns-in-Free-clause-kept : goal.returns-in-Free-clause-kept

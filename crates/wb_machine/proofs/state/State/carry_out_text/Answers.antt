@@ -1,11 +1,11 @@
 use Rattle.std.proofs.Common.{ap, ◌∙◌}
 use Rattle.wb_model.specs.declared.script.Statement.TheOpen.{Statement-F}
 use Rattle.wb_model.specs.declared.script.Statement.TheViews.{out-Statement, outs-NewText, outs-ReallocText, outs-Copy, outs-Append, outs-Insert, outs-DeleteText, outs-SetLength, outs-Left, outs-Right, outs-Mid, outs-GetLength, outs-GetMaximum, outs-PrintText}
-use Rattle.wb_machine.proofs.Outcomes.{if_ok_then}
-use Rattle.wb_machine.proofs.TextCellEffects.{new_text_kept, realloc_text_kept}
-use Rattle.wb_machine.proofs.TextEffectLemmas.{copy_kept, append_kept, insert_kept, delete_kept, length_set_kept, effect_as}
-use Rattle.wb_machine.proofs.ViewEffects.{left_kept, right_kept, mid_kept, length_kept, max_kept, print_kept}
-use Rattle.wb_machine.proofs.StatementEffects.{effect_of}
+use Rattle.wb_machine.proofs.effects.Outcomes.{if_ok_then}
+use Rattle.wb_machine.proofs.effects.TextCellEffects.{new_text_kept, realloc_text_kept}
+use Rattle.wb_machine.proofs.effects.TextEffectLemmas.{copy_kept, append_kept, insert_kept, delete_kept, length_set_kept, effect_as}
+use Rattle.wb_machine.proofs.effects.ViewEffects.{left_kept, right_kept, mid_kept, length_kept, max_kept, print_kept}
+use Rattle.wb_machine.proofs.effects.StatementEffects.{effect_of}
 use Rattle.wb_machine.proofs.state.State.carry_out_text.Goals as goal
 
 pub returns-in-NewText-clause-kept : goal.returns-in-NewText-clause-kept

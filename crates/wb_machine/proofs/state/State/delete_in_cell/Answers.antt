@@ -1,7 +1,7 @@
-use Rattle.wb_model.specs.TextCells.{debug_edited, text_at}
-use Rattle.wb_model.specs.Texts.{delete_text}
-use Rattle.wb_machine.proofs.StackBeside.{becomes, edit_called, memory_edited}
-use Rattle.wb_machine.proofs.TextInvariant.{text_seen_at}
+use Rattle.wb_model.specs.cells.TextCells.{debug_edited, text_at}
+use Rattle.wb_model.specs.meaning.Texts.{delete_text}
+use Rattle.wb_machine.proofs.kept.StackBeside.{becomes, edit_called, memory_edited}
+use Rattle.wb_machine.proofs.kept.TextInvariant.{text_seen_at}
 use Rattle.wb_machine.proofs.state.State.delete_in_cell.Goals as goal
 
 pub delete-requires : goal.delete-requires

@@ -1,12 +1,12 @@
 use Rattle.std.proofs.Common.{◌≡◌, subst, sym, false, IsSome, IfSome}
-use Rattle.wb_model.specs.Row.{cell_at, without}
-use Rattle.wb_model.specs.Heap.{is_cleanup}
-use Rattle.wb_model.specs.Debug.{Debug, with_row}
+use Rattle.wb_model.specs.heap.Row.{cell_at, without}
+use Rattle.wb_model.specs.heap.Heap.{is_cleanup}
+use Rattle.wb_model.specs.heap.Debug.{Debug, with_row}
 use Rattle.wb_machine.specs.RunState.{RunState}
 use Rattle.wb_machine.specs.StackInvariant.{StandsIn}
 use Rattle.wb_machine.specs.TextInvariant.{AreTexts}
-use Rattle.wb_machine.proofs.StackBeside.{Stays, becomes, dropped_as, dropped_beside}
-use Rattle.wb_machine.proofs.TextInvariant.{texts_without}
+use Rattle.wb_machine.proofs.kept.StackBeside.{Stays, becomes, dropped_as, dropped_beside}
+use Rattle.wb_machine.proofs.kept.TextInvariant.{texts_without}
 use Rattle.wb_machine.proofs.state.State.drop_cell.Goals as goal
 
 pub invariant_of-self : goal.invariant_of-self

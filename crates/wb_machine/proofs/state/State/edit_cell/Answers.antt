@@ -1,7 +1,7 @@
-use Rattle.wb_model.specs.TextCells.{debug_edited}
+use Rattle.wb_model.specs.cells.TextCells.{debug_edited}
 use Rattle.wb_hbuf.specs.Sources.{cell_edited}
-use Rattle.wb_machine.proofs.StackBeside.{becomes, edit_called, memory_edited}
-use Rattle.wb_machine.proofs.TextInvariant.{text_seen_at}
+use Rattle.wb_machine.proofs.kept.StackBeside.{becomes, edit_called, memory_edited}
+use Rattle.wb_machine.proofs.kept.TextInvariant.{text_seen_at}
 use Rattle.wb_machine.proofs.state.State.edit_cell.Goals as goal
 
 pub edit-requires-clause-text : goal.edit-requires-clause-text

@@ -1,6 +1,6 @@
 use Rattle.std.proofs.Common.{arith, sym, ◌∙◌}
 use Rattle.wb_machine.specs.StateView.{run_state}
-use Rattle.wb_machine.proofs.TextInvariant.{text_of_base, max_small}
+use Rattle.wb_machine.proofs.kept.TextInvariant.{text_of_base, max_small}
 use Rattle.wb_machine.proofs.state.State.max_of.Goals as goal
 
 pub max_len-requires : goal.max_len-requires

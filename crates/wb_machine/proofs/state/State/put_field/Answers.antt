@@ -1,14 +1,14 @@
 use Rattle.std.proofs.Common.{subst, sym, ap, ◌∙◌}
-use Rattle.wb_model.specs.Row.{cell_at}
-use Rattle.wb_model.specs.CellRow.{payload_of}
-use Rattle.wb_model.specs.Debug.{Debug, debug_changed}
+use Rattle.wb_model.specs.heap.Row.{cell_at}
+use Rattle.wb_model.specs.cells.CellRow.{payload_of}
+use Rattle.wb_model.specs.heap.Debug.{Debug, debug_changed}
 use Rattle.wb_objects.specs.Objects.{with_field}
 use Rattle.wb_machine.specs.Bodies.{class_read}
 use Rattle.wb_machine.specs.RunState.{RunState}
 use Rattle.wb_machine.specs.TextInvariant.{AreTexts}
-use Rattle.wb_machine.proofs.ObjectFields.{object_there, field_put}
-use Rattle.wb_machine.proofs.StackBeside.{becomes, field_beside}
-use Rattle.wb_machine.proofs.TextInvariant.{texts_with_field}
+use Rattle.wb_machine.proofs.kept.ObjectFields.{object_there, field_put}
+use Rattle.wb_machine.proofs.kept.StackBeside.{becomes, field_beside}
+use Rattle.wb_machine.proofs.kept.TextInvariant.{texts_with_field}
 use Rattle.wb_machine.proofs.state.State.put_field.Goals as goal
 
 pub invariant_of-self : goal.invariant_of-self

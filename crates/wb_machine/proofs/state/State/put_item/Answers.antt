@@ -4,7 +4,7 @@ use Rattle.wb_machine.specs.Owed.{KeepsCount}
 use Rattle.wb_machine.specs.RunState.{RunState}
 use Rattle.wb_machine.specs.StackInvariant.{IsMemory}
 use Rattle.wb_machine.specs.StateView.{run_state}
-use Rattle.wb_machine.proofs.StackPushes.{keeps_pushed, memory_pushed}
+use Rattle.wb_machine.proofs.kept.StackPushes.{keeps_pushed, memory_pushed}
 use Rattle.wb_machine.proofs.state.State.put_item.Goals as goal
 
 pub invariant_of-self : goal.invariant_of-self

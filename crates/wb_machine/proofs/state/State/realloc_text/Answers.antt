@@ -1,6 +1,6 @@
 use Rattle.std.proofs.Common.{refl, sym, ◌∙◌}
 use Rattle.wb_machine.specs.StateView.{run_state}
-use Rattle.wb_machine.proofs.TextInvariant.{text_of_base, none_is}
+use Rattle.wb_machine.proofs.kept.TextInvariant.{text_of_base, none_is}
 use Rattle.wb_machine.proofs.state.State.realloc_text.Goals as goal
 
 pub length-requires : goal.length-requires

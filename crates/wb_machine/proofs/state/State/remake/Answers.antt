@@ -1,13 +1,13 @@
 use Rattle.std.proofs.Common.{◌≤◌, ◌+◌, ◌*◌, length, subst, sym, refl, ◌≡◌, None}
-use Rattle.wb_model.specs.Row.{cell_at}
-use Rattle.wb_model.specs.Debug.{realloc_made}
-use Rattle.wb_model.specs.TextCells.{text_at}
+use Rattle.wb_model.specs.heap.Row.{cell_at}
+use Rattle.wb_model.specs.heap.Debug.{realloc_made}
+use Rattle.wb_model.specs.cells.TextCells.{text_at}
 use Rattle.wb_machine.specs.RunState.{RunState}
 use Rattle.wb_machine.specs.StateView.{run_state}
 use Rattle.wb_machine.specs.TextOperands.{text_refusal}
-use Rattle.wb_machine.proofs.UnchangedByAttempts.{remade_keeps}
-use Rattle.wb_machine.proofs.StackBeside.{becomes_found, is_there, keeps_seen, remade_beside, text_other}
-use Rattle.wb_machine.proofs.TextInvariant.{is_text_at, texts_remade}
+use Rattle.wb_machine.proofs.effects.UnchangedByAttempts.{remade_keeps}
+use Rattle.wb_machine.proofs.kept.StackBeside.{becomes_found, is_there, keeps_seen, remade_beside, text_other}
+use Rattle.wb_machine.proofs.kept.TextInvariant.{is_text_at, texts_remade}
 use Rattle.wb_machine.proofs.state.State.remake.Goals as goal
 
 pub remake-requires-clause-text : goal.remake-requires-clause-text

@@ -1,12 +1,12 @@
 use Rattle.std.proofs.Common.{◌≡◌, ◌<◌, true, length, slice_set, subst, sym, IfSome}
-use Rattle.wb_model.specs.Row.{cell_at}
-use Rattle.wb_model.specs.CellRow.{payload_of}
-use Rattle.wb_model.specs.Statements.{is_raw}
-use Rattle.wb_model.specs.Debug.{Debug, debug_changed}
+use Rattle.wb_model.specs.heap.Row.{cell_at}
+use Rattle.wb_model.specs.cells.CellRow.{payload_of}
+use Rattle.wb_model.specs.meaning.Statements.{is_raw}
+use Rattle.wb_model.specs.heap.Debug.{Debug, debug_changed}
 use Rattle.wb_machine.specs.RunState.{RunState}
 use Rattle.wb_machine.specs.TextInvariant.{AreTexts}
-use Rattle.wb_machine.proofs.StackBeside.{becomes, stored_beside}
-use Rattle.wb_machine.proofs.TextInvariant.{texts_stored}
+use Rattle.wb_machine.proofs.kept.StackBeside.{becomes, stored_beside}
+use Rattle.wb_machine.proofs.kept.TextInvariant.{texts_stored}
 use Rattle.wb_machine.proofs.state.State.set_word.Goals as goal
 
 pub invariant_of-self : goal.invariant_of-self

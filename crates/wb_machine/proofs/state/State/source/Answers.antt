@@ -1,8 +1,8 @@
 use Rattle.std.proofs.Common.{subst}
-use Rattle.wb_model.specs.TextCells.{IsTextAt}
+use Rattle.wb_model.specs.cells.TextCells.{IsTextAt}
 use Rattle.wb_machine.specs.RunState.{RunState}
 use Rattle.wb_machine.specs.StateView.{run_state}
-use Rattle.wb_machine.proofs.TextInvariant.{text_of_base}
+use Rattle.wb_machine.proofs.kept.TextInvariant.{text_of_base}
 use Rattle.wb_machine.proofs.state.State.source.Goals as goal
 
 pub returns-in-Cell-clause-source : goal.returns-in-Cell-clause-source

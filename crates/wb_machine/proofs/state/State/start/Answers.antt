@@ -1,10 +1,10 @@
 use Rattle.std.proofs.Common.{ap, ◌∙◌, subst, arith}
 use Rattle.wb_model.specs.declared.heap.Kind.TheVariants.{Cleanup}
-use Rattle.wb_model.specs.Debug.{alloc_made}
+use Rattle.wb_model.specs.heap.Debug.{alloc_made}
 use Rattle.wb_machine.specs.Owed.{Stays}
 use Rattle.wb_machine.specs.RunState.{RunState}
 use Rattle.wb_machine.specs.StateView.{run_state}
-use Rattle.wb_machine.proofs.UnchangedByAttempts.{alloc_stays, called_keeps}
+use Rattle.wb_machine.proofs.effects.UnchangedByAttempts.{alloc_stays, called_keeps}
 use Rattle.wb_machine.proofs.state.State.start.Goals as goal
 
 pub returns-clause-stays : goal.returns-clause-stays

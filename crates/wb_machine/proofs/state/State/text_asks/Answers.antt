@@ -1,5 +1,5 @@
 use Rattle.std.proofs.Common.{◌∙◌, sym}
-use Rattle.wb_machine.proofs.Asked.{text_seen}
+use Rattle.wb_machine.proofs.asking.Asked.{text_seen}
 use Rattle.wb_machine.proofs.state.State.text_asks.Goals as goal
 
 pub length-requires : goal.length-requires

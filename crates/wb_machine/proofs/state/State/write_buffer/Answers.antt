@@ -1,10 +1,10 @@
 use Rattle.std.proofs.Common.{ap, ◌∙◌}
 use Rattle.wb_model.specs.declared.text.View.{View}
-use Rattle.wb_model.specs.Reading.{buffer_text, max_in}
+use Rattle.wb_model.specs.meaning.Reading.{buffer_text, max_in}
 use Rattle.wb_hbuf.specs.Sources.{edit_text, source_units}
 use Rattle.wb_machine.specs.RunState.{RunState, value_in}
 use Rattle.wb_machine.specs.TextOperands.{window_units}
-use Rattle.wb_machine.proofs.EditedBuffers.{buffer_written}
+use Rattle.wb_machine.proofs.frames.EditedBuffers.{buffer_written}
 use Rattle.wb_machine.proofs.state.State.write_buffer.Goals as goal
 
 pub returns-clause-written : goal.returns-clause-written

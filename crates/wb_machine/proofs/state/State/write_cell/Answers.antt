@@ -3,7 +3,7 @@ use Rattle.wb_model.specs.declared.text.Base.TheVariants as B
 use Rattle.wb_model.specs.declared.text.View.{View}
 use Rattle.wb_hbuf.specs.Sources.{edit_text}
 use Rattle.wb_machine.specs.TextOperands.{base_max, base_text, window_units}
-use Rattle.wb_machine.proofs.TextInvariant.{same_units, cell_written}
+use Rattle.wb_machine.proofs.kept.TextInvariant.{same_units, cell_written}
 use Rattle.wb_machine.proofs.state.State.write_cell.Goals as goal
 
 pub returns-then-is_same_base-clause-written : goal.returns-then-is_same_base-clause-written

@@ -1,6 +1,6 @@
 use Rattle.std.proofs.Common.{◌≡◌, ◌-◌, sum, ◌∙◌, ap, arith}
-use Rattle.wb_model.specs.LimitedHeap.{runs_in}
-use Rattle.wb_model.specs.Row.{headers}
+use Rattle.wb_model.specs.heap.LimitedHeap.{runs_in}
+use Rattle.wb_model.specs.heap.Row.{headers}
 use Rattle.wb_model.proofs.FreeRuns.{free_runs-are}
 use Rattle.wb_model.proofs.LimitedHeaps.{top_of-committed}
 use Rattle.wb_rheap.specs.Heap.{heap_of}

@@ -1,7 +1,7 @@
 use Rattle.std.proofs.Common.{◌≡◌, ◌*◌, sym, ◌∙◌, ap, subst, length, option_map, IfSome}
-use Rattle.wb_model.specs.CellRow.{payload_of}
-use Rattle.wb_model.specs.LimitedHeap.{IsSoundHeap, IsLiveBelow}
-use Rattle.wb_model.specs.Row.{is_at, cell_at, usable_of}
+use Rattle.wb_model.specs.cells.CellRow.{payload_of}
+use Rattle.wb_model.specs.heap.LimitedHeap.{IsSoundHeap, IsLiveBelow}
+use Rattle.wb_model.specs.heap.Row.{is_at, cell_at, usable_of}
 use Rattle.wb_model.proofs.LimitedHeaps.{found-live}
 use Rattle.wb_model.proofs.Rows.{head-cell_at}
 use Rattle.wb_rheap.proofs.Finding.{payload-filled}

@@ -1,7 +1,7 @@
 use Rattle.std.proofs.Common.{sym, ◌∙◌, ap, subst, IfSome}
 use Rattle.std.specs.Prelude.{nat_le}
-use Rattle.wb_model.specs.LimitedHeap.{IsSoundHeap, IsLiveBelow, next_live_of}
-use Rattle.wb_model.specs.Row.{headers}
+use Rattle.wb_model.specs.heap.LimitedHeap.{IsSoundHeap, IsLiveBelow, next_live_of}
+use Rattle.wb_model.specs.heap.Row.{headers}
 use Rattle.wb_model.proofs.LimitedHeaps.{found-live}
 use Rattle.wb_rheap.proofs.heap.Heap.next_live.Goals as goal
 

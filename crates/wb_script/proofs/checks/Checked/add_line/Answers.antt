@@ -2,7 +2,7 @@ use Rattle.std.proofs.Common.{◌∙◌, ◌++◌, ◌∷◌, [], ap, arith}
 use Rattle.std.proofs.lemmas.Grind.{common_steps}
 use Rattle.wb_lines.specs.BytesOf.{bytes_of_form}
 use Rattle.wb_script.specs.BytesOf.{bytes_of_items}
-use Rattle.wb_script.proofs.CheckedLemmas.{one_more_checked}
+use Rattle.wb_script.proofs.names.CheckedLemmas.{one_more_checked}
 use Rattle.wb_script.proofs.checks.Checked.add_line.Goals as goal
 
 pub returns-clause-checked : goal.returns-clause-checked

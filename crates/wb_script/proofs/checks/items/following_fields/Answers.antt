@@ -1,7 +1,7 @@
 use Rattle.std.proofs.Common.{sym, ◌∙◌}
 use Rattle.wb_lines.specs.BytesOf.{bytes_of_text, bytes_of_texts}
 use Rattle.wb_lines.proofs.BytesOf.{map_some}
-use Rattle.wb_script.proofs.ListLoops.{all_fields, field_found, line_skipped, fields_end}
+use Rattle.wb_script.proofs.lists.ListLoops.{all_fields, field_found, line_skipped, fields_end}
 use Rattle.wb_script.proofs.checks.items.following_fields.Goals as goal
 use Rattle.wb_script.proofs.checks.items.following_fields.Goals.{in-Field+in_ok-add_some-in-Field, in-Skip}
 

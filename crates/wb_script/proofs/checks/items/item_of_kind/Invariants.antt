@@ -1,5 +1,5 @@
 use Rattle.std.proofs.Common.{◌≡◌, ◌-◌, ◌≤◌, drop}
-use Rattle.wb_model.specs.Names.{item_of_kind}
+use Rattle.wb_model.specs.language.Names.{item_of_kind}
 use Rattle.wb_script.specs.BytesOf.{bytes_of_items}
 use Rattle.wb_script.proofs.checks.items.item_of_kind.Given as goal
 

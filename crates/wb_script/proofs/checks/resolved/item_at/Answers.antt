@@ -3,8 +3,8 @@ use Rattle.std.specs.Prelude.{slice_get}
 use Rattle.std.specs.Option.{option_map}
 use Rattle.std.proofs.lemmas.List.{take-map}
 use Rattle.std.proofs.lemmas.Option.{slice_get-map, slice_get_read, slice_get_past}
-use Rattle.wb_model.specs.Names.{count_among}
-use Rattle.wb_model.specs.Resolved.{referent_of_kind, item_after}
+use Rattle.wb_model.specs.language.Names.{count_among}
+use Rattle.wb_model.specs.language.Resolved.{referent_of_kind, item_after}
 use Rattle.wb_script.specs.BytesOf.{bytes_of_item, bytes_of_items}
 use Rattle.wb_script.proofs.checks.resolved.item_at.Goals as goal
 

@@ -1,12 +1,12 @@
 use Rattle.std.proofs.Common.{◌++◌, ◌+◌, ◌∷◌, [], List, length, drop, sym, ap, ◌∙◌, append-nil, append_assoc}
-use Rattle.wb_model.specs.LineKinds.{operand_places_with}
-use Rattle.wb_model.specs.Resolved.{resolved_operands}
+use Rattle.wb_model.specs.language.LineKinds.{operand_places_with}
+use Rattle.wb_model.specs.language.Resolved.{resolved_operands}
 use Rattle.wb_model.specs.declared.script_lines.Referent.{Referent}
 use Rattle.wb_model.specs.declared.script_lines.Operand.{Operand}
 use Rattle.wb_script.specs.Checks.{known_in}
 use Rattle.wb_lines.specs.BytesOf.{bytes_of_operand, bytes_of_operands}
 use Rattle.wb_script.specs.BytesOf.{bytes_of_items}
-use Rattle.wb_script.proofs.OperandPlaces.{resolved_here, resolved_past, resolved_short}
+use Rattle.wb_script.proofs.names.OperandPlaces.{resolved_here, resolved_past, resolved_short}
 use Rattle.wb_script.proofs.checks.resolved.resolved_operands.Goals as goal
 
 pub returns-in_default : goal.returns-in_default

@@ -1,4 +1,4 @@
-use Rattle.wb_script.proofs.ClosedBlocks.{whole_if, whole_else, whole_repeat, whole_trap}
+use Rattle.wb_script.proofs.building.ClosedBlocks.{whole_if, whole_else, whole_repeat, whole_trap}
 use Rattle.wb_script.proofs.tree.blocks.statement_of_block.Goals as goal
 
 pub returns-in-If : goal.returns-in-If

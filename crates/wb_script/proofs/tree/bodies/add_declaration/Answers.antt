@@ -2,7 +2,7 @@ use Rattle.std.proofs.Common.{sym, subst}
 use Rattle.wb_model.specs.declared.script_lines.Form.TheVariants.{Line}
 use Rattle.wb_script.specs.declared.tree.bodies.BodyProgress.TheVariants.{Inside}
 use Rattle.wb_script.specs.Growing.{Adds, declared_in_space}
-use Rattle.wb_script.proofs.Additions.{declared_adds}
+use Rattle.wb_script.proofs.building.Additions.{declared_adds}
 use Rattle.wb_script.proofs.tree.bodies.add_declaration.Goals as goal
 
 pub returns-in_ok-with_local-in-Some : goal.returns-in_ok-with_local-in-Some

@@ -1,7 +1,7 @@
 use Rattle.std.proofs.Common.{subst}
 use Rattle.wb_script.specs.Building.{TurnsToElse}
 use Rattle.wb_script.specs.Growing.{declared_in_space}
-use Rattle.wb_script.proofs.Additions.{else_adds_where}
+use Rattle.wb_script.proofs.building.Additions.{else_adds_where}
 use Rattle.wb_script.proofs.tree.bodies.add_else.Goals as goal
 
 pub returns-in-Some : goal.returns-in-Some

@@ -1,7 +1,7 @@
 use Rattle.std.proofs.Common.{subst}
 use Rattle.wb_script.specs.Building.{IsClosed}
 use Rattle.wb_script.specs.Growing.{declared_in_space}
-use Rattle.wb_script.proofs.Additions.{closed_adds_where, done_adds_where}
+use Rattle.wb_script.proofs.building.Additions.{closed_adds_where, done_adds_where}
 use Rattle.wb_script.proofs.tree.bodies.add_end.Goals as goal
 
 pub returns-in-Block : goal.returns-in-Block

@@ -5,8 +5,8 @@ use Rattle.wb_script.specs.declared.tree.bodies.BodyProgress.TheVariants.{Inside
 use Rattle.wb_script.specs.Building.{line_kinds_of_blocks}
 use Rattle.wb_script.specs.Growing.{Adds, declared_in_space, scope_in_body}
 use Rattle.wb_script.specs.Stated.{IsStatedWhereFit}
-use Rattle.wb_script.proofs.Additions.{stated_adds}
-use Rattle.wb_script.proofs.BodyMisfits.{unstated}
+use Rattle.wb_script.proofs.building.Additions.{stated_adds}
+use Rattle.wb_script.proofs.building.BodyMisfits.{unstated}
 use Rattle.wb_script.proofs.tree.bodies.add_statement_in_place.Goals as goal
 
 pub returns-in_ok-push_statement-in-Some : goal.returns-in_ok-push_statement-in-Some

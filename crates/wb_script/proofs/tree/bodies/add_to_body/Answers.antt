@@ -1,5 +1,5 @@
-use Rattle.wb_script.proofs.BodyMisfits.{opens_item}
-use Rattle.wb_script.proofs.Nests.{no_body_inside}
+use Rattle.wb_script.proofs.building.BodyMisfits.{opens_item}
+use Rattle.wb_script.proofs.building.Nests.{no_body_inside}
 use Rattle.wb_script.proofs.tree.bodies.add_to_body.Goals as goal
 
 pub returns-in-Class : goal.returns-in-Class

@@ -1,13 +1,13 @@
 use Rattle.std.proofs.Common.{◌≡◌, false, sym, subst, ℕ, Bool, IsTrue, arith}
 use Rattle.wb_model.specs.declared.script_lines.Form.TheVariants.{Line}
-use Rattle.wb_model.specs.Sound.{Scope}
+use Rattle.wb_model.specs.language.Sound.{Scope}
 use Rattle.wb_script.specs.declared.tree.bodies.BodyProgress.TheVariants.{Inside}
 use Rattle.wb_script.specs.Building.{is_head}
 use Rattle.wb_script.specs.Fitting.{operands_fit}
 use Rattle.wb_script.specs.Growing.{Adds, declared_in_space}
 use Rattle.wb_script.specs.Stated.{alone_in}
-use Rattle.wb_script.proofs.Additions.{entered_adds, late_by_depth}
-use Rattle.wb_script.proofs.BodyMisfits.{unbegun}
+use Rattle.wb_script.proofs.building.Additions.{entered_adds, late_by_depth}
+use Rattle.wb_script.proofs.building.BodyMisfits.{unbegun}
 use Rattle.wb_script.proofs.tree.bodies.begin_block.Goals as goal
 
 pub returns-then-len : goal.returns-then-len

@@ -1,6 +1,6 @@
 use Rattle.std.proofs.Common.{sym, arith}
 use Rattle.wb_script.specs.Growing.{declared_in_space, scope_in_body}
-use Rattle.wb_script.proofs.Additions.{late_by_block, late_by_room, late_by_statement, takes_local}
+use Rattle.wb_script.proofs.building.Additions.{late_by_block, late_by_room, late_by_statement, takes_local}
 use Rattle.wb_script.proofs.tree.bodies.next_local.Goals as goal
 
 pub returns-then-len-gt0 : goal.returns-then-len-gt0

@@ -2,7 +2,7 @@ use Rattle.std.proofs.Common.{sym, ap, ◌∙◌, map, arith}
 use Rattle.std.specs.Option.{option_map}
 use Rattle.wb_script.specs.BytesOf.{bytes_of_items}
 use Rattle.wb_script.specs.Stated.{bytes_of_parameter}
-use Rattle.wb_script.proofs.PassedArguments.{signature_within}
+use Rattle.wb_script.proofs.building.PassedArguments.{signature_within}
 use Rattle.wb_script.proofs.tree.calls.call_in.Goals as goal
 
 pub overflow_cast-result : goal.overflow_cast-result

@@ -2,7 +2,7 @@ use Rattle.std.proofs.Common.{sym, ap, ◌∙◌, map, Some}
 use Rattle.std.specs.Option.{option_map}
 use Rattle.wb_script.specs.BytesOf.{bytes_of_item, bytes_of_items}
 use Rattle.wb_script.specs.Stated.{bytes_of_parameter}
-use Rattle.wb_script.proofs.PassedArguments.{signature_there}
+use Rattle.wb_script.proofs.building.PassedArguments.{signature_there}
 use Rattle.wb_script.proofs.tree.calls.signature_at.Goals as goal
 
 pub returns-in-Some : goal.returns-in-Some

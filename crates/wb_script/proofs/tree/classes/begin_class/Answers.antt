@@ -6,8 +6,8 @@ use Rattle.wb_model.specs.declared.script_lines.Form.TheVariants.{Line}
 use Rattle.wb_model.specs.declared.script_lines.LineKind.TheVariants as line_kind
 use Rattle.wb_model.specs.declared.script_lines.Referent.TheVariants as referent
 use Rattle.wb_model.specs.declared.script_lines.Operand.TheVariants.{Name, Size}
-use Rattle.wb_script.proofs.ItemGrowth.{class_grows}
-use Rattle.wb_script.proofs.FittingHeads.{class_index, fit_class}
+use Rattle.wb_script.proofs.building.ItemGrowth.{class_grows}
+use Rattle.wb_script.proofs.building.FittingHeads.{class_index, fit_class}
 use Rattle.wb_script.proofs.tree.classes.begin_class.Goals as goal
 
 pub returns-in-None : goal.returns-in-None

@@ -3,9 +3,9 @@ use Rattle.wb_model.specs.declared.script_lines.Form.TheVariants.{Line}
 use Rattle.wb_model.specs.declared.script_lines.LineKind.TheVariants as line_kind
 use Rattle.wb_script.specs.declared.tree.classes.ClassLine.TheVariants as says
 use Rattle.wb_script.specs.Growing.{Grows, building_after, declared_in_space, in_class}
-use Rattle.wb_script.proofs.FittingHeads.{absent}
-use Rattle.wb_script.proofs.ClassGrowth.{constructor_grows}
-use Rattle.wb_script.proofs.Tests.{nothing}
+use Rattle.wb_script.proofs.building.FittingHeads.{absent}
+use Rattle.wb_script.proofs.building.ClassGrowth.{constructor_grows}
+use Rattle.wb_script.proofs.lists.Tests.{nothing}
 use Rattle.wb_script.proofs.tree.classes.read_construct.Goals as goal
 
 pub returns : goal.returns

@@ -1,11 +1,11 @@
 use Rattle.std.proofs.Common.{◌≡◌, List, ℕ, IsTrue, true, false, length, sym, ap, subst, ◌∙◌, arith}
 use Rattle.std.specs.Prelude.{is_some}
-use Rattle.wb_model.specs.Sound.{is_class_among}
-use Rattle.wb_model.specs.Trees.{field_line}
+use Rattle.wb_model.specs.language.Sound.{is_class_among}
+use Rattle.wb_model.specs.language.Trees.{field_line}
 use Rattle.wb_script.specs.Building.{declares, scope_at}
 use Rattle.wb_script.specs.Growing.{declared_in_space}
-use Rattle.wb_script.proofs.FittingHeads.{absent, field_index, fit_field}
-use Rattle.wb_script.proofs.ClassGrowth.{field_grows}
+use Rattle.wb_script.proofs.building.FittingHeads.{absent, field_index, fit_field}
+use Rattle.wb_script.proofs.building.ClassGrowth.{field_grows}
 use Rattle.wb_script.proofs.tree.classes.read_field.Goals as goal
 
 pub returns-then-len : goal.returns-then-len

@@ -3,9 +3,9 @@ use Rattle.wb_model.specs.declared.script_lines.Form.TheVariants.{Line}
 use Rattle.wb_model.specs.declared.script_lines.LineKind.TheVariants as line_kind
 use Rattle.wb_script.specs.declared.tree.whole.Owner.TheVariants as of
 use Rattle.wb_script.specs.Growing.{AreParametersOf, Grows, declared_in_space, in_body, is_procedure_head, new_body, outside}
-use Rattle.wb_script.proofs.FittingHeads.{fit_procedure, procedure_index}
-use Rattle.wb_script.proofs.ItemGrowth.{procedure_grows}
-use Rattle.wb_script.proofs.Tests.{not_both}
+use Rattle.wb_script.proofs.building.FittingHeads.{fit_procedure, procedure_index}
+use Rattle.wb_script.proofs.building.ItemGrowth.{procedure_grows}
+use Rattle.wb_script.proofs.lists.Tests.{not_both}
 use Rattle.wb_script.proofs.tree.openings.begin_procedure.Goals as goal
 
 pub returns-in_ok-body-in-Some : goal.returns-in_ok-body-in-Some

@@ -1,8 +1,8 @@
 use Rattle.std.proofs.Common.{sym, ap, ◌∙◌, ◌++◌, ◌∷◌, [], take}
 use Rattle.std.proofs.lemmas.List.{take_more}
 use Rattle.wb_script.specs.Growing.{are_parameters, is_parameter_operand, parameters_of_operands}
-use Rattle.wb_script.proofs.HeadParameters.{taken_more, all_more}
-use Rattle.wb_script.proofs.Tests.{one_fails}
+use Rattle.wb_script.proofs.building.HeadParameters.{taken_more, all_more}
+use Rattle.wb_script.proofs.lists.Tests.{one_fails}
 use Rattle.wb_script.proofs.tree.openings.parameters.Goals as goal
 
 pub returns-in-None : goal.returns-in-None

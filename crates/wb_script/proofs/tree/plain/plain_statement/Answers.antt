@@ -3,7 +3,7 @@ use Rattle.wb_model.specs.declared.script_lines.LineKind.TheVariants as line_kin
 use Rattle.wb_script.specs.Building.{line_kinds_of_blocks}
 use Rattle.wb_script.specs.BytesOf.{declared_by}
 use Rattle.wb_script.specs.Stated.{IsStatedWhereFit, scope_in}
-use Rattle.wb_script.proofs.PassedArguments.{stands_inside}
+use Rattle.wb_script.proofs.building.PassedArguments.{stands_inside}
 use Rattle.wb_script.proofs.tree.plain.plain_statement.Goals as goal
 
 pub returns-in-Construct : goal.returns-in-Construct

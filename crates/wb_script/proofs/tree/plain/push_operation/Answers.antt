@@ -5,8 +5,8 @@ use Rattle.wb_model.specs.declared.script_lines.Operand.TheVariants.{Name}
 use Rattle.wb_model.specs.declared.script.Statement.TheVariants.{PushOperation}
 use Rattle.wb_script.specs.BytesOf.{declared_by}
 use Rattle.wb_script.specs.Stated.{IsOneLine, scope_in}
-use Rattle.wb_script.proofs.PassedArguments.{two_items}
-use Rattle.wb_script.proofs.ClosedBlocks.{push_operation_line}
+use Rattle.wb_script.proofs.building.PassedArguments.{two_items}
+use Rattle.wb_script.proofs.building.ClosedBlocks.{push_operation_line}
 use Rattle.wb_script.proofs.tree.plain.push_operation.Goals as goal
 
 pub returns-in_ok-index-in-len2 : goal.returns-in_ok-index-in-len2

@@ -3,7 +3,7 @@ use Rattle.std.proofs.lemmas.List.{take_more}
 use Rattle.wb_model.specs.declared.limits.TheConstants.{MOST_FIELDS}
 use Rattle.wb_script.specs.declared.checks.items.Declaration.{Declaration}
 use Rattle.wb_script.specs.BytesOf.{fields_among, bytes_of_items}
-use Rattle.wb_script.proofs.FieldCounts.{counted_more, few_fields}
+use Rattle.wb_script.proofs.counts.FieldCounts.{counted_more, few_fields}
 use Rattle.wb_script.proofs.tree.space.field_counts.Goals as goal
 
 pub add_count-requires : goal.add_count-requires

@@ -1,6 +1,6 @@
 use Rattle.std.proofs.Common.{sym, subst}
 use Rattle.wb_script.specs.Stated.{IsStatementOf, alone_in, scope_in}
-use Rattle.wb_script.proofs.OneOperand.{no_number}
+use Rattle.wb_script.proofs.names.OneOperand.{no_number}
 use Rattle.wb_script.proofs.tree.statements.of_number.Goals as goal
 
 pub returns-in_err-number : goal.returns-in_err-number

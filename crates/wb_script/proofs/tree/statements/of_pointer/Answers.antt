@@ -1,6 +1,6 @@
 use Rattle.std.proofs.Common.{sym, subst}
 use Rattle.wb_script.specs.Stated.{IsStatementOf, alone_in, scope_in}
-use Rattle.wb_script.proofs.OneOperand.{no_pointer}
+use Rattle.wb_script.proofs.names.OneOperand.{no_pointer}
 use Rattle.wb_script.proofs.tree.statements.of_pointer.Goals as goal
 
 pub returns-in_err-pointer : goal.returns-in_err-pointer

@@ -4,8 +4,8 @@ use Rattle.wb_model.specs.declared.script_lines.LineKind.TheVariants as line_kin
 use Rattle.wb_model.specs.declared.script_lines.Referent.TheVariants as referent
 use Rattle.wb_model.specs.declared.script_lines.Operand.TheVariants.{Name}
 use Rattle.wb_script.specs.Stated.{IsStatementOf, alone_in, scope_in}
-use Rattle.wb_script.proofs.OneOperand.{no_sides}
-use Rattle.wb_script.proofs.PassedArguments.{two_items}
+use Rattle.wb_script.proofs.names.OneOperand.{no_sides}
+use Rattle.wb_script.proofs.building.PassedArguments.{two_items}
 use Rattle.wb_script.proofs.tree.statements.set.Goals as goal
 use Rattle.wb_script.proofs.tree.statements.set.Goals.{in_default-via-then-operands-lt2, in_default-via-else-operands-lt2+else-operands-lt3}
 

@@ -1,7 +1,7 @@
 use Rattle.std.proofs.Common.{[], ◌∷◌, arith}
 use Rattle.std.proofs.lemmas.Grind.{common_steps}
 use Rattle.std.proofs.lemmas.Bool.Decides.{nat_tests}
-use Rattle.wb_script.proofs.FitLemmas.{counts_differ}
+use Rattle.wb_script.proofs.names.FitLemmas.{counts_differ}
 use Rattle.wb_script.proofs.tree.scope.counted.four.Goals as goal
 use Rattle.wb_script.proofs.tree.scope.counted.four.Goals.{in_default-via-then-operands-lt4, in_default-via-else-operands-lt4+else-operands-lt5}
 

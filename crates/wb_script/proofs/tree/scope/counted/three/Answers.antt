@@ -1,7 +1,7 @@
 use Rattle.std.proofs.Common.{[], ◌∷◌, arith}
 use Rattle.std.proofs.lemmas.Grind.{common_steps}
 use Rattle.std.proofs.lemmas.Bool.Decides.{nat_tests}
-use Rattle.wb_script.proofs.FitLemmas.{counts_differ}
+use Rattle.wb_script.proofs.names.FitLemmas.{counts_differ}
 use Rattle.wb_script.proofs.tree.scope.counted.three.Goals as goal
 use Rattle.wb_script.proofs.tree.scope.counted.three.Goals.{in_default-via-then-operands-lt3, in_default-via-else-operands-lt3+else-operands-lt4}
 

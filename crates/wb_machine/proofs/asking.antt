@@ -1,0 +1,7 @@
+-- Which statements, pieces and turns ask for an attempt.
+pub mod Asked
+pub mod AskedPieces
+pub mod Counted
+pub mod Later
+pub mod NothingAsked
+pub mod Quiet

@@ -1,0 +1,20 @@
+-- A statement that is carried out comes to what it means.
+pub mod CellEffects
+pub mod CleanupEffectLemmas
+pub mod LeaveEffects
+pub mod LineEffects
+pub mod MarkEffects
+pub mod NumberEffects
+pub mod ObjectEffectLemmas
+pub mod ObjectsMade
+pub mod Outcomes
+pub mod PointerOperands
+pub mod ReadTexts
+pub mod ReallocationEffects
+pub mod Refused
+pub mod StatementEffects
+pub mod TextCellEffects
+pub mod TextEffectLemmas
+pub mod UnchangedByAttempts
+pub mod ViewEffects
+pub mod WordEffects

@@ -1,0 +1,4 @@
+-- Locals, frame by frame, and their buffers.
+pub mod Buffers
+pub mod EditedBuffers
+pub mod Frames

@@ -1,0 +1,4 @@
+-- Lines and statements that cannot leave.
+pub mod QuietLines
+pub mod QuietStatements
+pub mod QuietTrees

@@ -1,0 +1,170 @@
+-- An operand that is spelled tells what it spells.
+use Rattle.std.proofs.Common.{◌≡◌, refl, sym, ap, subst, ◌∙◌, ℕ, List, [], ◌∷◌, ◌++◌, Option, Some, None, map, append-nil}
+use Rattle.std.specs.List.{flat_map}
+use Rattle.std.proofs.lemmas.List.{map-append}
+use Rattle.wb_model.specs.declared.script_lines.Referent.{Referent}
+use Rattle.wb_model.specs.declared.script_lines.Referent.TheVariants as referent
+use Rattle.wb_model.specs.declared.script_lines.Operand.{Operand}
+use Rattle.wb_model.specs.declared.script_lines.Operand.TheVariants.{Name, Number, Literal}
+use Rattle.wb_model.specs.declared.script_lines.Operand.TheVariants as spelled
+use Rattle.wb_model.specs.declared.script_lines.ParameterType.TheVariants as parameter_type
+use Rattle.wb_model.specs.declared.script.Parameter.{Parameter}
+use Rattle.wb_model.specs.declared.script.Parameter.TheVariants as parameter
+use Rattle.wb_model.specs.declared.script.Argument.{Argument}
+use Rattle.wb_model.specs.declared.script.Argument.TheVariants.{Passed, Given}
+use Rattle.wb_model.specs.declared.script.Holder.TheVariants as H
+use Rattle.wb_model.specs.declared.script.Pointer.{Pointer}
+use Rattle.wb_model.specs.declared.script.Pointer.TheVariants as P
+use Rattle.wb_model.specs.declared.script.Number as N
+use Rattle.wb_model.specs.declared.script.Number.TheVariants.{Constant, Variable}
+use Rattle.wb_model.specs.declared.script.Writable.{Writable}
+use Rattle.wb_model.specs.declared.script.Writable.TheVariants.{OwnBuffer, InCell}
+use Rattle.wb_model.specs.declared.script.Readable.{Readable}
+use Rattle.wb_model.specs.declared.script.Readable.TheVariants.{Of, ViewOf, Quoted}
+use Rattle.wb_model.specs.language.Names.{parameter_type_of}
+use Rattle.wb_model.specs.language.Trees.{Spelled, pointer_operand, variable_operand, number_operand, writable_operand, view_operand, text_operand, class_operand, procedure_operand, operation_operand, parameter_operand, argument_operand, and_operand, all_spelled}
+use Rattle.wb_script.specs.Building.{parameter_taking}
+
+-- the pointer, the number or the local that an operand spells
+abbrev pub pointer_in : Operand Referent → Pointer
+pointer_in (Name (referent.Pointer i)) = P.Held (H.Local i)
+pointer_in (spelled.Field (referent.Pointer i) (referent.Field class index)) = P.Field (H.Local i) class index
+pointer_in (spelled.Field referent.This (referent.Field class index)) = P.Field H.This class index
+pointer_in _ = P.Held H.This
+
+abbrev pub variable_in : Operand Referent → ℕ
+variable_in (Name (referent.Number i)) = i
+variable_in _ = 0
+
+abbrev pub number_in : Operand Referent → N.Number
+number_in (Number z) = Constant z
+number_in operand = Variable (variable_in operand)
+
+-- the text that an operand spells
+abbrev pub writable_in : Operand Referent → Writable
+writable_in (Name (referent.Buffer i)) = OwnBuffer i
+writable_in operand = InCell (pointer_in operand)
+
+abbrev pub view_in : Operand Referent → ℕ
+view_in (Name (referent.View i)) = i
+view_in _ = 0
+
+abbrev pub text_in : Operand Referent → Readable
+text_in (Literal (referent.Literal i)) = Quoted i
+text_in (Name (referent.View i)) = ViewOf i
+text_in operand = Of (writable_in operand)
+
+abbrev pub argument_in : Operand Referent → Argument
+argument_in (Number z) = Given (Constant z)
+argument_in (Name (referent.Number i)) = Given (Variable i)
+argument_in operand = Passed (pointer_in operand)
+
+abbrev pub local_in : Operand Referent → ℕ
+local_in (Name (referent.Pointer i)) = i
+local_in _ = 0
+
+abbrev pub class_in : Operand Referent → ℕ
+class_in (Name (referent.Class i)) = i
+class_in _ = 0
+
+abbrev pub procedure_in : Operand Referent → ℕ
+procedure_in (Name (referent.Procedure i)) = i
+procedure_in _ = 0
+
+abbrev pub operation_in : Operand Referent → ℕ
+operation_in (Name (referent.Operation i)) = i
+operation_in _ = 0
+
+-- an operand that is spelled tells what it spells
+pub pointer_back : (p : Pointer) (a : Operand Referent) → pointer_operand p ≡ Some a → pointer_in a ≡ p
+pointer_back (P.Held (H.Local i)) a is = let same : Name (referent.Pointer i) ≡ a = cc in subst (λ o. pointer_in o ≡ P.Held (H.Local i)) same refl
+pointer_back (P.Held H.This) a is = let same : Name referent.This ≡ a = cc in subst (λ o. pointer_in o ≡ P.Held H.This) same refl
+pointer_back (P.Field (H.Local i) class index) a is =
+    let same : spelled.Field (referent.Pointer i) (referent.Field class index) ≡ a = cc in
+    subst (λ o. pointer_in o ≡ P.Field (H.Local i) class index) same refl
+pointer_back (P.Field H.This class index) a is =
+    let same : spelled.Field referent.This (referent.Field class index) ≡ a = cc in
+    subst (λ o. pointer_in o ≡ P.Field H.This class index) same refl
+
+-- a pointer is spelled neither as a number nor as a text of the body's own
+spelled_otherwise : {A : Type 0} (read : Operand Referent → A) (make : Pointer → A) → ((i : ℕ) → read (Name (referent.Pointer i)) ≡ make (P.Held (H.Local i))) → read (Name referent.This) ≡ make (P.Held H.This) →
+    ((base field : Referent) → read (spelled.Field base field) ≡ make (pointer_in (spelled.Field base field))) → (p : Pointer) (a : Operand Referent) → pointer_operand p ≡ Some a → read a ≡ make p
+spelled_otherwise read make local this field (P.Held (H.Local i)) a is = let same : Name (referent.Pointer i) ≡ a = cc in subst (λ o. read o ≡ make (P.Held (H.Local i))) same (local i)
+spelled_otherwise read make local this field (P.Held H.This) a is = let same : Name referent.This ≡ a = cc in subst (λ o. read o ≡ make (P.Held H.This)) same this
+spelled_otherwise read make local this field (P.Field (H.Local i) class index) a is =
+    let same : spelled.Field (referent.Pointer i) (referent.Field class index) ≡ a = cc in
+    subst (λ o. read o ≡ make (P.Field (H.Local i) class index)) same (field (referent.Pointer i) (referent.Field class index))
+spelled_otherwise read make local this field (P.Field H.This class index) a is =
+    let same : spelled.Field referent.This (referent.Field class index) ≡ a = cc in
+    subst (λ o. read o ≡ make (P.Field H.This class index)) same (field referent.This (referent.Field class index))
+
+pub variable_back : (x : ℕ) (a : Operand Referent) → variable_operand x ≡ Some a → variable_in a ≡ x
+variable_back x a is = let same : Name (referent.Number x) ≡ a = cc in subst (λ o. variable_in o ≡ x) same refl
+
+pub number_back : (v : N.Number) (a : Operand Referent) → number_operand v ≡ Some a → number_in a ≡ v
+number_back (Constant z) a is = let same : Number z ≡ a = cc in subst (λ o. number_in o ≡ Constant z) same refl
+number_back (Variable i) a is = let same : Name (referent.Number i) ≡ a = cc in subst (λ o. number_in o ≡ Variable i) same refl
+
+pub writable_back : (d : Writable) (a : Operand Referent) → writable_operand d ≡ Some a → writable_in a ≡ d
+writable_back (OwnBuffer i) a is = let same : Name (referent.Buffer i) ≡ a = cc in subst (λ o. writable_in o ≡ OwnBuffer i) same refl
+writable_back (InCell p) a is = spelled_otherwise writable_in InCell (λ i. refl) refl (λ base field. refl) p a is
+
+pub view_back : (y : ℕ) (a : Operand Referent) → view_operand y ≡ Some a → view_in a ≡ y
+view_back y a is = let same : Name (referent.View y) ≡ a = cc in subst (λ o. view_in o ≡ y) same refl
+
+pub text_back : (t : Readable) (a : Operand Referent) → text_operand t ≡ Some a → text_in a ≡ t
+text_back (Of (OwnBuffer i)) a is = let same : Name (referent.Buffer i) ≡ a = cc in subst (λ o. text_in o ≡ Of (OwnBuffer i)) same refl
+text_back (Of (InCell p)) a is = spelled_otherwise text_in (λ p. Of (InCell p)) (λ i. refl) refl (λ base field. refl) p a is
+text_back (ViewOf i) a is = let same : Name (referent.View i) ≡ a = cc in subst (λ o. text_in o ≡ ViewOf i) same refl
+text_back (Quoted i) a is = let same : Literal (referent.Literal i) ≡ a = cc in subst (λ o. text_in o ≡ Quoted i) same refl
+
+pub local_back : (x : ℕ) (a : Operand Referent) → pointer_operand (P.Held (H.Local x)) ≡ Some a → local_in a ≡ x
+local_back x a is = let same : Name (referent.Pointer x) ≡ a = cc in subst (λ o. local_in o ≡ x) same refl
+
+pub class_back : (n : ℕ) (a : Operand Referent) → class_operand n ≡ Some a → class_in a ≡ n
+class_back n a is = let same : Name (referent.Class n) ≡ a = cc in subst (λ o. class_in o ≡ n) same refl
+
+pub procedure_back : (n : ℕ) (a : Operand Referent) → procedure_operand n ≡ Some a → procedure_in a ≡ n
+procedure_back n a is = let same : Name (referent.Procedure n) ≡ a = cc in subst (λ o. procedure_in o ≡ n) same refl
+
+pub operation_back : (n : ℕ) (a : Operand Referent) → operation_operand n ≡ Some a → operation_in a ≡ n
+operation_back n a is = let same : Name (referent.Operation n) ≡ a = cc in subst (λ o. operation_in o ≡ n) same refl
+
+-- how operands that are spelled begin
+begun : (s : Spelled) (rest : Option (List (Operand Referent))) (operands : List (Operand Referent)) → and_operand s rest ≡ Some operands → (a : Operand Referent) × (more : List (Operand Referent)) × (s ≡ Some a) × (rest ≡ Some more) × (a ∷ more ≡ operands)
+begun (Some a) (Some more) operands is = (a, more, refl, refl, cc)
+begun (Some a) None operands is = let clash : ⊥ = cc in absurd clash
+begun None rest operands is = let clash : ⊥ = cc in absurd clash
+
+pub argument_back : (argument : Argument) (a : Operand Referent) → argument_operand argument ≡ Some a → argument_in a ≡ argument
+argument_back (Given (Constant z)) a is = let e : Number z ≡ a = cc in subst (λ o. argument_in o ≡ Given (Constant z)) e refl
+argument_back (Given (Variable i)) a is = let e : Name (referent.Number i) ≡ a = cc in subst (λ o. argument_in o ≡ Given (Variable i)) e refl
+argument_back (Passed p) a is = spelled_otherwise argument_in Passed (λ i. refl) refl (λ base field. refl) p a is
+
+pub arguments_back : (arguments : List Argument) (operands : List (Operand Referent)) → all_spelled (map argument_operand arguments) ≡ Some operands → map argument_in operands ≡ arguments
+arguments_back [] operands is = let same : [] ≡ operands = cc in subst (λ l. map argument_in l ≡ []) same refl
+arguments_back (argument ∷ arguments) operands is =
+    let (a, more, first, rest, parts) = begun (argument_operand argument) (all_spelled (map argument_operand arguments)) operands is in
+    subst (λ l. map argument_in l ≡ argument ∷ arguments) parts (ap (λ z. z ∷ map argument_in more) (argument_back argument a first) ∙ ap (λ l. argument ∷ l) (arguments_back arguments more rest))
+
+-- the parameters that operands declare
+abbrev pub parameters_in : List (Operand Referent) → List Parameter
+parameters_in operands = map parameter_taking (flat_map parameter_type_of operands)
+
+parameter_back : (p : Parameter) (a : Operand Referent) → parameter_operand p ≡ Some a → parameters_in (a ∷ []) ≡ p ∷ []
+parameter_back (parameter.OfPointer None) a is = let e : spelled.Parameter referent.Parameter parameter_type.Pointer ≡ a = cc in subst (λ o. parameters_in (o ∷ []) ≡ parameter.OfPointer None ∷ []) e refl
+parameter_back (parameter.OfPointer (Some class)) a is =
+    let e : spelled.Parameter referent.Parameter (parameter_type.OfClass (referent.Class class)) ≡ a = cc in
+    subst (λ o. parameters_in (o ∷ []) ≡ parameter.OfPointer (Some class) ∷ []) e refl
+parameter_back parameter.OfNumber a is = let e : spelled.Parameter referent.Parameter parameter_type.Number ≡ a = cc in subst (λ o. parameters_in (o ∷ []) ≡ parameter.OfNumber ∷ []) e refl
+
+parameters-append : (a : Operand Referent) (more : List (Operand Referent)) → parameters_in (a ∷ more) ≡ parameters_in (a ∷ []) ++ parameters_in more
+parameters-append a more =
+    map-append parameter_taking (parameter_type_of a) (flat_map parameter_type_of more) ∙ ap (λ l. map parameter_taking l ++ parameters_in more) (sym (append-nil (parameter_type_of a)))
+
+-- a head tells its parameters
+pub parameters_back : (parameters : List Parameter) (operands : List (Operand Referent)) → all_spelled (map parameter_operand parameters) ≡ Some operands → parameters_in operands ≡ parameters
+parameters_back [] operands is = let same : [] ≡ operands = cc in subst (λ l. parameters_in l ≡ []) same refl
+parameters_back (p ∷ ps) operands is =
+    let (a, more, first, rest, parts) = begun (parameter_operand p) (all_spelled (map parameter_operand ps)) operands is in
+    subst (λ l. parameters_in l ≡ p ∷ ps) parts (parameters-append a more ∙ ap (λ l. l ++ parameters_in more) (parameter_back p a first) ∙ ap (λ l. p ∷ l) (parameters_back ps more rest))
