@@ -1,6 +1,7 @@
 //! Bits in order, and searches for those that are on. What a bit says is not said here.
 
-ghost use Rattle.std.specs.Prelude.{◌≡◌, ◌+◌, ◌-◌, ◌*◌, ◌/◌, ◌<◌, ◌≤◌, [], ◌++◌, length, replicate, slice_set, slice_index_or, false, IfOk, IsOk, OnOk, OnErr};
+ghost use Rattle.std.specs.Prelude.{◌≡◌, ◌+◌, ◌-◌, ◌*◌, ◌/◌, ◌<◌, ◌≤◌, [], ◌++◌, length, replicate, slice_set};
+ghost use Rattle.std.specs.Prelude.{slice_index_or, false, IfOk, IsOk, OnOk, OnErr};
 ghost use Rattle.wb_cells.specs.Bits.{IsLastIn, IsLastOn, IsNext, IsWithBit};
 
 use std::alloc::{AllocError, Global};
@@ -60,7 +61,8 @@ impl Bits {
     /// are as they were; it takes none where there are so many.
     pub fn grow_to(&mut self, count: u32) -> Result<(), AllocError>
         requires { count ≤ MOST_PLACES }
-        ensures grown { OnOk result (self.new ≡ self.old ++ replicate (32 * ((count + 31) / 32) - length self.old) false) }
+        ensures grown { OnOk result (self.new
+            ≡ self.old ++ replicate (32 * ((count + 31) / 32) - length self.old) false) }
         ensures enough { count ≤ length self.old → IsOk result }
         ensures refused { OnErr result (self.new ≡ self.old) }
     {

@@ -1,9 +1,11 @@
 //! The cells of a chunk, and their calls. Which bytes a grown heap may use, and in what order memory is asked for, is
 //! not decided here.
 
-ghost use Rattle.std.specs.Prelude.{◌≡◌, ◌≢◌, ◌+◌, ◌*◌, ◌%◌, ◌<◌, ◌≤◌, [], ◌++◌, max, length, take, drop, slice_index, slice_set, All, IfOk, OnOk, OnErr, option_map, IsOk, IsSome};
+ghost use Rattle.std.specs.Prelude.{◌≡◌, ◌≢◌, ◌+◌, ◌*◌, ◌%◌, ◌<◌, ◌≤◌, [], ◌++◌, max, length, take, drop, slice_index};
+ghost use Rattle.std.specs.Prelude.{slice_set, All, IfOk, OnOk, OnErr, option_map, IsOk, IsSome};
 ghost use Rattle.wb_chunk.specs.Halves.{half_of, with_half};
-ghost use Rattle.wb_model.specs.cells.CellRow.{CellRow, FitsInPlace, IsGap, IsSoundCells, payload_of, room_after, with_length, with_level, with_payload};
+ghost use Rattle.wb_model.specs.cells.CellRow.{CellRow, FitsInPlace, IsGap, IsSoundCells, payload_of, room_after};
+ghost use Rattle.wb_model.specs.cells.CellRow.{with_length, with_level, with_payload};
 ghost use Rattle.wb_model.specs.heap.LimitedHeap.{next_live_of, zero_words};
 ghost use Rattle.wb_model.specs.heap.Space.{free_runs, longest};
 ghost use Rattle.wb_model.specs.heap.Row.{IsLeastPlace, cell_at, headers, inserted, place_of, top_of, without};
@@ -142,7 +144,8 @@ impl Cells {
 
     /// The length of the longest free cell, or 0 where there is none; what lies above the last live cell is none.
     pub fn longest_gap(&self) -> u32
-        ensures gap { result ≡ longest (free_runs 0 (headers self.now.row) (top_of (headers self.now.row))) }
+        ensures gap { result
+            ≡ longest (free_runs 0 (headers self.now.row) (top_of (headers self.now.row))) }
         ensures sound { IsSoundCells self.now }
     {
         self.gaps.longest()
@@ -159,7 +162,9 @@ impl Cells {
         requires long { header.length ≡ length }
         requires numbered { 1 ≤ header.number }
         requires unused { All (λ h. h.number ≢ header.number) (headers self.old.row) }
-        ensures taken { self.new ≡ record self.old { row = inserted (record { head = header; content = zero_words length }) self.old.row } }
+        ensures taken { self.new ≡ record self.old {
+          row = inserted (record { head = header; content = zero_words length }) self.old.row;
+        } }
         ensures sound { IsSoundCells self.new }
     {
         let ends = free_list::open(&mut self.words, &self.gaps, self.ends, place, length);
@@ -285,7 +290,9 @@ impl Cells {
     /// Puts another word at an index of a payload.
     pub fn set_payload(&mut self, ptr: Ptr, i: u32, v: u32)
         requires { i < length (payload_of ptr self.old.row) }
-        ensures changed { self.new ≡ record self.old { row = with_payload ptr (slice_set (payload_of ptr self.old.row) i v) self.old.row } }
+        ensures changed { self.new ≡ record self.old {
+          row = with_payload ptr (slice_set (payload_of ptr self.old.row) i v) self.old.row;
+        } }
         ensures sound { IsSoundCells self.new }
     {
         self.words.set_word(layout::payload_at(ptr.place) + i, v);
@@ -303,7 +310,9 @@ impl Cells {
     /// Puts another half at an index of halves of a payload, and leaves the word's other half.
     pub fn set_payload_half(&mut self, ptr: Ptr, i: u32, v: u16)
         requires { i < 2 * length (payload_of ptr self.old.row) }
-        ensures changed { self.new ≡ record self.old { row = with_payload ptr (with_half (payload_of ptr self.old.row) i v) self.old.row } }
+        ensures changed { self.new ≡ record self.old {
+          row = with_payload ptr (with_half (payload_of ptr self.old.row) i v) self.old.row;
+        } }
         ensures sound { IsSoundCells self.new }
     {
         self.words
@@ -317,7 +326,8 @@ impl Cells {
         requires from_live { IsSome (cell_at from self.old.row) }
         requires to_live { IsSome (cell_at to self.old.row) }
         ensures copied { self.new ≡ record self.old {
-          row = with_payload to (take n (payload_of from self.old.row) ++ drop n (payload_of to self.old.row)) self.old.row;
+          row = with_payload to (take n (payload_of from self.old.row)
+              ++ drop n (payload_of to self.old.row)) self.old.row;
         } }
         ensures sound { IsSoundCells self.new }
     {

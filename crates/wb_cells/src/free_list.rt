@@ -1,8 +1,10 @@
 //! The free cells, linked in order of place: those round a place, and what a grant and a release make of them. Of live
 //! cells nothing here reads but the length of the one that is released.
 
-ghost use Rattle.std.specs.Prelude.{◌≡◌, ◌≢◌, ◌+◌, ◌*◌, ◌/◌, ◌%◌, ◌<◌, ◌≤◌, ◌⊎◌, [], ◌++◌, ℕ, List, length, slice_index, slice_set, if◌then◌else◌, nat_eq};
-ghost use Rattle.wb_cells.specs.FreeList.{Gap, Links, NO_PLACE, end_at, AreBelow, AreFrom, last_place, IsRound, IsWithin, linked_first, linked_words, next_past, parted_words};
+ghost use Rattle.std.specs.Prelude.{◌≡◌, ◌≢◌, ◌+◌, ◌*◌, ◌/◌, ◌%◌, ◌<◌, ◌≤◌, ◌⊎◌, [], ◌++◌, ℕ, List, length};
+ghost use Rattle.std.specs.Prelude.{slice_index, slice_set, if◌then◌else◌, nat_eq};
+ghost use Rattle.wb_cells.specs.FreeList.{Gap, Links, NO_PLACE, end_at, AreBelow, AreFrom, last_place, IsRound};
+ghost use Rattle.wb_cells.specs.FreeList.{IsWithin, linked_first, linked_words, next_past, parted_words};
 ghost use Rattle.wb_cells.specs.RowGaps.{AreListed, IsPrior};
 ghost use Rattle.wb_cells.specs.Holes.{IsOpenable, IsOpened, IsRaised, hole_of, hole_past, closed_words, closed_ends};
 
@@ -45,8 +47,9 @@ pub fn neighbours_of(words: &Chunk, gaps: &GapIndex, first: u32, place: u32) -> 
     requires linked { (cells : List Gap) × Links words.now first cells }
     requires listed { (cells : List Gap) → Links words.now first cells → AreListed cells gaps.now }
     ensures under { result.before ≢ NO_PLACE → result.before < place }
-    ensures round { (low high : List Gap) → Links words.now first (low ++ high) → AreBelow place low → AreFrom place high
-        → IsRound words.now place low high result.prior result.before result.after }
+    ensures round { (low high : List Gap) → Links words.now first (low ++ high) →
+        AreBelow place low → AreFrom place high →
+        IsRound words.now place low high result.prior result.before result.after }
 {
     let none = Neighbours {
         prior: NONE,
@@ -128,12 +131,14 @@ pub fn open(words: &mut Chunk, gaps: &GapIndex, ends: Ends, place: u32, bytes: u
     requires rounded { bytes % 16 ≡ 0 }
     requires below { place + bytes ≤ CEILING }
     requires linked { (cells : List Gap) × Links words.old ends.first cells }
-    requires listed { (cells : List Gap) → Links words.old ends.first cells → AreListed cells gaps.now }
+    requires listed { (cells : List Gap) → Links words.old ends.first cells →
+        AreListed cells gaps.now }
     requires gap { place ≢ ends.top → IsOpenable words.old place bytes }
     ensures count { length words.new ≡ length words.old }
     ensures top { place ≡ ends.top → IsRaised words.old words.new ends.first place bytes result }
-    ensures gap { place ≢ ends.top → (low high : List Gap) → Links words.old ends.first (low ++ high) → AreBelow place low → AreFrom place high
-        → IsOpened words.old words.new ends.first ends.top place bytes (last_place low) result }
+    ensures gap { place ≢ ends.top → (low high : List Gap) →
+        Links words.old ends.first (low ++ high) → AreBelow place low → AreFrom place high →
+        IsOpened words.old words.new ends.first ends.top place bytes (last_place low) result }
 {
     if place == ends.top {
         return Ends {
@@ -163,7 +168,8 @@ pub struct Hole {
 /// The free bytes behind a live cell, up to the next live one.
 pub fn hole_after(words: &Chunk, place: u32, around: Neighbours) -> Hole
     requires cell { IsWithin words.now place }
-    requires above { around.after ≡ place + slice_index words.now (place / 16 * 4) → IsWithin words.now around.after }
+    requires above { around.after ≡ place + slice_index words.now (place / 16 * 4) →
+        IsWithin words.now around.after }
     ensures { result ≡ hole_past words.now place around }
 {
     let end = place + length_at(words, place);
@@ -187,7 +193,8 @@ pub fn hole_after(words: &Chunk, place: u32, around: Neighbours) -> Hole
 pub fn hole_left(words: &Chunk, place: u32, around: Neighbours) -> Hole
     requires cell { IsWithin words.now place }
     requires below { around.before ≢ NO_PLACE → IsWithin words.now around.before }
-    requires above { around.after ≡ place + slice_index words.now (place / 16 * 4) → IsWithin words.now around.after }
+    requires above { around.after ≡ place + slice_index words.now (place / 16 * 4) →
+        IsWithin words.now around.after }
     ensures { result ≡ hole_of words.now place around }
 {
     let mut hole = hole_after(words, place, around);
@@ -203,7 +210,8 @@ pub fn hole_left(words: &Chunk, place: u32, around: Neighbours) -> Hole
 /// top, which may then be higher than it was.
 pub fn close(words: &mut Chunk, ends: Ends, hole: Hole) -> Ends
     requires before { hole.before ≢ NO_PLACE → hole.before / 16 * 4 + 4 ≤ length words.old }
-    requires start { hole.end ≢ ends.top → hole.start ≢ hole.end → hole.start / 16 * 4 + 4 ≤ length words.old }
+    requires start { hole.end ≢ ends.top → hole.start ≢ hole.end →
+        hole.start / 16 * 4 + 4 ≤ length words.old }
     requires order { hole.end ≢ ends.top → hole.start ≤ hole.end }
     ensures words { words.new ≡ closed_words words.old ends.top hole }
     ensures ends { result ≡ closed_ends ends.first ends.top hole }

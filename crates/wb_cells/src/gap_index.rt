@@ -1,7 +1,8 @@
 //! The lengths of the free cells, by place, and what finds them without a walk: the greatest length of each 1,024 bytes,
 //! of each 65,536 bytes, and of all.
 
-ghost use Rattle.std.specs.Prelude.{◌≡◌, ◌≢◌, ◌+◌, ◌-◌, ◌/◌, ◌<◌, ◌≤◌, [], ◌++◌, length, replicate, slice_index, slice_set, IfOk, IsOk, OnOk, OnErr};
+ghost use Rattle.std.specs.Prelude.{◌≡◌, ◌≢◌, ◌+◌, ◌-◌, ◌/◌, ◌<◌, ◌≤◌, [], ◌++◌, length, replicate, slice_index};
+ghost use Rattle.std.specs.Prelude.{slice_set, IfOk, IsOk, OnOk, OnErr};
 ghost use Rattle.wb_cells.specs.Maxima.{IsFirstLong, IsGreatest, IsLast};
 ghost use Rattle.wb_cells.specs.RowGaps.{closed_lengths, opened_lengths};
 

@@ -1,7 +1,8 @@
 //! How a header is laid out in four words: the cell length, the state, the level, the allocation number. Of a free
 //! cell the state and the number are 0, and the place of the next free cell stands for the level.
 
-ghost use Rattle.std.specs.Prelude.{◌≡◌, ◌+◌, ◌*◌, ◌/◌, ◌<◌, ◌≤◌, ◌-◌, [], ◌∷◌, ◌++◌, length, drop, replicate, slice_index, Some, IsOk, OnOk, OnErr};
+ghost use Rattle.std.specs.Prelude.{◌≡◌, ◌+◌, ◌*◌, ◌/◌, ◌<◌, ◌≤◌, ◌-◌, [], ◌∷◌, ◌++◌, length, drop, replicate};
+ghost use Rattle.std.specs.Prelude.{slice_index, Some, IsOk, OnOk, OnErr};
 ghost use Rattle.std.specs.List.{replace_range};
 ghost use Rattle.wb_model.specs.cells.Spelling.{header_at, kind_of};
 ghost use Rattle.wb_cells.specs.Segments.{state_of};
@@ -74,7 +75,8 @@ pub fn header_at(words: &Chunk, place: u32) -> Header
 pub fn write_header(words: &mut Chunk, place: u32, bytes: u32, state: u32, link: u32, number: u32)
     requires { place / 16 * 4 + 4 ≤ length words.old }
     ensures count { length words.new ≡ length words.old }
-    ensures words { words.new ≡ replace_range words.old (place / 16 * 4) (place / 16 * 4 + 4) (bytes ∷ state ∷ link ∷ number ∷ []) }
+    ensures words { words.new ≡ replace_range words.old (place / 16 * 4) (place / 16 * 4 + 4) (bytes
+        ∷ state ∷ link ∷ number ∷ []) }
 {
     words.set_four(words_in(place), [bytes, state, link, number]);
 }

@@ -68,8 +68,9 @@ pub fn renew(numbers: &Numbers, spans: &mut Numbers, at: u32, old: u32) -> Optio
     ensures was { IfSome result (λ was. was ≡ slice_index spans.old (at / SPAN)) }
     ensures count { length spans.new ≡ length spans.old }
     ensures others { (j : ℕ) → j ≢ at / SPAN → slice_index spans.new j ≡ slice_index spans.old j }
-    ensures renewed { (f : ℕ → ℕ) → f at ≡ old → ((k : ℕ) → k ≢ at → f k ≡ slice_index numbers.now k)
-        → AreGreatest f spans.old → AreGreatest (slice_index numbers.now) spans.new }
+    ensures renewed { (f : ℕ → ℕ) → f at ≡ old →
+        ((k : ℕ) → k ≢ at → f k ≡ slice_index numbers.now k) → AreGreatest f spans.old →
+        AreGreatest (slice_index numbers.now) spans.new }
 {
     let span = at / SPAN;
     let was = spans.number(span);

@@ -15,7 +15,8 @@ impl Cells {
         requires live { IsSome (cell_at ptr self.old.row) }
         requires within { i + n ≤ 2 * length (payload_of ptr self.old.row) }
         ensures changed { self.new ≡ record self.old {
-          row = with_payload ptr (with_halves (payload_of ptr self.old.row) i (replicate n 0)) self.old.row;
+          row = with_payload ptr (with_halves (payload_of ptr self.old.row) i (replicate n 0))
+              self.old.row;
         } }
         ensures sound { IsSoundCells self.new }
     {
@@ -28,7 +29,8 @@ impl Cells {
         requires live { IsSome (cell_at ptr self.old.row) }
         requires within { i + length halves.now ≤ 2 * length (payload_of ptr self.old.row) }
         ensures changed { self.new ≡ record self.old {
-          row = with_payload ptr (with_halves (payload_of ptr self.old.row) i halves.now) self.old.row;
+          row = with_payload ptr (with_halves (payload_of ptr self.old.row) i halves.now)
+              self.old.row;
         } }
         ensures sound { IsSoundCells self.new }
     {
@@ -44,7 +46,8 @@ impl Cells {
         requires source { fi + n ≤ 2 * length (payload_of from self.old.row) }
         requires target { ti + n ≤ 2 * length (payload_of to self.old.row) }
         ensures copied { self.new ≡ record self.old {
-          row = with_payload to (with_halves (payload_of to self.old.row) ti (halves_from (payload_of from self.old.row) fi n)) self.old.row;
+          row = with_payload to (with_halves (payload_of to self.old.row) ti
+              (halves_from (payload_of from self.old.row) fi n)) self.old.row;
         } }
         ensures sound { IsSoundCells self.new }
     {

@@ -10,10 +10,12 @@ use std::alloc::Global;
 
 /// Writes words behind the `count` that are there.
 pub(crate) fn append_words(region: &mut Region<Global>, count: u32, words: &[u32])
-    requires fits { (count ≡ length region.old.words) × (count + length words.now ≤ region.old.capacity) }
+    requires fits { (count ≡ length region.old.words)
+        × (count + length words.now ≤ region.old.capacity) }
     requires bound { region.old.capacity ≤ MOST_WORDS }
     ensures words { region.new.words ≡ region.old.words ++ words.now }
-    ensures room { (region.new.capacity ≡ region.old.capacity) × (region.new.alloc ≡ region.old.alloc) }
+    ensures room { (region.new.capacity ≡ region.old.capacity)
+        × (region.new.alloc ≡ region.old.alloc) }
 {
     let mut next = count;
     for word in words {
@@ -29,7 +31,8 @@ pub(crate) fn append_marked(region: &mut Region<Global>, words: &[u32], marks: &
     requires covered { length words.now ≤ BLOCK * length marks.now }
     requires marked { AreMarked marks.now words.now }
     ensures words { region.new.words ≡ words.now }
-    ensures room { (region.new.capacity ≡ region.old.capacity) × (region.new.alloc ≡ region.old.alloc) }
+    ensures room { (region.new.capacity ≡ region.old.capacity)
+        × (region.new.alloc ≡ region.old.alloc) }
 {
     for block in 0..words.len().div_ceil(BLOCK) {
         let first = block * BLOCK;
@@ -47,7 +50,8 @@ pub(crate) fn append_zeros(region: &mut Region<Global>, count: u32, n: u32)
     requires fits { (count ≡ length region.old.words) × (count + n ≤ region.old.capacity) }
     requires bound { region.old.capacity ≤ MOST_WORDS }
     ensures words { region.new.words ≡ region.old.words ++ replicate n 0 }
-    ensures room { (region.new.capacity ≡ region.old.capacity) × (region.new.alloc ≡ region.old.alloc) }
+    ensures room { (region.new.capacity ≡ region.old.capacity)
+        × (region.new.alloc ≡ region.old.alloc) }
 {
     for i in 0..n {
         region.append(count + i, 0);
@@ -59,8 +63,10 @@ pub(crate) fn set_count(region: &mut Region<Global>, count: u32, wanted: u32)
     requires there { (count ≡ length region.old.words) × (count ≤ region.old.capacity) }
     requires fits { wanted ≤ region.old.capacity }
     requires bound { region.old.capacity ≤ MOST_WORDS }
-    ensures words { region.new.words ≡ take wanted region.old.words ++ replicate (wanted - count) 0 }
-    ensures room { (region.new.capacity ≡ region.old.capacity) × (region.new.alloc ≡ region.old.alloc) }
+    ensures words { region.new.words
+        ≡ take wanted region.old.words ++ replicate (wanted - count) 0 }
+    ensures room { (region.new.capacity ≡ region.old.capacity)
+        × (region.new.alloc ≡ region.old.alloc) }
 {
     if wanted <= count {
         region.truncate(count, wanted);

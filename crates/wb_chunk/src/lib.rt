@@ -4,7 +4,8 @@
 //! pointer. What words mean stands in the crates above.
 #![tactic(auto)]
 
-ghost use Rattle.std.specs.Prelude.{◌≡◌, ◌+◌, ◌*◌, ◌^◌, ◌<◌, ◌≤◌, [], ◌++◌, length, replicate, slice_index, slice_set, slice_range, IfOk, IsOk, OnOk, OnErr};
+ghost use Rattle.std.specs.Prelude.{◌≡◌, ◌+◌, ◌*◌, ◌^◌, ◌<◌, ◌≤◌, [], ◌++◌, length, replicate, slice_index, slice_set};
+ghost use Rattle.std.specs.Prelude.{slice_range, IfOk, IsOk, OnOk, OnErr};
 ghost use Rattle.std.specs.List.{All, replace_range};
 ghost use Rattle.wb_chunk.specs.Halves.{half_of, halves_from, with_half, with_halves};
 
@@ -266,7 +267,8 @@ impl Chunk {
     pub fn copy(&mut self, from: u32, to: u32, n: u32)
         requires source { from + n ≤ length self.old }
         requires target { to + n ≤ length self.old }
-        ensures { self.new ≡ replace_range self.old to (to + n) (slice_range self.old from (from + n)) }
+        ensures { self.new
+            ≡ replace_range self.old to (to + n) (slice_range self.old from (from + n)) }
     {
         marks::mark(self.marks.as_mut_slice(), to as usize, (to + n) as usize);
         if let Some(region) = &mut self.region {

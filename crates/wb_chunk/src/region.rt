@@ -23,7 +23,8 @@ pub(crate) struct Region<A: Allocator> {
 }
 
 impl<A: Allocator> Model for Region<A> {
-    ghost also_owns = { λ r. block_with_items (A.dealloc_token r.alloc) u32 r.start (length r.words) r.capacity r.words };
+    ghost also_owns = { λ r. block_with_items (A.dealloc_token r.alloc) u32 r.start (length r.words)
+        r.capacity r.words };
 
     ghost also_shares = { λ r _ κ. lent_at (Array u32 (length r.words)) r.start r.words κ };
 }
@@ -33,7 +34,8 @@ impl<A: Allocator> Region<A> {
 
     /// A block with room for `capacity` words, none of which is written.
     pub(crate) fn allocate(alloc: &A, capacity: u32) -> Result<Region<A>, AllocError>
-        ensures { IfOk result (λ r. (r.words ≡ []) × (r.capacity ≡ capacity) × (r.alloc ≡ alloc.now)) }
+        ensures { IfOk result (λ r.
+            (r.words ≡ []) × (r.capacity ≡ capacity) × (r.alloc ≡ alloc.now)) }
     {
         match alloc.allocate(capacity as usize * 4, 4) {
             Ok(block) => Ok(Region {
@@ -56,7 +58,8 @@ impl<A: Allocator> Region<A> {
     /// Writes a word behind the others.
     pub(crate) fn append(&mut self, count: u32, word: u32)
         requires { (count ≡ length self.old.words) × (count < self.old.capacity) }
-        ensures { (self.new.words ≡ self.old.words ++ word ∷ []) × (self.new.capacity ≡ self.old.capacity) × (self.new.alloc ≡ self.old.alloc) }
+        ensures { (self.new.words ≡ self.old.words ++ word ∷ [])
+            × (self.new.capacity ≡ self.old.capacity) × (self.new.alloc ≡ self.old.alloc) }
     {
         unsafe { self.start.add(count as usize).write(word) }
     }

@@ -4,7 +4,8 @@ ghost use Rattle.std.specs.Prelude.{◌≡◌, ◌+◌, ◌^◌, ◌<◌, nat_eq
 ghost use Rattle.std.specs.Prelude.{option_map, IfErr, IfNone, IfOk, IfSome, IsOk, OnErr, OnOk, OnSome};
 ghost use Rattle.wb_cleanup.specs.Pushes.{growth, GrowthLeaves, IsButForWords, IsFree, IsUnchanged};
 ghost use Rattle.wb_cleanup.specs.Pushes.{KeepsItems, PushLeaves, RoomLeaves};
-ghost use Rattle.wb_cleanup.specs.Stacks.{IsPopped, IsStack, cell_of, count_of, expected_refusal, items_of, newest_above, pop_refusal, slots_of};
+ghost use Rattle.wb_cleanup.specs.Stacks.{IsPopped, IsStack, cell_of, count_of, expected_refusal, items_of};
+ghost use Rattle.wb_cleanup.specs.Stacks.{newest_above, pop_refusal, slots_of};
 ghost use Rattle.wb_model.specs.heap.Debug.{IsSoundDebug, alloc_made, gave_of};
 
 use crate::slots;
@@ -51,9 +52,11 @@ impl Cleanup {
     pub fn start(heap: &mut DebugHeap) -> Result<Option<Cleanup>, NoMemory>
         requires first { heap.old.attempts ≡ 0 }
         ensures made { OnOk result (heap.new ≡ (alloc_made heap.old 128 Kind.Cleanup).debug) }
-        ensures gave { IfOk result (λ started. gave_of (option_map cell_of started) ≡ (alloc_made heap.old 128 Kind.Cleanup).gave) }
+        ensures gave { IfOk result (λ started.
+            gave_of (option_map cell_of started) ≡ (alloc_made heap.old 128 Kind.Cleanup).gave) }
         ensures stands { IfOk result (λ started. IfSome started (λ stack. IsStack stack heap.new)) }
-        ensures empty { IfOk result (λ started. IfSome started (λ stack. items_of stack heap.new ≡ [])) }
+        ensures empty { IfOk result (λ started.
+            IfSome started (λ stack. items_of stack heap.new ≡ [])) }
         ensures slots { IfOk result (λ started. IfSome started (λ stack. slots_of stack ≡ 8)) }
         ensures err { OnErr result (heap.new ≡ heap.old) }
         ensures sound { IsSoundDebug heap.new }
@@ -183,7 +186,8 @@ impl Cleanup {
     /// What is done with the items is the caller's. Source: Symbian OS v9 SDK reference, CleanupStack::Pop, and this
     /// project's profile for the floor.
     pub fn pop(&mut self, floor: u32, n: u32) -> Result<(), Panic>
-        ensures refused { IfErr result (λ panic. pop_refusal floor n (count_of self.old) ≡ Some panic) }
+        ensures refused { IfErr result (λ panic.
+            pop_refusal floor n (count_of self.old) ≡ Some panic) }
         ensures fine { OnOk result (pop_refusal floor n (count_of self.old) ≡ None) }
         ensures popped { OnOk result (IsPopped n self.old self.new) }
         ensures err { OnErr result (self.new ≡ self.old) }
@@ -202,8 +206,10 @@ impl Cleanup {
     /// CleanupStack::Pop, and this project's profile for the floor and the panics.
     pub fn pop_expected(&mut self, heap: &DebugHeap, floor: u32, ptr: Ptr) -> Result<(), Panic>
         requires { IsStack self.old heap.now }
-        ensures refused { IfErr result (λ panic. expected_refusal floor ptr (items_of self.old heap.now) ≡ Some panic) }
-        ensures fine { OnOk result (expected_refusal floor ptr (items_of self.old heap.now) ≡ None) }
+        ensures refused { IfErr result (λ panic.
+            expected_refusal floor ptr (items_of self.old heap.now) ≡ Some panic) }
+        ensures fine { OnOk result (expected_refusal floor ptr (items_of self.old heap.now)
+            ≡ None) }
         ensures popped { OnOk result (IsPopped 1 self.old self.new) }
         ensures err { OnErr result (self.new ≡ self.old) }
     {

@@ -22,7 +22,8 @@ const CALL: u32 = 3;
 pub fn write(heap: &mut DebugHeap, cell: Ptr, slot: u32, item: Item)
     requires within { 4 * (slot + 1) ≤ length (payload_of cell heap.old.heap.row) }
     requires bounded { length (payload_of cell heap.old.heap.row) < 2 ^ 32 }
-    ensures written { heap.new ≡ debug_changed heap.old cell (with_words (4 * slot) (slot_words item) (payload_of cell heap.old.heap.row)) }
+    ensures written { heap.new ≡ debug_changed heap.old cell
+        (with_words (4 * slot) (slot_words item) (payload_of cell heap.old.heap.row)) }
     ensures item { IsItem item }
     ensures sound { IsSoundDebug heap.new }
 {

@@ -1,7 +1,8 @@
 //! How the words of a command line are read: `workbench run [--limit L | --fail N [--also J] | --every N] [--budget B]
 //! [--min M] [--step G] [--json] [FILE]`, the same with a flag `--every` or `--pairs` in the place of a rule after `sweep` and
 //! `check`, and with none of them after `size`. Nothing is opened or run here.
-ghost use Rattle.std.specs.Prelude.{◌≡◌, ◌≤◌, All, IfErr, IfOk, IsSome, IsTrue, List, Some, OnErr, OnOk, codes, false, map, true};
+ghost use Rattle.std.specs.Prelude.{◌≡◌, ◌≤◌, All, IfErr, IfOk, IsSome, IsTrue, List, Some, OnErr, OnOk, codes, false};
+ghost use Rattle.std.specs.Prelude.{map, true};
 ghost use Rattle.std.specs.Str.{IsUtf8};
 ghost use Rattle.clap.specs.Words.{Text, first_of, found_of, rows_of, takes};
 ghost use Rattle.wb_model.specs.heap.Space.{is_shape};
@@ -9,7 +10,11 @@ ghost use Rattle.wb_command_line.specs.Command.{is_answerable, is_in_range, is_s
 ghost use Rattle.wb_command_line.specs.CommandLine.{command_line, joined_level};
 ghost use Rattle.wb_command_line.specs.Fault.{IsAfterUsage, IsFaultOf, IsFaultOfOptions, IsFaultOfRule, IsFaultOfTask};
 ghost use Rattle.wb_command_line.specs.Passed.{RowsPass};
-ghost use Rattle.wb_command_line.specs.Spelled.{IsMeantBy, IsPairOf, IsSpelledBy, budget_of as spelled_budget, comes_before, disorders, doubles, failures_of as spelled_failures, first_rule_of, flag_of, gives_both_flags, gives_disorder, gives_several, rule_of as spelled_rule, shape_of as spelled_shape, task_of};
+ghost use Rattle.wb_command_line.specs.Spelled.{IsMeantBy, IsPairOf, IsSpelledBy, budget_of as spelled_budget};
+ghost use Rattle.wb_command_line.specs.Spelled.{comes_before, disorders, doubles, failures_of as spelled_failures};
+ghost use Rattle.wb_command_line.specs.Spelled.{first_rule_of, flag_of, gives_both_flags, gives_disorder};
+ghost use Rattle.wb_command_line.specs.Spelled.{gives_several, rule_of as spelled_rule, shape_of as spelled_shape};
+ghost use Rattle.wb_command_line.specs.Spelled.{task_of};
 ghost use Rattle.wb_command_line.specs.Subcommands.{subcommand_named};
 ghost use Rattle.wb_command_line.specs.WordByWord.{AreRead};
 

@@ -27,7 +27,8 @@ impl DebugHeap {
     pub fn mark_end(&mut self, n: u32) -> Result<(), Panic>
         ensures refused { IfErr result (λ panic. mark_end_refusal self.old.heap n ≡ Some panic) }
         ensures fine { OnOk result (mark_end_refusal self.old.heap n ≡ None) }
-        ensures closed { OnOk result (self.new ≡ record self.old { heap = after_mark_end self.old.heap }) }
+        ensures closed { OnOk result (self.new
+            ≡ record self.old { heap = after_mark_end self.old.heap }) }
         ensures err { OnErr result (self.new ≡ self.old) }
         ensures sound { IsSoundDebug self.new }
     {

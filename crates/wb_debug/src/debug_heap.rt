@@ -1,9 +1,12 @@
 //! The debug heap: attempts and releases. Marks stand in `checks`, what is to fail in `failing`, notes in `notes`, headers and
 //! the words of payloads in `payloads`, and the cells in the crate below.
 
-ghost use Rattle.std.specs.Prelude.{◌≡◌, ◌≢◌, ◌+◌, ◌^◌, ◌<◌, ◌≤◌, ◌↔◌, [], false, true, None, Some, is_some, length, option_map, IfOk, IfErr, IfSome, IsOk, IsErr, IsOkAnd, IsSome, OnOk, OnErr};
+ghost use Rattle.std.specs.Prelude.{◌≡◌, ◌≢◌, ◌+◌, ◌^◌, ◌<◌, ◌≤◌, ◌↔◌, [], false, true, None, Some, is_some, length};
+ghost use Rattle.std.specs.Prelude.{option_map, IfOk, IfErr, IfSome, IsOk, IsErr, IsOkAnd, IsSome, OnOk, OnErr};
 ghost use Rattle.wb_debug.specs.Log.{IsTakenBack};
-ghost use Rattle.wb_model.specs.heap.Debug.{IsSoundDebug, alloc_made, answer_in, debug_without, first_debug, first_debug_of, leaks_of_heap, keeps_rises, trace_line, number_of_next, realloc_made, release_refusal};
+ghost use Rattle.wb_model.specs.heap.Debug.{IsSoundDebug, alloc_made, answer_in, debug_without, first_debug};
+ghost use Rattle.wb_model.specs.heap.Debug.{first_debug_of, leaks_of_heap, keeps_rises, trace_line, number_of_next};
+ghost use Rattle.wb_model.specs.heap.Debug.{realloc_made, release_refusal};
 ghost use Rattle.wb_model.specs.heap.Heap.{alloc_request, realloc_request, request_at};
 ghost use Rattle.wb_model.specs.runs.Rises.{first_rises};
 ghost use Rattle.wb_model.specs.heap.Row.{cell_at, cell_length};
@@ -68,7 +71,8 @@ impl DebugHeap {
     pub fn new(alloc: Global, rule: Rule, shape: Shape) -> Result<DebugHeap, DebugFault>
         ensures ok { IfOk result (λ heap. heap ≡ first_debug rule shape) }
         ensures shape { (result ≡ Err DebugFault.BadShape) ↔ (is_shape shape ≡ false) }
-        ensures no_growth { (first_debug rule shape).committed ≡ 0 → result ≢ Err DebugFault.NoMemory }
+        ensures no_growth { (first_debug rule shape).committed ≡ 0 →
+            result ≢ Err DebugFault.NoMemory }
         ensures sound { IfOk result IsSoundDebug }
     {
         with_log(alloc, rule, shape, Log::of_lines(alloc))
@@ -81,7 +85,8 @@ impl DebugHeap {
     pub fn new_rises(alloc: Global, shape: Shape) -> Result<DebugHeap, DebugFault>
         ensures ok { IfOk result (λ heap. heap ≡ first_debug_of true Unlimited shape) }
         ensures shape { (result ≡ Err DebugFault.BadShape) ↔ (is_shape shape ≡ false) }
-        ensures no_growth { (first_debug Unlimited shape).committed ≡ 0 → result ≢ Err DebugFault.NoMemory }
+        ensures no_growth { (first_debug Unlimited shape).committed ≡ 0 →
+            result ≢ Err DebugFault.NoMemory }
         ensures sound { IfOk result IsSoundDebug }
     {
         with_log(alloc, Rule::Unlimited, shape, Log::of_rises(alloc))
@@ -263,10 +268,14 @@ impl DebugHeap {
         requires live { IsSome (cell_at ptr self.old.heap.row) }
         requires bytes { bytes ≤ CEILING }
         requires number { self.old.attempts + 1 < 2 ^ 32 }
-        ensures gave { IfOk result (λ gave. IfSome (cell_at ptr self.old.heap.row) (λ c. gave ≡ (realloc_made self.old c bytes).gave)) }
-        ensures made { OnOk result (IfSome (cell_at ptr self.old.heap.row) (λ c. self.new ≡ (realloc_made self.old c bytes).debug)) }
-        ensures shorter { IfSome (cell_at ptr self.old.heap.row) (λ c. cell_length bytes ≤ c.head.length → IsOk result) }
-        ensures cut { IfSome (cell_at ptr self.old.heap.row) (λ c. answer_in self.old (realloc_request self.old.heap c.head bytes) ≡ None → IsOk result) }
+        ensures gave { IfOk result (λ gave. IfSome (cell_at ptr self.old.heap.row) (λ c.
+            gave ≡ (realloc_made self.old c bytes).gave)) }
+        ensures made { OnOk result (IfSome (cell_at ptr self.old.heap.row) (λ c.
+            self.new ≡ (realloc_made self.old c bytes).debug)) }
+        ensures shorter { IfSome (cell_at ptr self.old.heap.row) (λ c.
+            cell_length bytes ≤ c.head.length → IsOk result) }
+        ensures cut { IfSome (cell_at ptr self.old.heap.row) (λ c.
+            answer_in self.old (realloc_request self.old.heap c.head bytes) ≡ None → IsOk result) }
         ensures quiet { keeps_rises self.old ≡ true → IfSome (cell_at ptr self.old.heap.row) (λ c.
             (realloc_made self.old c bytes).debug.rises ≡ self.old.rises → IsOk result) }
         ensures err { OnErr result (self.new ≡ self.old) }
@@ -302,8 +311,11 @@ impl DebugHeap {
     fn next_line(&self, len: u32, place: u32) -> Option<Attempt>
         requires number { self.now.attempts + 1 < 2 ^ 32 }
         requires end { place + len < 2 ^ 32 }
-        ensures answer { option_map (λ line. line.answer) result ≡ answer_in self.now (request_at self.now.heap place len) }
-        ensures line { IfSome result (λ line. line ≡ trace_line (number_of_next self.now) (request_at self.now.heap place len) line.answer) }
+        ensures answer { option_map (λ line. line.answer) result
+            ≡ answer_in self.now (request_at self.now.heap place len) }
+        ensures line { IfSome result (λ line. line
+            ≡ trace_line (number_of_next self.now) (request_at self.now.heap place len)
+            line.answer) }
     {
         let number = self.attempts + 1;
         let answer = answer(self.setting.is_due(), self.rule, number, place + len)?;

@@ -1,7 +1,8 @@
 //! How many cells there are of each level, and from which place on. Which cells these are is not known here.
 
 ghost use Rattle.std.specs.Prelude.{◌≡◌, ℕ, ◌≤◌, [], IfErr, IfOk, IfSome, OnOk, OnErr};
-ghost use Rattle.wb_debug.specs.LevelCounts.{IsAt, IsGapFor, SetsOnly, counted_at, lowered_at, no_cells, one_less, with_more};
+ghost use Rattle.wb_debug.specs.LevelCounts.{IsAt, IsGapFor, SetsOnly, counted_at, lowered_at, no_cells, one_less};
+ghost use Rattle.wb_debug.specs.LevelCounts.{with_more};
 
 use std::alloc::{AllocError, Global};
 use std::marker::Model;
@@ -121,7 +122,8 @@ impl LevelCounts {
     /// Counts some cells more of a level, none of which is below `lowest`. Where memory is refused, or they are more than a
     /// `u32` says, nothing changes.
     pub fn add(&mut self, level: u32, count: u32, lowest: u32) -> Result<(), NoMemory>
-        ensures ok { OnOk result (SetsOnly self.old self.new level (with_more (counted_at self.old level) count lowest)) }
+        ensures ok { OnOk result (SetsOnly self.old self.new level
+            (with_more (counted_at self.old level) count lowest)) }
         ensures err { OnErr result (self.new ≡ self.old) }
     {
         let Some(cells) = self.get(level).with_more(count, lowest) else {
@@ -132,7 +134,8 @@ impl LevelCounts {
 
     /// Counts a cell less of a level. Where memory is refused, nothing changes; it takes none for a level that has a cell.
     pub fn take(&mut self, level: u32) -> Result<(), NoMemory>
-        ensures ok { OnOk result (SetsOnly self.old self.new level (one_less (counted_at self.old level))) }
+        ensures ok { OnOk result
+            (SetsOnly self.old self.new level (one_less (counted_at self.old level))) }
         ensures err { OnErr result (self.new ≡ self.old) }
     {
         let cells = self.get(level);

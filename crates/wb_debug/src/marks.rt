@@ -94,10 +94,13 @@ fn lowest(heap: &Heap, levels: Levels, from: u32) -> u32
 /// lowest, where they are fewer or more.
 pub fn expect(heap: &Heap, tally: &Tally, levels: Levels, n: u32) -> Result<u32, Panic>
     requires { IsTally tally.now (headers heap.now.row) }
-    ensures refused { IfErr result (λ panic. checked (filter (is_counted levels) (headers heap.now.row)) n ≡ Some panic) }
-    ensures fine { OnOk result (checked (filter (is_counted levels) (headers heap.now.row)) n ≡ None) }
+    ensures refused { IfErr result (λ panic.
+        checked (filter (is_counted levels) (headers heap.now.row)) n ≡ Some panic) }
+    ensures fine { OnOk result (checked (filter (is_counted levels) (headers heap.now.row)) n
+        ≡ None) }
     ensures number { OnOk result (n ≡ number (is_counted levels) (headers heap.now.row)) }
-    ensures lowest { IfOk result (λ place. number (is_below (is_counted levels) place) (headers heap.now.row) ≡ 0) }
+    ensures lowest { IfOk result (λ place.
+        number (is_below (is_counted levels) place) (headers heap.now.row) ≡ 0) }
 {
     let (found, from) = count_and_lowest(heap, tally, levels);
     if found == n {
@@ -112,7 +115,8 @@ pub fn lower(heap: &mut Heap, level: u32, from: u32, n: u32)
     requires sound { IsSoundHeap heap.old }
     requires some { 1 ≤ level }
     requires number { n ≡ number (is_counted (Levels.One level)) (headers heap.old.row) }
-    requires lowest { number (is_below (is_counted (Levels.One level)) from) (headers heap.old.row) ≡ 0 }
+    requires lowest { number (is_below (is_counted (Levels.One level)) from) (headers heap.old.row)
+        ≡ 0 }
     ensures lowered { heap.new ≡ record heap.old { row = lowered level heap.old.row } }
     ensures sound { IsSoundHeap heap.new }
 {
@@ -132,7 +136,8 @@ pub fn lower(heap: &mut Heap, level: u32, from: u32, n: u32)
 
 /// The live cells but the cleanup stack's, by place.
 pub fn leaks(alloc: Global, heap: &Heap) -> Result<Leaks, NoMemory>
-    ensures { IfOk result (λ leaks. leaks ≡ map leak_of (cells_of_all_levels (headers heap.now.row))) }
+    ensures { IfOk result (λ leaks.
+        leaks ≡ map leak_of (cells_of_all_levels (headers heap.now.row))) }
 {
     let mut leaks = Items::new(alloc);
     let mut from = 0;

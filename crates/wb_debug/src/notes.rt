@@ -1,7 +1,8 @@
 //! Notes of the heap; their lengths are in bytes.
 
 ghost use Rattle.std.specs.Prelude.{◌≡◌};
-ghost use Rattle.wb_model.specs.heap.Debug.{IsSoundDebug, debug_compressed, note_of_available, note_of_compress, note_of_heap};
+ghost use Rattle.wb_model.specs.heap.Debug.{IsSoundDebug, debug_compressed, note_of_available, note_of_compress};
+ghost use Rattle.wb_model.specs.heap.Debug.{note_of_heap};
 
 use crate::debug_heap::DebugHeap;
 use wb_model::run::Note;

@@ -1,6 +1,7 @@
 //! Headers, and the words of payloads. Words and their halves are counted from 0; the half 2k is the low half of word k.
 
-ghost use Rattle.std.specs.Prelude.{◌≡◌, ◌+◌, ◌*◌, ◌<◌, ◌≤◌, ◌++◌, length, take, drop, replicate, slice_index, slice_set, option_map, IfSome, IsSome};
+ghost use Rattle.std.specs.Prelude.{◌≡◌, ◌+◌, ◌*◌, ◌<◌, ◌≤◌, ◌++◌, length, take, drop, replicate, slice_index};
+ghost use Rattle.std.specs.Prelude.{slice_set, option_map, IfSome, IsSome};
 ghost use Rattle.wb_chunk.specs.Halves.{half_of, halves_from, with_half, with_halves};
 ghost use Rattle.wb_model.specs.cells.CellRow.{payload_of};
 ghost use Rattle.wb_model.specs.heap.Debug.{IsLiveIn, IsSoundDebug, debug_changed};
@@ -15,7 +16,8 @@ impl DebugHeap {
     pub fn header(&self, ptr: Ptr) -> Option<Header>
         ensures header { result ≡ option_map (λ c. c.head) (cell_at ptr self.now.heap.row) }
         ensures live { IfSome result (IsLiveIn self.now) }
-        ensures payload { IfSome result (λ h. 4 * length (payload_of ptr self.now.heap.row) ≡ usable_of h) }
+        ensures payload { IfSome result (λ h.
+            4 * length (payload_of ptr self.now.heap.row) ≡ usable_of h) }
         ensures sound { IsSoundDebug self.now }
     {
         self.heap.header(ptr)
@@ -32,7 +34,8 @@ impl DebugHeap {
     /// Changes a word of a payload, and nothing else.
     pub fn set_payload(&mut self, ptr: Ptr, i: u32, v: u32)
         requires { i < length (payload_of ptr self.old.heap.row) }
-        ensures changed { self.new ≡ debug_changed self.old ptr (slice_set (payload_of ptr self.old.heap.row) i v) }
+        ensures changed { self.new
+            ≡ debug_changed self.old ptr (slice_set (payload_of ptr self.old.heap.row) i v) }
         ensures sound { IsSoundDebug self.new }
     {
         self.heap.set_payload(ptr, i, v);
@@ -49,7 +52,8 @@ impl DebugHeap {
     /// Changes a half of a payload's words, and nothing else.
     pub fn set_payload_half(&mut self, ptr: Ptr, i: u32, v: u16)
         requires { i < 2 * length (payload_of ptr self.old.heap.row) }
-        ensures changed { self.new ≡ debug_changed self.old ptr (with_half (payload_of ptr self.old.heap.row) i v) }
+        ensures changed { self.new
+            ≡ debug_changed self.old ptr (with_half (payload_of ptr self.old.heap.row) i v) }
         ensures sound { IsSoundDebug self.new }
     {
         self.heap.set_payload_half(ptr, i, v);
@@ -61,7 +65,9 @@ impl DebugHeap {
         requires to_live { IsSome (cell_at to self.old.heap.row) }
         requires source { n ≤ length (payload_of from self.old.heap.row) }
         requires target { n ≤ length (payload_of to self.old.heap.row) }
-        ensures changed { self.new ≡ debug_changed self.old to (take n (payload_of from self.old.heap.row) ++ drop n (payload_of to self.old.heap.row)) }
+        ensures changed { self.new
+            ≡ debug_changed self.old to (take n (payload_of from self.old.heap.row)
+            ++ drop n (payload_of to self.old.heap.row)) }
         ensures sound { IsSoundDebug self.new }
     {
         self.heap.copy_payload(from, to, n);
@@ -71,7 +77,8 @@ impl DebugHeap {
     pub fn zero_halves(&mut self, ptr: Ptr, i: u32, n: u32)
         requires live { IsSome (cell_at ptr self.old.heap.row) }
         requires within { i + n ≤ 2 * length (payload_of ptr self.old.heap.row) }
-        ensures changed { self.new ≡ debug_changed self.old ptr (with_halves (payload_of ptr self.old.heap.row) i (replicate n 0)) }
+        ensures changed { self.new ≡ debug_changed self.old ptr
+            (with_halves (payload_of ptr self.old.heap.row) i (replicate n 0)) }
         ensures sound { IsSoundDebug self.new }
     {
         self.heap.zero_halves(ptr, i, n);
@@ -81,7 +88,8 @@ impl DebugHeap {
     pub fn write_halves(&mut self, ptr: Ptr, i: u32, halves: &[u16])
         requires live { IsSome (cell_at ptr self.old.heap.row) }
         requires within { i + length halves.now ≤ 2 * length (payload_of ptr self.old.heap.row) }
-        ensures changed { self.new ≡ debug_changed self.old ptr (with_halves (payload_of ptr self.old.heap.row) i halves.now) }
+        ensures changed { self.new ≡ debug_changed self.old ptr
+            (with_halves (payload_of ptr self.old.heap.row) i halves.now) }
         ensures sound { IsSoundDebug self.new }
     {
         self.heap.write_halves(ptr, i, halves);
@@ -94,7 +102,9 @@ impl DebugHeap {
         requires to_live { IsSome (cell_at to self.old.heap.row) }
         requires source { fi + n ≤ 2 * length (payload_of from self.old.heap.row) }
         requires target { ti + n ≤ 2 * length (payload_of to self.old.heap.row) }
-        ensures changed { self.new ≡ debug_changed self.old to (with_halves (payload_of to self.old.heap.row) ti (halves_from (payload_of from self.old.heap.row) fi n)) }
+        ensures changed { self.new ≡ debug_changed self.old to
+            (with_halves (payload_of to self.old.heap.row) ti
+            (halves_from (payload_of from self.old.heap.row) fi n)) }
         ensures sound { IsSoundDebug self.new }
     {
         self.heap.copy_halves(from, fi, to, ti, n);

@@ -28,7 +28,8 @@ fn refusal(rule: Rule, number: u32, end: u32) -> Option<Answer>
 /// The answer to an attempt whose cell would end here, or none where the ceiling cuts the run. The script's own setting,
 /// which may be due, is asked before the rule.
 pub fn answer(due: bool, rule: Rule, number: u32, end: u32) -> Option<Answer>
-    ensures { result ≡ (if due then Some Answer.Simulated else unless_refused (refusal_of rule number end) end) }
+    ensures { result
+        ≡ (if due then Some Answer.Simulated else unless_refused (refusal_of rule number end) end) }
 {
     if due {
         return Some(Answer::Simulated);

@@ -78,7 +78,8 @@ impl Tally {
     /// One cell more.
     pub fn grant(&mut self, cell: Header)
         requires room { self.old.total + 1 < 2 ^ 32 }
-        ensures { (row more : List Header) → IsMore row more cell → IsTally self.old row → IsTally self.new more }
+        ensures { (row more : List Header) → IsMore row more cell → IsTally self.old row →
+            IsTally self.new more }
     {
         if has_level(cell.kind) {
             self.total += 1;
@@ -88,7 +89,8 @@ impl Tally {
 
     /// One cell less.
     pub fn release(&mut self, cell: Header)
-        ensures { (row less : List Header) → IsMore less row cell → IsTally self.old row → IsTally self.new less }
+        ensures { (row less : List Header) → IsMore less row cell → IsTally self.old row →
+            IsTally self.new less }
     {
         if has_level(cell.kind) {
             self.total = self.total.saturating_sub(1);
@@ -98,8 +100,9 @@ impl Tally {
 
     /// A cell has another place; its level and its kind stay.
     pub fn put_at(&mut self, cell: Header, place: u32)
-        ensures { (row new : List Header) (moved : Header) → IsOther row new cell moved → moved.kind ≡ cell.kind → moved.level ≡ cell.level →
-            moved.place ≡ place → IsTally self.old row → IsTally self.new new }
+        ensures { (row new : List Header) (moved : Header) → IsOther row new cell moved →
+            moved.kind ≡ cell.kind → moved.level ≡ cell.level → moved.place ≡ place →
+            IsTally self.old row → IsTally self.new new }
     {
         if place < cell.place && has_level(cell.kind) {
             self.add(cell.level, 0, place);
@@ -109,7 +112,8 @@ impl Tally {
     /// Each cell of a level is of the level below.
     pub fn lower(&mut self, level: u32)
         requires { 1 ≤ level }
-        ensures { (row : List (Cell (List ℕ))) → IsTally self.old (headers row) → IsTally self.new (headers (lowered level row)) }
+        ensures { (row : List (Cell (List ℕ))) → IsTally self.old (headers row) →
+            IsTally self.new (headers (lowered level row)) }
     {
         self.join(level);
     }
@@ -118,7 +122,8 @@ impl Tally {
     fn join(&mut self, level: u32)
         requires { 1 ≤ level }
         ensures total { self.new.total ≡ self.old.total }
-        ensures joined { Edits (λ old new. (q : ℕ) → counted_at new q ≡ lowered_at old level q) self.old.levels self.new.levels }
+        ensures joined { Edits (λ old new. (q : ℕ) →
+            counted_at new q ≡ lowered_at old level q) self.old.levels self.new.levels }
     {
         if let Some(levels) = &mut self.levels {
             if levels.lower(level).is_err() {
@@ -130,7 +135,8 @@ impl Tally {
     /// Counts some cells more of a level, none of which is below `lowest`.
     fn add(&mut self, level: u32, count: u32, lowest: u32)
         ensures total { self.new.total ≡ self.old.total }
-        ensures added { Edits (λ old new. SetsOnly old new level (with_more (counted_at old level) count lowest)) self.old.levels self.new.levels }
+        ensures added { Edits (λ old new. SetsOnly old new level
+            (with_more (counted_at old level) count lowest)) self.old.levels self.new.levels }
     {
         if let Some(levels) = &mut self.levels {
             if levels.add(level, count, lowest).is_err() {
@@ -142,7 +148,8 @@ impl Tally {
     /// Counts a cell less of a level.
     fn take(&mut self, level: u32)
         ensures total { self.new.total ≡ self.old.total }
-        ensures taken { Edits (λ old new. SetsOnly old new level (one_less (counted_at old level))) self.old.levels self.new.levels }
+        ensures taken { Edits (λ old new. SetsOnly old new level (one_less (counted_at old level)))
+            self.old.levels self.new.levels }
     {
         if let Some(levels) = &mut self.levels {
             if levels.take(level).is_err() {

@@ -1,8 +1,10 @@
 //! The calls on texts in cells, and the edit of a buffer that may read one.
 
-ghost use Rattle.std.specs.Prelude.{◌≡◌, ◌+◌, ◌*◌, ◌^◌, ◌<◌, ◌≤◌, ◌++◌, [], length, take, None, IfOk, IfSome, IsOk, OnErr, OnOk};
+ghost use Rattle.std.specs.Prelude.{◌≡◌, ◌+◌, ◌*◌, ◌^◌, ◌<◌, ◌≤◌, ◌++◌, [], length, take, None, IfOk, IfSome, IsOk};
+ghost use Rattle.std.specs.Prelude.{OnErr, OnOk};
 ghost use Rattle.wb_hbuf.specs.Drafts.{IsEdited, IsMeasured};
-ghost use Rattle.wb_hbuf.specs.Sources.{IsApart, IsForeign, IsReadableAlone, IsSource, SuitsEdit, cell_edited, edit_text, source_units};
+ghost use Rattle.wb_hbuf.specs.Sources.{IsApart, IsForeign, IsReadableAlone, IsSource, SuitsEdit, cell_edited};
+ghost use Rattle.wb_hbuf.specs.Sources.{edit_text, source_units};
 ghost use Rattle.wb_model.specs.heap.Debug.{IsSoundDebug, alloc_made, answer_in, realloc_made};
 ghost use Rattle.wb_model.specs.heap.Heap.{alloc_request, realloc_request};
 ghost use Rattle.wb_model.specs.meaning.Reading.{printed, printed_unit};
@@ -31,7 +33,8 @@ pub fn make(heap: &mut DebugHeap, n: u32) -> Result<Gave, NoMemory>
     requires number { heap.old.attempts + 1 < 2 ^ 32 }
     ensures gave { IfOk result (λ gave. gave ≡ (alloc_made heap.old (4 + 2 * n) Kind.Text).gave) }
     ensures made { OnOk result (heap.new ≡ (alloc_made heap.old (4 + 2 * n) Kind.Text).debug) }
-    ensures cut { answer_in heap.old (alloc_request heap.old.heap (4 + 2 * n)) ≡ None → IsOk result }
+    ensures cut { answer_in heap.old (alloc_request heap.old.heap (4 + 2 * n)) ≡ None →
+        IsOk result }
     ensures empty { IfOk result (IsGrantedText heap.new []) }
     ensures err { OnErr result (heap.new ≡ heap.old) }
     ensures sound { IsSoundDebug heap.new }
@@ -49,11 +52,16 @@ pub fn remake(heap: &mut DebugHeap, ptr: Ptr, n: u32) -> Result<Gave, NoMemory>
     requires fits { length (text_at ptr heap.old) ≤ n }
     requires units { n ≤ MOST_UNITS }
     requires number { heap.old.attempts + 1 < 2 ^ 32 }
-    ensures gave { IfOk result (λ gave. IfSome (cell_at ptr heap.old.heap.row) (λ c. gave ≡ (realloc_made heap.old c (4 + 2 * n)).gave)) }
-    ensures made { OnOk result (IfSome (cell_at ptr heap.old.heap.row) (λ c. heap.new ≡ (realloc_made heap.old c (4 + 2 * n)).debug)) }
+    ensures gave { IfOk result (λ gave. IfSome (cell_at ptr heap.old.heap.row) (λ c.
+        gave ≡ (realloc_made heap.old c (4 + 2 * n)).gave)) }
+    ensures made { OnOk result (IfSome (cell_at ptr heap.old.heap.row) (λ c.
+        heap.new ≡ (realloc_made heap.old c (4 + 2 * n)).debug)) }
     ensures kept { IfOk result (IsRemadeText heap.new ptr (text_at ptr heap.old)) }
-    ensures shorter { IfSome (cell_at ptr heap.old.heap.row) (λ c. cell_length (4 + 2 * n) ≤ c.head.length → IsOk result) }
-    ensures cut { IfSome (cell_at ptr heap.old.heap.row) (λ c. answer_in heap.old (realloc_request heap.old.heap c.head (4 + 2 * n)) ≡ None → IsOk result) }
+    ensures shorter { IfSome (cell_at ptr heap.old.heap.row) (λ c.
+        cell_length (4 + 2 * n) ≤ c.head.length → IsOk result) }
+    ensures cut { IfSome (cell_at ptr heap.old.heap.row) (λ c.
+        answer_in heap.old (realloc_request heap.old.heap c.head (4 + 2 * n)) ≡ None →
+        IsOk result) }
     ensures err { OnErr result (heap.new ≡ heap.old) }
     ensures sound { IsSoundDebug heap.new }
 {
@@ -108,9 +116,11 @@ pub fn edit(heap: &mut DebugHeap, ptr: Ptr, change: Edit, source: Source) -> Res
     requires apart { IsApart ptr source }
     requires suits { SuitsEdit change source }
     ensures answer { result ≡ answer_of (cell_edited heap.old ptr change source.entry) }
-    ensures changed { heap.new ≡ debug_edited heap.old ptr (cell_edited heap.old ptr change source.entry) }
+    ensures changed { heap.new
+        ≡ debug_edited heap.old ptr (cell_edited heap.old ptr change source.entry) }
     ensures text { IsTextAt ptr heap.new }
-    ensures now { OnOk result (cell_edited heap.old ptr change source.entry ≡ Ok (text_at ptr heap.new)) }
+    ensures now { OnOk result (cell_edited heap.old ptr change source.entry
+        ≡ Ok (text_at ptr heap.new)) }
     ensures sound { IsSoundDebug heap.new }
 {
     match change {
@@ -126,7 +136,9 @@ fn overwrite(heap: &mut DebugHeap, ptr: Ptr, at: u32, source: Source) -> Result<
     requires source { IsSource heap.old source }
     requires apart { IsApart ptr source }
     requires within { at ≤ length (text_at ptr heap.old) }
-    ensures { IsEdited ptr heap.old heap.new result (at_most (max_at ptr heap.old) (take at (text_at ptr heap.old) ++ source_units heap.old (text_at ptr heap.old) source.entry)) }
+    ensures { IsEdited ptr heap.old heap.new result
+        (at_most (max_at ptr heap.old) (take at (text_at ptr heap.old)
+        ++ source_units heap.old (text_at ptr heap.old) source.entry)) }
 {
     let text = measure(heap, ptr);
     let n = count(source);
@@ -142,7 +154,8 @@ fn append(heap: &mut DebugHeap, ptr: Ptr, source: Source) -> Result<(), Panic>
     requires text { IsTextAt ptr heap.old }
     requires source { IsSource heap.old source }
     requires apart { IsApart ptr source }
-    ensures { IsEdited ptr heap.old heap.new result (cell_edited heap.old ptr Edit.Append source.entry) }
+    ensures { IsEdited ptr heap.old heap.new result
+        (cell_edited heap.old ptr Edit.Append source.entry) }
 {
     let end = length(heap, ptr);
     overwrite(heap, ptr, end, source)
@@ -153,7 +166,8 @@ fn insert(heap: &mut DebugHeap, ptr: Ptr, at: u32, source: Source) -> Result<(),
     requires source { IsSource heap.old source }
     requires apart { IsApart ptr source }
     requires foreign { IsForeign source }
-    ensures { IsEdited ptr heap.old heap.new result (cell_edited heap.old ptr (Edit.Insert at) source.entry) }
+    ensures { IsEdited ptr heap.old heap.new result
+        (cell_edited heap.old ptr (Edit.Insert at) source.entry) }
 {
     let text = measure(heap, ptr);
     if text.length < at {
@@ -176,9 +190,11 @@ fn insert(heap: &mut DebugHeap, ptr: Ptr, at: u32, source: Source) -> Result<(),
 pub fn delete(heap: &mut DebugHeap, ptr: Ptr, position: u32, count: u32) -> Result<(), Panic>
     requires { IsTextAt ptr heap.old }
     ensures answer { result ≡ answer_of (delete_text (text_at ptr heap.old) position count) }
-    ensures changed { heap.new ≡ debug_edited heap.old ptr (delete_text (text_at ptr heap.old) position count) }
+    ensures changed { heap.new
+        ≡ debug_edited heap.old ptr (delete_text (text_at ptr heap.old) position count) }
     ensures text { IsTextAt ptr heap.new }
-    ensures now { OnOk result (delete_text (text_at ptr heap.old) position count ≡ Ok (text_at ptr heap.new)) }
+    ensures now { OnOk result (delete_text (text_at ptr heap.old) position count
+        ≡ Ok (text_at ptr heap.new)) }
     ensures sound { IsSoundDebug heap.new }
 {
     let text = measure(heap, ptr);
@@ -203,10 +219,13 @@ pub fn delete(heap: &mut DebugHeap, ptr: Ptr, position: u32, count: u32) -> Resu
 /// Symbian OS v9 SDK reference, 16-bit descriptors.
 pub fn set_length(heap: &mut DebugHeap, ptr: Ptr, n: u32) -> Result<(), Panic>
     requires { IsTextAt ptr heap.old }
-    ensures answer { result ≡ answer_of (set_length_text (max_at ptr heap.old) (text_at ptr heap.old) n) }
-    ensures changed { heap.new ≡ debug_edited heap.old ptr (set_length_text (max_at ptr heap.old) (text_at ptr heap.old) n) }
+    ensures answer { result
+        ≡ answer_of (set_length_text (max_at ptr heap.old) (text_at ptr heap.old) n) }
+    ensures changed { heap.new ≡ debug_edited heap.old ptr
+        (set_length_text (max_at ptr heap.old) (text_at ptr heap.old) n) }
     ensures text { IsTextAt ptr heap.new }
-    ensures now { OnOk result (set_length_text (max_at ptr heap.old) (text_at ptr heap.old) n ≡ Ok (text_at ptr heap.new)) }
+    ensures now { OnOk result (set_length_text (max_at ptr heap.old) (text_at ptr heap.old) n
+        ≡ Ok (text_at ptr heap.new)) }
     ensures sound { IsSoundDebug heap.new }
 {
     if measure(heap, ptr).max < n {
@@ -225,8 +244,10 @@ pub fn set_length(heap: &mut DebugHeap, ptr: Ptr, n: u32) -> Result<(), Panic>
 pub fn edit_buf(heap: &DebugHeap, buf: &mut Buf, change: Edit, source: Source) -> Result<(), Panic>
     requires source { IsSource heap.now source }
     requires suits { SuitsEdit change source }
-    ensures text { buf.new ≡ edited buf.old (edit_text change buf.old.max buf.old.units (source_units heap.now buf.old.units source.entry)) }
-    ensures answer { result ≡ answer_of (edit_text change buf.old.max buf.old.units (source_units heap.now buf.old.units source.entry)) }
+    ensures text { buf.new ≡ edited buf.old (edit_text change buf.old.max buf.old.units
+        (source_units heap.now buf.old.units source.entry)) }
+    ensures answer { result ≡ answer_of (edit_text change buf.old.max buf.old.units
+        (source_units heap.now buf.old.units source.entry)) }
 {
     match source {
         Source::Own(from, count) => {
@@ -250,8 +271,10 @@ pub fn edit_buf(heap: &DebugHeap, buf: &mut Buf, change: Edit, source: Source) -
 /// Changes a buffer by a part of another text.
 fn edit_by(buf: &mut Buf, change: Edit, part: Part) -> Result<(), Panic>
     requires { IsReadableAlone part.heap.now part.source }
-    ensures text { buf.new ≡ edited buf.old (edit_text change buf.old.max buf.old.units (source_units part.entry.heap.now [] part.entry.source)) }
-    ensures answer { result ≡ answer_of (edit_text change buf.old.max buf.old.units (source_units part.entry.heap.now [] part.entry.source)) }
+    ensures text { buf.new ≡ edited buf.old (edit_text change buf.old.max buf.old.units
+        (source_units part.entry.heap.now [] part.entry.source)) }
+    ensures answer { result ≡ answer_of (edit_text change buf.old.max buf.old.units
+        (source_units part.entry.heap.now [] part.entry.source)) }
 {
     match change {
         Edit::Copy => buf.copy(&part),

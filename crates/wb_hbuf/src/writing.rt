@@ -23,7 +23,8 @@ pub fn write_units(heap: &mut DebugHeap, ptr: Ptr, at: u32, source: Source)
     requires source { IsSource heap.old source }
     requires apart { IsApart ptr source }
     requires room { at + count_of source ≤ room_in (length (payload_of ptr heap.old.heap.row)) }
-    ensures { IsPut ptr heap.old heap.new at (source_units heap.old (text_at ptr heap.old) source.entry) }
+    ensures { IsPut ptr heap.old heap.new at
+        (source_units heap.old (text_at ptr heap.old) source.entry) }
 {
     match source {
         Source::Literal(chars, from, count) => write_literal(heap, ptr, at, chars, from, count),
@@ -82,7 +83,8 @@ pub fn open_gap(heap: &mut DebugHeap, ptr: Ptr, at: u32, gap: u32)
     requires units { HasUnits ptr heap.old }
     requires most { 2 * length (payload_of ptr heap.old.heap.row) < 2 ^ 32 }
     requires within { at ≤ length (text_at ptr heap.old) }
-    requires room { length (text_at ptr heap.old) + gap ≤ room_in (length (payload_of ptr heap.old.heap.row)) }
+    requires room { length (text_at ptr heap.old) + gap
+        ≤ room_in (length (payload_of ptr heap.old.heap.row)) }
     ensures draft { IsPut ptr heap.old heap.new (at + gap) (drop at (text_at ptr heap.old)) }
     ensures sound { IsSoundDebug heap.new }
 {
@@ -96,7 +98,8 @@ pub fn settle(heap: &mut DebugHeap, ptr: Ptr, n: u32)
     requires most { 2 * length (payload_of ptr heap.old.heap.row) < 2 ^ 32 }
     requires room { n ≤ room_in (length (payload_of ptr heap.old.heap.row)) }
     ensures draft { let words = payload_of ptr heap.old.heap.row in
-        IsDraft ptr heap.old heap.new n (put n (replicate (slice_index words 0 - n) 0) (units_after words)) }
+        IsDraft ptr heap.old heap.new n (put n (replicate (slice_index words 0
+        - n) 0) (units_after words)) }
     ensures sound { IsSoundDebug heap.new }
 {
     let len = heap.payload(ptr, 0);

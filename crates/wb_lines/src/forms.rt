@@ -4,10 +4,13 @@ ghost use Rattle.std.specs.Prelude.{◌≡◌, ◌<◌, ℕ, [], ◌∷◌, ◌+
 ghost use Rattle.std.specs.Option.{option_and_then, option_map};
 ghost use Rattle.std.specs.Str.{bytes_eq};
 ghost use Rattle.wb_model.specs.declared.script_lines.Operand.TheVariants.{Name, Number, Literal};
-ghost use Rattle.wb_model.specs.language.Forms.{renamed_parameter_type, size_of, field_of, parameter_of, operand_as, operand_among, operand_of, operands_of, operands_if, form_in, form_of, forms_of, line_form, begins_comment, role_of_form};
+ghost use Rattle.wb_model.specs.language.Forms.{renamed_parameter_type, size_of, field_of, parameter_of, operand_as};
+ghost use Rattle.wb_model.specs.language.Forms.{operand_among, operand_of, operands_of, operands_if, form_in, form_of};
+ghost use Rattle.wb_model.specs.language.Forms.{forms_of, line_form, begins_comment, role_of_form};
 ghost use Rattle.wb_model.specs.declared.script_lines.WordKind.TheVariants as kind;
 ghost use Rattle.wb_model.specs.language.LineKinds.{line_kinds, operand_places_with, operand_places_for, text_of};
-ghost use Rattle.wb_lines.specs.BytesOf.{bytes_of_text, bytes_of_texts, bytes_of_operand, bytes_of_operands, bytes_of_form, bytes_of_forms};
+ghost use Rattle.wb_lines.specs.BytesOf.{bytes_of_text, bytes_of_texts, bytes_of_operand, bytes_of_operands};
+ghost use Rattle.wb_lines.specs.BytesOf.{bytes_of_form, bytes_of_forms};
 
 use crate::first_bytes::line_kinds_with_first;
 use crate::line_kinds::{OperandPlaces, role_of, text_of, word_kinds};
@@ -26,7 +29,8 @@ use wb_model::script_lines::{
 
 /// A name, where there is one.
 fn name_operand<'a>(name: Option<&'a [u8]>) -> Option<Operand<&'a [u8]>>
-    ensures { option_map bytes_of_operand result ≡ option_map Name (option_map bytes_of_text name.entry) }
+    ensures { option_map bytes_of_operand result
+        ≡ option_map Name (option_map bytes_of_text name.entry) }
 {
     match name {
         Some(name) => Some(Operand::Name(name)),
@@ -36,7 +40,8 @@ fn name_operand<'a>(name: Option<&'a [u8]>) -> Option<Operand<&'a [u8]>>
 
 /// A field, where there is what holds a pointer and the field's own name.
 fn field_operand<'a>(base: Option<&'a [u8]>, field: Option<&'a [u8]>) -> Option<Operand<&'a [u8]>>
-    ensures { option_map bytes_of_operand result ≡ field_of (option_map bytes_of_text base.entry) (option_map bytes_of_text field.entry) }
+    ensures { option_map bytes_of_operand result
+        ≡ field_of (option_map bytes_of_text base.entry) (option_map bytes_of_text field.entry) }
 {
     match (base, field) {
         (Some(base), Some(field)) => Some(Operand::Field(base, field)),
@@ -66,7 +71,8 @@ fn size_operand<'a>(number: Option<i32>) -> Option<Operand<&'a [u8]>>
 
 /// A literal, where there is its text.
 fn literal_operand<'a>(text: Option<&'a [u8]>) -> Option<Operand<&'a [u8]>>
-    ensures { option_map bytes_of_operand result ≡ option_map Literal (option_map bytes_of_text text.entry) }
+    ensures { option_map bytes_of_operand result
+        ≡ option_map Literal (option_map bytes_of_text text.entry) }
 {
     match text {
         Some(text) => Some(Operand::Literal(text)),
@@ -79,7 +85,9 @@ fn parameter_operand<'a>(
     name: Option<&'a [u8]>,
     parameter_type: Option<ParameterType<&'a [u8]>>,
 ) -> Option<Operand<&'a [u8]>>
-    ensures { option_map bytes_of_operand result ≡ parameter_of (option_map bytes_of_text name.entry) (option_map (renamed_parameter_type bytes_of_text) parameter_type.entry) }
+    ensures { option_map bytes_of_operand result
+        ≡ parameter_of (option_map bytes_of_text name.entry)
+        (option_map (renamed_parameter_type bytes_of_text) parameter_type.entry) }
 {
     match (name, parameter_type) {
         (Some(name), Some(parameter_type)) => Some(Operand::Parameter(name, parameter_type)),
@@ -147,7 +155,11 @@ fn operand_at<'a>(
     index: usize,
     word: &'a [u8],
 ) -> Option<Operand<&'a [u8]>>
-    ensures { (count : ℕ) → index < count → option_and_then (λ operand_place. operand_of operand_place word.now) (slice_get (operand_places_with operand_places.fixed.now operand_places.rest count) index) ≡ option_map bytes_of_operand result }
+    ensures { (count : ℕ) → index < count →
+        option_and_then (λ operand_place.
+        operand_of operand_place word.now)
+        (slice_get (operand_places_with operand_places.fixed.now operand_places.rest count) index)
+        ≡ option_map bytes_of_operand result }
 {
     match operand_places.at(index) {
         Some(operand_place) => operand_of(operand_place, word),
@@ -161,9 +173,12 @@ fn operands_of<'a>(
     operand_places: OperandPlaces,
     words: &[&'a [u8]],
 ) -> Result<Option<Vec<Operand<&'a [u8]>>>, AllocError>
-    ensures operands { IfOk result (λ found.
-        option_map (λ o. bytes_of_operands o.items) found ≡ operands_of (operand_places_with operand_places.fixed.now operand_places.rest (length words.now)) (bytes_of_texts words.now)) }
-    ensures memory { IfErr result (λ _. length (operand_places_with operand_places.fixed.now operand_places.rest (length words.now)) ≡ length words.now) }
+    ensures operands { IfOk result (λ found. option_map (λ o. bytes_of_operands o.items) found
+        ≡ operands_of (operand_places_with operand_places.fixed.now operand_places.rest
+        (length words.now)) (bytes_of_texts words.now)) }
+    ensures memory { IfErr result (λ _.
+        length (operand_places_with operand_places.fixed.now operand_places.rest (length words.now))
+        ≡ length words.now) }
 {
     if !operand_places.admit(words.len()) {
         return Ok(None);
@@ -185,8 +200,9 @@ fn operands_if<'a>(
     first: &[u8],
     words: &[&'a [u8]],
 ) -> Result<Option<Vec<Operand<&'a [u8]>>>, AllocError>
-    ensures { IfOk result (λ found.
-        option_map (λ o. bytes_of_operands o.items) found ≡ operands_if (bytes_eq (text_of line_kind) first.now) line_kind (bytes_of_texts words.now)) }
+    ensures { IfOk result (λ found. option_map (λ o. bytes_of_operands o.items) found
+        ≡ operands_if (bytes_eq (text_of line_kind) first.now) line_kind
+        (bytes_of_texts words.now)) }
 {
     if are_same(text_of(line_kind), first) {
         operands_of(alloc, OperandPlaces::of(line_kind), words)
@@ -202,7 +218,8 @@ fn form_in<'a>(
     first: &[u8],
     words: &[&'a [u8]],
 ) -> Result<Form<&'a [u8]>, AllocError>
-    ensures { IfOk result (λ form. bytes_of_form form ≡ form_in line_kinds.now first.now (bytes_of_texts words.now)) }
+    ensures { IfOk result (λ form.
+        bytes_of_form form ≡ form_in line_kinds.now first.now (bytes_of_texts words.now)) }
 {
     for line_kind in line_kinds {
         match operands_if(alloc, *line_kind, first, words)? {
@@ -219,7 +236,8 @@ fn form_by_tables<'a>(
     first: &[u8],
     words: &[&'a [u8]],
 ) -> Result<Form<&'a [u8]>, AllocError>
-    ensures { IfOk result (λ form. bytes_of_form form ≡ form_in line_kinds first.now (bytes_of_texts words.now)) }
+    ensures { IfOk result (λ form.
+        bytes_of_form form ≡ form_in line_kinds first.now (bytes_of_texts words.now)) }
 {
     match first {
         [byte, ..] => form_in(alloc, line_kinds_with_first(*byte), first, words),
@@ -268,7 +286,8 @@ fn add_form<'a>(
     words: &mut Vec<&'a [u8]>,
     line: &'a [u8],
 ) -> Result<(), AllocError>
-    ensures { OnOk result (bytes_of_forms forms.new.items ≡ bytes_of_forms forms.old.items ++ line_form line.now ∷ []) }
+    ensures { OnOk result (bytes_of_forms forms.new.items
+        ≡ bytes_of_forms forms.old.items ++ line_form line.now ∷ []) }
 {
     add(forms, line_form(alloc, words, line)?)
 }
@@ -276,7 +295,8 @@ fn add_form<'a>(
 /// The forms of lines, one for each. It is never inlined: what is at hand for each line is the most that registers hold.
 #[inline(never)]
 pub fn forms<'a>(alloc: Global, lines: &[&'a [u8]]) -> Result<Vec<Form<&'a [u8]>>, AllocError>
-    ensures { IfOk result (λ found. bytes_of_forms found.items ≡ forms_of (bytes_of_texts lines.now)) }
+    ensures { IfOk result (λ found.
+        bytes_of_forms found.items ≡ forms_of (bytes_of_texts lines.now)) }
 {
     let mut found = Vec::with_capacity(alloc, lines.len())?;
     let mut words = Vec::new(alloc);

@@ -1,7 +1,8 @@
 //! The tables of the language: a row for each line kind, and one for each operand place. No line's meaning stands here.
 
 ghost use Rattle.std.specs.Prelude.{◌≡◌, ◌<◌, ℕ, length, nat_eq, slice_get};
-ghost use Rattle.wb_model.specs.language.LineKinds.{line_kinds, text_of, operand_places_of, rest_of, operand_places_with, operand_places_for, role_of, word_kinds};
+ghost use Rattle.wb_model.specs.language.LineKinds.{line_kinds, text_of, operand_places_of, rest_of};
+ghost use Rattle.wb_model.specs.language.LineKinds.{operand_places_with, operand_places_for, role_of, word_kinds};
 
 use wb_model::script_lines::{Keyword, LineKind, OperandPlace, Role, WordKind};
 
@@ -277,7 +278,8 @@ pub struct OperandPlaces {
 impl OperandPlaces {
     /// What the words behind this line kind are.
     pub fn of(line_kind: LineKind) -> OperandPlaces
-        ensures { (count : ℕ) → operand_places_with result.fixed.now result.rest count ≡ operand_places_for line_kind count }
+        ensures { (count : ℕ) → operand_places_with result.fixed.now result.rest count
+            ≡ operand_places_for line_kind count }
     {
         OperandPlaces {
             fixed: operand_places_of(line_kind),
@@ -287,7 +289,8 @@ impl OperandPlaces {
 
     /// The operand place of a word by its index; none where no such word stands behind the line kind.
     pub fn at(self, index: usize) -> Option<OperandPlace>
-        ensures { (count : ℕ) → index < count → slice_get (operand_places_with self.fixed.now self.rest count) index ≡ result }
+        ensures { (count : ℕ) → index < count →
+            slice_get (operand_places_with self.fixed.now self.rest count) index ≡ result }
     {
         if index < self.fixed.len() {
             Some(self.fixed[index])
@@ -298,7 +301,8 @@ impl OperandPlaces {
 
     /// Whether there may be so many words.
     pub fn admit(self, count: usize) -> bool
-        ensures { result ≡ nat_eq (length (operand_places_with self.fixed.now self.rest count)) count }
+        ensures { result
+            ≡ nat_eq (length (operand_places_with self.fixed.now self.rest count)) count }
     {
         match self.rest {
             None => count == self.fixed.len(),

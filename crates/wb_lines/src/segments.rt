@@ -43,7 +43,8 @@ fn quoted_after(quoted: bool, byte: u8) -> bool
 /// The first piece, and the bytes behind its end.
 fn first_segment<'a>(cut: Cut, bytes: &'a [u8]) -> (&'a [u8], &'a [u8])
     requires { bytes.now ≢ [] }
-    ensures pieces { pieces (ends_of cut) bytes.now ≡ result.0.now ∷ pieces (ends_of cut) result.1.now }
+    ensures pieces { pieces (ends_of cut) bytes.now
+        ≡ result.0.now ∷ pieces (ends_of cut) result.1.now }
     ensures shorter { length result.1.now < length bytes.now }
 {
     let mut quoted = false;
@@ -87,7 +88,8 @@ pub fn lines<'a>(alloc: Global, bytes: &'a [u8]) -> Result<Vec<&'a [u8]>, AllocE
 
 /// Appends the words of a line. A blank between quotes ends no word.
 pub fn add_words<'a>(words: &mut Vec<&'a [u8]>, line: &'a [u8]) -> Result<(), AllocError>
-    ensures { OnOk result (bytes_of_texts words.new.items ≡ bytes_of_texts words.old.items ++ words_of line.now) }
+    ensures { OnOk result (bytes_of_texts words.new.items
+        ≡ bytes_of_texts words.old.items ++ words_of line.now) }
 {
     let mut rest = line;
     while !rest.is_empty() {

@@ -5,7 +5,11 @@ ghost use Rattle.std.specs.List.{list_all, list_any};
 ghost use Rattle.std.specs.Option.{option_copied, option_map};
 ghost use Rattle.std.specs.Str.{bytes_eq};
 ghost use Rattle.wb_model.specs.language.Sound.{is_quotable};
-ghost use Rattle.wb_model.specs.language.Words.{is_letter, is_digit, is_name_byte, is_name, is_reserved, declared_name, used_name, length_before, before_first, after_first_of, digits_of, number_spelled, literal_spelled, base_name, field_name, parameter_type_after_colon, parameter_name, parameter_type_of_word, text_of_keyword};
+ghost use Rattle.wb_model.specs.language.Words.{is_letter, is_digit, is_name_byte, is_name, is_reserved, declared_name};
+ghost use Rattle.wb_model.specs.language.Words.{used_name, length_before, before_first, after_first_of, digits_of};
+ghost use Rattle.wb_model.specs.language.Words.{number_spelled, literal_spelled, base_name, field_name};
+ghost use Rattle.wb_model.specs.language.Words.{parameter_type_after_colon, parameter_name, parameter_type_of_word};
+ghost use Rattle.wb_model.specs.language.Words.{text_of_keyword};
 ghost use Rattle.wb_model.specs.language.Forms.{renamed_parameter_type};
 ghost use Rattle.wb_lines.specs.BytesOf.{bytes_of_text};
 
@@ -184,7 +188,8 @@ pub fn field_name<'a>(word: &'a [u8]) -> Option<&'a [u8]>
 
 /// What a parameter takes by the word behind its colon. Any name but `ptr` and `int` is that of a class.
 fn parameter_type_after_colon<'a>(word: &'a [u8]) -> Option<ParameterType<&'a [u8]>>
-    ensures { option_map (renamed_parameter_type bytes_of_text) result ≡ parameter_type_after_colon word.now }
+    ensures { option_map (renamed_parameter_type bytes_of_text) result
+        ≡ parameter_type_after_colon word.now }
 {
     if word == b"ptr".as_slice() {
         Some(ParameterType::Pointer)
@@ -207,7 +212,8 @@ pub fn parameter_name<'a>(word: &'a [u8]) -> Option<&'a [u8]>
 
 /// What the parameter takes that the word declares.
 pub fn parameter_type_of_word<'a>(word: &'a [u8]) -> Option<ParameterType<&'a [u8]>>
-    ensures { option_map (renamed_parameter_type bytes_of_text) result ≡ parameter_type_of_word word.now }
+    ensures { option_map (renamed_parameter_type bytes_of_text) result
+        ≡ parameter_type_of_word word.now }
 {
     parameter_type_after_colon(after_first_of(b':', word))
 }

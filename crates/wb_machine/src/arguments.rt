@@ -2,7 +2,8 @@
 
 ghost use Rattle.std.specs.Prelude.{◌≡◌, ℕ, ◌≤◌, List, ◌++◌, map, drop, vec_len, OnOk};
 ghost use Rattle.wb_model.specs.meaning.Texts.{Buffer};
-ghost use Rattle.wb_machine.specs.LocalValues.{value_of, values_stored, AreAscending, number_over, passed_over, values_over};
+ghost use Rattle.wb_machine.specs.LocalValues.{value_of, values_stored, AreAscending, number_over, passed_over};
+ghost use Rattle.wb_machine.specs.LocalValues.{values_over};
 
 use crate::locals::{Slot, Stored, push_slot};
 use crate::pointers::{ReadContext, pointer_over};
@@ -22,7 +23,8 @@ pub enum CallArguments<'b> {
 /// The number of an operand, over the locals of a frame.
 #[inline(always)]
 pub fn number_over(frame: &[Stored], operand: Number) -> i32
-    ensures { (buffers : List Buffer) → result ≡ number_over (values_stored buffers frame.now) operand }
+    ensures { (buffers : List Buffer) →
+        result ≡ number_over (values_stored buffers frame.now) operand }
 {
     match operand {
         Number::Constant(number) => number,
@@ -35,7 +37,9 @@ pub fn number_over(frame: &[Stored], operand: Number) -> i32
 
 /// What a parameter gets, over the caller's locals.
 fn argument_slot(context: ReadContext, frame: &[Stored], argument: Argument) -> Slot
-    ensures { (buffers : List Buffer) → value_of result ≡ passed_over context.entry.script.now context.entry.heap.now context.entry.this (values_stored buffers frame.now) argument }
+    ensures { (buffers : List Buffer) →
+        value_of result ≡ passed_over context.entry.script.now context.entry.heap.now
+        context.entry.this (values_stored buffers frame.now) argument }
 {
     match argument {
         Argument::Passed(pointer) => Slot::Pointer(pointer_over(context, frame, pointer)),
@@ -51,8 +55,13 @@ fn pass(
     arguments: &[Argument],
 ) -> Result<(), AllocError>
     requires { base ≤ vec_len slots.old }
-    ensures passed { (buffers : List Buffer) → OnOk result (values_stored buffers slots.new.items ≡ values_stored buffers slots.old.items ++ map (passed_over context.entry.script.now context.entry.heap.now context.entry.this (drop base (values_stored buffers slots.old.items))) arguments.now) }
-    ensures ascending { (end : ℕ) → AreAscending 0 end slots.old.items → AreAscending 0 end slots.new.items }
+    ensures passed { (buffers : List Buffer) →
+        OnOk result (values_stored buffers slots.new.items
+        ≡ values_stored buffers slots.old.items
+        ++ map (passed_over context.entry.script.now context.entry.heap.now context.entry.this
+        (drop base (values_stored buffers slots.old.items))) arguments.now) }
+    ensures ascending { (end : ℕ) → AreAscending 0 end slots.old.items →
+        AreAscending 0 end slots.new.items }
     ensures more { vec_len slots.old ≤ vec_len slots.new }
 {
     let end = slots.len();
@@ -71,8 +80,13 @@ pub fn hand(
     call_arguments: CallArguments,
 ) -> Result<(), AllocError>
     requires { base ≤ vec_len slots.old }
-    ensures call_arguments { (buffers : List Buffer) → OnOk result (values_stored buffers slots.new.items ≡ values_stored buffers slots.old.items ++ values_over context.entry.script.now context.entry.heap.now context.entry.this (drop base (values_stored buffers slots.old.items)) call_arguments.entry) }
-    ensures ascending { (end : ℕ) → AreAscending 0 end slots.old.items → AreAscending 0 end slots.new.items }
+    ensures call_arguments { (buffers : List Buffer) →
+        OnOk result (values_stored buffers slots.new.items
+        ≡ values_stored buffers slots.old.items
+        ++ values_over context.entry.script.now context.entry.heap.now context.entry.this
+        (drop base (values_stored buffers slots.old.items)) call_arguments.entry) }
+    ensures ascending { (end : ℕ) → AreAscending 0 end slots.old.items →
+        AreAscending 0 end slots.new.items }
     ensures more { vec_len slots.old ≤ vec_len slots.new }
 {
     match call_arguments {

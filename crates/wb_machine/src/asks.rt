@@ -6,7 +6,8 @@ ghost use Rattle.wb_model.specs.heap.Row.{cell_at, cell_length};
 ghost use Rattle.wb_model.specs.declared.limits.TheConstants.{LARGEST_REQUEST, MOST_UNITS, CEILING};
 ghost use Rattle.wb_model.specs.declared.script.Statement.TheViews.{out-Statement};
 ghost use Rattle.wb_machine.specs.Effects.{pointer_read, number_read};
-ghost use Rattle.wb_machine.specs.Asks.{cell_asks, text_asks, realloc_asks, realloc_text_asks, push_asks, effect_asks, statement_asks};
+ghost use Rattle.wb_machine.specs.Asks.{cell_asks, text_asks, realloc_asks, realloc_text_asks, push_asks, effect_asks};
+ghost use Rattle.wb_machine.specs.Asks.{statement_asks};
 
 use crate::operands::number_within;
 use crate::state::State;
@@ -52,7 +53,8 @@ impl State {
 
     /// Whether a reallocation of a source to `bytes` bytes asks for an attempt; of null it is an allocation.
     fn realloc_asks(&self, script: &Script, source: Pointer, bytes: Number) -> bool
-        ensures { result ≡ realloc_asks self.now (pointer_read script.now self.now source) (within LARGEST_REQUEST (number_read self.now bytes)) }
+        ensures { result ≡ realloc_asks self.now (pointer_read script.now self.now source)
+            (within LARGEST_REQUEST (number_read self.now bytes)) }
     {
         let ptr = self.pointer(script, source);
         match number_within(LARGEST_REQUEST, self.number(bytes)) {
@@ -63,7 +65,8 @@ impl State {
 
     /// Whether a reallocation of a source's text for `units` units asks for an attempt.
     fn realloc_text_asks(&self, script: &Script, source: Pointer, units: Number) -> bool
-        ensures { result ≡ realloc_text_asks self.now (pointer_read script.now self.now source) (within MOST_UNITS (number_read self.now units)) }
+        ensures { result ≡ realloc_text_asks self.now (pointer_read script.now self.now source)
+            (within MOST_UNITS (number_read self.now units)) }
     {
         let ptr = self.pointer(script, source);
         match number_within(MOST_UNITS, self.number(units)) {

@@ -31,7 +31,8 @@ impl State {
         requires level { self.old.debug.heap.level + 1 < 2 ^ 32 }
         requires stack { HasStack self.old }
         requires room { length self.old.items < self.old.slots }
-        ensures kept { IfOk result (λ ending. IsCarriedOut script.now floor (out-Statement first.now) self.old ending self.new) }
+        ensures kept { IfOk result (λ ending.
+            IsCarriedOut script.now floor (out-Statement first.now) self.old ending self.new) }
         ensures keeps { KeepsCount self.old self.new }
     {
         match first {
@@ -96,7 +97,8 @@ impl State {
         requires operands { operands_refusal self.old (out-Statement first.now) ≡ None }
         requires level { self.old.debug.heap.level + 1 < 2 ^ 32 }
         requires stack { HasStack self.old }
-        ensures kept { IsCarriedOut script.now floor (out-Statement first.now) self.old result self.new }
+        ensures kept { IsCarriedOut script.now floor (out-Statement first.now) self.old result
+            self.new }
         ensures keeps { KeepsCount self.old self.new }
     {
         match first {

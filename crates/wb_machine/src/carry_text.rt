@@ -24,7 +24,8 @@ impl State {
         requires statement { IsSimple script.now (out-Statement first.now) }
         requires operands { operands_refusal self.old (out-Statement first.now) ≡ None }
         requires number { MayAttempt self.old }
-        ensures kept { (floor : ℕ) → IfOk result (λ ending. IsCarriedOut script.now floor (out-Statement first.now) self.old ending self.new) }
+        ensures kept { (floor : ℕ) → IfOk result (λ ending.
+            IsCarriedOut script.now floor (out-Statement first.now) self.old ending self.new) }
         ensures keeps { KeepsCount self.old self.new }
     {
         match first {

@@ -7,7 +7,8 @@ ghost use Rattle.wb_model.specs.heap.Row.{cell_at, without};
 ghost use Rattle.wb_model.specs.heap.Heap.{is_cleanup};
 ghost use Rattle.wb_model.specs.meaning.Operands.{within};
 ghost use Rattle.wb_machine.specs.RunState.{with_debug};
-ghost use Rattle.wb_machine.specs.Effects.{pointer_read, number_read, refused_effect, given_effect, alloc_effect, realloc_within, realloc_effect, usable_effect, free_effect};
+ghost use Rattle.wb_machine.specs.Effects.{pointer_read, number_read, refused_effect, given_effect, alloc_effect};
+ghost use Rattle.wb_machine.specs.Effects.{realloc_within, realloc_effect, usable_effect, free_effect};
 ghost use Rattle.wb_machine.specs.Owed.{CarriesOut, KeepsCount, MayAttempt};
 
 use crate::locals::{NULL, Slot};
@@ -41,7 +42,8 @@ impl State {
         requires text { kind ≡ Text → 1 ≤ bytes }
         requires number { MayAttempt self.old }
         ensures gave { IfOk result (λ gave. gave ≡ (alloc_made self.old.debug bytes kind).gave) }
-        ensures made { OnOk result (self.new ≡ with_debug self.old (alloc_made self.old.debug bytes kind).debug) }
+        ensures made { OnOk result (self.new
+            ≡ with_debug self.old (alloc_made self.old.debug bytes kind).debug) }
         ensures err { OnErr result (self.new ≡ self.old) }
         ensures level { self.new.debug.heap.level ≡ self.old.debug.heap.level }
         ensures keeps { KeepsCount self.old self.new }
@@ -58,8 +60,10 @@ impl State {
         requires raw { IfSome (cell_at ptr self.old.debug.heap.row) (λ c. c.head.kind ≡ Raw) }
         requires bytes { bytes ≤ CEILING }
         requires number { MayAttempt self.old }
-        ensures gave { IfOk result (λ gave. IfSome (cell_at ptr self.old.debug.heap.row) (λ c. gave ≡ (realloc_made self.old.debug c bytes).gave)) }
-        ensures made { OnOk result (IfSome (cell_at ptr self.old.debug.heap.row) (λ c. self.new ≡ with_debug self.old (realloc_made self.old.debug c bytes).debug)) }
+        ensures gave { IfOk result (λ gave. IfSome (cell_at ptr self.old.debug.heap.row) (λ c.
+            gave ≡ (realloc_made self.old.debug c bytes).gave)) }
+        ensures made { OnOk result (IfSome (cell_at ptr self.old.debug.heap.row) (λ c.
+            self.new ≡ with_debug self.old (realloc_made self.old.debug c bytes).debug)) }
         ensures err { OnErr result (self.new ≡ self.old) }
         ensures keeps { KeepsCount self.old self.new }
     {
@@ -83,7 +87,8 @@ impl State {
     /// A target gets what an attempt gave.
     #[inline(always)]
     pub fn give(&mut self, target: &Pointer, refusal: Refusal, gave: Gave) -> Ending
-        ensures { CarriesOut self.old (given_effect self.old target.now refusal gave) result self.new }
+        ensures { CarriesOut self.old (given_effect self.old target.now refusal gave) result
+            self.new }
     {
         match gave {
             Gave::Granted(ptr) => {
@@ -104,7 +109,9 @@ impl State {
         refusal: Refusal,
     ) -> Result<Ending, NoMemory>
         requires number { MayAttempt self.old }
-        ensures effect { IfOk result (λ ending. CarriesOut self.old (alloc_effect self.old target.now refusal (number_read self.old bytes.now)) ending self.new) }
+        ensures effect { IfOk result (λ ending. CarriesOut self.old
+            (alloc_effect self.old target.now refusal (number_read self.old bytes.now)) ending
+            self.new) }
         ensures err { OnErr result (self.new ≡ self.old) }
         ensures keeps { KeepsCount self.old self.new }
     {
@@ -126,7 +133,9 @@ impl State {
         requires live { IsSome (cell_at ptr self.old.debug.heap.row) }
         requires raw { IfSome (cell_at ptr self.old.debug.heap.row) (λ c. c.head.kind ≡ Raw) }
         requires number { MayAttempt self.old }
-        ensures effect { IfOk result (λ ending. IfSome (cell_at ptr self.old.debug.heap.row) (λ c. CarriesOut self.old (realloc_within self.old target.now refusal c (within LARGEST_REQUEST (number_read self.old bytes.now))) ending self.new)) }
+        ensures effect { IfOk result (λ ending. IfSome (cell_at ptr self.old.debug.heap.row) (λ c.
+            CarriesOut self.old (realloc_within self.old target.now refusal c
+            (within LARGEST_REQUEST (number_read self.old bytes.now))) ending self.new)) }
         ensures err { OnErr result (self.new ≡ self.old) }
         ensures keeps { KeepsCount self.old self.new }
     {
@@ -148,7 +157,10 @@ impl State {
         refusal: Refusal,
     ) -> Result<Ending, NoMemory>
         requires number { MayAttempt self.old }
-        ensures effect { IfOk result (λ ending. CarriesOut self.old (realloc_effect self.old target.now refusal (pointer_read script.now self.old source.now) (number_read self.old bytes.now)) ending self.new) }
+        ensures effect { IfOk result (λ ending. CarriesOut self.old
+            (realloc_effect self.old target.now refusal
+            (pointer_read script.now self.old source.now) (number_read self.old bytes.now)) ending
+            self.new) }
         ensures err { OnErr result (self.new ≡ self.old) }
         ensures keeps { KeepsCount self.old self.new }
     {
@@ -167,7 +179,8 @@ impl State {
 
     /// A number local gets how many bytes of a cell are usable.
     pub fn alloc_len(&mut self, script: &Script, local: u8, pointer: &Pointer) -> Ending
-        ensures { CarriesOut self.old (usable_effect self.old local (pointer_read script.now self.old pointer.now)) result self.new }
+        ensures { CarriesOut self.old (usable_effect self.old local
+            (pointer_read script.now self.old pointer.now)) result self.new }
     {
         let Some(header) = self.heap.header(self.pointer(script, *pointer)) else {
             return Ending::Panics(Panic::BAD_CELL);
@@ -181,8 +194,10 @@ impl State {
     fn drop_cell(&mut self, ptr: Ptr)
         requires number { ptr.number ≢ 0 }
         requires live { IsSome (cell_at ptr self.old.debug.heap.row) }
-        requires other { IfSome (cell_at ptr self.old.debug.heap.row) (λ c. is_cleanup c.head.kind ≡ false) }
-        ensures { self.new ≡ with_debug self.old (with_row self.old.debug (without ptr self.old.debug.heap.row)) }
+        requires other { IfSome (cell_at ptr self.old.debug.heap.row) (λ c.
+            is_cleanup c.head.kind ≡ false) }
+        ensures { self.new
+            ≡ with_debug self.old (with_row self.old.debug (without ptr self.old.debug.heap.row)) }
     {
         match self.heap.release(ptr) {
             Ok(()) => {}
@@ -210,7 +225,8 @@ impl State {
     /// Releases the pointer of an operand.
     #[inline(never)]
     pub fn free(&mut self, script: &Script, pointer: &Pointer) -> Ending
-        ensures { CarriesOut self.old (free_effect self.old (pointer_read script.now self.old pointer.now)) result self.new }
+        ensures { CarriesOut self.old
+            (free_effect self.old (pointer_read script.now self.old pointer.now)) result self.new }
     {
         self.release(self.pointer(script, *pointer))
     }

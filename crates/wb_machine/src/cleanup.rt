@@ -11,7 +11,8 @@ ghost use Rattle.wb_cleanup.specs.Stacks.{expected_refusal, pop_refusal};
 ghost use Rattle.wb_machine.specs.RunState.{first_state, with_debug};
 ghost use Rattle.wb_model.specs.heap.Debug.{keeps_rises};
 ghost use Rattle.wb_machine.specs.Effects.{first_made, started_by, is_granted, number_read, pointer_read};
-ghost use Rattle.wb_machine.specs.CleanupEffects.{IsPushed, IsStackThere, growth_made, is_filled, pop_check_effect, pop_within, push_effect, without_newest};
+ghost use Rattle.wb_machine.specs.CleanupEffects.{IsPushed, IsStackThere, growth_made, is_filled, pop_check_effect};
+ghost use Rattle.wb_machine.specs.CleanupEffects.{pop_within, push_effect, without_newest};
 ghost use Rattle.wb_machine.specs.Owed.{CarriesOut, HasStack, KeepsCount, MayAttempt, Stays};
 
 use crate::operands::not_negative;
@@ -28,7 +29,8 @@ impl State {
     pub fn start(&mut self) -> Result<bool, NoMemory>
         requires { self.old
             ≡ first_state (keeps_rises self.old.debug) self.old.debug.rule self.old.debug.shape }
-        ensures started { OnOk result (self.new ≡ started_by (with_debug self.old (first_made self.old).debug) (first_made self.old).gave) }
+        ensures started { OnOk result (self.new ≡ started_by
+            (with_debug self.old (first_made self.old).debug) (first_made self.old).gave) }
         ensures granted { IfOk result (λ granted. granted ≡ is_granted (first_made self.old).gave) }
         ensures uncut { OnOk result ((first_made self.old).gave ≢ Ceiling) }
         ensures stack { IfOk result (λ granted. granted ≡ true → HasStack self.new) }
@@ -52,7 +54,8 @@ impl State {
     /// Takes the newest item off; `None` where none stands there.
     pub fn take_newest(&mut self) -> Option<Item>
         ensures item { result ≡ newest self.old.items }
-        ensures taken { self.new ≡ record self.old { items = take (length self.old.items - 1) self.old.items } }
+        ensures taken { self.new
+            ≡ record self.old { items = take (length self.old.items - 1) self.old.items } }
     {
         match &mut self.cleanup {
             Some(stack) => stack.take_top(&self.heap, 0),
@@ -65,8 +68,10 @@ impl State {
         requires stack { HasStack self.old }
         requires room { length self.old.items < self.old.slots }
         requires number { MayAttempt self.old }
-        ensures answer { IfOk result (λ pushed. pushed ≡ pushed_by (growth_made self.old (is_filled self.old)).gave) }
-        ensures item { IfOk result (λ pushed. pushed ≢ Pushed.Ceiling → IsPushed self.old item self.new) }
+        ensures answer { IfOk result (λ pushed.
+            pushed ≡ pushed_by (growth_made self.old (is_filled self.old)).gave) }
+        ensures item { IfOk result (λ pushed. pushed ≢ Pushed.Ceiling →
+            IsPushed self.old item self.new) }
         ensures cut { IfOk result (λ pushed. pushed ≡ Pushed.Ceiling → self.new ≡ self.old) }
         ensures err { OnErr result (self.new ≡ self.old) }
         ensures there { IsStackThere self.old }
@@ -84,7 +89,9 @@ impl State {
         requires stack { HasStack self.old }
         requires room { length self.old.items < self.old.slots }
         requires number { MayAttempt self.old }
-        ensures effect { IfOk result (λ ending. CarriesOut self.old (push_effect self.old item (payload_of self.new.cleanup self.new.debug.heap.row)) ending self.new) }
+        ensures effect { IfOk result (λ ending. CarriesOut self.old
+            (push_effect self.old item (payload_of self.new.cleanup self.new.debug.heap.row)) ending
+            self.new) }
         ensures err { OnErr result (self.new ≡ self.old) }
         ensures there { IsStackThere self.old }
         ensures stands { IsStackThere self.new }
@@ -103,7 +110,9 @@ impl State {
         requires stack { HasStack self.old }
         requires room { length self.old.items < self.old.slots }
         requires number { MayAttempt self.old }
-        ensures effect { IfOk result (λ ending. CarriesOut self.old (push_effect self.old (I.Free (pointer_read script.now self.old pointer.now)) (payload_of self.new.cleanup self.new.debug.heap.row)) ending self.new) }
+        ensures effect { IfOk result (λ ending. CarriesOut self.old
+            (push_effect self.old (I.Free (pointer_read script.now self.old pointer.now))
+            (payload_of self.new.cleanup self.new.debug.heap.row)) ending self.new) }
         ensures err { OnErr result (self.new ≡ self.old) }
         ensures there { IsStackThere self.old }
         ensures stands { IsStackThere self.new }
@@ -118,7 +127,9 @@ impl State {
         requires stack { HasStack self.old }
         requires room { length self.old.items < self.old.slots }
         requires number { MayAttempt self.old }
-        ensures effect { IfOk result (λ ending. CarriesOut self.old (push_effect self.old (I.Delete (pointer_read script.now self.old pointer.now)) (payload_of self.new.cleanup self.new.debug.heap.row)) ending self.new) }
+        ensures effect { IfOk result (λ ending. CarriesOut self.old
+            (push_effect self.old (I.Delete (pointer_read script.now self.old pointer.now))
+            (payload_of self.new.cleanup self.new.debug.heap.row)) ending self.new) }
         ensures err { OnErr result (self.new ≡ self.old) }
         ensures there { IsStackThere self.old }
         ensures stands { IsStackThere self.new }
@@ -138,7 +149,9 @@ impl State {
         requires stack { HasStack self.old }
         requires room { length self.old.items < self.old.slots }
         requires number { MayAttempt self.old }
-        ensures effect { IfOk result (λ ending. CarriesOut self.old (push_effect self.old (I.Call (pointer_read script.now self.old pointer.now) operation) (payload_of self.new.cleanup self.new.debug.heap.row)) ending self.new) }
+        ensures effect { IfOk result (λ ending. CarriesOut self.old
+            (push_effect self.old (I.Call (pointer_read script.now self.old pointer.now) operation)
+            (payload_of self.new.cleanup self.new.debug.heap.row)) ending self.new) }
         ensures err { OnErr result (self.new ≡ self.old) }
         ensures there { IsStackThere self.old }
         ensures stands { IsStackThere self.new }
@@ -150,7 +163,8 @@ impl State {
     /// Takes the `count` newest items off, where so many stand above the `floor` first ones.
     fn take_off(&mut self, floor: u32, count: u32) -> Result<(), Panic>
         requires { HasStack self.old }
-        ensures refused { IfErr result (λ panic. pop_refusal floor count (length self.old.items) ≡ Some panic) }
+        ensures refused { IfErr result (λ panic.
+            pop_refusal floor count (length self.old.items) ≡ Some panic) }
         ensures fine { OnOk result (pop_refusal floor count (length self.old.items) ≡ None) }
         ensures taken { OnOk result (self.new ≡ without_newest self.old count) }
         ensures err { OnErr result (self.new ≡ self.old) }
@@ -164,7 +178,8 @@ impl State {
     /// Takes the newest item off, where it stands above the `floor` first ones and is of this pointer.
     fn take_expected(&mut self, floor: u32, ptr: Ptr) -> Result<(), Panic>
         requires { HasStack self.old }
-        ensures refused { IfErr result (λ panic. expected_refusal floor ptr self.old.items ≡ Some panic) }
+        ensures refused { IfErr result (λ panic.
+            expected_refusal floor ptr self.old.items ≡ Some panic) }
         ensures fine { OnOk result (expected_refusal floor ptr self.old.items ≡ None) }
         ensures taken { OnOk result (self.new ≡ without_newest self.old 1) }
         ensures err { OnErr result (self.new ≡ self.old) }
@@ -178,7 +193,8 @@ impl State {
     /// Pops a number of items. What is done with them is the script's.
     pub fn pop(&mut self, floor: u32, count: &Number) -> Ending
         requires { HasStack self.old }
-        ensures { CarriesOut self.old (pop_within self.old floor (not_negative (number_read self.old count.now))) result self.new }
+        ensures { CarriesOut self.old (pop_within self.old floor
+            (not_negative (number_read self.old count.now))) result self.new }
     {
         let Some(count) = not_negative(self.number(*count)) else {
             return Ending::Panics(Panic::NUMBER_OUT_OF_RANGE);
@@ -192,7 +208,8 @@ impl State {
     /// Pops the newest item, which must be of a pointer.
     pub fn pop_check(&mut self, script: &Script, floor: u32, pointer: &Pointer) -> Ending
         requires { HasStack self.old }
-        ensures { CarriesOut self.old (pop_check_effect self.old floor (pointer_read script.now self.old pointer.now)) result self.new }
+        ensures { CarriesOut self.old (pop_check_effect self.old floor
+            (pointer_read script.now self.old pointer.now)) result self.new }
     {
         match self.take_expected(floor, self.pointer(script, *pointer)) {
             Ok(()) => Ending::GoesOn,

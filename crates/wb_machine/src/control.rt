@@ -2,7 +2,8 @@
 //! statement leaves in `heads` and `calls`, the steps that destroy in `destroying`, what becomes of pieces that are done in `unwinding`, and turns in
 //! `running`.
 
-ghost use Rattle.std.specs.Prelude.{IfOk, List, take, vec_len, ◌-◌, ◌≡◌, ◌+◌, ◌^◌, ◌<◌, ◌≤◌, ◌⊎◌, ◌++◌, ◌∷◌, [], ℕ, true, false, if◌then◌else◌, length, unwrap_or, max, IsTrue, OnOk};
+ghost use Rattle.std.specs.Prelude.{IfOk, List, take, vec_len, ◌-◌, ◌≡◌, ◌+◌, ◌^◌, ◌<◌, ◌≤◌, ◌⊎◌, ◌++◌, ◌∷◌, [], ℕ};
+ghost use Rattle.std.specs.Prelude.{true, false, if◌then◌else◌, length, unwrap_or, max, IsTrue, OnOk};
 ghost use Rattle.wb_model.specs.language.Sound.{is_script};
 ghost use Rattle.wb_model.specs.meaning.Statements.{turns};
 ghost use Rattle.wb_model.specs.meaning.Bodies.{procedure_at};
@@ -16,12 +17,14 @@ ghost use Rattle.wb_machine.specs.declared.pieces.Ending.TheVariants.{GoesOn};
 ghost use Rattle.wb_machine.specs.declared.pieces.PendingPiece.{PendingPiece};
 ghost use Rattle.wb_machine.specs.declared.pieces.PendingPiece.TheVariants.{Turns};
 ghost use Rattle.wb_machine.specs.RunState.{first_state, state_of};
-ghost use Rattle.wb_machine.specs.Flow.{context_of, pending_in, is_stop, is_over, progress_by, needs_step, AreOwn, IsOwn, AreSound, IsReady, rest_from, rest_of_piece, rest_of_statement};
+ghost use Rattle.wb_machine.specs.Flow.{context_of, pending_in, is_stop, is_over, progress_by, needs_step, AreOwn};
+ghost use Rattle.wb_machine.specs.Flow.{IsOwn, AreSound, IsReady, rest_from, rest_of_piece, rest_of_statement};
 ghost use Rattle.wb_machine.specs.Asks.{asks_next};
 ghost use Rattle.wb_machine.specs.Effects.{stepped};
 ghost use Rattle.wb_machine.specs.ObjectInvariant.{AreWhole, StaysWhole};
 ghost use Rattle.wb_machine.specs.Owed.{HasStack, MayAttempt, Stays};
-ghost use Rattle.wb_machine.specs.SlotInvariant.{slots_for, slots_for_all, to_destroy, to_destroy_first, IsFree, HasRoom};
+ghost use Rattle.wb_machine.specs.SlotInvariant.{slots_for, slots_for_all, to_destroy, to_destroy_first, IsFree};
+ghost use Rattle.wb_machine.specs.SlotInvariant.{HasRoom};
 
 mod calls;
 mod depths;
@@ -156,7 +159,8 @@ impl<'a> Control<'a> {
     /// One more piece on top.
     #[inline(always)]
     fn push(&mut self, piece: PendingPiece<'a>) -> Result<(), AllocError>
-        ensures pieces { OnOk result (self.new.pieces.items ≡ self.old.pieces.items ++ piece.entry ∷ []) }
+        ensures pieces { OnOk result (self.new.pieces.items
+            ≡ self.old.pieces.items ++ piece.entry ∷ []) }
         ensures ending { OnOk result (self.new.ending ≡ self.old.ending) }
         ensures slots { OnOk result (slots_for_all self.new.pieces.items
             ≡ max (slots_for_all self.old.pieces.items) (slots_for piece.entry)) }
@@ -196,7 +200,8 @@ impl<'a> Control<'a> {
     #[inline(always)]
     fn replace_top(&mut self, piece: PendingPiece<'a>)
         requires { 0 < vec_len self.old.pieces }
-        ensures pieces { (below : List PendingPiece) (p : PendingPiece) → self.old.pieces.items ≡ below ++ p ∷ [] →
+        ensures pieces { (below : List PendingPiece) (p : PendingPiece) →
+            self.old.pieces.items ≡ below ++ p ∷ [] →
             self.new.pieces.items ≡ below ++ piece.entry ∷ [] }
         ensures ending { self.new.ending ≡ self.old.ending }
         ensures line { self.new.line ≡ self.old.line }
@@ -213,7 +218,8 @@ impl<'a> Control<'a> {
         requires ending { self.old.ending ≡ GoesOn }
         requires start { state.old
             ≡ first_state (keeps_rises state.old.debug) state.old.debug.rule state.old.debug.shape }
-        ensures kept { OnOk result ((r : Rule) (budget : ℕ) → Fits r state.old.debug.rule (is_stop self.new.ending) state.new.debug.attempts →
+        ensures kept { OnOk result ((r : Rule) (budget : ℕ) →
+            Fits r state.old.debug.rule (is_stop self.new.ending) state.new.debug.attempts →
             rest_from script.now budget r self.new.ending self.new.pieces.items state.new
             ≡ whole_run (keeps_rises state.old.debug) script.now r budget state.old.debug.shape) }
         ensures sound { OnOk result (AreSound script.now self.new.pieces.items) }
@@ -255,9 +261,11 @@ impl<'a> Control<'a> {
         requires free { IsFree self.old.pieces.items state.old }
         requires stack { HasStack state.old }
         requires steps { state.old.steps + 1 < 2 ^ 32 }
-        ensures kept { OnOk result ((r : Rule) (budget : ℕ) → Fits r state.old.debug.rule (is_stop self.new.ending) state.new.debug.attempts →
+        ensures kept { OnOk result ((r : Rule) (budget : ℕ) →
+            Fits r state.old.debug.rule (is_stop self.new.ending) state.new.debug.attempts →
             rest_from script.now budget r self.new.ending self.new.pieces.items state.new
-            ≡ rest_of_statement script.now budget r (context_of at) (out-Statement first.now.statement) self.old.pieces.items (stepped state.old)) }
+            ≡ rest_of_statement script.now budget r (context_of at)
+            (out-Statement first.now.statement) self.old.pieces.items (stepped state.old)) }
         ensures sound { OnOk result (AreSound script.now self.new.pieces.items) }
         ensures stays { Stays state.old state.new }
         ensures steps { OnOk result (state.new.steps ≡ state.old.steps + 1) }
@@ -286,11 +294,19 @@ impl<'a> Control<'a> {
         requires left { 0 < left }
         requires some { 0 < vec_len self.old.pieces }
         requires steps { state.old.steps + 1 < 2 ^ 32 }
-        ensures kept { OnOk result ((script : Script) (r : Rule) (budget : ℕ) (below : List PendingPiece) → self.old.pieces.items ≡ below ++ Turns at left body.entry ∷ [] → state.old.steps < budget →
+        ensures kept { OnOk result ((script : Script) (r : Rule) (budget : ℕ)
+            (below : List PendingPiece) →
+            self.old.pieces.items ≡ below ++ Turns at left body.entry ∷ [] →
+            state.old.steps < budget →
             rest_from script budget r self.new.ending self.new.pieces.items state.new
-            ≡ rest_of_piece script budget r (doing (context_of at) (turns left body.now)) below state.old) }
-        ensures sound { OnOk result ((script : Script) (below : List PendingPiece) → self.old.pieces.items ≡ below ++ Turns at left body.entry ∷ [] → AreOwn script body.now → AreSound script below → AreSound script self.new.pieces.items) }
-        ensures slots { OnOk result ((below : List PendingPiece) → self.old.pieces.items ≡ below ++ Turns at left body.entry ∷ [] →
+            ≡ rest_of_piece script budget r (doing (context_of at) (turns left body.now)) below
+            state.old) }
+        ensures sound { OnOk result ((script : Script) (below : List PendingPiece) →
+            self.old.pieces.items ≡ below ++ Turns at left body.entry ∷ [] →
+            AreOwn script body.now → AreSound script below →
+            AreSound script self.new.pieces.items) }
+        ensures slots { OnOk result ((below : List PendingPiece) →
+            self.old.pieces.items ≡ below ++ Turns at left body.entry ∷ [] →
             slots_for_all self.new.pieces.items ≤ slots_for_all below) }
         ensures ending { OnOk result (self.new.ending ≡ GoesOn) }
         ensures state { state.new ≡ stepped state.old }
@@ -315,7 +331,8 @@ impl<'a> Control<'a> {
         requires room { HasRoom self.old.ending self.old.pieces.items state.old }
         requires stack { HasStack state.old }
         requires steps { state.old.steps + 1 < 2 ^ 32 }
-        ensures kept { OnOk result ((r : Rule) (budget : ℕ) → state.old.steps < budget → Fits r state.old.debug.rule (is_stop self.new.ending) state.new.debug.attempts →
+        ensures kept { OnOk result ((r : Rule) (budget : ℕ) → state.old.steps < budget →
+            Fits r state.old.debug.rule (is_stop self.new.ending) state.new.debug.attempts →
             rest_from script.now budget r self.new.ending self.new.pieces.items state.new
             ≡ rest_from script.now budget r self.old.ending self.old.pieces.items state.old) }
         ensures sound { OnOk result (AreSound script.now self.new.pieces.items) }
@@ -323,7 +340,9 @@ impl<'a> Control<'a> {
         ensures steps { OnOk result (state.new.steps ≡ state.old.steps + 1) }
         ensures room { OnOk result (HasRoom self.new.ending self.new.pieces.items state.new) }
         ensures whole { OnOk result (StaysWhole script.now state.old state.new) }
-        ensures line { OnOk result (self.new.line ≡ unwrap_or (first_line (pending_in state.old.callers self.old.pieces.items)) self.old.line) }
+        ensures line { OnOk result (self.new.line
+            ≡ unwrap_or (first_line (pending_in state.old.callers self.old.pieces.items))
+            self.old.line) }
     {
         match self.top() {
             PendingPiece::Code(at, [first, rest @ ..]) => {
@@ -345,9 +364,13 @@ impl<'a> Control<'a> {
 
     /// Whether a step asks for an attempt: it does where it begins a statement that asks.
     pub fn asks(&self, script: &Script, state: &State) -> bool
-        requires { (is_over self.now.ending self.now.pieces.items ≡ true) ⊎ IsReady self.now.ending self.now.pieces.items }
-        ensures { (budget : ℕ) → AreSound script.now self.now.pieces.items → state.now.steps < budget →
-            result ≡ asks_next script.now budget (progress_by self.now.ending (pending_in state.now.callers self.now.pieces.items) (state_of script.now state.now)) }
+        requires { (is_over self.now.ending self.now.pieces.items ≡ true)
+            ⊎ IsReady self.now.ending self.now.pieces.items }
+        ensures { (budget : ℕ) → AreSound script.now self.now.pieces.items →
+            state.now.steps < budget →
+            result ≡ asks_next script.now budget
+            (progress_by self.now.ending (pending_in state.now.callers self.now.pieces.items)
+            (state_of script.now state.now)) }
     {
         if self.is_over() {
             return false;

@@ -45,7 +45,8 @@ impl<'a> Machine<'a> {
         requires over { self.over ≡ true }
         requires well { self.failed ≡ false }
         requires lines { self.keeps_rises ≡ false }
-        ensures run_result { result ≡ run self.entry.script self.entry.rule self.entry.budget self.entry.shape }
+        ensures run_result { result
+            ≡ run self.entry.script self.entry.rule self.entry.budget self.entry.shape }
         ensures attempts { length result.trace ≡ self.entry.attempts }
         ensures ceiling { (self.entry.met_ceiling ≡ true) ↔ (result.outcome ≡ Cut Ceiling) }
     {
@@ -78,8 +79,8 @@ impl<'a> Machine<'a> {
         requires over { self.over ≡ true }
         requires well { self.failed ≡ false }
         requires rises { self.keeps_rises ≡ true }
-        ensures { result
-            ≡ rises_result_of (run self.entry.script self.entry.rule self.entry.budget self.entry.shape) }
+        ensures { result ≡ rises_result_of
+            (run self.entry.script self.entry.rule self.entry.budget self.entry.shape) }
     {
         let Machine {
             script: _,

@@ -29,14 +29,17 @@ impl State {
 
     /// A leave with a code.
     pub fn leave(&mut self, code: &Number) -> Ending
-        ensures { CarriesOut self.old (left_with self.old (number_read self.old code.now)) result self.new }
+        ensures { CarriesOut self.old (left_with self.old (number_read self.old code.now)) result
+            self.new }
     {
         Ending::Leaves(self.number(*code))
     }
 
     /// A leave with a code that is negative.
     pub fn leave_if_error(&mut self, code: &Number) -> Ending
-        ensures { CarriesOut self.old (left_where self.old (int_lt (number_read self.old code.now) (pos 0)) (number_read self.old code.now)) result self.new }
+        ensures { CarriesOut self.old (left_where self.old
+            (int_lt (number_read self.old code.now) (pos 0)) (number_read self.old code.now)) result
+            self.new }
     {
         let code = self.number(*code);
         if code < 0 {
@@ -48,7 +51,9 @@ impl State {
 
     /// A leave with `KErrNoMemory` where a pointer is null.
     pub fn leave_if_null(&mut self, script: &Script, pointer: &Pointer) -> Ending
-        ensures { CarriesOut self.old (left_where self.old (is_null (pointer_read script.now self.old pointer.now)) KERR_NO_MEMORY) result self.new }
+        ensures { CarriesOut self.old (left_where self.old
+            (is_null (pointer_read script.now self.old pointer.now)) KERR_NO_MEMORY) result
+            self.new }
     {
         if self.pointer(script, *pointer).number == 0 {
             Ending::Leaves(KERR_NO_MEMORY)
@@ -66,7 +71,8 @@ impl State {
 
     /// The end of a body, with a pointer.
     pub fn end_body_with(&mut self, script: &Script, pointer: &Pointer) -> Ending
-        ensures { CarriesOut self.old (returned self.old (pointer_read script.now self.old pointer.now)) result self.new }
+        ensures { CarriesOut self.old
+            (returned self.old (pointer_read script.now self.old pointer.now)) result self.new }
     {
         Ending::Returns(self.pointer(script, *pointer))
     }

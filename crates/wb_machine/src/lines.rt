@@ -3,7 +3,8 @@
 ghost use Rattle.std.specs.Prelude.{◌≡◌, IfOk, OnOk};
 ghost use Rattle.std.specs.Fmt.{signed_decimal};
 ghost use Rattle.wb_machine.specs.declared.pieces.Ending.TheVariants.{GoesOn};
-ghost use Rattle.wb_machine.specs.Effects.{gone_on, number_read, line_printed, with_note, heap_noted, available_noted, compress_noted};
+ghost use Rattle.wb_machine.specs.Effects.{gone_on, number_read, line_printed, with_note, heap_noted, available_noted};
+ghost use Rattle.wb_machine.specs.Effects.{compress_noted};
 ghost use Rattle.wb_machine.specs.Owed.{CarriesOut, KeepsCount};
 
 use crate::pieces::Ending;
@@ -18,7 +19,8 @@ impl State {
     /// Prints a line.
     #[inline(never)]
     pub fn print(&mut self, line: Line) -> Result<Ending, NoMemory>
-        ensures effect { IfOk result (λ ending. CarriesOut self.old (gone_on (line_printed self.old line)) ending self.new) }
+        ensures effect { IfOk result (λ ending.
+            CarriesOut self.old (gone_on (line_printed self.old line)) ending self.new) }
         ensures keeps { KeepsCount self.old self.new }
     {
         self.lines.push(line)?;
@@ -27,7 +29,9 @@ impl State {
 
     /// Prints a number.
     pub fn print_number(&mut self, value: &Number) -> Result<Ending, NoMemory>
-        ensures effect { IfOk result (λ ending. CarriesOut self.old (gone_on (line_printed self.old (signed_decimal (number_read self.old value.now)))) ending self.new) }
+        ensures effect { IfOk result (λ ending. CarriesOut self.old
+            (gone_on (line_printed self.old (signed_decimal (number_read self.old value.now))))
+            ending self.new) }
         ensures keeps { KeepsCount self.old self.new }
     {
         let line = number_line(self.number(*value));
@@ -36,7 +40,8 @@ impl State {
 
     /// Makes a note.
     fn note(&mut self, note: Note) -> Result<Ending, NoMemory>
-        ensures effect { IfOk result (λ ending. CarriesOut self.old (gone_on (with_note self.old note)) ending self.new) }
+        ensures effect { IfOk result (λ ending.
+            CarriesOut self.old (gone_on (with_note self.old note)) ending self.new) }
         ensures keeps { KeepsCount self.old self.new }
     {
         self.notes.push(note)?;
@@ -45,7 +50,8 @@ impl State {
 
     /// Notes how many cells are live, their total length, and the committed length.
     pub fn note_heap(&mut self) -> Result<Ending, NoMemory>
-        ensures effect { IfOk result (λ ending. CarriesOut self.old (gone_on (heap_noted self.old)) ending self.new) }
+        ensures effect { IfOk result (λ ending.
+            CarriesOut self.old (gone_on (heap_noted self.old)) ending self.new) }
         ensures keeps { KeepsCount self.old self.new }
     {
         let note = self.heap.note_heap();
@@ -54,7 +60,8 @@ impl State {
 
     /// Notes the total and the longest of the free runs.
     pub fn note_available(&mut self) -> Result<Ending, NoMemory>
-        ensures effect { IfOk result (λ ending. CarriesOut self.old (gone_on (available_noted self.old)) ending self.new) }
+        ensures effect { IfOk result (λ ending.
+            CarriesOut self.old (gone_on (available_noted self.old)) ending self.new) }
         ensures keeps { KeepsCount self.old self.new }
     {
         let note = self.heap.note_available();
@@ -63,7 +70,8 @@ impl State {
 
     /// Compresses the heap, and notes what that reclaims.
     pub fn note_compress(&mut self) -> Result<Ending, NoMemory>
-        ensures effect { IfOk result (λ ending. CarriesOut self.old (gone_on (compress_noted self.old)) ending self.new) }
+        ensures effect { IfOk result (λ ending.
+            CarriesOut self.old (gone_on (compress_noted self.old)) ending self.new) }
         ensures keeps { KeepsCount self.old self.new }
     {
         let note = self.heap.note_compress();

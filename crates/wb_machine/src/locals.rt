@@ -1,13 +1,16 @@
 //! The locals of all frames, and what a local holds.
 
-ghost use Rattle.std.specs.Prelude.{◌≡◌, ℕ, List, ◌∷◌, ◌++◌, [], map, length, slice_set, vec_len, ◌≤◌, IsTrue, IfOk, OnOk};
+ghost use Rattle.std.specs.Prelude.{◌≡◌, ℕ, List, ◌∷◌, ◌++◌, [], map, length, slice_set, vec_len, ◌≤◌, IsTrue, IfOk};
+ghost use Rattle.std.specs.Prelude.{OnOk};
 ghost use Rattle.std.specs.List.{list_all};
 ghost use Rattle.wb_model.specs.meaning.Texts.{Buffer, answer_of, delete_text, set_length_text};
 ghost use Rattle.wb_hbuf.specs.Sources.{IsSource, SuitsEdit, edit_text, source_units};
 ghost use Rattle.wb_model.specs.meaning.Reading.{max_in};
 ghost use Rattle.wb_model.specs.meaning.State.{initial};
 ghost use Rattle.wb_machine.specs.RunState.{value_in};
-ghost use Rattle.wb_machine.specs.LocalValues.{is_small, value_of, value_of_buffer, values_stored, no_buffer, stored_at, AreAscending, first_buffer, number_over, values_over, framed, unframed, buffer_in, window_in};
+ghost use Rattle.wb_machine.specs.LocalValues.{is_small, value_of, value_of_buffer, values_stored, no_buffer};
+ghost use Rattle.wb_machine.specs.LocalValues.{stored_at, AreAscending, first_buffer, number_over, values_over, framed};
+ghost use Rattle.wb_machine.specs.LocalValues.{unframed, buffer_in, window_in};
 ghost use Rattle.wb_machine.specs.BufferEdits.{frames_edited, frames_put_back};
 ghost use Rattle.wb_machine.specs.PointerOperands.{holder_pointer_over, pointer_over};
 
@@ -99,8 +102,11 @@ fn copies_of(buffers: &Vec<Buf>) -> Result<Vec<Buf>, AllocError>
 
 /// Puts a value that isn't a buffer of its own behind the locals.
 pub fn push_slot(slots: &mut Vec<Stored>, slot: Slot) -> Result<(), AllocError>
-    ensures pushed { (buffers : List Buffer) → OnOk result (values_stored buffers slots.new.items ≡ values_stored buffers slots.old.items ++ value_of slot ∷ []) }
-    ensures ascending { (end : ℕ) → AreAscending 0 end slots.old.items → AreAscending 0 end slots.new.items }
+    ensures pushed { (buffers : List Buffer) →
+        OnOk result (values_stored buffers slots.new.items
+        ≡ values_stored buffers slots.old.items ++ value_of slot ∷ []) }
+    ensures ascending { (end : ℕ) → AreAscending 0 end slots.old.items →
+        AreAscending 0 end slots.new.items }
     ensures more { vec_len slots.old ≤ vec_len slots.new }
 {
     slots.push(Stored::Small(slot))?;
@@ -115,7 +121,8 @@ fn declare_one(
 ) -> Result<(), AllocError>
     requires small { IsTrue (is_small local) }
     requires ascending { AreAscending 0 (vec_len buffers.old) slots.old.items }
-    ensures declared { OnOk result (values_stored buffers.new.items slots.new.items ≡ values_stored buffers.old.items slots.old.items ++ initial local ∷ []) }
+    ensures declared { OnOk result (values_stored buffers.new.items slots.new.items
+        ≡ values_stored buffers.old.items slots.old.items ++ initial local ∷ []) }
     ensures ascending { AreAscending 0 (vec_len buffers.new) slots.new.items }
     ensures more { vec_len slots.old ≤ vec_len slots.new }
 {
@@ -140,7 +147,8 @@ fn declare(
 ) -> Result<(), AllocError>
     requires small { IsTrue (list_all is_small locals.now) }
     requires ascending { AreAscending 0 (vec_len buffers.old) slots.old.items }
-    ensures declared { OnOk result (values_stored buffers.new.items slots.new.items ≡ values_stored buffers.old.items slots.old.items ++ map initial locals.now) }
+    ensures declared { OnOk result (values_stored buffers.new.items slots.new.items
+        ≡ values_stored buffers.old.items slots.old.items ++ map initial locals.now) }
     ensures ascending { AreAscending 0 (vec_len buffers.new) slots.new.items }
     ensures more { vec_len slots.old ≤ vec_len slots.new }
 {
@@ -208,7 +216,9 @@ impl Locals {
         locals: &[Local],
     ) -> Result<usize, AllocError>
         requires { IsTrue (list_all is_small locals.now) }
-        ensures frames { OnOk result (self.new ≡ framed self.old (values_over context.entry.script.now context.entry.heap.now context.entry.this self.old.locals call_arguments.entry) locals.now) }
+        ensures frames { OnOk result (self.new ≡ framed self.old
+            (values_over context.entry.script.now context.entry.heap.now context.entry.this
+            self.old.locals call_arguments.entry) locals.now) }
         ensures caller { IfOk result (λ base. base ≡ length self.old.callers) }
     {
         let caller = self.base;
@@ -241,7 +251,8 @@ impl Locals {
     /// The pointer of an operand; null where it names no pointer.
     #[inline(always)]
     pub fn pointer(&self, context: ReadContext, operand: Pointer) -> Ptr
-        ensures { result ≡ pointer_over context.entry.script.now context.entry.heap.now context.entry.this self.now.locals operand }
+        ensures { result ≡ pointer_over context.entry.script.now context.entry.heap.now
+            context.entry.this self.now.locals operand }
     {
         pointer_over(context, &self.slots[self.base..], operand)
     }
@@ -284,7 +295,8 @@ impl Locals {
     /// A local gets a value; one that isn't there stays so.
     #[inline(always)]
     pub fn set(&mut self, index: u8, slot: Slot)
-        ensures { self.new ≡ record self.old { locals = slice_set self.old.locals index (value_of slot) } }
+        ensures { self.new
+            ≡ record self.old { locals = slice_set self.old.locals index (value_of slot) } }
     {
         let at = self.base + index as usize;
         if at < self.slots.len() {
@@ -295,7 +307,8 @@ impl Locals {
     /// A buffer takes the place of the one in a local, which has the same maximum; one that isn't there stays so.
     fn set_buffer(&mut self, index: u8, buf: Buf)
         requires { buf.max ≡ max_in (value_in self.old.locals index) }
-        ensures { self.new ≡ record self.old { locals = slice_set self.old.locals index (value_of_buffer buf) } }
+        ensures { self.new
+            ≡ record self.old { locals = slice_set self.old.locals index (value_of_buffer buf) } }
     {
         match stored_at(&self.slots, self.base + index as usize) {
             Stored::Buffer(place) => self.buffers[place.at] = buf,

@@ -199,7 +199,8 @@ impl<'a> Machine<'a> {
     pub fn attempts(&self) -> u32
         ensures so_far { result ≡ self.now.attempts }
         ensures all { self.now.over ≡ true → self.now.failed ≡ false →
-            result ≡ length (run self.now.script self.now.rule self.now.budget self.now.shape).trace }
+            result
+            ≡ length (run self.now.script self.now.rule self.now.budget self.now.shape).trace }
     {
         self.state.attempts()
     }
@@ -311,7 +312,8 @@ pub fn run_rises(
     requires script { IsTrue (is_script script.now) }
     requires least { 1 ≤ budget }
     requires greatest { budget ≤ LARGEST_BUDGET }
-    ensures ran { IfOk result (λ run_result. run_result ≡ rises_result_of (run script.now Unlimited budget shape)) }
+    ensures ran { IfOk result (λ run_result.
+        run_result ≡ rises_result_of (run script.now Unlimited budget shape)) }
     ensures shape { (result ≡ Err RunFault.BadShape) ↔ (is_shape shape ≡ false) }
 {
     let mut machine = Machine::new_rises(alloc, script, budget, shape)?;

@@ -29,9 +29,12 @@ impl State {
 
     /// Ends the last mark, unless that is refused, and then nothing changes.
     fn end_mark(&mut self, count: u32) -> Result<(), Panic>
-        ensures refused { IfErr result (λ panic. mark_end_refusal self.old.debug.heap count ≡ Some panic) }
+        ensures refused { IfErr result (λ panic.
+            mark_end_refusal self.old.debug.heap count ≡ Some panic) }
         ensures fine { OnOk result (mark_end_refusal self.old.debug.heap count ≡ None) }
-        ensures closed { OnOk result (self.new ≡ with_debug self.old (record self.old.debug { heap = after_mark_end self.old.debug.heap })) }
+        ensures closed { OnOk result (self.new ≡ with_debug self.old (record self.old.debug {
+          heap = after_mark_end self.old.debug.heap;
+        })) }
         ensures err { OnErr result (self.new ≡ self.old) }
     {
         self.heap.mark_end(count)
@@ -39,7 +42,8 @@ impl State {
 
     /// Ends the last mark, where `count` cells of its level are live.
     pub fn mark_end(&mut self, count: &Number) -> Ending
-        ensures { CarriesOut self.old (mark_end_within self.old (not_negative (number_read self.old count.now))) result self.new }
+        ensures { CarriesOut self.old (mark_end_within self.old
+            (not_negative (number_read self.old count.now))) result self.new }
     {
         let Some(count) = not_negative(self.number(*count)) else {
             return Ending::Panics(Panic::NUMBER_OUT_OF_RANGE);
@@ -52,7 +56,8 @@ impl State {
 
     /// Stops the run unless `count` cells of the current level are live.
     pub fn check(&mut self, count: &Number) -> Ending
-        ensures { CarriesOut self.old (check_within self.old (check_refusal self.old.debug) (not_negative (number_read self.old count.now))) result self.new }
+        ensures { CarriesOut self.old (check_within self.old (check_refusal self.old.debug)
+            (not_negative (number_read self.old count.now))) result self.new }
     {
         let Some(count) = not_negative(self.number(*count)) else {
             return Ending::Panics(Panic::NUMBER_OUT_OF_RANGE);
@@ -65,7 +70,8 @@ impl State {
 
     /// Stops the run unless `count` cells of all levels are live.
     pub fn check_all(&mut self, count: &Number) -> Ending
-        ensures { CarriesOut self.old (check_within self.old (check_all_refusal self.old.debug) (not_negative (number_read self.old count.now))) result self.new }
+        ensures { CarriesOut self.old (check_within self.old (check_all_refusal self.old.debug)
+            (not_negative (number_read self.old count.now))) result self.new }
     {
         let Some(count) = not_negative(self.number(*count)) else {
             return Ending::Panics(Panic::NUMBER_OUT_OF_RANGE);
@@ -78,7 +84,8 @@ impl State {
 
     /// The `rate`-th attempt from here on is to fail, and no later one.
     pub fn fail_next(&mut self, rate: &Number) -> Ending
-        ensures { CarriesOut self.old (set_within self.old (λ n. next n) (at_least_one (number_read self.old rate.now))) result self.new }
+        ensures { CarriesOut self.old (set_within self.old (λ n.
+            next n) (at_least_one (number_read self.old rate.now))) result self.new }
     {
         let Some(rate) = at_least_one(self.number(*rate)) else {
             return Ending::Panics(Panic::NUMBER_OUT_OF_RANGE);
@@ -89,7 +96,8 @@ impl State {
 
     /// Every `rate`-th attempt from here on is to fail.
     pub fn fail_every(&mut self, rate: &Number) -> Ending
-        ensures { CarriesOut self.old (set_within self.old (λ n. each n n) (at_least_one (number_read self.old rate.now))) result self.new }
+        ensures { CarriesOut self.old (set_within self.old (λ n.
+            each n n) (at_least_one (number_read self.old rate.now))) result self.new }
     {
         let Some(rate) = at_least_one(self.number(*rate)) else {
             return Ending::Panics(Panic::NUMBER_OUT_OF_RANGE);
@@ -100,7 +108,8 @@ impl State {
 
     /// No attempt is to fail but for the run's own rule.
     pub fn fail_none(&mut self) -> Ending
-        ensures { CarriesOut self.old (gone_on (with_debug self.old (with_setting self.old.debug never))) result self.new }
+        ensures { CarriesOut self.old
+            (gone_on (with_debug self.old (with_setting self.old.debug never))) result self.new }
     {
         self.heap.fail_none();
         Ending::GoesOn

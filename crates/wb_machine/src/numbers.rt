@@ -16,7 +16,9 @@ impl State {
     /// A target gets the pointer of a source.
     #[inline(never)]
     pub fn copy_pointer(&mut self, script: &Script, target: &Pointer, source: &Pointer) -> Ending
-        ensures { CarriesOut self.old (gone_on (pointer_stored self.old target.now (pointer_read script.now self.old source.now))) result self.new }
+        ensures { CarriesOut self.old (gone_on
+            (pointer_stored self.old target.now (pointer_read script.now self.old source.now)))
+            result self.new }
     {
         let ptr = self.pointer(script, *source);
         self.set_pointer(*target, ptr);
@@ -25,7 +27,8 @@ impl State {
 
     /// A target gets null.
     pub fn set_null(&mut self, target: &Pointer) -> Ending
-        ensures { CarriesOut self.old (gone_on (pointer_stored self.old target.now null)) result self.new }
+        ensures { CarriesOut self.old (gone_on (pointer_stored self.old target.now null)) result
+            self.new }
     {
         self.set_pointer(*target, NULL);
         Ending::GoesOn
@@ -34,7 +37,8 @@ impl State {
     /// A number local gets a number.
     #[inline(always)]
     pub fn set_number(&mut self, local: u8, value: &Number) -> Ending
-        ensures { CarriesOut self.old (gone_on (stored self.old local (number (number_read self.old value.now)))) result self.new }
+        ensures { CarriesOut self.old (gone_on
+            (stored self.old local (number (number_read self.old value.now)))) result self.new }
     {
         let value = self.number(*value);
         self.set(local, Slot::Number(value));
@@ -44,7 +48,8 @@ impl State {
     /// A number is added to a number local. A sum that no int holds stops the run.
     #[inline(always)]
     pub fn add(&mut self, local: u8, value: &Number) -> Ending
-        ensures { CarriesOut self.old (add_effect self.old local (number_read self.old value.now)) result self.new }
+        ensures { CarriesOut self.old (add_effect self.old local (number_read self.old value.now))
+            result self.new }
     {
         let value = self.number(*value);
         let Some(sum) = self.number(Number::Variable(local)).checked_add(value) else {

@@ -32,7 +32,9 @@ impl State {
     fn put_field(&mut self, object: Ptr, class: u16, index: u8, to: Ptr)
         requires class { class_read self.old object ≡ Ok class }
         requires room { 4 + 2 * index ≤ length (payload_of object self.old.debug.heap.row) }
-        ensures put { self.new ≡ with_debug self.old (debug_changed self.old.debug object (with_field index to (payload_of object self.old.debug.heap.row))) }
+        ensures put { self.new ≡ with_debug self.old
+            (debug_changed self.old.debug object
+            (with_field index to (payload_of object self.old.debug.heap.row))) }
         ensures keeps { KeepsCount self.old self.new }
     {
         match set_field(&mut self.heap, object, class, index, to) {
@@ -44,7 +46,8 @@ impl State {
     /// Puts a pointer into a field of an object, whatever its class. A cell that is no object, or has no words for the field,
     /// stays as it is; a script that was read has neither, since the object is asked for before the statement is carried out.
     pub fn set_field(&mut self, object: Ptr, index: u8, to: Ptr)
-        ensures set { self.new ≡ with_debug self.old (with_row self.old.debug (row_with_field object index to self.old.debug.heap.row)) }
+        ensures set { self.new ≡ with_debug self.old
+            (with_row self.old.debug (row_with_field object index to self.old.debug.heap.row)) }
         ensures keeps { KeepsCount self.old self.new }
     {
         if !has_words(&self.heap, object, index) {
@@ -61,8 +64,10 @@ impl State {
         requires script { IsTrue (is_script script.now) }
         requires class { class < length script.now.classes }
         requires number { MayAttempt self.old }
-        ensures gave { IfOk result (λ gave. gave ≡ (object_made self.old.debug class (class_at script.now class)).gave) }
-        ensures made { OnOk result (self.new ≡ with_debug self.old (object_made self.old.debug class (class_at script.now class)).debug) }
+        ensures gave { IfOk result (λ gave.
+            gave ≡ (object_made self.old.debug class (class_at script.now class)).gave) }
+        ensures made { OnOk result (self.new ≡ with_debug self.old
+            (object_made self.old.debug class (class_at script.now class)).debug) }
         ensures err { OnErr result (self.new ≡ self.old) }
         ensures keeps { KeepsCount self.old self.new }
     {
@@ -81,7 +86,8 @@ impl State {
         requires script { IsTrue (is_script script.now) }
         requires class { class < length script.now.classes }
         requires number { MayAttempt self.old }
-        ensures effect { IfOk result (λ ending. CarriesOut self.old (new_effect script.now self.old target.now class refusal) ending self.new) }
+        ensures effect { IfOk result (λ ending. CarriesOut self.old
+            (new_effect script.now self.old target.now class refusal) ending self.new) }
         ensures err { OnErr result (self.new ≡ self.old) }
         ensures keeps { KeepsCount self.old self.new }
     {

@@ -25,7 +25,8 @@ pub struct ReadContext<'b> {
 /// What a holder holds.
 #[inline(always)]
 pub fn holder_pointer_over(this: Ptr, frame: &[Stored], holder: Holder) -> Ptr
-    ensures { (buffers : List Buffer) → result ≡ holder_pointer_over this (values_stored buffers frame.now) holder }
+    ensures { (buffers : List Buffer) →
+        result ≡ holder_pointer_over this (values_stored buffers frame.now) holder }
 {
     let Holder::Local(index) = holder else {
         return this;
@@ -61,7 +62,8 @@ pub fn has_words(heap: &DebugHeap, ptr: Ptr, index: u8) -> bool
 /// An object is made with room for all fields of its class, and a script names no other. So it always is there.
 #[inline(never)]
 fn field_over(script: &Script, heap: &DebugHeap, object: Ptr, class: u16, index: u8) -> Ptr
-    ensures { result ≡ field_among (field_count script.now class) index (words_found heap.now object class) }
+    ensures { result
+        ≡ field_among (field_count script.now class) index (words_found heap.now object class) }
 {
     if field_count(script, class) <= usize::from(index) {
         return NULL;
@@ -78,7 +80,9 @@ fn field_over(script: &Script, heap: &DebugHeap, object: Ptr, class: u16, index:
 /// The pointer of an operand; null where it names none.
 #[inline(always)]
 pub fn pointer_over(context: ReadContext, frame: &[Stored], operand: Pointer) -> Ptr
-    ensures { (buffers : List Buffer) → result ≡ pointer_over context.entry.script.now context.entry.heap.now context.entry.this (values_stored buffers frame.now) operand }
+    ensures { (buffers : List Buffer) →
+        result ≡ pointer_over context.entry.script.now context.entry.heap.now context.entry.this
+        (values_stored buffers frame.now) operand }
 {
     match operand {
         Pointer::Held(holder) => holder_pointer_over(context.this, frame, holder),

@@ -4,7 +4,8 @@
 ghost use Rattle.std.specs.Prelude.{◌≡◌, [], ◌∷◌, ◌++◌};
 ghost use Rattle.wb_model.specs.declared.script.Statement.TheViews.{out-Statement};
 ghost use Rattle.wb_objects.specs.Objects.{words_found};
-ghost use Rattle.wb_machine.specs.PointerOperands.{refusal_in, pointer_refusal, first_refusal, of_writable, of_readable, of_condition, of_arguments, operands_refusal};
+ghost use Rattle.wb_machine.specs.PointerOperands.{refusal_in, pointer_refusal, first_refusal, of_writable};
+ghost use Rattle.wb_machine.specs.PointerOperands.{of_readable, of_condition, of_arguments, operands_refusal};
 
 use crate::state::State;
 use wb_model::heap::{Kind, Panic, Ptr};

@@ -10,7 +10,8 @@ ghost use Rattle.wb_model.specs.heap.Space.{is_shape};
 ghost use Rattle.wb_model.specs.meaning.State.{null};
 ghost use Rattle.wb_machine.specs.RunState.{first_state};
 ghost use Rattle.wb_machine.specs.Results.{leaks_at_end, outcome_by, run_result_by};
-ghost use Rattle.wb_machine.specs.Effects.{pointer_read, number_read, pointer_stored, stored, stepped, entered, framed_with, called_back};
+ghost use Rattle.wb_machine.specs.Effects.{pointer_read, number_read, pointer_stored, stored, stepped, entered};
+ghost use Rattle.wb_machine.specs.Effects.{framed_with, called_back};
 ghost use Rattle.wb_machine.specs.LocalValues.{is_small, value_of, values_of_arguments};
 ghost use Rattle.wb_machine.specs.PointerOperands.{holder_pointer_in};
 ghost use Rattle.wb_machine.specs.Owed.{IsSameButFrames, KeepsCount};
@@ -162,7 +163,8 @@ impl State {
         locals: &[Local],
     ) -> Result<usize, NoMemory>
         requires { IsTrue (list_all is_small locals.now) }
-        ensures called { OnOk result (self.new ≡ framed_with self.old this (values_of_arguments script.now self.old call_arguments.entry) locals.now) }
+        ensures called { OnOk result (self.new ≡ framed_with self.old this
+            (values_of_arguments script.now self.old call_arguments.entry) locals.now) }
         ensures caller { IfOk result (λ base. base ≡ length self.old.callers) }
         ensures frames { IsSameButFrames self.old self.new }
     {

@@ -30,8 +30,10 @@ impl State {
         requires fits { length (text_at ptr self.old.debug) ≤ units }
         requires units { units ≤ MOST_UNITS }
         requires number { MayAttempt self.old }
-        ensures gave { IfOk result (λ gave. IfSome (cell_at ptr self.old.debug.heap.row) (λ c. gave ≡ (realloc_made self.old.debug c (4 + 2 * units)).gave)) }
-        ensures made { OnOk result (IfSome (cell_at ptr self.old.debug.heap.row) (λ c. self.new ≡ with_debug self.old (realloc_made self.old.debug c (4 + 2 * units)).debug)) }
+        ensures gave { IfOk result (λ gave. IfSome (cell_at ptr self.old.debug.heap.row) (λ c.
+            gave ≡ (realloc_made self.old.debug c (4 + 2 * units)).gave)) }
+        ensures made { OnOk result (IfSome (cell_at ptr self.old.debug.heap.row) (λ c.
+            self.new ≡ with_debug self.old (realloc_made self.old.debug c (4 + 2 * units)).debug)) }
         ensures err { OnErr result (self.new ≡ self.old) }
         ensures keeps { KeepsCount self.old self.new }
     {
@@ -46,7 +48,9 @@ impl State {
         refusal: Refusal,
     ) -> Result<Ending, NoMemory>
         requires number { MayAttempt self.old }
-        ensures effect { IfOk result (λ ending. CarriesOut self.old (new_text_effect self.old target refusal (number_read self.old units)) ending self.new) }
+        ensures effect { IfOk result (λ ending. CarriesOut self.old
+            (new_text_effect self.old target refusal (number_read self.old units)) ending
+            self.new) }
         ensures err { OnErr result (self.new ≡ self.old) }
         ensures keeps { KeepsCount self.old self.new }
     {
@@ -66,7 +70,9 @@ impl State {
         units: Number,
     ) -> Result<Ending, NoMemory>
         requires number { MayAttempt self.old }
-        ensures effect { IfOk result (λ ending. CarriesOut self.old (realloc_text_effect self.old target (pointer_read script.now self.old source) (number_read self.old units)) ending self.new) }
+        ensures effect { IfOk result (λ ending. CarriesOut self.old
+            (realloc_text_effect self.old target (pointer_read script.now self.old source)
+            (number_read self.old units)) ending self.new) }
         ensures err { OnErr result (self.new ≡ self.old) }
         ensures texts { AreTexts self.old.debug.heap.row }
         ensures keeps { KeepsCount self.old self.new }
@@ -95,8 +101,10 @@ impl State {
         requires apart { IsApart ptr source }
         requires suits { SuitsEdit change source }
         ensures answer { result ≡ answer_of (cell_edited self.old.debug ptr change source.entry) }
-        ensures changed { self.new ≡ with_debug self.old (debug_edited self.old.debug ptr (cell_edited self.old.debug ptr change source.entry)) }
-        ensures now { OnOk result (cell_edited self.old.debug ptr change source.entry ≡ Ok (text_at ptr self.new.debug)) }
+        ensures changed { self.new ≡ with_debug self.old
+            (debug_edited self.old.debug ptr (cell_edited self.old.debug ptr change source.entry)) }
+        ensures now { OnOk result (cell_edited self.old.debug ptr change source.entry
+            ≡ Ok (text_at ptr self.new.debug)) }
     {
         wb_hbuf::edit(&mut self.heap, ptr, change, source)
     }
@@ -104,9 +112,13 @@ impl State {
     /// Takes `count` units from a position on out of it.
     pub fn delete_in_cell(&mut self, ptr: Ptr, position: u32, count: u32) -> Result<(), Panic>
         requires { text_refusal (cell_at ptr self.old.debug.heap.row) ≡ None }
-        ensures answer { result ≡ answer_of (delete_text (text_at ptr self.old.debug) position count) }
-        ensures changed { self.new ≡ with_debug self.old (debug_edited self.old.debug ptr (delete_text (text_at ptr self.old.debug) position count)) }
-        ensures now { OnOk result (delete_text (text_at ptr self.old.debug) position count ≡ Ok (text_at ptr self.new.debug)) }
+        ensures answer { result
+            ≡ answer_of (delete_text (text_at ptr self.old.debug) position count) }
+        ensures changed { self.new ≡ with_debug self.old
+            (debug_edited self.old.debug ptr
+            (delete_text (text_at ptr self.old.debug) position count)) }
+        ensures now { OnOk result (delete_text (text_at ptr self.old.debug) position count
+            ≡ Ok (text_at ptr self.new.debug)) }
     {
         wb_hbuf::delete(&mut self.heap, ptr, position, count)
     }
@@ -114,9 +126,13 @@ impl State {
     /// Gives it another length.
     pub fn set_cell_length(&mut self, ptr: Ptr, length: u32) -> Result<(), Panic>
         requires { text_refusal (cell_at ptr self.old.debug.heap.row) ≡ None }
-        ensures answer { result ≡ answer_of (set_length_text (max_at ptr self.old.debug) (text_at ptr self.old.debug) length) }
-        ensures changed { self.new ≡ with_debug self.old (debug_edited self.old.debug ptr (set_length_text (max_at ptr self.old.debug) (text_at ptr self.old.debug) length)) }
-        ensures now { OnOk result (set_length_text (max_at ptr self.old.debug) (text_at ptr self.old.debug) length ≡ Ok (text_at ptr self.new.debug)) }
+        ensures answer { result ≡ answer_of
+            (set_length_text (max_at ptr self.old.debug) (text_at ptr self.old.debug) length) }
+        ensures changed { self.new ≡ with_debug self.old
+            (debug_edited self.old.debug ptr
+            (set_length_text (max_at ptr self.old.debug) (text_at ptr self.old.debug) length)) }
+        ensures now { OnOk result (set_length_text (max_at ptr self.old.debug)
+            (text_at ptr self.old.debug) length ≡ Ok (text_at ptr self.new.debug)) }
     {
         wb_hbuf::set_length(&mut self.heap, ptr, length)
     }

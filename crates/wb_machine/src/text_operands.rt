@@ -7,7 +7,8 @@ ghost use Rattle.wb_model.specs.declared.heap.Ptr.{Ptr};
 ghost use Rattle.wb_model.specs.declared.text.Base.TheVariants as B;
 ghost use Rattle.wb_hbuf.specs.Sources.{IsApart, IsForeign, IsSource, source_units};
 ghost use Rattle.wb_machine.specs.RunState.{RunState};
-ghost use Rattle.wb_machine.specs.TextOperands.{base_named, is_text, base_refusal, base_text, window_units, window_found, whole_of, unless_gone, buffer_under};
+ghost use Rattle.wb_machine.specs.TextOperands.{base_named, is_text, base_refusal, base_text, window_units};
+ghost use Rattle.wb_machine.specs.TextOperands.{window_found, whole_of, unless_gone, buffer_under};
 
 use crate::state::State;
 use crate::windows::Window;
@@ -40,7 +41,8 @@ pub fn is_same_base(one: Base, other: Base) -> bool
 /// How many units a literal has.
 fn literal_length(script: &Script, index: u32) -> u32
     requires { IsTrue (is_script script.now) }
-    ensures length { (h : RunState) → result ≡ length (base_text script.now.literals h (B.Literal index)) }
+    ensures length { (h : RunState) →
+        result ≡ length (base_text script.now.literals h (B.Literal index)) }
     ensures most { result < 2 ^ 31 }
 {
     match script.literals.get(index as usize) {
@@ -115,7 +117,8 @@ impl State {
     /// The whole of a base, or what is refused of it.
     fn whole_or_refusal(&self, script: &Script, base: Base) -> Result<Window, Panic>
         requires { IsTrue (is_script script.now) }
-        ensures { result ≡ unless_gone (base_refusal self.now base) (whole_of script.now.literals self.now base) }
+        ensures { result ≡ unless_gone (base_refusal self.now base)
+            (whole_of script.now.literals self.now base) }
     {
         match self.refusal(base) {
             Some(panic) => Err(panic),
@@ -143,7 +146,8 @@ impl State {
         ensures source { IsSource self.now.debug result }
         ensures foreign { IsForeign result }
         ensures apart { (p : Ptr) → is_same_base (B.Cell p) view.base ≡ false → IsApart p result }
-        ensures units { (own : List ℕ) → source_units self.now.debug own result ≡ window_units script.now.literals self.now view }
+        ensures units { (own : List ℕ) → source_units self.now.debug own result
+            ≡ window_units script.now.literals self.now view }
     {
         let _ = &self.heap;
         match view.base {

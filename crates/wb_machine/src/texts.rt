@@ -7,8 +7,10 @@ ghost use Rattle.wb_model.specs.declared.text.Base.{Base};
 ghost use Rattle.wb_model.specs.declared.text.Base.TheVariants as B;
 ghost use Rattle.wb_hbuf.specs.Sources.{edit_text};
 ghost use Rattle.wb_machine.specs.Effects.{number_read};
-ghost use Rattle.wb_machine.specs.TextOperands.{base_named, base_refusal, base_text, base_max, is_writable_base, window_read, window_units, buffer_under};
-ghost use Rattle.wb_machine.specs.TextEffects.{ending_by, IsWritten, IsEditedBy, IsInsertedBy, IsDeletedBy, IsLengthSet, SuitsBase};
+ghost use Rattle.wb_machine.specs.TextOperands.{base_named, base_refusal, base_text, base_max, is_writable_base};
+ghost use Rattle.wb_machine.specs.TextOperands.{window_read, window_units, buffer_under};
+ghost use Rattle.wb_machine.specs.TextEffects.{ending_by, IsWritten, IsEditedBy, IsInsertedBy, IsDeletedBy};
+ghost use Rattle.wb_machine.specs.TextEffects.{IsLengthSet, SuitsBase};
 ghost use Rattle.wb_machine.specs.Owed.{KeepsCount};
 
 use crate::locals::copy_of;
@@ -49,7 +51,10 @@ impl State {
         requires target { base_refusal self.old (B.Cell ptr) ≡ None }
         requires source { base_refusal self.old window.base ≡ None }
         requires suits { SuitsBase change (B.Cell ptr) window.base }
-        ensures written { IsWritten self.old (B.Cell ptr) (edit_text change (base_max self.old (B.Cell ptr)) (base_text script.now.literals self.old (B.Cell ptr)) (window_units script.now.literals self.old window)) result self.new }
+        ensures written { IsWritten self.old (B.Cell ptr)
+            (edit_text change (base_max self.old (B.Cell ptr))
+            (base_text script.now.literals self.old (B.Cell ptr))
+            (window_units script.now.literals self.old window)) result self.new }
         ensures keeps { KeepsCount self.old self.new }
     {
         let view = window.view();
@@ -65,7 +70,10 @@ impl State {
     /// Changes a buffer by what a view shows.
     fn write_buffer(&mut self, script: &Script, index: u8, change: Edit, window: Window) -> Ending
         requires source { base_refusal self.old window.base ≡ None }
-        ensures written { IsWritten self.old (B.Local index) (edit_text change (base_max self.old (B.Local index)) (base_text script.now.literals self.old (B.Local index)) (window_units script.now.literals self.old window)) result self.new }
+        ensures written { IsWritten self.old (B.Local index)
+            (edit_text change (base_max self.old (B.Local index))
+            (base_text script.now.literals self.old (B.Local index))
+            (window_units script.now.literals self.old window)) result self.new }
         ensures keeps { KeepsCount self.old self.new }
     {
         let view = window.view();
@@ -80,7 +88,9 @@ impl State {
         requires target { base_refusal self.old to ≡ None }
         requires source { base_refusal self.old window.base ≡ None }
         requires suits { SuitsBase change to window.base }
-        ensures written { IsWritten self.old to (edit_text change (base_max self.old to) (base_text script.now.literals self.old to) (window_units script.now.literals self.old window)) result self.new }
+        ensures written { IsWritten self.old to (edit_text change (base_max self.old to)
+            (base_text script.now.literals self.old to)
+            (window_units script.now.literals self.old window)) result self.new }
         ensures keeps { KeepsCount self.old self.new }
     {
         match to {
@@ -99,8 +109,11 @@ impl State {
         text: Readable,
     ) -> Ending
         requires script { IsTrue (is_script script.now) }
-        requires suits { (from : Base) → SuitsBase change (base_named script.now self.old target) from }
-        ensures edited { IsEditedBy script.now.literals self.old (base_named script.now self.old target) (window_read script.now self.old text) change result self.new }
+        requires suits { (from : Base) →
+            SuitsBase change (base_named script.now self.old target) from }
+        ensures edited { IsEditedBy script.now.literals self.old
+            (base_named script.now self.old target) (window_read script.now self.old text) change
+            result self.new }
         ensures keeps { KeepsCount self.old self.new }
     {
         let to = self.base(script, target);
@@ -122,7 +135,9 @@ impl State {
         text: Readable,
     ) -> Ending
         requires { IsTrue (is_script script.now) }
-        ensures inserted { IsInsertedBy script.now.literals self.old (base_named script.now self.old target) (window_read script.now self.old text) (number_read self.old position) result self.new }
+        ensures inserted { IsInsertedBy script.now.literals self.old
+            (base_named script.now self.old target) (window_read script.now self.old text)
+            (number_read self.old position) result self.new }
         ensures keeps { KeepsCount self.old self.new }
     {
         let to = self.base(script, target);
@@ -149,7 +164,8 @@ impl State {
     fn take_out(&mut self, to: Base, position: u32, count: u32) -> Ending
         requires writable { IsTrue (is_writable_base to) }
         requires target { base_refusal self.old to ≡ None }
-        ensures written { IsWritten self.old to (delete_text (base_text [] self.old to) position count) result self.new }
+        ensures written { IsWritten self.old to
+            (delete_text (base_text [] self.old to) position count) result self.new }
         ensures keeps { KeepsCount self.old self.new }
     {
         match to {
@@ -165,7 +181,8 @@ impl State {
     fn cut_to(&mut self, to: Base, length: u32) -> Ending
         requires writable { IsTrue (is_writable_base to) }
         requires target { base_refusal self.old to ≡ None }
-        ensures written { IsWritten self.old to (set_length_text (base_max self.old to) (base_text [] self.old to) length) result self.new }
+        ensures written { IsWritten self.old to (set_length_text (base_max self.old to)
+            (base_text [] self.old to) length) result self.new }
         ensures keeps { KeepsCount self.old self.new }
     {
         match to {
@@ -183,7 +200,8 @@ impl State {
         position: Number,
         count: Number,
     ) -> Ending
-        ensures deleted { IsDeletedBy self.old (base_named script.now self.old target) (number_read self.old position) (number_read self.old count) result self.new }
+        ensures deleted { IsDeletedBy self.old (base_named script.now self.old target)
+            (number_read self.old position) (number_read self.old count) result self.new }
         ensures keeps { KeepsCount self.old self.new }
     {
         let to = self.base(script, target);
@@ -201,7 +219,8 @@ impl State {
 
     /// A text gets another length.
     pub fn set_length(&mut self, script: &Script, target: Writable, length: Number) -> Ending
-        ensures set { IsLengthSet self.old (base_named script.now self.old target) (number_read self.old length) result self.new }
+        ensures set { IsLengthSet self.old (base_named script.now self.old target)
+            (number_read self.old length) result self.new }
         ensures keeps { KeepsCount self.old self.new }
     {
         let to = self.base(script, target);

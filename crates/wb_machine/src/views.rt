@@ -5,7 +5,8 @@ ghost use Rattle.wb_model.specs.meaning.Operands.{not_negative};
 ghost use Rattle.wb_model.specs.language.Sound.{is_script};
 ghost use Rattle.wb_machine.specs.Effects.{number_read};
 ghost use Rattle.wb_machine.specs.TextOperands.{base_named, base_refusal, base_max, window_read, window_units};
-ghost use Rattle.wb_machine.specs.TextEffects.{unless_panics, part_stored, count_read, left_read, right_read, mid_read, length_effect, max_effect, print_effect};
+ghost use Rattle.wb_machine.specs.TextEffects.{unless_panics, part_stored, count_read, left_read, right_read, mid_read};
+ghost use Rattle.wb_machine.specs.TextEffects.{length_effect, max_effect, print_effect};
 ghost use Rattle.wb_machine.specs.Owed.{CarriesOut, KeepsCount};
 
 use crate::locals::Slot;
@@ -80,7 +81,8 @@ impl State {
     /// A view local gets the first `count` units of a text.
     pub fn left(&mut self, script: &Script, local: u8, text: Readable, count: Number) -> Ending
         requires { IsTrue (is_script script.now) }
-        ensures { CarriesOut self.old (part_stored self.old local (left_read script.now self.old text count)) result self.new }
+        ensures { CarriesOut self.old (part_stored self.old local
+            (left_read script.now self.old text count)) result self.new }
     {
         let part = self.left_part(script, text, count);
         self.set_part(local, part)
@@ -89,7 +91,8 @@ impl State {
     /// A view local gets the last `count` units of a text.
     pub fn right(&mut self, script: &Script, local: u8, text: Readable, count: Number) -> Ending
         requires { IsTrue (is_script script.now) }
-        ensures { CarriesOut self.old (part_stored self.old local (right_read script.now self.old text count)) result self.new }
+        ensures { CarriesOut self.old (part_stored self.old local
+            (right_read script.now self.old text count)) result self.new }
     {
         let part = self.right_part(script, text, count);
         self.set_part(local, part)
@@ -105,7 +108,8 @@ impl State {
         count: Number,
     ) -> Ending
         requires { IsTrue (is_script script.now) }
-        ensures { CarriesOut self.old (part_stored self.old local (mid_read script.now self.old text position count)) result self.new }
+        ensures { CarriesOut self.old (part_stored self.old local
+            (mid_read script.now self.old text position count)) result self.new }
     {
         let part = self.mid_part(script, text, position, count);
         self.set_part(local, part)
@@ -117,7 +121,8 @@ impl State {
     /// A number local gets the length of a text.
     pub fn get_length(&mut self, script: &Script, local: u8, text: Readable) -> Ending
         requires { IsTrue (is_script script.now) }
-        ensures { CarriesOut self.old (length_effect script.now self.old local text) result self.new }
+        ensures { CarriesOut self.old (length_effect script.now self.old local text) result
+            self.new }
     {
         match self.window(script, text) {
             Ok(window) => {
@@ -147,7 +152,8 @@ impl State {
 
     /// A number local gets the maximum of a text.
     pub fn get_maximum(&mut self, script: &Script, local: u8, target: Writable) -> Ending
-        ensures { CarriesOut self.old (max_effect self.old local (base_named script.now self.old target)) result self.new }
+        ensures { CarriesOut self.old
+            (max_effect self.old local (base_named script.now self.old target)) result self.new }
     {
         let base = self.base(script, target);
         if let Some(panic) = self.refusal(base) {
@@ -161,7 +167,8 @@ impl State {
     /// Prints a text.
     pub fn print_text(&mut self, script: &Script, text: Readable) -> Result<Ending, NoMemory>
         requires { IsTrue (is_script script.now) }
-        ensures effect { IfOk result (λ ending. CarriesOut self.old (print_effect script.now self.old text) ending self.new) }
+        ensures effect { IfOk result (λ ending.
+            CarriesOut self.old (print_effect script.now self.old text) ending self.new) }
         ensures keeps { KeepsCount self.old self.new }
     {
         match self.window(script, text) {

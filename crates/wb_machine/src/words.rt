@@ -32,8 +32,11 @@ impl State {
     /// Puts a word into a Raw cell.
     fn set_word(&mut self, ptr: Ptr, word: u32, value: u32)
         requires within { word < length (payload_of ptr self.old.debug.heap.row) }
-        requires raw { IfSome (cell_at ptr self.old.debug.heap.row) (λ c. is_raw c.head.kind ≡ true) }
-        ensures changed { self.new ≡ with_debug self.old (debug_changed self.old.debug ptr (slice_set (payload_of ptr self.old.debug.heap.row) word value)) }
+        requires raw { IfSome (cell_at ptr self.old.debug.heap.row) (λ c.
+            is_raw c.head.kind ≡ true) }
+        ensures changed { self.new ≡ with_debug self.old
+            (debug_changed self.old.debug ptr
+            (slice_set (payload_of ptr self.old.debug.heap.row) word value)) }
         ensures keeps { KeepsCount self.old self.new }
     {
         self.heap.set_payload(ptr, word, value);
@@ -48,7 +51,9 @@ impl State {
         index: &Number,
         value: i32,
     ) -> Ending
-        ensures { CarriesOut self.old (store_effect self.old (pointer_read script.now self.old pointer.now) (number_read self.old index.now) value) result self.new }
+        ensures { CarriesOut self.old (store_effect self.old
+            (pointer_read script.now self.old pointer.now) (number_read self.old index.now) value)
+            result self.new }
     {
         let ptr = self.pointer(script, *pointer);
         let Some(header) = self.heap.header(ptr) else {
@@ -75,7 +80,9 @@ impl State {
     /// A number local gets a word of a Raw cell, as a signed number.
     #[inline(never)]
     pub fn load(&mut self, script: &Script, local: u8, pointer: &Pointer, index: &Number) -> Ending
-        ensures { CarriesOut self.old (load_effect self.old local (pointer_read script.now self.old pointer.now) (number_read self.old index.now)) result self.new }
+        ensures { CarriesOut self.old (load_effect self.old local
+            (pointer_read script.now self.old pointer.now) (number_read self.old index.now)) result
+            self.new }
     {
         let ptr = self.pointer(script, *pointer);
         let Some(header) = self.heap.header(ptr) else {

@@ -1,16 +1,20 @@
 //! Laws of the definitions. Each is the contract of a function that does nothing, so that the gate proves it.
 
-ghost use Rattle.std.specs.Prelude.{◌≡◌, ◌≢◌, ℕ, ℤ, ◌+◌, ◌-◌, ◌%◌, ◌<◌, ◌≤◌, ◌↔◌, List, Option, Some, None, false, true, [], IsTrue, nat_eq, length, take, drop, slice_get, slice_index, All};
-ghost use Rattle.wb_model.specs.runs.Agreement.{Agrees, RefusesAtLeast, RefusesNoGrant, IsNoLimit, IsSameRun, IsSameButNotes};
+ghost use Rattle.std.specs.Prelude.{◌≡◌, ◌≢◌, ℕ, ℤ, ◌+◌, ◌-◌, ◌%◌, ◌<◌, ◌≤◌, ◌↔◌, List, Option, Some, None, false};
+ghost use Rattle.std.specs.Prelude.{true, [], IsTrue, nat_eq, length, take, drop, slice_get, slice_index, All};
+ghost use Rattle.wb_model.specs.runs.Agreement.{Agrees, RefusesAtLeast, RefusesNoGrant, IsNoLimit, IsSameRun};
+ghost use Rattle.wb_model.specs.runs.Agreement.{IsSameButNotes};
 ghost use Rattle.wb_model.specs.runs.Sizes.{first_refusal, NoneIsRefused, IsFirstRefused, IsGreatestEnd, IsTable};
 ghost use Rattle.wb_model.specs.runs.FreeSlots.{HasFreeSlot, WhereverItGoesOn};
 ghost use Rattle.wb_model.specs.runs.Throughout.{Throughout, AreCellsAfter, AreLeaksAfter};
 ghost use Rattle.wb_model.specs.runs.Rest.{Unfolds};
 ghost use Rattle.wb_model.specs.heap.Row.{Cell, IsSpacedFrom, IsLeastPlace, place_of, top_of};
 ghost use Rattle.wb_model.specs.heap.Rules.{next, each, is_due, after_attempts};
-ghost use Rattle.wb_model.specs.heap.Debug.{Debug, alloc_made, first_debug, first_debug_of, keeps_rises, made_with_rises, realloc_made, with_rises};
+ghost use Rattle.wb_model.specs.heap.Debug.{Debug, alloc_made, first_debug, first_debug_of, keeps_rises};
+ghost use Rattle.wb_model.specs.heap.Debug.{made_with_rises, realloc_made, with_rises};
 ghost use Rattle.wb_model.specs.runs.Rises.{top_of_rises};
-ghost use Rattle.wb_model.specs.runs.Run.{process, run, run_with_rises, whole_run, highest_end, required, rises, rises_above, refused_at};
+ghost use Rattle.wb_model.specs.runs.Run.{process, run, run_with_rises, whole_run, highest_end, required, rises};
+ghost use Rattle.wb_model.specs.runs.Run.{rises_above, refused_at};
 ghost use Rattle.wb_model.specs.heap.Space.{AreFreeRuns, free_runs};
 ghost use Rattle.wb_model.specs.runs.Sweeps.{runs_of, AreAllFine, IsLeastUnfine, least_bad_or_cut};
 ghost use Rattle.wb_model.specs.meaning.Texts.{units_of_part};
@@ -37,34 +41,41 @@ ghost use Rattle.wb_model.specs.declared.script.Script.{Script};
 
 /// The place of a request is the least multiple of 16 from which on no cell of the row meets its bytes.
 pub fn place_is_least()
-    ensures { (row : List Header) (length : ℕ) → 0 < length → IsSpacedFrom 0 row → IsLeastPlace row length (place_of row length) }
+    ensures { (row : List Header) (length : ℕ) → 0 < length → IsSpacedFrom 0 row →
+        IsLeastPlace row length (place_of row length) }
 {}
 
 /// What the script's own settings refuse: one for the k-th next attempt refuses that attempt and no other, and one for
 /// every k-th attempt refuses those whose count from the setting on is a multiple of k.
 pub fn settings_refuse()
     ensures next { (k n : ℕ) → is_due (after_attempts n (next k)) ≡ nat_eq k (n + 1) }
-    ensures every { (k n : ℕ) → 1 ≤ k → is_due (after_attempts n (each k k)) ≡ nat_eq ((n + 1) % k) 0 }
+    ensures every { (k n : ℕ) → 1 ≤ k →
+        is_due (after_attempts n (each k k)) ≡ nat_eq ((n + 1) % k) 0 }
 {}
 
 /// The free runs below a committed length are what the cells leave of it: the runs and the cells together make it up,
 /// the longest run is a stretch of bytes that no cell meets, and no stretch that no cell meets is longer.
 pub fn free_runs_are()
-    ensures { (row : List Header) (committed : ℕ) → IsSpacedFrom 0 row → top_of row ≤ committed → AreFreeRuns row committed (free_runs 0 row committed) }
+    ensures { (row : List Header) (committed : ℕ) → IsSpacedFrom 0 row → top_of row ≤ committed →
+        AreFreeRuns row committed (free_runs 0 row committed) }
 {}
 
 /// What a part of a text reads as: as many units as it is long, each of them the base's at its place, or zero past the
 /// base's end. A part of a part reads as that stretch of it, whatever the base holds.
 pub fn parts_are_read()
-    ensures long { (base : List ℕ) (from count : ℕ) → length (units_of_part base from count) ≡ count }
-    ensures units { (base : List ℕ) (from count k : ℕ) → k < count → slice_index (units_of_part base from count) k ≡ slice_index base (from + k) }
-    ensures parts { (base : List ℕ) (from count at n : ℕ) → at + n ≤ count → units_of_part base (from + at) n ≡ take n (drop at (units_of_part base from count)) }
+    ensures long { (base : List ℕ) (from count : ℕ) →
+        length (units_of_part base from count) ≡ count }
+    ensures units { (base : List ℕ) (from count k : ℕ) → k < count →
+        slice_index (units_of_part base from count) k ≡ slice_index base (from + k) }
+    ensures parts { (base : List ℕ) (from count at n : ℕ) → at + n ≤ count →
+        units_of_part base (from + at) n ≡ take n (drop at (units_of_part base from count)) }
 {}
 
 /// The Agreement law: two rules, of which the second refuses at least what the first refuses, give the same
 /// run up to the first attempt that they answer differently.
 pub fn rules_agree()
-    ensures { (script : Script) (budget : ℕ) (shape : Shape) (r : Rule) (s : Rule) → Agrees script budget shape r s }
+    ensures { (script : Script) (budget : ℕ) (shape : Shape) (r : Rule) (s : Rule) →
+        Agrees script budget shape r s }
 {}
 
 /// The lines of a run's trace are those of the attempts that it asks for, in order: the number is the line's index, from 1; a
@@ -72,16 +83,18 @@ pub fn rules_agree()
 /// the rule is; a simulated one is refused by the script's own setting, or by the rule.
 pub fn lines_are_answered()
     ensures lines { (script : Script) (budget : ℕ) (shape : Shape) (r : Rule) →
-        AreAnsweredLines r 0 (asked_for r 0 (process script budget)) (run script r budget shape).trace }
-    ensures numbered { (script : Script) (budget : ℕ) (shape : Shape) (r : Rule) (k : ℕ) (t : Attempt) →
-        slice_get (run script r budget shape).trace k ≡ Some t → t.number ≡ k + 1 }
+        AreAnsweredLines r 0 (asked_for r 0 (process script budget))
+        (run script r budget shape).trace }
+    ensures numbered { (script : Script) (budget : ℕ) (shape : Shape) (r : Rule) (k : ℕ)
+        (t : Attempt) → slice_get (run script r budget shape).trace k ≡ Some t → t.number ≡ k + 1 }
     ensures settings { (script : Script) (budget : ℕ) → TellsSettings (process script budget) }
 {}
 
 /// What is measured of a trace, in words: the number of the first line that the heap's limit refused, and none where no line
 /// is; and the greatest end of a granted line.
 pub fn traces_are_measured()
-    ensures refused { (trace : List Attempt) (number : ℕ) → (first_refusal trace ≡ Some number) ↔ IsFirstRefused trace number }
+    ensures refused { (trace : List Attempt) (number : ℕ) →
+        (first_refusal trace ≡ Some number) ↔ IsFirstRefused trace number }
     ensures none { (trace : List Attempt) → (first_refusal trace ≡ None) ↔ NoneIsRefused trace }
     ensures end { (trace : List Attempt) → IsGreatestEnd trace (highest_end trace) }
 {}
@@ -92,7 +105,8 @@ pub fn traces_are_measured()
 pub fn rises_are_kept()
     ensures runs { (script : Script) (budget : ℕ) (shape : Shape) (r : Rule) →
         whole_run true script r budget shape ≡ run_with_rises (run script r budget shape) }
-    ensures first { (shape : Shape) → first_debug_of true Unlimited shape ≡ with_rises (first_debug Unlimited shape) }
+    ensures first { (shape : Shape) →
+        first_debug_of true Unlimited shape ≡ with_rises (first_debug Unlimited shape) }
     ensures allocations { (d : Debug) (bytes : ℕ) (kind : Kind) → keeps_rises d ≡ false →
         alloc_made (with_rises d) bytes kind ≡ made_with_rises (alloc_made d bytes kind) }
     ensures reallocations { (d : Debug) (c : Cell (List ℕ)) (bytes : ℕ) → keeps_rises d ≡ false →
@@ -104,15 +118,23 @@ pub fn rises_are_kept()
 /// rises of that run name; nothing exactly from the required length on; and what the table of the rises says. From the
 /// required length on the run is the one without a limit, but for notes.
 pub fn limits_refuse()
-    ensures first { (script : Script) (budget : ℕ) (shape : Shape) (length : ℕ) → (run script Unlimited budget shape).outcome ≢ Cut Ceiling →
-        first_refusal (run script (Limit length) budget shape).trace ≡ refused_at script budget shape length }
+    ensures first { (script : Script) (budget : ℕ) (shape : Shape) (length : ℕ) →
+        (run script Unlimited budget shape).outcome ≢ Cut Ceiling →
+        first_refusal (run script (Limit length) budget shape).trace
+        ≡ refused_at script budget shape length }
     ensures none { (script : Script) (budget : ℕ) (shape : Shape) (length : ℕ) →
         (refused_at script budget shape length ≡ None) ↔ (required script budget shape ≤ length) }
-    ensures table { (script : Script) (budget : ℕ) (shape : Shape) → (run script Unlimited budget shape).outcome ≢ Cut Ceiling →
-        IsTable (λ length. first_refusal (run script (Limit length) budget shape).trace) (required script budget shape) 0 (rises script budget shape) }
-    ensures enough { (script : Script) (budget : ℕ) (shape : Shape) (length : ℕ) → (run script Unlimited budget shape).outcome ≢ Cut Ceiling →
-        required script budget shape ≤ length → IsSameButNotes (run script Unlimited budget shape) (run script (Limit length) budget shape) }
-    ensures within { (script : Script) (budget : ℕ) (shape : Shape) → required script budget shape ≤ CEILING }
+    ensures table { (script : Script) (budget : ℕ) (shape : Shape) →
+        (run script Unlimited budget shape).outcome ≢ Cut Ceiling →
+        IsTable (λ length. first_refusal (run script (Limit length) budget shape).trace)
+        (required script budget shape) 0 (rises script budget shape) }
+    ensures enough { (script : Script) (budget : ℕ) (shape : Shape) (length : ℕ) →
+        (run script Unlimited budget shape).outcome ≢ Cut Ceiling →
+        required script budget shape ≤ length →
+        IsSameButNotes (run script Unlimited budget shape)
+        (run script (Limit length) budget shape) }
+    ensures within { (script : Script) (budget : ℕ) (shape : Shape) →
+        required script budget shape ≤ CEILING }
 {}
 
 /// Two rules, of which the first is no limit and the second refuses at least what the first refuses, but nothing that is
@@ -123,8 +145,8 @@ pub fn unasked_rules_agree()
         IsNoLimit r → RefusesAtLeast r s → (run script r budget shape).outcome ≢ Cut Ceiling →
         RefusesNoGrant s (run script r budget shape).trace →
         IsSameRun r s (run script r budget shape) (run script s budget shape) }
-    ensures failures { (failures : Failures) (script : Script) (budget : ℕ) (shape : Shape) (n : ℕ) →
-        (runs_of failures script budget shape 0).outcome ≢ Cut Ceiling →
+    ensures failures { (failures : Failures) (script : Script) (budget : ℕ) (shape : Shape)
+        (n : ℕ) → (runs_of failures script budget shape 0).outcome ≢ Cut Ceiling →
         length (runs_of failures script budget shape 0).trace < n →
         runs_of failures script budget shape n ≡ runs_of failures script budget shape 0 }
 {}
@@ -146,8 +168,9 @@ pub fn sweeps_end()
 pub fn cells_stay_a_row()
     ensures throughout { (script : Script) (budget : ℕ) →
         Throughout (λ made st. AreCellsAfter script made st.heap.row) 0 (process script budget) }
-    ensures leaks { (script : Script) (budget : ℕ) (shape : Shape) (r : Rule) (left : Option ℤ) (leaks : List Leak) →
-        (run script r budget shape).outcome ≡ Ended left leaks → AreLeaksAfter (length (run script r budget shape).trace) leaks }
+    ensures leaks { (script : Script) (budget : ℕ) (shape : Shape) (r : Rule) (left : Option ℤ)
+        (leaks : List Leak) → (run script r budget shape).outcome ≡ Ended left leaks →
+        AreLeaksAfter (length (run script r budget shape).trace) leaks }
 {}
 
 /// Each line that a run prints is printable ASCII: its bytes are from 32 to 126.
@@ -175,8 +198,11 @@ pub fn meaning_unfolds()
 /// for no attempt, and neither leaves nor returns. It may panic, or be cut at the budget; where it goes on, the items destroyed are
 /// off the cleanup stack, and no others.
 pub fn destructions_never_leave()
-    ensures items { (script : Script) (budget : ℕ) (at : Context) (n : ℕ) (st : State) → IsTrue (is_quiet script) →
-        GoesOnWith (take (length st.items - n) st.items) (meaning_of script budget at (destroy_items n) st) }
-    ensures object { (script : Script) (budget : ℕ) (at : Context) (p : Ptr) (st : State) → IsTrue (is_quiet script) →
+    ensures items { (script : Script) (budget : ℕ) (at : Context) (n : ℕ) (st : State) →
+        IsTrue (is_quiet script) →
+        GoesOnWith (take (length st.items
+        - n) st.items) (meaning_of script budget at (destroy_items n) st) }
+    ensures object { (script : Script) (budget : ℕ) (at : Context) (p : Ptr) (st : State) →
+        IsTrue (is_quiet script) →
         GoesOnWith st.items (meaning_of script budget at (destroy_object p) st) }
 {}

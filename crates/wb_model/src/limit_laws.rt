@@ -5,8 +5,19 @@
 ghost use Rattle.std.specs.Prelude.{◌≡◌, pos, neg_ℤ};
 ghost use Rattle.wb_model.specs.declared.heap.Panic.TheVariants.{User, Workbench};
 ghost use Rattle.wb_model.specs.declared.heap.TheConstants.{KERR_NO_MEMORY};
-ghost use Rattle.wb_model.specs.declared.heap.TheConstants.Panic.{POSITION_OUT_OF_BOUNDS, TOO_LONG, BAD_CELL, NULL_OR_STALE, WRONG_KIND, POP_BELOW_TRAP, ANOTHER_ITEM_ON_TOP, ITEMS_LEFT, NO_OPEN_MARK, TOO_MANY_FRAMES, SHORTER_THAN_TEXT, NUMBER_OUT_OF_RANGE};
-ghost use Rattle.wb_model.specs.declared.limits.TheConstants.{CEILING, LARGEST_REQUEST, MOST_UNITS, MOST_TURNS, MOST_FRAMES, LARGEST_BUDGET, DEFAULT_BUDGET, LARGEST_MINIMUM, DEFAULT_MINIMUM, SMALLEST_STEP, LARGEST_STEP, DEFAULT_STEP, LONGEST_SCRIPT, LONGEST_LITERAL, LONGEST_NAME, NINE_DIGITS, MOST_PROCEDURES, MOST_CLASSES, MOST_FIELDS, MOST_EXTRA, MOST_PARAMETERS, MOST_LOCALS, DEEPEST_BLOCK, LARGEST_BUFFER, LONGEST_PRINTED};
+ghost use Rattle.wb_model.specs.declared.heap.TheConstants.Panic.{POSITION_OUT_OF_BOUNDS, TOO_LONG, BAD_CELL};
+ghost use Rattle.wb_model.specs.declared.heap.TheConstants.Panic.{NULL_OR_STALE, WRONG_KIND, POP_BELOW_TRAP};
+ghost use Rattle.wb_model.specs.declared.heap.TheConstants.Panic.{ANOTHER_ITEM_ON_TOP, ITEMS_LEFT, NO_OPEN_MARK};
+ghost use Rattle.wb_model.specs.declared.heap.TheConstants.Panic.{TOO_MANY_FRAMES, SHORTER_THAN_TEXT};
+ghost use Rattle.wb_model.specs.declared.heap.TheConstants.Panic.{NUMBER_OUT_OF_RANGE};
+ghost use Rattle.wb_model.specs.declared.limits.TheConstants.{CEILING, LARGEST_REQUEST, MOST_UNITS, MOST_TURNS};
+ghost use Rattle.wb_model.specs.declared.limits.TheConstants.{MOST_FRAMES, LARGEST_BUDGET, DEFAULT_BUDGET};
+ghost use Rattle.wb_model.specs.declared.limits.TheConstants.{LARGEST_MINIMUM, DEFAULT_MINIMUM, SMALLEST_STEP};
+ghost use Rattle.wb_model.specs.declared.limits.TheConstants.{LARGEST_STEP, DEFAULT_STEP, LONGEST_SCRIPT};
+ghost use Rattle.wb_model.specs.declared.limits.TheConstants.{LONGEST_LITERAL, LONGEST_NAME, NINE_DIGITS};
+ghost use Rattle.wb_model.specs.declared.limits.TheConstants.{MOST_PROCEDURES, MOST_CLASSES, MOST_FIELDS, MOST_EXTRA};
+ghost use Rattle.wb_model.specs.declared.limits.TheConstants.{MOST_PARAMETERS, MOST_LOCALS, DEEPEST_BLOCK};
+ghost use Rattle.wb_model.specs.declared.limits.TheConstants.{LARGEST_BUFFER, LONGEST_PRINTED};
 
 /// What a script may have, in the order of "Limits" in `docs/LANGUAGE.md`; then what its statements may ask for; then the
 /// lengths of heap, and what the options of `docs/REPORTS.md` may say.

@@ -97,7 +97,8 @@ fn read_line(stack: &mut Vec<Open>, role: Role) -> Result<bool, AllocError>
 /// Lines count from 0, with those that count for nothing (`Role::Skip`), which have a place everywhere. An error means that a growth of the list of
 /// open blocks was refused; it says nothing of the lines.
 pub fn first_misfit(alloc: Global, roles: &[Role]) -> Result<Option<usize>, AllocError>
-    ensures { IfOk result (λ found. MatchOption found (IsGrammatical roles.now) (IsFirstMisfit roles.now)) }
+    ensures { IfOk result (λ found.
+        MatchOption found (IsGrammatical roles.now) (IsFirstMisfit roles.now)) }
 {
     let mut stack = Vec::new(alloc);
     for (index, role) in roles.iter().enumerate() {

@@ -1,7 +1,8 @@
 //! The calls on objects. An object is of the class that its cell's header says; the word of the class says the same to who
 //! reads the words alone.
 
-ghost use Rattle.std.specs.Prelude.{◌≡◌, ℕ, ◌+◌, ◌*◌, ◌^◌, ◌<◌, ◌≤◌, length, None, Some, IfOk, IsOk, OnErr, OnOk, slice_get, slice_set};
+ghost use Rattle.std.specs.Prelude.{◌≡◌, ℕ, ◌+◌, ◌*◌, ◌^◌, ◌<◌, ◌≤◌, length, None, Some, IfOk, IsOk, OnErr, OnOk};
+ghost use Rattle.std.specs.Prelude.{slice_get, slice_set};
 ghost use Rattle.wb_model.specs.cells.CellRow.{payload_of};
 ghost use Rattle.wb_model.specs.heap.Debug.{IsSoundDebug, answer_in};
 ghost use Rattle.wb_model.specs.heap.Heap.{alloc_request};
@@ -10,7 +11,8 @@ ghost use Rattle.wb_model.specs.cells.Spelling.{fields_in};
 ghost use Rattle.wb_model.specs.meaning.Statements.{payload_of_object};
 ghost use Rattle.wb_model.specs.meaning.Bodies.{class_at};
 ghost use Rattle.wb_model.specs.meaning.Texts.{answer_of};
-ghost use Rattle.wb_objects.specs.Objects.{HasField, IsNewObject, class_found, field_changed, field_of, object_made, words_found};
+ghost use Rattle.wb_objects.specs.Objects.{HasField, IsNewObject, class_found, field_changed, field_of, object_made};
+ghost use Rattle.wb_objects.specs.Objects.{words_found};
 
 use wb_debug::DebugHeap;
 use wb_model::heap::{Gave, Kind, Panic, Ptr};
@@ -37,10 +39,14 @@ pub fn make(heap: &mut DebugHeap, script: &Script, class: u16) -> Result<Gave, N
     requires class { class < length script.now.classes }
     requires bytes { payload_of_object (class_at script.now class) ≤ CEILING }
     requires number { heap.old.attempts + 1 < 2 ^ 32 }
-    ensures gave { IfOk result (λ gave. gave ≡ (object_made heap.old class (class_at script.now class)).gave) }
-    ensures made { OnOk result (heap.new ≡ (object_made heap.old class (class_at script.now class)).debug) }
-    ensures cut { answer_in heap.old (alloc_request heap.old.heap (payload_of_object (class_at script.now class))) ≡ None → IsOk result }
-    ensures object { IfOk result (IsNewObject heap.new class (length (class_at script.now class).fields)) }
+    ensures gave { IfOk result (λ gave.
+        gave ≡ (object_made heap.old class (class_at script.now class)).gave) }
+    ensures made { OnOk result (heap.new
+        ≡ (object_made heap.old class (class_at script.now class)).debug) }
+    ensures cut { answer_in heap.old (alloc_request heap.old.heap
+        (payload_of_object (class_at script.now class))) ≡ None → IsOk result }
+    ensures object { IfOk result
+        (IsNewObject heap.new class (length (class_at script.now class).fields)) }
     ensures err { OnErr result (heap.new ≡ heap.old) }
     ensures sound { IsSoundDebug heap.new }
 {
@@ -83,7 +89,8 @@ pub fn class_of(heap: &DebugHeap, ptr: Ptr) -> Result<u16, Panic>
 pub fn field(heap: &DebugHeap, ptr: Ptr, class: u16, i: u8) -> Result<Ptr, Panic>
     requires { HasField heap.now ptr class i }
     ensures answer { result ≡ field_of i (words_found heap.now ptr class) }
-    ensures among { IfOk result (λ to. (count : ℕ) → i < count → slice_get (fields_in count (payload_of ptr heap.now.heap.row)) i ≡ Some to) }
+    ensures among { IfOk result (λ to. (count : ℕ) → i < count →
+        slice_get (fields_in count (payload_of ptr heap.now.heap.row)) i ≡ Some to) }
 {
     expect_class(heap, ptr, class)?;
     let at = word_of_field(i);
@@ -100,8 +107,11 @@ pub fn set_field(heap: &mut DebugHeap, ptr: Ptr, class: u16, i: u8, to: Ptr) -> 
     requires { HasField heap.old ptr class i }
     ensures answer { result ≡ answer_of (words_found heap.old ptr class) }
     ensures changed { heap.new ≡ field_changed heap.old ptr i to (words_found heap.old ptr class) }
-    ensures fields { OnOk result ((count : ℕ) → fields_in count (payload_of ptr heap.new.heap.row) ≡ slice_set (fields_in count (payload_of ptr heap.old.heap.row)) i to) }
-    ensures object { (count : ℕ) → IsObjectAt ptr class count heap.old → i < count → IsObjectAt ptr class count heap.new }
+    ensures fields { OnOk result ((count : ℕ) →
+        fields_in count (payload_of ptr heap.new.heap.row)
+        ≡ slice_set (fields_in count (payload_of ptr heap.old.heap.row)) i to) }
+    ensures object { (count : ℕ) → IsObjectAt ptr class count heap.old → i < count →
+        IsObjectAt ptr class count heap.new }
     ensures sound { IsSoundDebug heap.new }
 {
     expect_class(heap, ptr, class)?;

@@ -1,9 +1,12 @@
 //! The heap, its grants and releases, and what it tells. Reallocation stands in `realloc`, the words of payloads in
 //! `payloads`, the cells in the crate below, and the committed length in `space`.
 
-ghost use Rattle.std.specs.Prelude.{◌≡◌, ◌≢◌, ◌+◌, ◌*◌, ◌<◌, ◌≤◌, ◌↔◌, false, length, take, sum, All, IfOk, IfErr, IfSome, OnOk, OnErr, Some, None, option_map};
+ghost use Rattle.std.specs.Prelude.{◌≡◌, ◌≢◌, ◌+◌, ◌*◌, ◌<◌, ◌≤◌, ◌↔◌, false, length, take, sum, All, IfOk, IfErr};
+ghost use Rattle.std.specs.Prelude.{IfSome, OnOk, OnErr, Some, None, option_map};
 ghost use Rattle.wb_model.specs.cells.CellRow.{payload_of};
-ghost use Rattle.wb_model.specs.heap.LimitedHeap.{IsCellLength, IsLiveBelow, IsSoundHeap, empty_heap, place_in, committed_with, heap_with, heap_without, heap_compressed, reclaimed_from, runs_in, next_live_of};
+ghost use Rattle.wb_model.specs.heap.LimitedHeap.{IsCellLength, IsLiveBelow, IsSoundHeap, empty_heap, place_in};
+ghost use Rattle.wb_model.specs.heap.LimitedHeap.{committed_with, heap_with, heap_without, heap_compressed};
+ghost use Rattle.wb_model.specs.heap.LimitedHeap.{reclaimed_from, runs_in, next_live_of};
 ghost use Rattle.wb_model.specs.heap.Row.{IsLeastPlace, cell_at, headers, total_length, usable_of};
 ghost use Rattle.wb_model.specs.heap.Space.{is_shape, longest};
 
@@ -54,7 +57,8 @@ impl Heap {
         requires { limit ≤ CEILING }
         ensures ok { IfOk result (λ heap. heap ≡ empty_heap limit shape) }
         ensures shape { (result ≡ Err HeapFault.BadShape) ↔ (is_shape shape ≡ false) }
-        ensures no_other { IfErr result (λ fault. fault ≢ HeapFault.BadShape → fault ≡ HeapFault.NoMemory) }
+        ensures no_other { IfErr result (λ fault. fault ≢ HeapFault.BadShape →
+            fault ≡ HeapFault.NoMemory) }
         ensures no_growth { (empty_heap limit shape).held ≡ 0 → result ≢ Err HeapFault.NoMemory }
         ensures sound { IfOk result IsSoundHeap }
     {
@@ -131,11 +135,15 @@ impl Heap {
         requires length { IsCellLength length }
         requires numbered { 1 ≤ number }
         requires unused { All (λ h. h.number ≢ number) (headers self.old.row) }
-        ensures pointer { IfOk result (λ ptr. ptr ≡ record { place = place_in self.old length; number = number }) }
+        ensures pointer { IfOk result (λ ptr.
+            ptr ≡ record { place = place_in self.old length; number = number }) }
         ensures granted { OnOk result (self.new ≡ heap_with self.old length kind number level) }
-        ensures short { (result ≡ Err HeapFault.TooShort) ↔ (self.old.limit < place_in self.old length + length) }
-        ensures no_other { IfErr result (λ fault. fault ≢ HeapFault.TooShort → fault ≡ HeapFault.NoMemory) }
-        ensures no_growth { committed_with self.old length ≤ self.old.held → result ≢ Err HeapFault.NoMemory }
+        ensures short { (result ≡ Err HeapFault.TooShort)
+            ↔ (self.old.limit < place_in self.old length + length) }
+        ensures no_other { IfErr result (λ fault. fault ≢ HeapFault.TooShort →
+            fault ≡ HeapFault.NoMemory) }
+        ensures no_growth { committed_with self.old length ≤ self.old.held →
+            result ≢ Err HeapFault.NoMemory }
         ensures err { OnErr result (self.new ≡ self.old) }
         ensures sound { IsSoundHeap self.new }
     {
@@ -157,11 +165,15 @@ impl Heap {
         requires length { IsCellLength length }
         requires numbered { 1 ≤ number }
         requires unused { All (λ h. h.number ≢ number) (headers self.old.row) }
-        ensures pointer { IfOk result (λ ptr. ptr ≡ record { place = place_in self.old length; number = number }) }
+        ensures pointer { IfOk result (λ ptr.
+            ptr ≡ record { place = place_in self.old length; number = number }) }
         ensures granted { OnOk result (self.new ≡ heap_with self.old length kind number level) }
-        ensures short { (result ≡ Err HeapFault.TooShort) ↔ (self.old.limit < place_in self.old length + length) }
-        ensures no_other { IfErr result (λ fault. fault ≢ HeapFault.TooShort → fault ≡ HeapFault.NoMemory) }
-        ensures no_growth { committed_with self.old length ≤ self.old.held → result ≢ Err HeapFault.NoMemory }
+        ensures short { (result ≡ Err HeapFault.TooShort)
+            ↔ (self.old.limit < place_in self.old length + length) }
+        ensures no_other { IfErr result (λ fault. fault ≢ HeapFault.TooShort →
+            fault ≡ HeapFault.NoMemory) }
+        ensures no_growth { committed_with self.old length ≤ self.old.held →
+            result ≢ Err HeapFault.NoMemory }
         ensures err { OnErr result (self.new ≡ self.old) }
         ensures sound { IsSoundHeap self.new }
     {
@@ -220,7 +232,8 @@ impl Heap {
     pub fn header(&self, ptr: Ptr) -> Option<Header>
         ensures header { result ≡ option_map (λ c. c.head) (cell_at ptr self.now.row) }
         ensures live { IfSome result (IsLiveBelow self.now.limit) }
-        ensures payload { IfSome result (λ h. 4 * length (payload_of ptr self.now.row) ≡ usable_of h) }
+        ensures payload { IfSome result (λ h.
+            4 * length (payload_of ptr self.now.row) ≡ usable_of h) }
         ensures sound { IsSoundHeap self.now }
     {
         self.cells.header(ptr)

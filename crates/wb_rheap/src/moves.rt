@@ -1,6 +1,7 @@
 //! A cell that becomes longer, where it stands or elsewhere. Where it goes, and whether it may, is not decided here.
 
-ghost use Rattle.std.specs.Prelude.{◌≡◌, ◌≢◌, ◌+◌, ◌-◌, ◌/◌, ◌%◌, ◌<◌, ◌≤◌, All, Some, IsSome, option_map, length, nat_eq, if◌then◌else◌};
+ghost use Rattle.std.specs.Prelude.{◌≡◌, ◌≢◌, ◌+◌, ◌-◌, ◌/◌, ◌%◌, ◌<◌, ◌≤◌, All, Some, IsSome, option_map, length};
+ghost use Rattle.std.specs.Prelude.{nat_eq, if◌then◌else◌};
 ghost use Rattle.wb_model.specs.cells.CellRow.{FitsInPlace, IsGap, payload_of, resized_words};
 ghost use Rattle.wb_model.specs.heap.LimitedHeap.{IsFilled};
 ghost use Rattle.wb_model.specs.heap.Row.{IsRow, IsSpacedFrom, cell_at, headers, inserted, pointer_to, without};
@@ -15,13 +16,17 @@ pub fn lengthen(cells: &mut Cells, cell: Header, place: u32, length: u32, number
     requires longer { cell.length < length }
     requires rounded { length % 16 ≡ 0 }
     requires within { place + length ≤ cells.old.held }
-    requires stays { place ≡ cell.place → FitsInPlace (pointer_to cell) length (headers cells.old.row) }
+    requires stays { place ≡ cell.place →
+        FitsInPlace (pointer_to cell) length (headers cells.old.row) }
     requires moves { place ≢ cell.place → IsGap (headers cells.old.row) place length }
     requires numbered { 1 ≤ number }
     requires unused { All (λ h. h.number ≢ number) (headers cells.old.row) }
     requires row { IsRow (headers cells.old.row) }
     requires filled { All IsFilled cells.old.row }
-    ensures pointer { result ≡ record { place = place; number = if nat_eq place cell.place then cell.number else number } }
+    ensures pointer { result ≡ record {
+      place = place;
+      number = if nat_eq place cell.place then cell.number else number;
+    } }
     ensures longer { cells.new ≡ record cells.old {
       row = inserted (record {
         head = record cell { place = place; length = length; number = result.number };
@@ -59,7 +64,11 @@ fn move_to(cells: &mut Cells, ptr: Ptr, words: u32, moved: Header)
     requires unused { All (λ h. h.number ≢ moved.number) (headers cells.old.row) }
     requires spaced { IsSpacedFrom 0 (headers cells.old.row) }
     ensures { cells.new ≡ record cells.old {
-      row = inserted (record { head = moved; content = resized_words moved.length (payload_of ptr cells.old.row) }) (without ptr cells.old.row);
+      row = inserted (record {
+        head = moved;
+        content = resized_words moved.length (payload_of ptr cells.old.row);
+      })
+          (without ptr cells.old.row);
     } }
 {
     cells.take(moved.place, moved.length, moved);

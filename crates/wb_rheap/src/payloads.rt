@@ -1,6 +1,7 @@
 //! The words of payloads. Words and their halves are counted from 0; the half 2k is the low half of word k.
 
-ghost use Rattle.std.specs.Prelude.{◌≡◌, ◌+◌, ◌*◌, ◌<◌, ◌≤◌, ◌++◌, length, take, drop, replicate, slice_index, slice_set, IsSome};
+ghost use Rattle.std.specs.Prelude.{◌≡◌, ◌+◌, ◌*◌, ◌<◌, ◌≤◌, ◌++◌, length, take, drop, replicate, slice_index};
+ghost use Rattle.std.specs.Prelude.{slice_set, IsSome};
 ghost use Rattle.wb_chunk.specs.Halves.{half_of, halves_from, with_half, with_halves};
 ghost use Rattle.wb_model.specs.cells.CellRow.{payload_of};
 ghost use Rattle.wb_model.specs.heap.LimitedHeap.{IsSoundHeap, heap_changed};
@@ -21,7 +22,8 @@ impl Heap {
     /// Changes a word of a payload, and nothing else.
     pub fn set_payload(&mut self, ptr: Ptr, i: u32, v: u32)
         requires { i < length (payload_of ptr self.old.row) }
-        ensures changed { self.new ≡ heap_changed self.old ptr (slice_set (payload_of ptr self.old.row) i v) }
+        ensures changed { self.new
+            ≡ heap_changed self.old ptr (slice_set (payload_of ptr self.old.row) i v) }
         ensures sound { IsSoundHeap self.new }
     {
         self.cells.set_payload(ptr, i, v);
@@ -38,7 +40,8 @@ impl Heap {
     /// Changes a half of a payload's words, and nothing else.
     pub fn set_payload_half(&mut self, ptr: Ptr, i: u32, v: u16)
         requires { i < 2 * length (payload_of ptr self.old.row) }
-        ensures changed { self.new ≡ heap_changed self.old ptr (with_half (payload_of ptr self.old.row) i v) }
+        ensures changed { self.new
+            ≡ heap_changed self.old ptr (with_half (payload_of ptr self.old.row) i v) }
         ensures sound { IsSoundHeap self.new }
     {
         self.cells.set_payload_half(ptr, i, v);
@@ -50,7 +53,8 @@ impl Heap {
         requires to_live { IsSome (cell_at to self.old.row) }
         requires source { n ≤ length (payload_of from self.old.row) }
         requires target { n ≤ length (payload_of to self.old.row) }
-        ensures changed { self.new ≡ heap_changed self.old to (take n (payload_of from self.old.row) ++ drop n (payload_of to self.old.row)) }
+        ensures changed { self.new ≡ heap_changed self.old to (take n (payload_of from self.old.row)
+            ++ drop n (payload_of to self.old.row)) }
         ensures sound { IsSoundHeap self.new }
     {
         self.cells.copy_payload(from, to, n);
@@ -60,7 +64,8 @@ impl Heap {
     pub fn zero_halves(&mut self, ptr: Ptr, i: u32, n: u32)
         requires live { IsSome (cell_at ptr self.old.row) }
         requires within { i + n ≤ 2 * length (payload_of ptr self.old.row) }
-        ensures changed { self.new ≡ heap_changed self.old ptr (with_halves (payload_of ptr self.old.row) i (replicate n 0)) }
+        ensures changed { self.new ≡ heap_changed self.old ptr
+            (with_halves (payload_of ptr self.old.row) i (replicate n 0)) }
         ensures sound { IsSoundHeap self.new }
     {
         self.cells.zero_halves(ptr, i, n);
@@ -70,7 +75,8 @@ impl Heap {
     pub fn write_halves(&mut self, ptr: Ptr, i: u32, halves: &[u16])
         requires live { IsSome (cell_at ptr self.old.row) }
         requires within { i + length halves.now ≤ 2 * length (payload_of ptr self.old.row) }
-        ensures changed { self.new ≡ heap_changed self.old ptr (with_halves (payload_of ptr self.old.row) i halves.now) }
+        ensures changed { self.new
+            ≡ heap_changed self.old ptr (with_halves (payload_of ptr self.old.row) i halves.now) }
         ensures sound { IsSoundHeap self.new }
     {
         self.cells.write_halves(ptr, i, halves);
@@ -83,7 +89,9 @@ impl Heap {
         requires to_live { IsSome (cell_at to self.old.row) }
         requires source { fi + n ≤ 2 * length (payload_of from self.old.row) }
         requires target { ti + n ≤ 2 * length (payload_of to self.old.row) }
-        ensures changed { self.new ≡ heap_changed self.old to (with_halves (payload_of to self.old.row) ti (halves_from (payload_of from self.old.row) fi n)) }
+        ensures changed { self.new ≡ heap_changed self.old to
+            (with_halves (payload_of to self.old.row) ti
+            (halves_from (payload_of from self.old.row) fi n)) }
         ensures sound { IsSoundHeap self.new }
     {
         self.cells.copy_halves(from, fi, to, ti, n);

@@ -1,10 +1,13 @@
 //! Reallocation: cells that become longer or shorter, where they stand or elsewhere; and what else is asked and told of one
 //! cell.
 
-ghost use Rattle.std.specs.Prelude.{◌≡◌, ◌≢◌, ◌+◌, ◌<◌, ◌≤◌, ◌%◌, ◌↔◌, All, IfOk, IfErr, IfSome, IsOk, IsSome, IsSomeAnd, OnOk, OnErr, Some, None, option_map};
+ghost use Rattle.std.specs.Prelude.{◌≡◌, ◌≢◌, ◌+◌, ◌<◌, ◌≤◌, ◌%◌, ◌↔◌, All, IfOk, IfErr, IfSome, IsOk, IsSome};
+ghost use Rattle.std.specs.Prelude.{IsSomeAnd, OnOk, OnErr, Some, None, option_map};
 ghost use Rattle.wb_model.specs.cells.CellRow.{FitsInPlace, payload_of};
 ghost use Rattle.wb_model.specs.heap.Heap.{fits_in_place};
-ghost use Rattle.wb_model.specs.heap.LimitedHeap.{IsCellLength, IsSoundHeap, heap_grown, heap_shortened, heap_leveled, heap_reallocated, place_to_grow, committed_grown, grown_pointer, reallocated_pointer};
+ghost use Rattle.wb_model.specs.heap.LimitedHeap.{IsCellLength, IsSoundHeap, heap_grown, heap_shortened, heap_leveled};
+ghost use Rattle.wb_model.specs.heap.LimitedHeap.{heap_reallocated, place_to_grow, committed_grown, grown_pointer};
+ghost use Rattle.wb_model.specs.heap.LimitedHeap.{reallocated_pointer};
 ghost use Rattle.wb_model.specs.heap.Row.{IsLeastPlace, cell_at, headers, pointer_to, usable_of};
 
 use crate::fault::HeapFault;
@@ -22,9 +25,11 @@ impl Heap {
         requires live { IsSome (cell_at ptr self.now.row) }
         requires length { IsCellLength length }
         requires longer { IfSome (cell_at ptr self.now.row) (λ c. c.head.length < length) }
-        ensures place { IfSome (cell_at ptr self.now.row) (λ c. result ≡ place_to_grow self.now c.head length) }
+        ensures place { IfSome (cell_at ptr self.now.row) (λ c.
+            result ≡ place_to_grow self.now c.head length) }
         ensures stays { FitsInPlace ptr length (headers self.now.row) → result ≡ ptr.place }
-        ensures moves { ¬ (FitsInPlace ptr length (headers self.now.row)) → IsLeastPlace (headers self.now.row) length result }
+        ensures moves { ¬ (FitsInPlace ptr length (headers self.now.row)) →
+            IsLeastPlace (headers self.now.row) length result }
         ensures within { result ≤ self.now.committed }
         ensures sound { IsSoundHeap self.now }
     {
@@ -34,7 +39,8 @@ impl Heap {
 
     /// What `place_for_realloc` returns, for the header of a live cell.
     pub fn place_to_grow(&self, cell: Header, length: u32) -> u32
-        requires live { option_map (λ c. c.head) (cell_at (pointer_to cell) self.now.row) ≡ Some cell }
+        requires live { option_map (λ c. c.head) (cell_at (pointer_to cell) self.now.row)
+            ≡ Some cell }
         requires length { IsCellLength length }
         requires longer { cell.length < length }
         ensures place { result ≡ place_to_grow self.now cell length }
@@ -51,7 +57,8 @@ impl Heap {
 
     /// Whether a live cell can have this length where it stands.
     fn fits(&self, cell: Header, length: u32) -> bool
-        requires live { option_map (λ c. c.head) (cell_at (pointer_to cell) self.now.row) ≡ Some cell }
+        requires live { option_map (λ c. c.head) (cell_at (pointer_to cell) self.now.row)
+            ≡ Some cell }
         requires longer { cell.length < length }
         ensures fits { result ≡ fits_in_place (headers self.now.row) cell length }
         ensures sound { IsSoundHeap self.now }
@@ -79,16 +86,23 @@ impl Heap {
         requires length { IsCellLength length }
         requires numbered { 1 ≤ number }
         requires unused { All (λ h. h.number ≢ number) (headers self.old.row) }
-        ensures pointer { IfOk result (λ p. IsSomeAnd (cell_at ptr self.old.row) (λ c. p ≡ reallocated_pointer self.old c.head length number)) }
-        ensures done { OnOk result (IsSomeAnd (cell_at ptr self.old.row) (λ c. self.new ≡ heap_reallocated self.old c length number)) }
+        ensures pointer { IfOk result (λ p. IsSomeAnd (cell_at ptr self.old.row) (λ c.
+            p ≡ reallocated_pointer self.old c.head length number)) }
+        ensures done { OnOk result (IsSomeAnd (cell_at ptr self.old.row) (λ c.
+            self.new ≡ heap_reallocated self.old c length number)) }
 
         ensures bad { (result ≡ Err HeapFault.BadCell) ↔ (cell_at ptr self.old.row ≡ None) }
-        ensures short { (result ≡ Err HeapFault.TooShort) ↔ IsSomeAnd (cell_at ptr self.old.row) (λ c.
-            (c.head.length < length) × (self.old.limit < place_to_grow self.old c.head length + length)) }
-        ensures no_other { IfErr result (λ fault. fault ≢ HeapFault.BadCell → fault ≢ HeapFault.TooShort → fault ≡ HeapFault.NoMemory) }
+        ensures short { (result ≡ Err HeapFault.TooShort)
+            ↔ IsSomeAnd (cell_at ptr self.old.row) (λ c.
+            (c.head.length < length)
+            × (self.old.limit < place_to_grow self.old c.head length + length)) }
+        ensures no_other { IfErr result (λ fault. fault ≢ HeapFault.BadCell →
+            fault ≢ HeapFault.TooShort → fault ≡ HeapFault.NoMemory) }
         ensures no_growth { IfSome (cell_at ptr self.old.row) (λ c.
-            (heap_reallocated self.old c length number).committed ≤ self.old.held → result ≢ Err HeapFault.NoMemory) }
-        ensures shorter { IfSome (cell_at ptr self.old.row) (λ c. length ≤ c.head.length → IsOk result) }
+            (heap_reallocated self.old c length number).committed ≤ self.old.held →
+            result ≢ Err HeapFault.NoMemory) }
+        ensures shorter { IfSome (cell_at ptr self.old.row) (λ c. length ≤ c.head.length →
+            IsOk result) }
         ensures err { OnErr result (self.new ≡ self.old) }
 
         ensures sound { IsSoundHeap self.new }
@@ -115,17 +129,24 @@ impl Heap {
         number: u32,
     ) -> Result<Ptr, HeapFault>
         requires placed { place ≡ place_to_grow self.old cell length }
-        requires live { option_map (λ c. c.head) (cell_at (pointer_to cell) self.old.row) ≡ Some cell }
+        requires live { option_map (λ c. c.head) (cell_at (pointer_to cell) self.old.row)
+            ≡ Some cell }
         requires longer { cell.length < length }
         requires length { IsCellLength length }
         requires numbered { 1 ≤ number }
         requires unused { All (λ h. h.number ≢ number) (headers self.old.row) }
         ensures pointer { IfOk result (λ p. p ≡ grown_pointer self.old cell length number) }
-        ensures grown { OnOk result (self.new ≡ heap_grown self.old (record { head = cell; content = payload_of (pointer_to cell) self.old.row }) length number) }
+        ensures grown { OnOk result (self.new ≡ heap_grown self.old (record {
+          head = cell;
+          content = payload_of (pointer_to cell) self.old.row;
+        }) length number) }
 
-        ensures short { (result ≡ Err HeapFault.TooShort) ↔ (self.old.limit < place_to_grow self.old cell length + length) }
-        ensures no_other { IfErr result (λ fault. fault ≢ HeapFault.TooShort → fault ≡ HeapFault.NoMemory) }
-        ensures no_growth { committed_grown self.old cell length ≤ self.old.held → result ≢ Err HeapFault.NoMemory }
+        ensures short { (result ≡ Err HeapFault.TooShort)
+            ↔ (self.old.limit < place_to_grow self.old cell length + length) }
+        ensures no_other { IfErr result (λ fault. fault ≢ HeapFault.TooShort →
+            fault ≡ HeapFault.NoMemory) }
+        ensures no_growth { committed_grown self.old cell length ≤ self.old.held →
+            result ≢ Err HeapFault.NoMemory }
         ensures err { OnErr result (self.new ≡ self.old) }
 
         ensures sound { IsSoundHeap self.new }
@@ -141,10 +162,14 @@ impl Heap {
 
     /// What `realloc` does to a cell that becomes no longer, where its header is known.
     pub fn shorten(&mut self, cell: Header, length: u32)
-        requires live { option_map (λ c. c.head) (cell_at (pointer_to cell) self.old.row) ≡ Some cell }
+        requires live { option_map (λ c. c.head) (cell_at (pointer_to cell) self.old.row)
+            ≡ Some cell }
         requires shorter { length ≤ cell.length }
         requires length { IsCellLength length }
-        ensures shortened { self.new ≡ heap_shortened self.old (record { head = cell; content = payload_of (pointer_to cell) self.old.row }) length }
+        ensures shortened { self.new ≡ heap_shortened self.old (record {
+          head = cell;
+          content = payload_of (pointer_to cell) self.old.row;
+        }) length }
         ensures sound { IsSoundHeap self.new }
     {
         self.cells.resize(cell.pointer(), length);
@@ -155,7 +180,8 @@ impl Heap {
     ///
     /// `BadCell` exactly where it names no live cell. Source: Symbian OS v9 SDK reference, RHeap.
     pub fn alloc_len(&self, ptr: Ptr) -> Result<u32, HeapFault>
-        ensures usable { IfOk result (λ bytes. IsSomeAnd (cell_at ptr self.now.row) (λ c. bytes ≡ usable_of c.head)) }
+        ensures usable { IfOk result (λ bytes.
+            IsSomeAnd (cell_at ptr self.now.row) (λ c. bytes ≡ usable_of c.head)) }
         ensures bad { (result ≡ Err HeapFault.BadCell) ↔ (cell_at ptr self.now.row ≡ None) }
         ensures no_other { IfErr result (λ fault. fault ≡ HeapFault.BadCell) }
     {

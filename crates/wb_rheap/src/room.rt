@@ -26,14 +26,18 @@ pub fn hold_for(
     requires within { committed ≤ bound_below limit }
     requires rounded { end % 16 ≡ 0 }
     requires covered { committed ≤ cells.old.held }
-    ensures committed { IfOk result (λ bytes. bytes ≡ committed_by (space_below (bound_below limit) shape) committed end) }
+    ensures committed { IfOk result (λ bytes.
+        bytes ≡ committed_by (space_below (bound_below limit) shape) committed end) }
     ensures covers { IfOk result (λ bytes. end ≤ bytes) }
     ensures fits { OnOk result (end ≤ limit) }
-    ensures held { IfOk result (λ bytes. cells.new ≡ record cells.old { held = max cells.old.held bytes }) }
+    ensures held { IfOk result (λ bytes.
+        cells.new ≡ record cells.old { held = max cells.old.held bytes }) }
 
     ensures short { (result ≡ Err HeapFault.TooShort) ↔ (limit < end) }
-    ensures no_other { IfErr result (λ fault. fault ≢ HeapFault.TooShort → fault ≡ HeapFault.NoMemory) }
-    ensures no_growth { committed_by (space_below (bound_below limit) shape) committed end ≤ cells.old.held → result ≢ Err HeapFault.NoMemory }
+    ensures no_other { IfErr result (λ fault. fault ≢ HeapFault.TooShort →
+        fault ≡ HeapFault.NoMemory) }
+    ensures no_growth { committed_by (space_below (bound_below limit) shape) committed end
+        ≤ cells.old.held → result ≢ Err HeapFault.NoMemory }
     ensures err { OnErr result (cells.new ≡ cells.old) }
 {
     if limit < end {

@@ -61,12 +61,21 @@ impl FirstLines {
         line: &Form<Referent>,
     ) -> FirstLines
         requires few { IsFew known.now }
-        requires line { line.now ≡ resolved_line (bytes_of_items items.now) (known_in known.now) (bytes_of_form form.now) }
-        ensures unknown_name { result.unknown_name ≡ or_here self.unknown_name number (uses_unknown (bytes_of_items items.now) (known_in known.now) (bytes_of_form form.now)) }
-        ensures double_name { result.double_name ≡ or_here self.double_name number (declares_again (names_of (bytes_of_items items.now)) (known_in known.now) (bytes_of_form form.now)) }
-        ensures wrong_kind { result.wrong_kind ≡ or_here self.wrong_kind number (has_wrong_kind (bytes_of_items items.now) (known_in known.now) (bytes_of_form form.now)) }
-        ensures may_leave { result.may_leave ≡ or_here self.may_leave number (may_leave (known_in known.now) (bytes_of_form form.now)) }
-        ensures too_many { result.too_many ≡ or_here self.too_many number (passes_limit (known_in known.now) (bytes_of_form form.now)) }
+        requires line { line.now ≡ resolved_line (bytes_of_items items.now) (known_in known.now)
+            (bytes_of_form form.now) }
+        ensures unknown_name { result.unknown_name ≡ or_here self.unknown_name number
+            (uses_unknown (bytes_of_items items.now) (known_in known.now)
+            (bytes_of_form form.now)) }
+        ensures double_name { result.double_name ≡ or_here self.double_name number
+            (declares_again (names_of (bytes_of_items items.now)) (known_in known.now)
+            (bytes_of_form form.now)) }
+        ensures wrong_kind { result.wrong_kind ≡ or_here self.wrong_kind number
+            (has_wrong_kind (bytes_of_items items.now) (known_in known.now)
+            (bytes_of_form form.now)) }
+        ensures may_leave { result.may_leave ≡ or_here self.may_leave number
+            (may_leave (known_in known.now) (bytes_of_form form.now)) }
+        ensures too_many { result.too_many ≡ or_here self.too_many number
+            (passes_limit (known_in known.now) (bytes_of_form form.now)) }
     {
         let double = declares_again(items, known, form);
         let wrong = has_wrong_kind(items, known, form, line);
@@ -117,9 +126,14 @@ impl<'a> Checked<'a> {
     ) -> Result<(), AllocError>
         requires few { length self.now.lines.items < LONGEST_SCRIPT }
         requires items { items_before (known_in self.now.known) ≤ length self.now.lines.items }
-        ensures checked { OnOk result ((before : List (model.Form Text)) → AreChecked (bytes_of_items items.now) before self.old → AreChecked (bytes_of_items items.now) (before ++ bytes_of_form form.now ∷ []) self.new) }
-        ensures items { OnOk result (items_before (known_in self.new.known) ≤ length self.new.lines.items) }
-        ensures lines { OnOk result (length self.new.lines.items ≡ length self.old.lines.items + 1) }
+        ensures checked { OnOk result ((before : List (model.Form Text)) →
+            AreChecked (bytes_of_items items.now) before self.old →
+            AreChecked (bytes_of_items items.now) (before ++ bytes_of_form form.now
+            ∷ []) self.new) }
+        ensures items { OnOk result (items_before (known_in self.new.known)
+            ≤ length self.new.lines.items) }
+        ensures lines { OnOk result (length self.new.lines.items
+            ≡ length self.old.lines.items + 1) }
     {
         let line = resolved_line(alloc, items, &self.known, form)?;
         let number = self.lines.len() as u32 + 1;

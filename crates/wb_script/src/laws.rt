@@ -12,25 +12,30 @@ ghost use Rattle.wb_model.specs.language.Undeclared.{UsesDeclaredUpTo, IsFirstUn
 
 /// Bytes spell at most one script.
 pub fn one_script()
-    ensures { (bytes : List ℕ) → (script : Script) → (other : Script) → IsScriptOf bytes script → IsScriptOf bytes other → script ≡ other }
+    ensures { (bytes : List ℕ) → (script : Script) → (other : Script) → IsScriptOf bytes script →
+        IsScriptOf bytes other → script ≡ other }
 {}
 
 /// Bytes have at most one first fault.
 pub fn one_fault()
-    ensures { (bytes : List ℕ) → (fault : ScriptFault) → (other : ScriptFault) → IsFaultOf bytes fault → IsFaultOf bytes other → fault ≡ other }
+    ensures { (bytes : List ℕ) → (fault : ScriptFault) → (other : ScriptFault) →
+        IsFaultOf bytes fault → IsFaultOf bytes other → fault ≡ other }
 {}
 
 /// Bytes that spell a script have no fault.
 pub fn script_or_fault()
-    ensures { (bytes : List ℕ) → (script : Script) → (fault : ScriptFault) → IsScriptOf bytes script → IsFaultOf bytes fault → ⊥ }
+    ensures { (bytes : List ℕ) → (script : Script) → (fault : ScriptFault) →
+        IsScriptOf bytes script → IsFaultOf bytes fault → ⊥ }
 {}
 
 /// An unknown name is one that its body, its class or the script doesn't declare, in the first line that uses such a one.
 pub fn unknown_is_undeclared()
-    ensures { (bytes : List ℕ) → (n : ℕ) → IsFaultOf bytes (UnknownName n) → IsFirstUndeclaredLine (forms_of (lines_of bytes)) n }
+    ensures { (bytes : List ℕ) → (n : ℕ) → IsFaultOf bytes (UnknownName n) →
+        IsFirstUndeclaredLine (forms_of (lines_of bytes)) n }
 {}
 
 /// The lines of a script use no name that their body, its class or the script doesn't declare.
 pub fn names_are_declared()
-    ensures { (bytes : List ℕ) → (script : Script) → IsScriptOf bytes script → UsesDeclaredUpTo (forms_of (lines_of bytes)) (length (forms_of (lines_of bytes))) }
+    ensures { (bytes : List ℕ) → (script : Script) → IsScriptOf bytes script →
+        UsesDeclaredUpTo (forms_of (lines_of bytes)) (length (forms_of (lines_of bytes))) }
 {}

@@ -1,6 +1,7 @@
 //! A script from its bytes.
 
-ghost use Rattle.std.specs.Prelude.{◌≡◌, ◌≢◌, ◌≤◌, ◌<◌, ◌^◌, [], ◌∷◌, ◌++◌, length, map, slice_get, true, IsTrue, IfOk, IfErr, OnOk, MatchOption};
+ghost use Rattle.std.specs.Prelude.{◌≡◌, ◌≢◌, ◌≤◌, ◌<◌, ◌^◌, [], ◌∷◌, ◌++◌, length, map, slice_get, true, IsTrue, IfOk};
+ghost use Rattle.std.specs.Prelude.{IfErr, OnOk, MatchOption};
 ghost use Rattle.std.specs.List.{list_all};
 ghost use Rattle.wb_model.specs.language.Forms.{role_of_form};
 ghost use Rattle.wb_model.specs.language.Grammar.{IsGrammatical, IsFirstMisfit};
@@ -84,9 +85,12 @@ fn script_of(
 ) -> Result<Script, AllocError>
     requires grammar { IsGrammatical (map role_of_form lines.now) }
     requires fit { AllFit (declared_by (length literals.now) items.now) lines.now }
-    requires classes { (counts_of lines.now).classes ≡ (declared_by (length literals.now) items.now).fields }
-    requires procedures { (counts_of lines.now).procedures ≡ (declared_by (length literals.now) items.now).signatures }
-    requires operations { (counts_of lines.now).operations ≡ (declared_by (length literals.now) items.now).operations }
+    requires classes { (counts_of lines.now).classes
+        ≡ (declared_by (length literals.now) items.now).fields }
+    requires procedures { (counts_of lines.now).procedures
+        ≡ (declared_by (length literals.now) items.now).signatures }
+    requires operations { (counts_of lines.now).operations
+        ≡ (declared_by (length literals.now) items.now).operations }
     requires few { (length literals.now < 2 ^ 32) × (length lines.now ≤ LONGEST_SCRIPT) }
     requires quotable { IsTrue (list_all is_literal_text (bytes_of_texts literals.now)) }
     requires main { is_entry (slice_get (counts_of lines.now).procedures main) ≡ true }
@@ -161,7 +165,8 @@ fn read_forms(
 ) -> Result<Result<Script, ScriptFault>, AllocError>
     requires few { length forms.now ≤ LONGEST_SCRIPT }
     requires typed { AreTyped (bytes_of_forms forms.now) }
-    ensures grammar { IfOk result (λ answer. IfOk answer (λ _. IsGrammatical (roles_of (bytes_of_forms forms.now)))) }
+    ensures grammar { IfOk result (λ answer.
+        IfOk answer (λ _. IsGrammatical (roles_of (bytes_of_forms forms.now)))) }
     ensures tree { IfOk result (λ answer. IfOk answer (IsTreeOf (bytes_of_forms forms.now))) }
     ensures sound { IfOk result (λ answer. IfOk answer (λ s. IsTrue (is_script s))) }
     ensures fault { IfOk result (λ answer. IfErr answer (IsFormsFault (bytes_of_forms forms.now))) }
@@ -195,7 +200,8 @@ fn read_text(alloc: Global, bytes: &[u8]) -> Result<Result<Script, ScriptFault>,
 pub fn read(alloc: Global, bytes: &[u8]) -> Result<Script, ScriptFault>
     ensures script { IfOk result (IsScriptOf bytes.now) }
     ensures sound { IfOk result (λ s. IsTrue (is_script s)) }
-    ensures fault { IfErr result (λ fault. fault ≢ ScriptFault.NoMemory → IsFaultOf bytes.now fault) }
+    ensures fault { IfErr result (λ fault. fault ≢ ScriptFault.NoMemory →
+        IsFaultOf bytes.now fault) }
     ensures memory { IfErr result (λ fault. fault ≡ ScriptFault.NoMemory → IsPlainText bytes.now) }
 {
     if is_too_long(bytes) {

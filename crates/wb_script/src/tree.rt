@@ -22,7 +22,8 @@ ghost use Rattle.wb_model.specs.language.Grammar.{IsGrammatical};
 ghost use Rattle.wb_model.specs.language.Sound.{fields_declared, signatures_of};
 ghost use Rattle.wb_model.specs.language.Trees.{counted_from, all_lines};
 ghost use Rattle.wb_script.specs.Building.{AllFit, counts_of};
-ghost use Rattle.wb_script.specs.Growing.{AreSound, GrowsWhereFit, IsBelow, IsSound, OpensWhereFit, declared_in_space, if_added, in_body, items_in_order, outside};
+ghost use Rattle.wb_script.specs.Growing.{AreSound, GrowsWhereFit, IsBelow, IsSound, OpensWhereFit, declared_in_space};
+ghost use Rattle.wb_script.specs.Growing.{if_added, in_body, items_in_order, outside};
 ghost use Rattle.wb_script.specs.BytesOf.{declared_by};
 
 use crate::checks::items::Declaration;
@@ -48,7 +49,8 @@ fn begin_item(
 ) -> Result<Option<Stage>, AllocError>
     requires sound { IsSound (declared_in_space space) (outside whole.now) }
     requires below { IsBelow number (outside whole.now) }
-    ensures { IfOk result (OpensWhereFit (declared_in_space space.entry) number (Line line_kind operands.now) whole.now) }
+    ensures { IfOk result (OpensWhereFit (declared_in_space space.entry) number
+        (Line line_kind operands.now) whole.now) }
 {
     match line_kind {
         LineKind::Class => Ok(begin_class(alloc, space, whole, number, operands)),
@@ -69,7 +71,8 @@ fn add_outside(
 ) -> Result<Option<Building>, AllocError>
     requires sound { IsSound (declared_in_space space) (outside whole) }
     requires below { IsBelow number (outside whole) }
-    ensures { IfOk result (GrowsWhereFit (declared_in_space space.entry) number (Line line_kind operands.now) (outside whole)) }
+    ensures { IfOk result (GrowsWhereFit (declared_in_space space.entry) number
+        (Line line_kind operands.now) (outside whole)) }
 {
     match begin_item(alloc, space, &whole, number, line_kind, operands)? {
         Some(stage) => Ok(Some(Building { whole, stage })),
@@ -90,7 +93,8 @@ fn add_inside(
 ) -> Result<Option<Building>, AllocError>
     requires sound { IsSound (declared_in_space space) (in_body whole owner current) }
     requires below { IsBelow number (in_body whole owner current) }
-    ensures { IfOk result (GrowsWhereFit (declared_in_space space.entry) number (Line line_kind operands.now) (in_body whole owner current)) }
+    ensures { IfOk result (GrowsWhereFit (declared_in_space space.entry) number
+        (Line line_kind operands.now) (in_body whole owner current)) }
 {
     match add_to_body(alloc, space, current, number, line_kind, operands)? {
         None => Ok(None),
@@ -115,7 +119,8 @@ fn add_line(
 ) -> Result<Option<Building>, AllocError>
     requires sound { IsSound (declared_in_space space) building }
     requires below { IsBelow number building }
-    ensures { IfOk result (GrowsWhereFit (declared_in_space space.entry) number (Line line_kind operands.now) building) }
+    ensures { IfOk result (GrowsWhereFit (declared_in_space space.entry) number
+        (Line line_kind operands.now) building) }
 {
     let whole = building.whole;
     match building.stage {
@@ -211,7 +216,8 @@ fn items_from(
     ensures lines { IfOk result (λ b. all_lines (items_in_order b) ≡ counted_from 1 lines.now) }
     ensures sound { IfOk result (λ b. AreSound (declared_in_space space.entry) b) }
     ensures fields { IfOk result (λ b. fields_declared b.classes ≡ (counts_of lines.now).classes) }
-    ensures signatures { IfOk result (λ b. signatures_of b.procedures ≡ (counts_of lines.now).procedures) }
+    ensures signatures { IfOk result (λ b.
+        signatures_of b.procedures ≡ (counts_of lines.now).procedures) }
     ensures operations { IfOk result (λ b. length b.operations ≡ (counts_of lines.now).operations) }
 {
     let mut building = Building::nothing(alloc);
@@ -241,12 +247,15 @@ pub(crate) fn bodies_of(
     requires fit { AllFit (declared_by literals items.now) lines.now }
     requires few { length lines.now ≤ LONGEST_SCRIPT }
     requires classes { (counts_of lines.now).classes ≡ (declared_by literals items.now).fields }
-    requires procedures { (counts_of lines.now).procedures ≡ (declared_by literals items.now).signatures }
-    requires operations { (counts_of lines.now).operations ≡ (declared_by literals items.now).operations }
+    requires procedures { (counts_of lines.now).procedures
+        ≡ (declared_by literals items.now).signatures }
+    requires operations { (counts_of lines.now).operations
+        ≡ (declared_by literals items.now).operations }
     ensures lines { IfOk result (λ b. all_lines (items_in_order b) ≡ counted_from 1 lines.now) }
     ensures sound { IfOk result (λ b. AreSound (declared_by literals items.now) b) }
     ensures fields { IfOk result (λ b. fields_declared b.classes ≡ (counts_of lines.now).classes) }
-    ensures signatures { IfOk result (λ b. signatures_of b.procedures ≡ (counts_of lines.now).procedures) }
+    ensures signatures { IfOk result (λ b.
+        signatures_of b.procedures ≡ (counts_of lines.now).procedures) }
     ensures operations { IfOk result (λ b. length b.operations ≡ (counts_of lines.now).operations) }
 {
     let fields = field_counts(alloc, items)?;

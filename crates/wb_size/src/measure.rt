@@ -31,7 +31,8 @@ pub fn size(alloc: Global, script: &Script, budget: u32, shape: Shape) -> Result
     requires least { 1 ≤ budget }
     requires greatest { budget ≤ LARGEST_BUDGET }
     ensures sizing { IfOk result (IsSizing script.now budget shape) }
-    ensures cut { (number : ℕ) (why : Why) → result ≡ Err (SizeFault.Cut number why) → (number ≡ 0) × ((run script.now Unlimited budget shape).outcome ≡ outcomes.Cut why) }
+    ensures cut { (number : ℕ) (why : Why) → result ≡ Err (SizeFault.Cut number why) →
+        (number ≡ 0) × ((run script.now Unlimited budget shape).outcome ≡ outcomes.Cut why) }
     ensures shape { (result ≡ Err SizeFault.BadShape) ↔ (is_shape shape ≡ false) }
 {
     let run_result = run_rises(alloc, script, budget, shape)?;

@@ -70,7 +70,8 @@ impl<W: Write> Sink for W {
 pub fn read_some<R: Source>(reader: &mut R, buffer: &mut [u8]) -> Result<usize, StreamFault>
     requires { 0 < length buffer.old }
     ensures bound { ReadsAtMost result buffer.new }
-    ensures bytes { ReadConsumes (R.remaining reader.old) (R.remaining reader.new) result buffer.new }
+    ensures bytes { ReadConsumes (R.remaining reader.old) (R.remaining reader.new) result
+        buffer.new }
     ensures once { R.reads reader.old (came_to result) reader.new }
 {
     match reader.read_once(buffer) {

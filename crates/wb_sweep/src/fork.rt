@@ -22,7 +22,8 @@ pub fn result_under(
     requires going { lead.now.over ≡ false }
     requires well { lead.now.failed ≡ false }
     requires lines { lead.now.keeps_rises ≡ false }
-    ensures { IfOk result (λ run_result. run_result ≡ run lead.now.script rule lead.now.budget lead.now.shape) }
+    ensures { IfOk result (λ run_result.
+        run_result ≡ run lead.now.script rule lead.now.budget lead.now.shape) }
 {
     let mut fork = lead.try_copy_over(spare.take())?;
     fork.set_rule(rule);

@@ -2,7 +2,8 @@
 //! one along each run in which an attempt fails.
 
 ghost use Rattle.std.specs.Prelude.{◌≡◌, ◌≢◌, ◌+◌, ◌≤◌, None, true, false, length, IfOk, IfSome, IsTrue};
-ghost use Rattle.wb_model.specs.runs.Pairs.{failing_with, pair_run, AreAllPairsFine, ArePairsFineWith, IsCutPair, IsFoundPair};
+ghost use Rattle.wb_model.specs.runs.Pairs.{failing_with, pair_run, AreAllPairsFine, ArePairsFineWith, IsCutPair};
+ghost use Rattle.wb_model.specs.runs.Pairs.{IsFoundPair};
 ghost use Rattle.wb_model.specs.language.Sound.{is_script};
 ghost use Rattle.wb_model.specs.heap.Space.{is_shape};
 ghost use Rattle.wb_model.specs.runs.Sweeps.{runs_of, AreAllFine, IsCutAmong, IsFoundAmong};

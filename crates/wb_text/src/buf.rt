@@ -1,7 +1,8 @@
 //! The buffer of a stated maximum, TBuf.
 
 ghost use Rattle.std.specs.Prelude.{◌≡◌, ◌+◌, ◌-◌, ◌<◌, ◌≤◌, [], ◌++◌, length, take, drop, replicate, slice_index};
-ghost use Rattle.wb_model.specs.meaning.Texts.{AreUnits, IsBuffer, answer_of, at_most, delete_text, edited, insert_text, set_length_text};
+ghost use Rattle.wb_model.specs.meaning.Texts.{AreUnits, IsBuffer, answer_of, at_most, delete_text, edited};
+ghost use Rattle.wb_model.specs.meaning.Texts.{insert_text, set_length_text};
 
 use crate::units::{Units, append_units};
 use arrayvec::ArrayVec;
@@ -92,8 +93,10 @@ impl Buf {
     /// `Panic::TOO_LONG` where the whole is longer than the maximum.
     pub fn append<U: Units>(&mut self, source: &U) -> Result<(), Panic>
         requires { U.can_read source.now }
-        ensures text { self.new ≡ edited self.old (at_most self.old.max (self.old.units ++ U.units source.now)) }
-        ensures answer { result ≡ answer_of (at_most self.old.max (self.old.units ++ U.units source.now)) }
+        ensures text { self.new
+            ≡ edited self.old (at_most self.old.max (self.old.units ++ U.units source.now)) }
+        ensures answer { result
+            ≡ answer_of (at_most self.old.max (self.old.units ++ U.units source.now)) }
     {
         if self.max - self.length() < source.length() {
             return Err(Panic::TOO_LONG);
@@ -108,8 +111,10 @@ impl Buf {
     /// longer than the maximum.
     pub fn insert<U: Units>(&mut self, position: u32, source: &U) -> Result<(), Panic>
         requires { U.can_read source.now }
-        ensures text { self.new ≡ edited self.old (insert_text self.old.max self.old.units position (U.units source.now)) }
-        ensures answer { result ≡ answer_of (insert_text self.old.max self.old.units position (U.units source.now)) }
+        ensures text { self.new ≡ edited self.old
+            (insert_text self.old.max self.old.units position (U.units source.now)) }
+        ensures answer { result
+            ≡ answer_of (insert_text self.old.max self.old.units position (U.units source.now)) }
     {
         let len = self.length();
         if len < position {
@@ -140,7 +145,8 @@ impl Buf {
     ///
     /// `Panic::TOO_LONG` where the length is above the maximum.
     pub fn set_length(&mut self, length: u32) -> Result<(), Panic>
-        ensures text { self.new ≡ edited self.old (set_length_text self.old.max self.old.units length) }
+        ensures text { self.new
+            ≡ edited self.old (set_length_text self.old.max self.old.units length) }
         ensures answer { result ≡ answer_of (set_length_text self.old.max self.old.units length) }
     {
         if self.max < length {
@@ -176,7 +182,8 @@ fn put_in<U: Units>(units: &mut ArrayVec<u16, 256>, at: usize, source: &U)
     requires can { U.can_read source.now }
     requires within { at ≤ length units.old.items }
     requires room { length units.old.items + length (U.units source.now) ≤ 256 }
-    ensures items { units.new.items ≡ take at units.old.items ++ U.units source.now ++ drop at units.old.items }
+    ensures items { units.new.items
+        ≡ take at units.old.items ++ U.units source.now ++ drop at units.old.items }
     ensures are_units { AreUnits units.old.items → AreUnits units.new.items }
 {
     let mut following = ArrayVec::new();

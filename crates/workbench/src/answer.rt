@@ -5,7 +5,8 @@ ghost use Rattle.std.specs.Prelude.{◌≡◌, ◌+◌, ◌<◌, ◌≤◌, leng
 ghost use Rattle.std.specs.Io.{ReadsAtMost};
 ghost use Rattle.std.specs.Io.KnownBytes.{Appends};
 ghost use Rattle.workbench.specs.declared.answer.ReportFault.TheVariants.{Read, NoMemory};
-ghost use Rattle.workbench.specs.Answer.{AreFirst, IsAnswer, IsPartWritten, IsReported, IsReportWritten, IsWritten, is_read_fault};
+ghost use Rattle.workbench.specs.Answer.{AreFirst, IsAnswer, IsPartWritten, IsReported, IsReportWritten, IsWritten};
+ghost use Rattle.workbench.specs.Answer.{is_read_fault};
 ghost use Rattle.wb_command_line.specs.Command.{is_answerable};
 ghost use Rattle.workbench.specs.Ascii.{HasPrintableLines};
 ghost use Rattle.workbench.specs.JsonReport.{laid_out};
@@ -256,7 +257,8 @@ fn fill<R: Source>(reader: &mut R, buffer: &mut [u8]) -> Result<usize, StreamFau
 /// Writes the whole text, or the first of it up to a write that fails.
 fn write_whole<W: Sink>(writer: &mut W, text: &[u8]) -> Result<(), StreamFault>
     ensures ok { OnOk result (Appends (W.contents writer.old) (W.contents writer.new) text.now) }
-    ensures err { OnErr result (AppendsFirst (W.contents writer.old) (W.contents writer.new) text.now) }
+    ensures err { OnErr result
+        (AppendsFirst (W.contents writer.old) (W.contents writer.new) text.now) }
     ensures wrote { Writes W.writes writer.old (is_err result) writer.new }
 {
     let mut written = 0;

@@ -5,7 +5,9 @@ ghost use Rattle.serde_json.specs.View.{view};
 ghost use Rattle.wb_model.specs.language.Lines.{lines_of};
 ghost use Rattle.wb_model.specs.meaning.Printable.{ArePrintable};
 ghost use Rattle.workbench.specs.Ascii.{HasPrintableLines};
-ghost use Rattle.workbench.specs.JsonReport.{count_or_null, count_pair, failing_number, failing_value, failures_kind, json_text, kind_of, line_string, line_strings, report_object, rise_pair, rise_pairs};
+ghost use Rattle.workbench.specs.JsonReport.{count_or_null, count_pair, failing_number, failing_value, failures_kind};
+ghost use Rattle.workbench.specs.JsonReport.{json_text, kind_of, line_string, line_strings, report_object, rise_pair};
+ghost use Rattle.workbench.specs.JsonReport.{rise_pairs};
 
 use crate::report::Report;
 use crate::report_values::FailingNumber;

@@ -27,10 +27,11 @@ pub fn rises_are()
 
 /// The bytes and the command determine the report: any two reports of them have one text, one status and the same values.
 pub fn one_report()
-    ensures { (command : Command) (bytes text other_text : List ℕ) (values other_values : ReportValues)
-        (status other_status : ℕ) → IsReport command bytes text values status
-        → IsReport command bytes other_text other_values other_status
-        → (text ≡ other_text) × (values ≡ other_values) × (status ≡ other_status) }
+    ensures { (command : Command) (bytes text other_text : List ℕ)
+        (values other_values : ReportValues) (status other_status : ℕ) →
+        IsReport command bytes text values status →
+        IsReport command bytes other_text other_values other_status →
+        (text ≡ other_text) × (values ≡ other_values) × (status ≡ other_status) }
 {}
 
 /// The text of a report is printable ASCII and line feeds, so that each of its lines has bytes from 32 to 126 alone. The lines

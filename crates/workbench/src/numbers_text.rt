@@ -2,7 +2,8 @@
 //! is said here alone.
 
 ghost use Rattle.std.specs.Prelude.{◌≡◌, ◌++◌, OnOk};
-ghost use Rattle.workbench.specs.TwoNumbers.{cut_at_line, failing_line, none_line, refuses_line, size_text, sweep_text, table_text};
+ghost use Rattle.workbench.specs.TwoNumbers.{cut_at_line, failing_line, none_line, refuses_line, size_text, sweep_text};
+ghost use Rattle.workbench.specs.TwoNumbers.{table_text};
 
 use crate::appending::or_no_memory;
 use crate::line::Line;
@@ -17,7 +18,8 @@ use wb_sweep::Sweep;
 
 /// Appends the required length and the table of what shorter heaps refuse first.
 pub fn put_sizing(text: &mut Vec<u8>, sizing: &Sizing) -> Result<(), NoMemory>
-    ensures { OnOk result (text.new.items ≡ text.old.items ++ size_text sizing.now.required sizing.now.rises) }
+    ensures { OnOk result (text.new.items
+        ≡ text.old.items ++ size_text sizing.now.required sizing.now.rises) }
 {
     let required = sizing.required;
     or_no_memory(writeln!(text, "required {required}"))?;

@@ -3,7 +3,8 @@
 
 ghost use Rattle.std.specs.Prelude.{◌≡◌, ◌++◌, OnOk};
 ghost use Rattle.std.specs.List.{flat_map};
-ghost use Rattle.workbench.specs.RunText.{answer_word, print_line, note_line, attempt_line, leak_line, leaks_text, end_line, panic_line, cut_line, outcome_text, run_text};
+ghost use Rattle.workbench.specs.RunText.{answer_word, print_line, note_line, attempt_line, leak_line, leaks_text};
+ghost use Rattle.workbench.specs.RunText.{end_line, panic_line, cut_line, outcome_text, run_text};
 
 use crate::appending::or_no_memory;
 use crate::line::Line;

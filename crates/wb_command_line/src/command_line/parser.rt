@@ -3,7 +3,9 @@
 ghost use Rattle.std.specs.Prelude.{◌≡◌, IfOk, false, fold};
 ghost use Rattle.clap.specs.Words.{app_of, rule_of, with_rule, with_subcommand};
 ghost use Rattle.clap.specs.declared.builder.command.Command.TheViews.{out-Command as fields_of};
-ghost use Rattle.wb_command_line.specs.CommandLine.{command_line, file_argument, json_flag, line_of, number_option, option_rule, own_options, pairs_flag, rates_flag, shared_options, with_level, with_option, with_rules};
+ghost use Rattle.wb_command_line.specs.CommandLine.{command_line, file_argument, json_flag, line_of, number_option};
+ghost use Rattle.wb_command_line.specs.CommandLine.{option_rule, own_options, pairs_flag, rates_flag, shared_options};
+ghost use Rattle.wb_command_line.specs.CommandLine.{with_level, with_option, with_rules};
 
 use crate::command_line::long_help::{BEGIN, long_about};
 use crate::command_line::number_help::{NumberHelp, between};

@@ -33,9 +33,11 @@ impl<'a> Control<'a> {
         requires script { IsTrue (is_script script.now) }
         requires going { self.old.ending ≡ GoesOn }
         requires there { index < length script.now.procedures }
-        ensures kept { OnOk result ((r : Rule) (budget : ℕ) → first_refusal state.old (of_arguments arguments.now) ≡ None →
+        ensures kept { OnOk result ((r : Rule) (budget : ℕ) →
+            first_refusal state.old (of_arguments arguments.now) ≡ None →
             rest_from script.now budget r self.new.ending self.new.pieces.items state.new
-            ≡ rest_of_statement script.now budget r (context_of at) (Statement-F.Call index arguments.now) self.old.pieces.items state.old) }
+            ≡ rest_of_statement script.now budget r (context_of at)
+            (Statement-F.Call index arguments.now) self.old.pieces.items state.old) }
         ensures sound { OnOk result (AreSound script.now self.old.pieces.items →
             AreSound script.now self.new.pieces.items) }
         ensures quiet { IsQuiet state.old state.new }
@@ -70,9 +72,11 @@ impl<'a> Control<'a> {
         requires script { IsTrue (is_script script.now) }
         requires going { self.old.ending ≡ GoesOn }
         requires there { index < length script.now.procedures }
-        ensures kept { OnOk result ((r : Rule) (budget : ℕ) → first_refusal state.old (of_arguments arguments.now) ≡ None →
+        ensures kept { OnOk result ((r : Rule) (budget : ℕ) →
+            first_refusal state.old (of_arguments arguments.now) ≡ None →
             rest_from script.now budget r self.new.ending self.new.pieces.items state.new
-            ≡ rest_of_statement script.now budget r (context_of at) (Statement-F.CallTo target index arguments.now) self.old.pieces.items state.old) }
+            ≡ rest_of_statement script.now budget r (context_of at)
+            (Statement-F.CallTo target index arguments.now) self.old.pieces.items state.old) }
         ensures sound { OnOk result (AreSound script.now self.old.pieces.items →
             AreSound script.now self.new.pieces.items) }
         ensures quiet { IsQuiet state.old state.new }

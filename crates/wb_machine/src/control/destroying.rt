@@ -3,7 +3,8 @@
 ghost use Rattle.std.specs.Prelude.{◌≡◌, ◌+◌, ◌^◌, ◌<◌, ◌≤◌, ◌∷◌, [], ℕ, IsTrue, OnOk};
 ghost use Rattle.std.specs.List.{list_all};
 ghost use Rattle.wb_model.specs.language.Sound.{is_script};
-ghost use Rattle.wb_model.specs.meaning.Statements.{destroy_items, destroy_object, destroyed_item, destroyed_object, is_null};
+ghost use Rattle.wb_model.specs.meaning.Statements.{destroy_items, destroy_object, destroyed_item, destroyed_object};
+ghost use Rattle.wb_model.specs.meaning.Statements.{is_null};
 ghost use Rattle.wb_model.specs.meaning.Meaning.{meaning_of};
 ghost use Rattle.wb_model.specs.runs.Rest.{doing};
 ghost use Rattle.wb_model.specs.declared.heap.Rule.{Rule};
@@ -13,7 +14,8 @@ ghost use Rattle.wb_machine.specs.declared.pieces.Ending.TheVariants.{GoesOn};
 ghost use Rattle.wb_machine.specs.Bodies.{IsBody};
 ghost use Rattle.wb_machine.specs.LocalValues.{values_of_arguments};
 ghost use Rattle.wb_machine.specs.RunState.{Values, RunState, state_of};
-ghost use Rattle.wb_machine.specs.Flow.{context_of, afterwards, frame_with, pending_in, AreOwn, AreSound, rest_from, rest_after, rest_of_piece, rest_of_body};
+ghost use Rattle.wb_machine.specs.Flow.{context_of, afterwards, frame_with, pending_in, AreOwn, AreSound, rest_from};
+ghost use Rattle.wb_machine.specs.Flow.{rest_after, rest_of_piece, rest_of_body};
 ghost use Rattle.wb_machine.specs.ObjectInvariant.{StaysWhole};
 ghost use Rattle.wb_machine.specs.Owed.{IsQuiet, Stays};
 ghost use Rattle.wb_machine.specs.SlotInvariant.{slots_for_all, IsFree, IsFreeAfter, HasRoom};
@@ -35,8 +37,11 @@ impl<'a> Control<'a> {
         requires { self.old.ending ≡ GoesOn }
         ensures kept { OnOk result ((script : Script) (r : Rule) (budget : ℕ) (h : RunState) →
             rest_from script budget r self.new.ending self.new.pieces.items h
-            ≡ rest_after script budget r (destroyed_object (is_null ptr) (meaning_of script budget) (context_of at) ptr (state_of script h)) self.old.pieces.items h) }
-        ensures sound { OnOk result ((script : Script) → AreSound script self.old.pieces.items → AreSound script self.new.pieces.items) }
+            ≡ rest_after script budget r
+            (destroyed_object (is_null ptr) (meaning_of script budget) (context_of at) ptr
+            (state_of script h)) self.old.pieces.items h) }
+        ensures sound { OnOk result ((script : Script) → AreSound script self.old.pieces.items →
+            AreSound script self.new.pieces.items) }
         ensures slots { OnOk result (slots_for_all self.new.pieces.items
             ≤ slots_for_all self.old.pieces.items) }
         ensures line { self.new.line ≡ self.old.line }
@@ -59,8 +64,11 @@ impl<'a> Control<'a> {
         requires going { self.old.ending ≡ GoesOn }
         ensures kept { OnOk result ((r : Rule) (budget : ℕ) →
             rest_from script.now budget r self.new.ending self.new.pieces.items state.new
-            ≡ rest_after script.now budget r (destroyed_item script.now (meaning_of script.now budget) (context_of at) item (state_of script.now state.old)) self.old.pieces.items state.old) }
-        ensures sound { OnOk result (AreSound script.now self.old.pieces.items → AreSound script.now self.new.pieces.items) }
+            ≡ rest_after script.now budget r
+            (destroyed_item script.now (meaning_of script.now budget) (context_of at) item
+            (state_of script.now state.old)) self.old.pieces.items state.old) }
+        ensures sound { OnOk result (AreSound script.now self.old.pieces.items →
+            AreSound script.now self.new.pieces.items) }
         ensures quiet { IsQuiet state.old state.new }
         ensures slots { OnOk result (slots_for_all self.new.pieces.items
             ≤ slots_for_all self.old.pieces.items) }
@@ -103,8 +111,10 @@ impl<'a> Control<'a> {
         requires steps { state.old.steps + 1 < 2 ^ 32 }
         ensures kept { OnOk result ((r : Rule) (budget : ℕ) → state.old.steps < budget →
             rest_from script.now budget r self.new.ending self.new.pieces.items state.new
-            ≡ rest_of_piece script.now budget r (doing (context_of at) (destroy_items left)) self.old.pieces.items state.old) }
-        ensures sound { OnOk result (AreSound script.now self.old.pieces.items → AreSound script.now self.new.pieces.items) }
+            ≡ rest_of_piece script.now budget r (doing (context_of at) (destroy_items left))
+            self.old.pieces.items state.old) }
+        ensures sound { OnOk result (AreSound script.now self.old.pieces.items →
+            AreSound script.now self.new.pieces.items) }
         ensures stays { Stays state.old state.new }
         ensures whole { OnOk result (StaysWhole script.now state.old state.new) }
         ensures steps { OnOk result (state.new.steps ≡ state.old.steps + 1) }
@@ -139,8 +149,10 @@ impl<'a> Control<'a> {
         requires steps { state.old.steps + 1 < 2 ^ 32 }
         ensures kept { OnOk result ((r : Rule) (budget : ℕ) → state.old.steps < budget →
             rest_from script.now budget r self.new.ending self.new.pieces.items state.new
-            ≡ rest_of_piece script.now budget r (doing (context_of at) (destroy_object ptr)) self.old.pieces.items state.old) }
-        ensures sound { OnOk result (AreSound script.now self.old.pieces.items → AreSound script.now self.new.pieces.items) }
+            ≡ rest_of_piece script.now budget r (doing (context_of at) (destroy_object ptr))
+            self.old.pieces.items state.old) }
+        ensures sound { OnOk result (AreSound script.now self.old.pieces.items →
+            AreSound script.now self.new.pieces.items) }
         ensures stays { Stays state.old state.new }
         ensures whole { OnOk result (StaysWhole script.now state.old state.new) }
         ensures steps { OnOk result (state.new.steps ≡ state.old.steps + 1) }

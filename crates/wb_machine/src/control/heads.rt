@@ -12,7 +12,8 @@ ghost use Rattle.wb_machine.specs.declared.pieces.Ending.TheVariants.{GoesOn};
 ghost use Rattle.wb_machine.specs.Bodies.{IsBody};
 ghost use Rattle.wb_machine.specs.LocalValues.{is_small, values_of_arguments};
 ghost use Rattle.wb_machine.specs.PointerOperands.{first_refusal, of_condition, operands_refusal};
-ghost use Rattle.wb_machine.specs.Flow.{context_of, afterwards, AreOwn, IsOwn, AreSound, FitsStep, rest_from, rest_of_statement, rest_of_body};
+ghost use Rattle.wb_machine.specs.Flow.{context_of, afterwards, AreOwn, IsOwn, AreSound, FitsStep, rest_from};
+ghost use Rattle.wb_machine.specs.Flow.{rest_of_statement, rest_of_body};
 ghost use Rattle.wb_machine.specs.ObjectInvariant.{StaysWhole};
 ghost use Rattle.wb_machine.specs.SlotInvariant.{slots_for_all, IsFree, HasRoom};
 ghost use Rattle.wb_machine.specs.Owed.{HasStack, MayAttempt, KeepsSteps, IsQuiet};
@@ -42,10 +43,15 @@ impl<'a> Control<'a> {
         state: &State,
     ) -> Result<(), NoMemory>
         requires { self.old.ending ≡ GoesOn }
-        ensures kept { OnOk result ((r : Rule) (budget : ℕ) → first_refusal state.now (of_condition condition.now) ≡ None →
+        ensures kept { OnOk result ((r : Rule) (budget : ℕ) →
+            first_refusal state.now (of_condition condition.now) ≡ None →
             rest_from script.now budget r self.new.ending self.new.pieces.items state.now
-            ≡ rest_of_statement script.now budget r (context_of at) (Statement-F.IfElse condition.now first.now other.now) self.old.pieces.items state.now) }
-        ensures sound { OnOk result ((script : Script) → AreOwn script first.now → AreOwn script other.now → AreSound script self.old.pieces.items → AreSound script self.new.pieces.items) }
+            ≡ rest_of_statement script.now budget r (context_of at)
+            (Statement-F.IfElse condition.now first.now other.now) self.old.pieces.items
+            state.now) }
+        ensures sound { OnOk result ((script : Script) → AreOwn script first.now →
+            AreOwn script other.now → AreSound script self.old.pieces.items →
+            AreSound script self.new.pieces.items) }
         ensures ending { OnOk result (self.new.ending ≡ GoesOn) }
         ensures slots { OnOk result (slots_for_all self.new.pieces.items
             ≤ slots_for_all self.old.pieces.items) }
@@ -75,8 +81,10 @@ impl<'a> Control<'a> {
         requires { self.old.ending ≡ GoesOn }
         ensures kept { OnOk result ((script : Script) (r : Rule) (budget : ℕ) →
             rest_from script budget r self.new.ending self.new.pieces.items state.now
-            ≡ rest_of_statement script budget r (context_of at) (Statement-F.Repeat count.now body.now) self.old.pieces.items state.now) }
-        ensures sound { OnOk result ((script : Script) → AreOwn script body.now → AreSound script self.old.pieces.items → AreSound script self.new.pieces.items) }
+            ≡ rest_of_statement script budget r (context_of at)
+            (Statement-F.Repeat count.now body.now) self.old.pieces.items state.now) }
+        ensures sound { OnOk result ((script : Script) → AreOwn script body.now →
+            AreSound script self.old.pieces.items → AreSound script self.new.pieces.items) }
         ensures slots { OnOk result (slots_for_all self.new.pieces.items
             ≤ slots_for_all self.old.pieces.items) }
         ensures line { self.new.line ≡ self.old.line }
@@ -100,8 +108,10 @@ impl<'a> Control<'a> {
         requires { self.old.ending ≡ GoesOn }
         ensures kept { OnOk result ((script : Script) (r : Rule) (budget : ℕ) →
             rest_from script budget r self.new.ending self.new.pieces.items state.now
-            ≡ rest_of_statement script budget r (context_of at) (Statement-F.Trap local body.now) self.old.pieces.items state.now) }
-        ensures sound { OnOk result ((script : Script) → AreOwn script body.now → AreSound script self.old.pieces.items → AreSound script self.new.pieces.items) }
+            ≡ rest_of_statement script budget r (context_of at) (Statement-F.Trap local body.now)
+            self.old.pieces.items state.now) }
+        ensures sound { OnOk result ((script : Script) → AreOwn script body.now →
+            AreSound script self.old.pieces.items → AreSound script self.new.pieces.items) }
         ensures ending { OnOk result (self.new.ending ≡ GoesOn) }
         ensures slots { OnOk result (slots_for_all self.new.pieces.items
             ≤ max (slots_for_all self.old.pieces.items) (length state.now.items + 1)) }
@@ -121,8 +131,10 @@ impl<'a> Control<'a> {
         requires { self.old.ending ≡ GoesOn }
         ensures kept { OnOk result ((script : Script) (r : Rule) (budget : ℕ) →
             rest_from script budget r self.new.ending self.new.pieces.items state.now
-            ≡ rest_of_statement script budget r (context_of at) (Statement-F.PopDestroy count.now) self.old.pieces.items state.now) }
-        ensures sound { OnOk result ((script : Script) → AreSound script self.old.pieces.items → AreSound script self.new.pieces.items) }
+            ≡ rest_of_statement script budget r (context_of at) (Statement-F.PopDestroy count.now)
+            self.old.pieces.items state.now) }
+        ensures sound { OnOk result ((script : Script) → AreSound script self.old.pieces.items →
+            AreSound script self.new.pieces.items) }
         ensures slots { OnOk result (slots_for_all self.new.pieces.items
             ≤ slots_for_all self.old.pieces.items) }
         ensures line { self.new.line ≡ self.old.line }
@@ -150,9 +162,11 @@ impl<'a> Control<'a> {
     ) -> Result<(), NoMemory>
         requires script { IsTrue (is_script script.now) }
         requires going { self.old.ending ≡ GoesOn }
-        ensures kept { OnOk result ((r : Rule) (budget : ℕ) → first_refusal state.old (object.now ∷ []) ≡ None →
+        ensures kept { OnOk result ((r : Rule) (budget : ℕ) →
+            first_refusal state.old (object.now ∷ []) ≡ None →
             rest_from script.now budget r self.new.ending self.new.pieces.items state.new
-            ≡ rest_of_statement script.now budget r (context_of at) (Statement-F.Construct object.now) self.old.pieces.items state.old) }
+            ≡ rest_of_statement script.now budget r (context_of at)
+            (Statement-F.Construct object.now) self.old.pieces.items state.old) }
         ensures sound { OnOk result (AreSound script.now self.old.pieces.items →
             AreSound script.now self.new.pieces.items) }
         ensures quiet { IsQuiet state.old state.new }
@@ -194,7 +208,8 @@ impl<'a> Control<'a> {
         ensures kept { OnOk result ((r : Rule) (budget : ℕ) →
             first_refusal state.now (object.now ∷ []) ≡ None →
             rest_from script.now budget r self.new.ending self.new.pieces.items state.now
-            ≡ rest_of_statement script.now budget r (context_of at) (Statement-F.Delete object.now) self.old.pieces.items state.now) }
+            ≡ rest_of_statement script.now budget r (context_of at) (Statement-F.Delete object.now)
+            self.old.pieces.items state.now) }
         ensures sound { OnOk result (AreSound script.now self.old.pieces.items →
             AreSound script.now self.new.pieces.items) }
         ensures room { OnOk result (IsFree self.old.pieces.items state.now →
@@ -221,8 +236,11 @@ impl<'a> Control<'a> {
         requires locals { IsTrue (list_all is_small body.locals.now) }
         ensures kept { OnOk result ((r : Rule) (budget : ℕ) (b : Body) → IsBody body.entry b →
             rest_from script.now budget r self.new.ending self.new.pieces.items state.new
-            ≡ rest_of_body script.now budget r (context_of at) this (values_of_arguments script.now state.old call_arguments.entry) b (afterwards after) self.old.pieces.items state.old) }
-        ensures sound { OnOk result ((script : Script) → AreOwn script body.entry.statements.now → AreSound script self.old.pieces.items → AreSound script self.new.pieces.items) }
+            ≡ rest_of_body script.now budget r (context_of at) this
+            (values_of_arguments script.now state.old call_arguments.entry) b (afterwards after)
+            self.old.pieces.items state.old) }
+        ensures sound { OnOk result ((script : Script) → AreOwn script body.entry.statements.now →
+            AreSound script self.old.pieces.items → AreSound script self.new.pieces.items) }
         ensures quiet { IsQuiet state.old state.new }
         ensures slots { OnOk result (slots_for_all self.new.pieces.items
             ≤ slots_for_all self.old.pieces.items) }
@@ -262,9 +280,11 @@ impl<'a> Control<'a> {
         requires level { state.old.debug.heap.level + 1 < 2 ^ 32 }
         requires free { IsFree self.old.pieces.items state.old }
         requires stack { HasStack state.old }
-        ensures kept { OnOk result ((r : Rule) (budget : ℕ) → FitsStep r state.old self.new.ending state.new →
+        ensures kept { OnOk result ((r : Rule) (budget : ℕ) →
+            FitsStep r state.old self.new.ending state.new →
             rest_from script.now budget r self.new.ending self.new.pieces.items state.new
-            ≡ rest_of_statement script.now budget r (context_of at) (out-Statement statement.now) self.old.pieces.items state.old) }
+            ≡ rest_of_statement script.now budget r (context_of at) (out-Statement statement.now)
+            self.old.pieces.items state.old) }
         ensures sound { OnOk result (AreSound script.now self.new.pieces.items) }
         ensures keeps { KeepsSteps state.old state.new }
         ensures whole { OnOk result (StaysWhole script.now state.old state.new) }
@@ -322,9 +342,11 @@ impl<'a> Control<'a> {
         requires level { state.old.debug.heap.level + 1 < 2 ^ 32 }
         requires free { IsFree self.old.pieces.items state.old }
         requires stack { HasStack state.old }
-        ensures kept { OnOk result ((r : Rule) (budget : ℕ) → FitsStep r state.old self.new.ending state.new →
+        ensures kept { OnOk result ((r : Rule) (budget : ℕ) →
+            FitsStep r state.old self.new.ending state.new →
             rest_from script.now budget r self.new.ending self.new.pieces.items state.new
-            ≡ rest_of_statement script.now budget r (context_of at) (out-Statement statement.now) self.old.pieces.items state.old) }
+            ≡ rest_of_statement script.now budget r (context_of at) (out-Statement statement.now)
+            self.old.pieces.items state.old) }
         ensures sound { OnOk result (AreSound script.now self.new.pieces.items) }
         ensures keeps { KeepsSteps state.old state.new }
         ensures whole { OnOk result (StaysWhole script.now state.old state.new) }

@@ -28,7 +28,8 @@ impl<'a> Control<'a> {
     pub fn cut(&mut self)
         requires { IsReady self.old.ending self.old.pieces.items }
         ensures kept { (script : Script) (r : Rule) (budget : ℕ) (h : RunState) → h.steps ≡ budget →
-            rest_from script budget r self.new.ending self.new.pieces.items h ≡ rest_from script budget r self.old.ending self.old.pieces.items h }
+            rest_from script budget r self.new.ending self.new.pieces.items h
+            ≡ rest_from script budget r self.old.ending self.old.pieces.items h }
         ensures pieces { self.new.pieces.items ≡ self.old.pieces.items }
         ensures ending { self.new.ending ≡ Cut Budget }
         ensures line { self.new.line ≡ self.old.line }
@@ -52,7 +53,9 @@ impl<'a> Control<'a> {
         requires later { begun ≡ true → IsReady self.old.ending self.old.pieces.items }
         requires between { IsBetweenTurns script.now budget begun self.old.ending
             self.old.pieces.items state.old }
-        ensures kept { OnOk result ((r : Rule) → Fits r state.old.debug.rule (is_over self.new.ending self.new.pieces.items) state.new.debug.attempts →
+        ensures kept { OnOk result ((r : Rule) →
+            Fits r state.old.debug.rule (is_over self.new.ending self.new.pieces.items)
+            state.new.debug.attempts →
             rest_from script.now budget r self.new.ending self.new.pieces.items state.new
             ≡ rest_at script.now budget r begun self.old.ending self.old.pieces.items state.old) }
         ensures between { OnOk result (IsBetweenTurns script.now budget true self.new.ending
@@ -60,12 +63,19 @@ impl<'a> Control<'a> {
         ensures stays { Stays state.old state.new }
         ensures first { OnOk result (begun ≡ false →
             (state.new.steps ≡ 0) × (state.new.debug.attempts ≡ 1)) }
-        ensures asked { OnOk result (MakesAsked
-            (asks_next script.now budget (progress_of begun self.old.ending (pending_in state.old.callers self.old.pieces.items) (state_of script.now state.old)))
-            (has_met_ceiling self.new.ending) state.old.debug.attempts state.new.debug.attempts) }
-        ensures later { OnOk result (begun ≡ true → state.new.steps ≡ min (state.old.steps + 1) budget) }
-        ensures steps { OnOk result (begun ≡ true → is_over self.new.ending self.new.pieces.items ≡ false → state.new.steps ≡ state.old.steps + 1) }
-        ensures line { OnOk result (self.new.line ≡ (if begun && nat_lt state.old.steps budget then unwrap_or (first_line (pending_in state.old.callers self.old.pieces.items)) self.old.line else self.old.line)) }
+        ensures asked { OnOk result (MakesAsked (asks_next script.now budget
+            (progress_of begun self.old.ending (pending_in state.old.callers self.old.pieces.items)
+            (state_of script.now state.old))) (has_met_ceiling self.new.ending)
+            state.old.debug.attempts state.new.debug.attempts) }
+        ensures later { OnOk result (begun ≡ true →
+            state.new.steps ≡ min (state.old.steps + 1) budget) }
+        ensures steps { OnOk result (begun ≡ true →
+            is_over self.new.ending self.new.pieces.items ≡ false →
+            state.new.steps ≡ state.old.steps + 1) }
+        ensures line { OnOk result (self.new.line
+            ≡ (if begun && nat_lt state.old.steps budget
+            then unwrap_or (first_line (pending_in state.old.callers self.old.pieces.items))
+            self.old.line else self.old.line)) }
     {
         if !begun {
             self.begin(script, state)?;
@@ -89,7 +99,8 @@ impl<'a> Control<'a> {
         requires small { budget ≤ LARGEST_BUDGET }
         requires between { IsBetweenTurns script.now budget true self.old.ending
             self.old.pieces.items state.old }
-        ensures kept { OnOk result ((r : Rule) → Fits r state.old.debug.rule true state.new.debug.attempts →
+        ensures kept { OnOk result ((r : Rule) →
+            Fits r state.old.debug.rule true state.new.debug.attempts →
             rest_from script.now budget r self.new.ending self.new.pieces.items state.new
             ≡ rest_from script.now budget r self.old.ending self.old.pieces.items state.old) }
         ensures over { OnOk result (is_over self.new.ending self.new.pieces.items ≡ true) }

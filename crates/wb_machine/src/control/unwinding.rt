@@ -1,6 +1,7 @@
 //! What becomes of pieces that are done, and of how the piece above them ended.
 
-ghost use Rattle.std.specs.Prelude.{◌≡◌, ◌+◌, ◌-◌, ◌<◌, ◌≤◌, ◌⊎◌, ◌++◌, ◌∷◌, [], ℕ, List, true, false, length, max, take, drop, vec_len, IsTrue, OnOk};
+ghost use Rattle.std.specs.Prelude.{◌≡◌, ◌+◌, ◌-◌, ◌<◌, ◌≤◌, ◌⊎◌, ◌++◌, ◌∷◌, [], ℕ, List, true, false, length, max};
+ghost use Rattle.std.specs.Prelude.{take, drop, vec_len, IsTrue, OnOk};
 ghost use Rattle.wb_model.specs.meaning.Statements.{destroy_items};
 ghost use Rattle.wb_model.specs.runs.Rest.{doing, catching, caught, calling, main_catching, main_caught};
 ghost use Rattle.wb_model.specs.declared.heap.Rule.{Rule};
@@ -8,7 +9,9 @@ ghost use Rattle.wb_model.specs.declared.script.Script.{Script};
 ghost use Rattle.wb_machine.specs.declared.pieces.PendingPiece.{PendingPiece};
 ghost use Rattle.wb_machine.specs.declared.pieces.Ending.TheVariants.{GoesOn};
 ghost use Rattle.wb_machine.specs.RunState.{Values, RunState};
-ghost use Rattle.wb_machine.specs.Flow.{context_of, in_main_frame, frame_with, afterwards, pending_of, callers_under, pending_in, needs_step, weight, weight_of, is_stop, is_over, IsSoundPiece, AreSound, IsReady, rest_from, rest_under};
+ghost use Rattle.wb_machine.specs.Flow.{context_of, in_main_frame, frame_with, afterwards, pending_of, callers_under};
+ghost use Rattle.wb_machine.specs.Flow.{pending_in, needs_step, weight, weight_of, is_stop, is_over, IsSoundPiece};
+ghost use Rattle.wb_machine.specs.Flow.{AreSound, IsReady, rest_from, rest_under};
 ghost use Rattle.wb_machine.specs.Bodies.{followed_effect};
 ghost use Rattle.wb_machine.specs.Owed.{CarriesOut, IsQuiet};
 ghost use Rattle.wb_machine.specs.SlotInvariant.{slots_for, slots_for_all, to_destroy_first, HasRoom, HasRoomUnder};
@@ -26,8 +29,13 @@ impl<'a> Control<'a> {
     /// Whether the piece on top takes how the one above it ended: the run isn't stopped, and no step is to come.
     #[inline(always)]
     fn is_done(&self) -> bool
-        ensures yes { IsTrue result → (is_stop self.now.ending ≡ false) × (0 < vec_len self.now.pieces) × ((below : List PendingPiece) (p : PendingPiece) → self.now.pieces.items ≡ below ++ p ∷ [] → self.now.ending ≡ GoesOn → needs_step p ≡ false) }
-        ensures no { result ≡ false → (is_over self.now.ending self.now.pieces.items ≡ true) ⊎ IsReady self.now.ending self.now.pieces.items }
+        ensures yes { IsTrue result → (is_stop self.now.ending ≡ false)
+            × (0 < vec_len self.now.pieces)
+            × ((below : List PendingPiece) (p : PendingPiece) →
+            self.now.pieces.items ≡ below ++ p ∷ [] → self.now.ending ≡ GoesOn →
+            needs_step p ≡ false) }
+        ensures no { result ≡ false → (is_over self.now.ending self.now.pieces.items ≡ true)
+            ⊎ IsReady self.now.ending self.now.pieces.items }
     {
         match (self.ending, self.pieces.last()) {
             (Ending::GoesOn, Some(piece)) => !needs_step(piece),
@@ -45,10 +53,15 @@ impl<'a> Control<'a> {
         then: PendingPiece<'a>,
         state: &State,
     ) -> Result<(), AllocError>
-        ensures pieces { OnOk result ((callers : Values) → pending_in callers self.new.pieces.items
-            ≡ doing (context_of at) (destroy_items (length state.now.items - entry)) ∷ pending_of callers then.entry ∷ pending_in (callers_under callers then.entry) self.old.pieces.items) }
-        ensures weight { OnOk result (weight_of self.new.pieces.items ≡ weight_of self.old.pieces.items + weight then.entry + 1) }
-        ensures sound { OnOk result ((script : Script) → IsSoundPiece script then.entry → AreSound script self.old.pieces.items → AreSound script self.new.pieces.items) }
+        ensures pieces { OnOk result ((callers : Values) →
+            pending_in callers self.new.pieces.items
+            ≡ doing (context_of at) (destroy_items (length state.now.items - entry))
+            ∷ pending_of callers then.entry
+            ∷ pending_in (callers_under callers then.entry) self.old.pieces.items) }
+        ensures weight { OnOk result (weight_of self.new.pieces.items
+            ≡ weight_of self.old.pieces.items + weight then.entry + 1) }
+        ensures sound { OnOk result ((script : Script) → IsSoundPiece script then.entry →
+            AreSound script self.old.pieces.items → AreSound script self.new.pieces.items) }
         ensures slots { OnOk result (slots_for_all self.new.pieces.items
             ≡ max (slots_for_all self.old.pieces.items) (slots_for then.entry)) }
         ensures first { OnOk result (to_destroy_first self.new.pieces.items
@@ -74,11 +87,15 @@ impl<'a> Control<'a> {
         state: &mut State,
     ) -> Result<(), AllocError>
         requires { is_stop self.old.ending ≡ false }
-        ensures kept { OnOk result ((script : Script) (r : Rule) (budget : ℕ) → state.old.steps ≤ budget →
+        ensures kept { OnOk result ((script : Script) (r : Rule) (budget : ℕ) →
+            state.old.steps ≤ budget →
             rest_from script budget r self.new.ending self.new.pieces.items state.new
-            ≡ rest_under script budget r self.old.ending (catching (context_of at) local entry ∷ pending_in state.old.callers self.old.pieces.items) state.old) }
-        ensures lighter { OnOk result (weight_of self.new.pieces.items < weight_of self.old.pieces.items + 3) }
-        ensures sound { OnOk result ((script : Script) → AreSound script self.old.pieces.items → AreSound script self.new.pieces.items) }
+            ≡ rest_under script budget r self.old.ending (catching (context_of at) local entry
+            ∷ pending_in state.old.callers self.old.pieces.items) state.old) }
+        ensures lighter { OnOk result (weight_of self.new.pieces.items
+            < weight_of self.old.pieces.items + 3) }
+        ensures sound { OnOk result ((script : Script) → AreSound script self.old.pieces.items →
+            AreSound script self.new.pieces.items) }
         ensures quiet { IsQuiet state.old state.new }
         ensures room { OnOk result (entry < state.old.slots →
             HasRoomUnder self.old.ending self.old.pieces.items state.old →
@@ -106,7 +123,8 @@ impl<'a> Control<'a> {
         requires { is_stop self.old.ending ≡ false }
         ensures kept { (script : Script) (r : Rule) (budget : ℕ) →
             rest_from script budget r self.new.ending self.old.pieces.items state.new
-            ≡ rest_under script budget r self.old.ending (caught local code ∷ pending_in state.old.callers self.old.pieces.items) state.old }
+            ≡ rest_under script budget r self.old.ending (caught local code
+            ∷ pending_in state.old.callers self.old.pieces.items) state.old }
         ensures pieces { self.new.pieces.items ≡ self.old.pieces.items }
         ensures quiet { IsQuiet state.old state.new }
         ensures room { HasRoomUnder self.old.ending self.old.pieces.items state.old →
@@ -123,11 +141,15 @@ impl<'a> Control<'a> {
     #[inline(never)]
     fn unwind_main(&mut self, state: &State) -> Result<(), AllocError>
         requires { is_stop self.old.ending ≡ false }
-        ensures kept { OnOk result ((script : Script) (r : Rule) (budget : ℕ) → state.now.steps ≤ budget →
+        ensures kept { OnOk result ((script : Script) (r : Rule) (budget : ℕ) →
+            state.now.steps ≤ budget →
             rest_from script budget r self.new.ending self.new.pieces.items state.now
-            ≡ rest_under script budget r self.old.ending (main_catching in_main_frame ∷ pending_in state.now.callers self.old.pieces.items) state.now) }
-        ensures lighter { OnOk result (weight_of self.new.pieces.items < weight_of self.old.pieces.items + 3) }
-        ensures sound { OnOk result ((script : Script) → AreSound script self.old.pieces.items → AreSound script self.new.pieces.items) }
+            ≡ rest_under script budget r self.old.ending (main_catching in_main_frame
+            ∷ pending_in state.now.callers self.old.pieces.items) state.now) }
+        ensures lighter { OnOk result (weight_of self.new.pieces.items
+            < weight_of self.old.pieces.items + 3) }
+        ensures sound { OnOk result ((script : Script) → AreSound script self.old.pieces.items →
+            AreSound script self.new.pieces.items) }
         ensures room { OnOk result (HasRoomUnder self.old.ending self.old.pieces.items state.now →
             HasRoom self.new.ending self.new.pieces.items state.now) }
         ensures line { self.new.line ≡ self.old.line }
@@ -151,7 +173,8 @@ impl<'a> Control<'a> {
         requires { is_stop self.old.ending ≡ false }
         ensures kept { (script : Script) (r : Rule) (budget : ℕ) (h : RunState) →
             rest_from script budget r self.new.ending self.old.pieces.items h
-            ≡ rest_under script budget r self.old.ending (main_caught code ∷ pending_in h.callers self.old.pieces.items) h }
+            ≡ rest_under script budget r self.old.ending (main_caught code
+            ∷ pending_in h.callers self.old.pieces.items) h }
         ensures pieces { self.new.pieces.items ≡ self.old.pieces.items }
         ensures room { (h : RunState) → HasRoomUnder self.old.ending self.old.pieces.items h →
             HasRoom self.new.ending self.old.pieces.items h }
@@ -168,7 +191,9 @@ impl<'a> Control<'a> {
         requires { is_stop self.old.ending ≡ false }
         ensures kept { (script : Script) (r : Rule) (budget : ℕ) →
             rest_from script budget r self.new.ending self.old.pieces.items state.new
-            ≡ rest_under script budget r self.old.ending (calling (frame_with this (drop base state.old.callers)) (afterwards after) ∷ pending_in (take base state.old.callers) self.old.pieces.items) state.old }
+            ≡ rest_under script budget r self.old.ending
+            (calling (frame_with this (drop base state.old.callers)) (afterwards after)
+            ∷ pending_in (take base state.old.callers) self.old.pieces.items) state.old }
         ensures pieces { self.new.pieces.items ≡ self.old.pieces.items }
         ensures quiet { IsQuiet state.old state.new }
         ensures room { HasRoomUnder self.old.ending self.old.pieces.items state.old →
@@ -191,11 +216,16 @@ impl<'a> Control<'a> {
     fn unwind(&mut self, piece: PendingPiece<'a>, state: &mut State) -> Result<(), AllocError>
         requires stop { is_stop self.old.ending ≡ false }
         requires done { self.old.ending ≡ GoesOn → needs_step piece ≡ false }
-        ensures kept { OnOk result ((script : Script) (r : Rule) (budget : ℕ) → state.old.steps ≤ budget →
+        ensures kept { OnOk result ((script : Script) (r : Rule) (budget : ℕ) →
+            state.old.steps ≤ budget →
             rest_from script budget r self.new.ending self.new.pieces.items state.new
-            ≡ rest_under script budget r self.old.ending (pending_of state.old.callers piece.entry ∷ pending_in (callers_under state.old.callers piece.entry) self.old.pieces.items) state.old) }
-        ensures lighter { OnOk result (weight_of self.new.pieces.items < weight_of self.old.pieces.items + weight piece.entry) }
-        ensures sound { OnOk result ((script : Script) → AreSound script self.old.pieces.items → AreSound script self.new.pieces.items) }
+            ≡ rest_under script budget r self.old.ending (pending_of state.old.callers piece.entry
+            ∷ pending_in (callers_under state.old.callers piece.entry) self.old.pieces.items)
+            state.old) }
+        ensures lighter { OnOk result (weight_of self.new.pieces.items
+            < weight_of self.old.pieces.items + weight piece.entry) }
+        ensures sound { OnOk result ((script : Script) → AreSound script self.old.pieces.items →
+            AreSound script self.new.pieces.items) }
         ensures quiet { IsQuiet state.old state.new }
         ensures room { OnOk result (slots_for piece.entry ≤ state.old.slots →
             HasRoomUnder self.old.ending self.old.pieces.items state.old →
@@ -219,15 +249,20 @@ impl<'a> Control<'a> {
     /// Lets each piece without a step take how the one above it ended, until a step is to come or the run is over.
     #[inline(always)]
     pub fn settle(&mut self, state: &mut State) -> Result<(), NoMemory>
-        ensures kept { OnOk result ((script : Script) (r : Rule) (budget : ℕ) → state.old.steps ≤ budget →
-            rest_from script budget r self.new.ending self.new.pieces.items state.new ≡ rest_from script budget r self.old.ending self.old.pieces.items state.old) }
-        ensures stop { OnOk result (is_stop self.old.ending ≡ true → is_stop self.new.ending ≡ true) }
+        ensures kept { OnOk result ((script : Script) (r : Rule) (budget : ℕ) →
+            state.old.steps ≤ budget →
+            rest_from script budget r self.new.ending self.new.pieces.items state.new
+            ≡ rest_from script budget r self.old.ending self.old.pieces.items state.old) }
+        ensures stop { OnOk result (is_stop self.old.ending ≡ true →
+            is_stop self.new.ending ≡ true) }
         ensures quiet { IsQuiet state.old state.new }
         ensures room { OnOk result (HasRoom self.old.ending self.old.pieces.items state.old →
             HasRoom self.new.ending self.new.pieces.items state.new) }
         ensures line { self.new.line ≡ self.old.line }
-        ensures sound { OnOk result ((script : Script) → AreSound script self.old.pieces.items → AreSound script self.new.pieces.items) }
-        ensures settled { OnOk result ((is_over self.new.ending self.new.pieces.items ≡ true) ⊎ IsReady self.new.ending self.new.pieces.items) }
+        ensures sound { OnOk result ((script : Script) → AreSound script self.old.pieces.items →
+            AreSound script self.new.pieces.items) }
+        ensures settled { OnOk result ((is_over self.new.ending self.new.pieces.items ≡ true)
+            ⊎ IsReady self.new.ending self.new.pieces.items) }
     {
         while self.is_done() {
             if let Some(piece) = self.pieces.pop() {
@@ -240,7 +275,8 @@ impl<'a> Control<'a> {
 
 /// What follows the end of a body that gave a result, in its caller's frame.
 fn follow(after: After, given: Ptr, state: &mut State) -> Ending
-    ensures followed { CarriesOut state.old (followed_effect state.old after given) result state.new }
+    ensures followed { CarriesOut state.old (followed_effect state.old after given) result
+        state.new }
     ensures quiet { IsQuiet state.old state.new }
 {
     match after {

@@ -4,8 +4,11 @@ ghost use Rattle.std.specs.Prelude.{◌≡◌, IfOk, OnOk, ◌++◌, map};
 ghost use Rattle.std.specs.List.{flat_map};
 ghost use Rattle.std.specs.Option.{option_map, option_to_list};
 ghost use Rattle.wb_model.specs.language.Forms.{renamed_parameter_type};
-ghost use Rattle.wb_model.specs.language.Names.{count_among, fields_in_item, following_fields, first_declaration_of, is_same_kind, item_kind_in, declaration_of, item_of_kind, items_by, items_of, item_kind_of, names_of, parameters_in, parameter_type_of};
-ghost use Rattle.wb_lines.specs.BytesOf.{bytes_of_form, bytes_of_forms, bytes_of_operand, bytes_of_operands, bytes_of_text, bytes_of_texts};
+ghost use Rattle.wb_model.specs.language.Names.{count_among, fields_in_item, following_fields, first_declaration_of};
+ghost use Rattle.wb_model.specs.language.Names.{is_same_kind, item_kind_in, declaration_of, item_of_kind, items_by};
+ghost use Rattle.wb_model.specs.language.Names.{items_of, item_kind_of, names_of, parameters_in, parameter_type_of};
+ghost use Rattle.wb_lines.specs.BytesOf.{bytes_of_form, bytes_of_forms, bytes_of_operand, bytes_of_operands};
+ghost use Rattle.wb_lines.specs.BytesOf.{bytes_of_text, bytes_of_texts};
 ghost use Rattle.wb_script.specs.BytesOf.{bytes_of_item, bytes_of_items};
 
 use crate::checks::names_so_far::first_name;
@@ -50,7 +53,8 @@ pub(crate) fn item_kind_in(form: &Form<&[u8]>) -> Option<ItemKind>
 
 /// What an operand takes that is a parameter.
 fn parameter_type_of<'a>(operand: &Operand<&'a [u8]>) -> Option<ParameterType<&'a [u8]>>
-    ensures { option_to_list (option_map (renamed_parameter_type bytes_of_text) result) ≡ parameter_type_of (bytes_of_operand operand.now) }
+    ensures { option_to_list (option_map (renamed_parameter_type bytes_of_text) result)
+        ≡ parameter_type_of (bytes_of_operand operand.now) }
 {
     match operand {
         Operand::Parameter(_, parameter_type) => Some(*parameter_type),
@@ -63,7 +67,8 @@ fn parameters_among<'a>(
     alloc: Global,
     operands: &[Operand<&'a [u8]>],
 ) -> Result<Vec<ParameterType<&'a [u8]>>, AllocError>
-    ensures { IfOk result (λ found. map (renamed_parameter_type bytes_of_text) found.items ≡ flat_map parameter_type_of (bytes_of_operands operands.now)) }
+    ensures { IfOk result (λ found. map (renamed_parameter_type bytes_of_text) found.items
+        ≡ flat_map parameter_type_of (bytes_of_operands operands.now)) }
 {
     let mut found = Vec::new(alloc);
     for operand in operands {
@@ -77,7 +82,8 @@ fn parameters_in<'a>(
     alloc: Global,
     form: &Form<&'a [u8]>,
 ) -> Result<Vec<ParameterType<&'a [u8]>>, AllocError>
-    ensures { IfOk result (λ found. map (renamed_parameter_type bytes_of_text) found.items ≡ parameters_in (bytes_of_form form.now)) }
+    ensures { IfOk result (λ found. map (renamed_parameter_type bytes_of_text) found.items
+        ≡ parameters_in (bytes_of_form form.now)) }
 {
     match form {
         Form::Line(_, operands) => parameters_among(alloc, operands.as_slice()),
@@ -90,7 +96,8 @@ fn following_fields<'a>(
     alloc: Global,
     forms: &[Form<&'a [u8]>],
 ) -> Result<Vec<&'a [u8]>, AllocError>
-    ensures { IfOk result (λ found. bytes_of_texts found.items ≡ following_fields (bytes_of_forms forms.now)) }
+    ensures { IfOk result (λ found.
+        bytes_of_texts found.items ≡ following_fields (bytes_of_forms forms.now)) }
 {
     let mut found = Vec::new(alloc);
     for form in forms {
@@ -109,7 +116,8 @@ fn fields_in_item<'a>(
     kind: ItemKind,
     following: &[Form<&'a [u8]>],
 ) -> Result<Vec<&'a [u8]>, AllocError>
-    ensures { IfOk result (λ found. bytes_of_texts found.items ≡ fields_in_item kind (bytes_of_forms following.now)) }
+    ensures { IfOk result (λ found.
+        bytes_of_texts found.items ≡ fields_in_item kind (bytes_of_forms following.now)) }
 {
     match kind {
         ItemKind::Class => following_fields(alloc, following),
@@ -125,7 +133,8 @@ fn declaration_of<'a>(
     kind: ItemKind,
     name: &'a [u8],
 ) -> Result<Declaration<'a>, AllocError>
-    ensures { IfOk result (λ item. bytes_of_item item ≡ declaration_of (bytes_of_form form.now) (bytes_of_forms following.now) kind name.now) }
+    ensures { IfOk result (λ item. bytes_of_item item
+        ≡ declaration_of (bytes_of_form form.now) (bytes_of_forms following.now) kind name.now) }
 {
     let parameters = Items::from_vec(parameters_in(alloc, form)?);
     let fields = Items::from_vec(fields_in_item(alloc, kind, following)?);
@@ -144,7 +153,9 @@ fn add_items<'a>(
     form: &Form<&'a [u8]>,
     following: &[Form<&'a [u8]>],
 ) -> Result<(), AllocError>
-    ensures { OnOk result (bytes_of_items items.new.items ≡ bytes_of_items items.old.items ++ items_by (bytes_of_form form.now) (bytes_of_forms following.now)) }
+    ensures { OnOk result (bytes_of_items items.new.items
+        ≡ bytes_of_items items.old.items
+        ++ items_by (bytes_of_form form.now) (bytes_of_forms following.now)) }
 {
     match item_kind_in(form) {
         Some(kind) => match first_name(form) {
@@ -160,7 +171,8 @@ pub(crate) fn items_of<'a>(
     alloc: Global,
     forms: &[Form<&'a [u8]>],
 ) -> Result<Vec<Declaration<'a>>, AllocError>
-    ensures { IfOk result (λ items. bytes_of_items items.items ≡ items_of (bytes_of_forms forms.now)) }
+    ensures { IfOk result (λ items.
+        bytes_of_items items.items ≡ items_of (bytes_of_forms forms.now)) }
 {
     let mut items = Vec::new(alloc);
     for (index, form) in forms.iter().enumerate() {
@@ -198,7 +210,8 @@ pub(crate) fn item_of_kind<'i, 'a>(
     items: &'i [Declaration<'a>],
     index: usize,
 ) -> Option<&'i Declaration<'a>>
-    ensures { option_map (λ i. bytes_of_item i.now) result ≡ item_of_kind kind (bytes_of_items items.now) index }
+    ensures { option_map (λ i. bytes_of_item i.now) result
+        ≡ item_of_kind kind (bytes_of_items items.now) index }
 {
     let mut before = 0;
     for candidate in items {

@@ -4,7 +4,12 @@ ghost use Rattle.std.specs.Prelude.{◌≡◌, length, map, not};
 ghost use Rattle.std.specs.List.{flat_map, list_any};
 ghost use Rattle.wb_model.specs.language.Forms.{renamed_parameter_type};
 ghost use Rattle.wb_model.specs.language.LineKinds.{is_pointer_kind, operand_places_for};
-ghost use Rattle.wb_model.specs.language.Kinds.{are_given, are_right, arguments_agree, call_agrees, ends_body, has_wrong_kind, is_class_line_kind, is_given, is_nothing, is_of_procedure, is_right, is_right_line, is_trap, misuses_main, returns_in_trap, returns_outside, returns_pointer, sides_agree, operand_kind_of_name, operand_kind_of, operand_kind_of_class, operand_kind_of_field, operand_kind_of_type};
+ghost use Rattle.wb_model.specs.language.Kinds.{are_given, are_right, arguments_agree, call_agrees, ends_body};
+ghost use Rattle.wb_model.specs.language.Kinds.{has_wrong_kind, is_class_line_kind, is_given, is_nothing};
+ghost use Rattle.wb_model.specs.language.Kinds.{is_of_procedure, is_right, is_right_line, is_trap, misuses_main};
+ghost use Rattle.wb_model.specs.language.Kinds.{returns_in_trap, returns_outside, returns_pointer, sides_agree};
+ghost use Rattle.wb_model.specs.language.Kinds.{operand_kind_of_name, operand_kind_of, operand_kind_of_class};
+ghost use Rattle.wb_model.specs.language.Kinds.{operand_kind_of_field, operand_kind_of_type};
 ghost use Rattle.wb_model.specs.language.Names.{parameter_type_of};
 ghost use Rattle.wb_model.specs.language.Resolved.{resolved_line};
 ghost use Rattle.wb_script.specs.Checks.{known_in};
@@ -131,7 +136,8 @@ fn is_given(parameter: ParameterType<&[u8]>, operand: &Operand<Referent>) -> boo
 
 /// Whether there is one for each parameter.
 fn are_given(parameters: &[ParameterType<&[u8]>], operands: &[Operand<Referent>]) -> bool
-    ensures { result ≡ are_given (map (renamed_parameter_type bytes_of_text) parameters.now) operands.now }
+    ensures { result
+        ≡ are_given (map (renamed_parameter_type bytes_of_text) parameters.now) operands.now }
 {
     if parameters.len() != operands.len() {
         return false;
@@ -214,7 +220,8 @@ fn misuses_main(form: &Form<&[u8]>) -> bool
 
 /// Whether a parameter stands among operands.
 fn has_parameter(operands: &[Operand<&[u8]>]) -> bool
-    ensures { not result ≡ is_nothing (flat_map parameter_type_of (bytes_of_operands operands.now)) }
+    ensures { not result
+        ≡ is_nothing (flat_map parameter_type_of (bytes_of_operands operands.now)) }
 {
     for operand in operands {
         if matches!(operand, Operand::Parameter(..)) {
@@ -282,8 +289,10 @@ pub(crate) fn has_wrong_kind(
     form: &Form<&[u8]>,
     line: &Form<Referent>,
 ) -> bool
-    requires { line.now ≡ resolved_line (bytes_of_items items.now) (known_in known.now) (bytes_of_form form.now) }
-    ensures { result ≡ has_wrong_kind (bytes_of_items items.now) (known_in known.now) (bytes_of_form form.now) }
+    requires { line.now
+        ≡ resolved_line (bytes_of_items items.now) (known_in known.now) (bytes_of_form form.now) }
+    ensures { result
+        ≡ has_wrong_kind (bytes_of_items items.now) (known_in known.now) (bytes_of_form form.now) }
 {
     !is_right_line(items, line)
         || misuses_main(form)

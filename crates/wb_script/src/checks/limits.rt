@@ -2,7 +2,8 @@
 
 ghost use Rattle.std.specs.Prelude.{◌≡◌, length};
 ghost use Rattle.std.specs.List.{flat_map, list_any};
-ghost use Rattle.wb_model.specs.language.Names.{has_long_class, has_long_name, has_more_parameters, is_large, is_long, is_long_name, is_one_more, passes_limit, parameter_type_of};
+ghost use Rattle.wb_model.specs.language.Names.{has_long_class, has_long_name, has_more_parameters, is_large, is_long};
+ghost use Rattle.wb_model.specs.language.Names.{is_long_name, is_one_more, passes_limit, parameter_type_of};
 ghost use Rattle.wb_script.specs.Checks.{known_in, is_size_above, IsFew};
 ghost use Rattle.wb_model.specs.language.Forms.{renamed_parameter_type};
 ghost use Rattle.wb_lines.specs.BytesOf.{bytes_of_operand, bytes_of_operands, bytes_of_form, bytes_of_text};

@@ -2,7 +2,9 @@
 
 ghost use Rattle.std.specs.Prelude.{◌≡◌};
 ghost use Rattle.std.specs.List.{flat_map, list_any};
-ghost use Rattle.wb_model.specs.language.Names.{first_declaration_of, is_among, is_item_before, has_double, name_passed, names_of, parameter_names, is_declared_there, declares_again};
+ghost use Rattle.wb_model.specs.language.Names.{first_declaration_of, is_among, is_item_before, has_double};
+ghost use Rattle.wb_model.specs.language.Names.{name_passed, names_of, parameter_names, is_declared_there};
+ghost use Rattle.wb_model.specs.language.Names.{declares_again};
 ghost use Rattle.wb_model.specs.language.Resolved.{has_unknown, refers_to_nothing, means_nothing, takes_nothing};
 ghost use Rattle.wb_script.specs.Checks.{known_in, IsFew};
 ghost use Rattle.wb_lines.specs.BytesOf.{bytes_of_texts, bytes_of_operands, bytes_of_form};
@@ -39,7 +41,8 @@ fn is_item_before(items: &[Declaration], before: usize, name: &[u8]) -> bool
 /// Whether a name stands declared in the space of a line of this role.
 fn is_declared_there(items: &[Declaration], known: &NamesSoFar, role: Role, name: &[u8]) -> bool
     requires { IsFew known.now }
-    ensures { result ≡ is_declared_there (names_of (bytes_of_items items.now)) (known_in known.now) role name.now }
+    ensures { result ≡ is_declared_there (names_of (bytes_of_items items.now)) (known_in known.now)
+        role name.now }
 {
     match role {
         Role::Class | Role::Procedure => is_item_before(items, known.items_before(), name),
@@ -96,7 +99,8 @@ fn has_double_parameter(form: &Form<&[u8]>) -> bool
 /// Whether a line declares a name which stands declared in its space, or two parameters with one name.
 pub(crate) fn declares_again(items: &[Declaration], known: &NamesSoFar, form: &Form<&[u8]>) -> bool
     requires { IsFew known.now }
-    ensures { result ≡ declares_again (names_of (bytes_of_items items.now)) (known_in known.now) (bytes_of_form form.now) }
+    ensures { result ≡ declares_again (names_of (bytes_of_items items.now)) (known_in known.now)
+        (bytes_of_form form.now) }
 {
     let again = match first_name(form) {
         Some(name) => is_declared_there(items, known, role(form), name),

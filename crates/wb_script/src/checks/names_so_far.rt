@@ -3,10 +3,16 @@
 ghost use Rattle.std.specs.Prelude.{◌≡◌, ◌+◌, ◌≤◌, [], ◌++◌, length, map, OnOk};
 ghost use Rattle.std.specs.Option.{option_map, option_to_list};
 ghost use Rattle.std.specs.List.{flat_map};
-ghost use Rattle.wb_model.specs.language.Names.{blocks_after, bodies_before, body_after, body_kind_of, body_in, count_begun, fields_after, first_name, items_before, line_kind_in, local_kind_of, local_kind_in, kind_of_parameter, kinds_after, known_after, literal_text, literals_in, locals_after, name_passed, nothing_known, parameter_names, parameters_in, second_name, parameter_type_of, with_one};
+ghost use Rattle.wb_model.specs.language.Names.{blocks_after, bodies_before, body_after, body_kind_of, body_in};
+ghost use Rattle.wb_model.specs.language.Names.{count_begun, fields_after, first_name, items_before, line_kind_in};
+ghost use Rattle.wb_model.specs.language.Names.{local_kind_of, local_kind_in, kind_of_parameter, kinds_after};
+ghost use Rattle.wb_model.specs.language.Names.{known_after, literal_text, literals_in, locals_after, name_passed};
+ghost use Rattle.wb_model.specs.language.Names.{nothing_known, parameter_names, parameters_in, second_name};
+ghost use Rattle.wb_model.specs.language.Names.{parameter_type_of, with_one};
 ghost use Rattle.wb_model.specs.language.Forms.{renamed_parameter_type, role_of_form};
 ghost use Rattle.wb_model.specs.declared.script_lines.ItemKind.TheVariants as item;
-ghost use Rattle.wb_lines.specs.BytesOf.{bytes_of_text, bytes_of_texts, bytes_of_operand, bytes_of_operands, bytes_of_form};
+ghost use Rattle.wb_lines.specs.BytesOf.{bytes_of_text, bytes_of_texts, bytes_of_operand, bytes_of_operands};
+ghost use Rattle.wb_lines.specs.BytesOf.{bytes_of_form};
 ghost use Rattle.wb_script.specs.BytesOf.{bytes_of_kind};
 ghost use Rattle.wb_script.specs.Checks.{known_in, AreSameItems, IsFew};
 
@@ -20,7 +26,8 @@ use wb_model::script_lines::{
 
 /// The name that the first word of a line spells.
 pub(crate) fn first_name<'a>(form: &Form<&'a [u8]>) -> Option<&'a [u8]>
-    ensures { option_to_list (option_map bytes_of_text result) ≡ first_name (bytes_of_form form.now) }
+    ensures { option_to_list (option_map bytes_of_text result)
+        ≡ first_name (bytes_of_form form.now) }
 {
     match form {
         Form::Line(_, operands) => match operands.as_slice() {
@@ -46,7 +53,8 @@ fn local_kind_of<'a>(
     line_kind: LineKind,
     operands: &[Operand<&'a [u8]>],
 ) -> Option<LocalKind<&'a [u8]>>
-    ensures { option_map bytes_of_kind result ≡ local_kind_of line_kind (bytes_of_operands operands.now) }
+    ensures { option_map bytes_of_kind result
+        ≡ local_kind_of line_kind (bytes_of_operands operands.now) }
 {
     match line_kind {
         LineKind::Ptr => Some(LocalKind::Pointer(None)),
@@ -91,7 +99,8 @@ fn body_in(form: &Form<&[u8]>) -> Option<BodyKind>
 }
 
 fn literal_text<'a>(operand: &Operand<&'a [u8]>) -> Option<&'a [u8]>
-    ensures { option_to_list (option_map bytes_of_text result) ≡ literal_text (bytes_of_operand operand.now) }
+    ensures { option_to_list (option_map bytes_of_text result)
+        ≡ literal_text (bytes_of_operand operand.now) }
 {
     match operand {
         Operand::Literal(text) => Some(*text),
@@ -104,7 +113,9 @@ fn add_literals<'a>(
     literals: &mut Vec<&'a [u8]>,
     operands: &[Operand<&'a [u8]>],
 ) -> Result<(), AllocError>
-    ensures { OnOk result (bytes_of_texts literals.new.items ≡ bytes_of_texts literals.old.items ++ flat_map literal_text (bytes_of_operands operands.now)) }
+    ensures { OnOk result (bytes_of_texts literals.new.items
+        ≡ bytes_of_texts literals.old.items
+        ++ flat_map literal_text (bytes_of_operands operands.now)) }
 {
     for operand in operands {
         add_some(literals, literal_text(operand))?;
@@ -114,7 +125,8 @@ fn add_literals<'a>(
 
 /// What a parameter holds.
 fn kind_of_parameter<'a>(parameter_type: ParameterType<&'a [u8]>) -> LocalKind<&'a [u8]>
-    ensures { bytes_of_kind result ≡ kind_of_parameter (renamed_parameter_type bytes_of_text parameter_type.entry) }
+    ensures { bytes_of_kind result
+        ≡ kind_of_parameter (renamed_parameter_type bytes_of_text parameter_type.entry) }
 {
     match parameter_type {
         ParameterType::Pointer => LocalKind::Pointer(None),
@@ -160,10 +172,16 @@ impl<'a> NamesSoFar<'a> {
 
     /// Takes in the parameters among operands.
     fn add_parameters(&mut self, operands: &[Operand<&'a [u8]>]) -> Result<(), AllocError>
-        ensures names { OnOk result (bytes_of_texts self.new.locals.items ≡ bytes_of_texts self.old.locals.items ++ flat_map name_passed (bytes_of_operands operands.now)) }
-        ensures kinds { OnOk result (map bytes_of_kind self.new.kinds.items ≡ map bytes_of_kind self.old.kinds.items ++ map kind_of_parameter (flat_map parameter_type_of (bytes_of_operands operands.now))) }
+        ensures names { OnOk result (bytes_of_texts self.new.locals.items
+            ≡ bytes_of_texts self.old.locals.items
+            ++ flat_map name_passed (bytes_of_operands operands.now)) }
+        ensures kinds { OnOk result (map bytes_of_kind self.new.kinds.items
+            ≡ map bytes_of_kind self.old.kinds.items
+            ++ map kind_of_parameter
+            (flat_map parameter_type_of (bytes_of_operands operands.now))) }
         ensures items { AreSameItems self.old self.new }
-        ensures others { (self.new.fields ≡ self.old.fields) × (self.new.literals ≡ self.old.literals) × (self.new.blocks ≡ self.old.blocks) }
+        ensures others { (self.new.fields ≡ self.old.fields)
+            × (self.new.literals ≡ self.old.literals) × (self.new.blocks ≡ self.old.blocks) }
     {
         for operand in operands {
             match operand {
@@ -198,8 +216,10 @@ impl<'a> NamesSoFar<'a> {
         requires { IsFew self.now }
         ensures known { known_in self.new ≡ record (known_in self.old) {
           classes = (known_in self.old).classes + count_begun item.Class (bytes_of_form form.now);
-          procedures = (known_in self.old).procedures + count_begun item.Procedure (bytes_of_form form.now);
-          operations = (known_in self.old).operations + count_begun item.Operation (bytes_of_form form.now);
+          procedures = (known_in self.old).procedures
+              + count_begun item.Procedure (bytes_of_form form.now);
+          operations = (known_in self.old).operations
+              + count_begun item.Operation (bytes_of_form form.now);
         } }
         ensures literals { self.new.literals ≡ self.old.literals }
         ensures items { items_before (known_in self.new) ≤ items_before (known_in self.old) + 1 }
@@ -230,14 +250,17 @@ impl<'a> NamesSoFar<'a> {
     fn close_blocks(&mut self)
         ensures known { known_in self.new ≡ record (known_in self.old) { blocks = [] } }
         ensures items { AreSameItems self.old self.new }
-        ensures others { (self.new.fields ≡ self.old.fields) × (self.new.literals ≡ self.old.literals) × (self.new.locals ≡ self.old.locals) × (self.new.kinds ≡ self.old.kinds) }
+        ensures others { (self.new.fields ≡ self.old.fields)
+            × (self.new.literals ≡ self.old.literals) × (self.new.locals ≡ self.old.locals)
+            × (self.new.kinds ≡ self.old.kinds) }
     {
         self.blocks.clear();
     }
 
     /// Begins a class: it has no fields, and no block is open.
     fn begin_class(&mut self)
-        ensures known { known_in self.new ≡ record (known_in self.old) { fields = []; blocks = [] } }
+        ensures known { known_in self.new
+            ≡ record (known_in self.old) { fields = []; blocks = [] } }
         ensures literals { self.new.literals ≡ self.old.literals }
     {
         self.fields.clear();
@@ -256,9 +279,11 @@ impl<'a> NamesSoFar<'a> {
 
     /// Begins a body without locals, where no block is open.
     fn begin_body(&mut self)
-        ensures known { known_in self.new ≡ record (known_in self.old) { locals = []; kinds = []; blocks = [] } }
+        ensures known { known_in self.new
+            ≡ record (known_in self.old) { locals = []; kinds = []; blocks = [] } }
         ensures items { AreSameItems self.old self.new }
-        ensures others { (self.new.fields ≡ self.old.fields) × (self.new.literals ≡ self.old.literals) }
+        ensures others { (self.new.fields ≡ self.old.fields)
+            × (self.new.literals ≡ self.old.literals) }
     {
         self.locals.clear();
         self.kinds.clear();
@@ -284,10 +309,14 @@ impl<'a> NamesSoFar<'a> {
 
     /// Takes in the locals of one more line.
     fn add_local(&mut self, form: &Form<&'a [u8]>) -> Result<(), AllocError>
-        ensures names { OnOk result (bytes_of_texts self.new.locals.items ≡ bytes_of_texts self.old.locals.items ++ first_name (bytes_of_form form.now)) }
-        ensures kinds { OnOk result (map bytes_of_kind self.new.kinds.items ≡ map bytes_of_kind self.old.kinds.items ++ with_one [] (local_kind_in (bytes_of_form form.now))) }
+        ensures names { OnOk result (bytes_of_texts self.new.locals.items
+            ≡ bytes_of_texts self.old.locals.items ++ first_name (bytes_of_form form.now)) }
+        ensures kinds { OnOk result (map bytes_of_kind self.new.kinds.items
+            ≡ map bytes_of_kind self.old.kinds.items
+            ++ with_one [] (local_kind_in (bytes_of_form form.now))) }
         ensures items { AreSameItems self.old self.new }
-        ensures others { (self.new.fields ≡ self.old.fields) × (self.new.literals ≡ self.old.literals) × (self.new.blocks ≡ self.old.blocks) }
+        ensures others { (self.new.fields ≡ self.old.fields)
+            × (self.new.literals ≡ self.old.literals) × (self.new.blocks ≡ self.old.blocks) }
     {
         add_some(&mut self.locals, first_name(form))?;
         add_some(&mut self.kinds, local_kind_in(form))
@@ -295,9 +324,12 @@ impl<'a> NamesSoFar<'a> {
 
     /// Takes in the block that a line begins.
     fn add_block(&mut self, form: &Form<&'a [u8]>) -> Result<(), AllocError>
-        ensures blocks { OnOk result (self.new.blocks.items ≡ self.old.blocks.items ++ line_kind_in form.now) }
+        ensures blocks { OnOk result (self.new.blocks.items
+            ≡ self.old.blocks.items ++ line_kind_in form.now) }
         ensures items { AreSameItems self.old self.new }
-        ensures others { (self.new.fields ≡ self.old.fields) × (self.new.literals ≡ self.old.literals) × (self.new.locals ≡ self.old.locals) × (self.new.kinds ≡ self.old.kinds) }
+        ensures others { (self.new.fields ≡ self.old.fields)
+            × (self.new.literals ≡ self.old.literals) × (self.new.locals ≡ self.old.locals)
+            × (self.new.kinds ≡ self.old.kinds) }
     {
         match form {
             Form::Line(line_kind, _) => add(&mut self.blocks, *line_kind),
@@ -307,7 +339,8 @@ impl<'a> NamesSoFar<'a> {
 
     /// Takes in the literals of one more line.
     fn add_literals(&mut self, form: &Form<&'a [u8]>) -> Result<(), AllocError>
-        ensures literals { OnOk result (bytes_of_texts self.new.literals.items ≡ bytes_of_texts self.old.literals.items ++ literals_in (bytes_of_form form.now)) }
+        ensures literals { OnOk result (bytes_of_texts self.new.literals.items
+            ≡ bytes_of_texts self.old.literals.items ++ literals_in (bytes_of_form form.now)) }
         ensures known { OnOk result (known_in self.new ≡ record (known_in self.old) {
           literals = (known_in self.old).literals + length (literals_in (bytes_of_form form.now));
         }) }
@@ -352,9 +385,12 @@ impl<'a> NamesSoFar<'a> {
     /// Takes in one more line.
     pub(crate) fn add_line(&mut self, form: &Form<&'a [u8]>) -> Result<(), AllocError>
         requires { IsFew self.now }
-        ensures known { OnOk result (known_in self.new ≡ known_after (known_in self.old) (bytes_of_form form.now)) }
-        ensures literals { OnOk result (bytes_of_texts self.new.literals.items ≡ bytes_of_texts self.old.literals.items ++ literals_in (bytes_of_form form.now)) }
-        ensures items { OnOk result (items_before (known_in self.new) ≤ items_before (known_in self.old) + 1) }
+        ensures known { OnOk result (known_in self.new
+            ≡ known_after (known_in self.old) (bytes_of_form form.now)) }
+        ensures literals { OnOk result (bytes_of_texts self.new.literals.items
+            ≡ bytes_of_texts self.old.literals.items ++ literals_in (bytes_of_form form.now)) }
+        ensures items { OnOk result (items_before (known_in self.new)
+            ≤ items_before (known_in self.old) + 1) }
     {
         self.add_item(form);
         self.add_body(form);

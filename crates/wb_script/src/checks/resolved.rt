@@ -5,7 +5,11 @@ ghost use Rattle.std.specs.Option.{option_map};
 ghost use Rattle.wb_model.specs.language.Forms.{renamed_parameter_type};
 ghost use Rattle.wb_model.specs.language.LineKinds.{operand_places_for};
 ghost use Rattle.wb_model.specs.language.Names.{first_declaration_of, names_before};
-ghost use Rattle.wb_model.specs.language.Resolved.{class_in, class_named, class_of_base, class_of_kind, class_of_local, class_of_this, field_at, field_referent, has_this, is_this, item_at, item_referent, referent_of_kind, local_referent, referent_at, name_referent, own_referent, resolved_line, resolved_operand, resolved_operands, resolved_parameter_type, this_referent};
+ghost use Rattle.wb_model.specs.language.Resolved.{class_in, class_named, class_of_base, class_of_kind, class_of_local};
+ghost use Rattle.wb_model.specs.language.Resolved.{class_of_this, field_at, field_referent, has_this, is_this, item_at};
+ghost use Rattle.wb_model.specs.language.Resolved.{item_referent, referent_of_kind, local_referent, referent_at};
+ghost use Rattle.wb_model.specs.language.Resolved.{name_referent, own_referent, resolved_line, resolved_operand};
+ghost use Rattle.wb_model.specs.language.Resolved.{resolved_operands, resolved_parameter_type, this_referent};
 ghost use Rattle.wb_lines.specs.BytesOf.{bytes_of_operand, bytes_of_operands, bytes_of_form, bytes_of_text};
 ghost use Rattle.wb_script.specs.BytesOf.{bytes_of_kind, bytes_of_items};
 ghost use Rattle.wb_script.specs.Checks.{known_in};
@@ -46,7 +50,8 @@ fn local_referent(index: usize, kind: Option<LocalKind<&[u8]>>) -> Referent
 
 /// What a name stands for that is used among these locals.
 fn used_referent(known: &NamesSoFar, name: &[u8]) -> Referent
-    ensures { result ≡ referent_at (known_in known.now).kinds (first_declaration_of (known_in known.now).locals name.now) }
+    ensures { result ≡ referent_at (known_in known.now).kinds
+        (first_declaration_of (known_in known.now).locals name.now) }
 {
     match place_of(&known.locals, name) {
         Some(index) => local_referent(index, kind_at(&known.kinds, index)),
@@ -137,7 +142,8 @@ fn class_named(items: &[Declaration], name: &[u8]) -> Option<usize>
 
 /// The class that a local of a kind is declared with.
 fn class_of_kind(items: &[Declaration], kind: Option<LocalKind<&[u8]>>) -> Option<usize>
-    ensures { result ≡ class_of_kind (bytes_of_items items.now) (option_map bytes_of_kind kind.entry) }
+    ensures { result
+        ≡ class_of_kind (bytes_of_items items.now) (option_map bytes_of_kind kind.entry) }
 {
     match kind {
         Some(LocalKind::Pointer(Some(class))) => class_named(items, class),
@@ -147,7 +153,8 @@ fn class_of_kind(items: &[Declaration], kind: Option<LocalKind<&[u8]>>) -> Optio
 
 /// The class that a local with a name is declared with.
 fn class_of_local(items: &[Declaration], known: &NamesSoFar, name: &[u8]) -> Option<usize>
-    ensures { result ≡ class_of_local (bytes_of_items items.now) (known_in known.now).kinds (first_declaration_of (known_in known.now).locals name.now) }
+    ensures { result ≡ class_of_local (bytes_of_items items.now) (known_in known.now).kinds
+        (first_declaration_of (known_in known.now).locals name.now) }
 {
     match place_of(&known.locals, name) {
         Some(index) => class_of_kind(items, kind_at(&known.kinds, index)),
@@ -219,7 +226,8 @@ fn name_referent(
     operand_place: OperandPlace,
     name: &[u8],
 ) -> Referent
-    ensures { result ≡ name_referent (bytes_of_items items.now) (known_in known.now) line_kind operand_place name.now }
+    ensures { result ≡ name_referent (bytes_of_items items.now) (known_in known.now) line_kind
+        operand_place name.now }
 {
     match operand_place {
         OperandPlace::Declared => Referent::Declared(names_before(line_kind, known)),
@@ -234,7 +242,8 @@ fn resolved_parameter_type(
     items: &[Declaration],
     parameter_type: ParameterType<&[u8]>,
 ) -> ParameterType<Referent>
-    ensures { result ≡ resolved_parameter_type (bytes_of_items items.now) (renamed_parameter_type bytes_of_text parameter_type.entry) }
+    ensures { result ≡ resolved_parameter_type (bytes_of_items items.now)
+        (renamed_parameter_type bytes_of_text parameter_type.entry) }
 {
     match parameter_type {
         ParameterType::Pointer => ParameterType::Pointer,
@@ -250,7 +259,8 @@ fn resolved_operand(
     operand_place: OperandPlace,
     operand: &Operand<&[u8]>,
 ) -> Operand<Referent>
-    ensures { result ≡ resolved_operand (bytes_of_items items.now) (known_in known.now) line_kind operand_place (bytes_of_operand operand.now) }
+    ensures { result ≡ resolved_operand (bytes_of_items items.now) (known_in known.now) line_kind
+        operand_place (bytes_of_operand operand.now) }
 {
     match operand {
         Operand::Name(name) => Operand::Name(name_referent(
@@ -287,7 +297,9 @@ fn resolved_operands(
     line_kind: LineKind,
     operands: &[Operand<&[u8]>],
 ) -> Result<Vec<Operand<Referent>>, AllocError>
-    ensures { IfOk result (λ found. found.items ≡ resolved_operands (bytes_of_items items.now) (known_in known.now) line_kind (operand_places_for line_kind (length operands.now)) (bytes_of_operands operands.now)) }
+    ensures { IfOk result (λ found. found.items
+        ≡ resolved_operands (bytes_of_items items.now) (known_in known.now) line_kind
+        (operand_places_for line_kind (length operands.now)) (bytes_of_operands operands.now)) }
 {
     let operand_places = OperandPlaces::of(line_kind);
     let mut found = Vec::with_capacity(alloc, operands.len())?;
@@ -310,7 +322,8 @@ pub(crate) fn resolved_line(
     known: &NamesSoFar,
     form: &Form<&[u8]>,
 ) -> Result<Form<Referent>, AllocError>
-    ensures { IfOk result (λ line. line ≡ resolved_line (bytes_of_items items.now) (known_in known.now) (bytes_of_form form.now)) }
+    ensures { IfOk result (λ line. line
+        ≡ resolved_line (bytes_of_items items.now) (known_in known.now) (bytes_of_form form.now)) }
 {
     match form {
         Form::Skip => Ok(Form::Skip),

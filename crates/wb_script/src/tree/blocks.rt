@@ -76,7 +76,11 @@ pub(crate) fn enter_block(
     line: u32,
     head: Head,
 ) -> Result<BlockStack, AllocError>
-    ensures { IfOk result (λ n. n ≡ record { blocks = block_stack.blocks ++ (record { before = block_stack.statements; line = line; head = head }) ∷ []; statements = [] }) }
+    ensures { IfOk result (λ n. n ≡ record {
+      blocks = block_stack.blocks
+          ++ (record { before = block_stack.statements; line = line; head = head }) ∷ [];
+      statements = [];
+    }) }
 {
     let mut blocks = block_stack.blocks;
     blocks.push(OpenBlock {

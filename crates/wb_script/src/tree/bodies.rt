@@ -7,7 +7,8 @@ ghost use Rattle.wb_model.specs.declared.script_lines.LineKind.TheVariants as li
 ghost use Rattle.wb_model.specs.language.LineKinds.{role_of};
 ghost use Rattle.wb_script.specs.Building.{begins_block, line_kinds_of_blocks};
 ghost use Rattle.wb_script.specs.declared.tree.bodies.BodyProgress.TheVariants.{Inside};
-ghost use Rattle.wb_script.specs.Growing.{AddsWhereFit, IsSoundOpen, TakesWhereFit, declared_in_space, if_added, scope_in_body, with_statement};
+ghost use Rattle.wb_script.specs.Growing.{AddsWhereFit, IsSoundOpen, TakesWhereFit, declared_in_space, if_added};
+ghost use Rattle.wb_script.specs.Growing.{scope_in_body, with_statement};
 ghost use Rattle.wb_script.specs.Stated.{IsStatedWhereFit, scope_in};
 
 use crate::tree::blocks::{BlockStack, Enclosing, end_block, enter_block, turn_to_else};
@@ -78,7 +79,8 @@ fn next_local(
 }
 
 fn with_local(body: OpenBody, local: Local) -> Result<OpenBody, AllocError>
-    ensures { IfOk result (λ p. p ≡ record body { locals = body.locals ++ local ∷ []; scope = body.scope ++ local ∷ [] }) }
+    ensures { IfOk result (λ p.
+        p ≡ record body { locals = body.locals ++ local ∷ []; scope = body.scope ++ local ∷ [] }) }
 {
     let mut locals = body.locals;
     locals.push(local)?;
@@ -101,7 +103,8 @@ fn add_declaration(
 ) -> Result<Option<BodyProgress>, AllocError>
     requires sound { IsSoundOpen (declared_in_space space) body }
     requires declares { role_of line_kind ≡ role.Declaration }
-    ensures { IfOk result (AddsWhereFit (declared_in_space space.entry) number (Line line_kind operands.now) body) }
+    ensures { IfOk result
+        (AddsWhereFit (declared_in_space space.entry) number (Line line_kind operands.now) body) }
 {
     match next_local(space, &body, line_kind, operands) {
         Some(local) => Ok(Some(BodyProgress::Inside(with_local(body, local)?))),
@@ -173,7 +176,8 @@ fn add_statement(
 ) -> Result<Option<BodyProgress>, AllocError>
     requires sound { IsSoundOpen (declared_in_space space) body }
     requires plain { role_of line_kind ≡ role.Plain }
-    ensures { IfOk result (AddsWhereFit (declared_in_space space.entry) number (Line line_kind operands.now) body) }
+    ensures { IfOk result
+        (AddsWhereFit (declared_in_space space.entry) number (Line line_kind operands.now) body) }
 {
     let mut body = body;
     if add_statement_in_place(alloc, space, &mut body, number, line_kind, operands)? {
@@ -194,7 +198,8 @@ fn begin_block(
 ) -> Result<Option<BodyProgress>, AllocError>
     requires sound { IsSoundOpen (declared_in_space space) body }
     requires block { IsTrue (begins_block line_kind) }
-    ensures { IfOk result (AddsWhereFit (declared_in_space space.entry) number (Line line_kind operands.now) body) }
+    ensures { IfOk result
+        (AddsWhereFit (declared_in_space space.entry) number (Line line_kind operands.now) body) }
 {
     if body.block_stack.blocks.len() >= DEEPEST_BLOCK as usize {
         return Ok(None);
@@ -221,7 +226,8 @@ fn add_else(
     operands: &[Operand<Referent>],
 ) -> Result<Option<BodyProgress>, AllocError>
     requires { IsSoundOpen (declared_in_space space) body }
-    ensures { IfOk result (AddsWhereFit (declared_in_space space.entry) number (Line line_kind.Else operands.now) body) }
+    ensures { IfOk result (AddsWhereFit (declared_in_space space.entry) number
+        (Line line_kind.Else operands.now) body) }
 {
     if !operands.is_empty() {
         return Ok(None);
@@ -243,7 +249,8 @@ fn add_end(
     operands: &[Operand<Referent>],
 ) -> Result<Option<BodyProgress>, AllocError>
     requires { IsSoundOpen (declared_in_space space) body }
-    ensures { IfOk result (AddsWhereFit (declared_in_space space.entry) number (Line line_kind.End operands.now) body) }
+    ensures { IfOk result (AddsWhereFit (declared_in_space space.entry) number
+        (Line line_kind.End operands.now) body) }
 {
     if !operands.is_empty() {
         return Ok(None);
@@ -273,7 +280,8 @@ pub(crate) fn add_to_body(
     operands: &[Operand<Referent>],
 ) -> Result<Option<BodyProgress>, AllocError>
     requires sound { IsSoundOpen (declared_in_space space) body }
-    ensures { IfOk result (AddsWhereFit (declared_in_space space.entry) number (Line line_kind operands.now) body) }
+    ensures { IfOk result
+        (AddsWhereFit (declared_in_space space.entry) number (Line line_kind operands.now) body) }
 {
     match line_kind {
         LineKind::Class

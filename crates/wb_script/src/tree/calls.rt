@@ -24,9 +24,11 @@ fn argument(
     parameter: &ParameterType<&[u8]>,
     operand: &Operand<Referent>,
 ) -> Option<Argument>
-    ensures { (items : List model.Declaration) → MatchOption result
-        (argument_fits here.now.literals (scope_in here.now) (bytes_of_parameter items parameter.now) operand.now ≡ false)
-        (λ a. (argument_operand a ≡ Some operand.now) × IsTrue (is_passed (scope_in here.now) (bytes_of_parameter items parameter.now) a)) }
+    ensures { (items : List model.Declaration) →
+        MatchOption result (argument_fits here.now.literals (scope_in here.now)
+        (bytes_of_parameter items parameter.now) operand.now ≡ false) (λ a.
+        (argument_operand a ≡ Some operand.now)
+        × IsTrue (is_passed (scope_in here.now) (bytes_of_parameter items parameter.now) a)) }
 {
     match parameter {
         ParameterType::Number => Some(Argument::Given(here.number(operand)?)),
@@ -43,7 +45,9 @@ fn arguments(
     parameters: &[ParameterType<&[u8]>],
     operands: &[Operand<Referent>],
 ) -> Result<Option<Items<Argument>>, AllocError>
-    ensures { (items : List model.Declaration) → IfOk result (ArePassed here.now (map (bytes_of_parameter items) parameters.now) operands.now) }
+    ensures { (items : List model.Declaration) →
+        IfOk result
+        (ArePassed here.now (map (bytes_of_parameter items) parameters.now) operands.now) }
 {
     let mut given = Items::new(alloc);
     for operand in operands {
@@ -67,7 +71,9 @@ fn signature_at<'i, 'a>(
     items: &'i [Declaration<'a>],
     index: usize,
 ) -> Option<&'i [ParameterType<&'a [u8]>]>
-    ensures { option_map (λ parameter_type. map (bytes_of_parameter (bytes_of_items items.now)) parameter_type.now) result ≡ slice_get (signatures_among (bytes_of_items items.now)) index }
+    ensures { option_map (λ parameter_type.
+        map (bytes_of_parameter (bytes_of_items items.now)) parameter_type.now) result
+        ≡ slice_get (signatures_among (bytes_of_items items.now)) index }
 {
     match item_of_kind(ItemKind::Procedure, items, index) {
         Some(item) => Some(item.parameters.as_slice()),
@@ -90,7 +96,8 @@ fn call_in(
     operands: &[Operand<Referent>],
 ) -> Result<Option<Called>, AllocError>
     requires { length items.now ≤ LONGEST_SCRIPT }
-    ensures { IfOk result (IsCalled (declared_by here.now.literals items.now) (scope_in here.now) operands.now) }
+    ensures { IfOk result
+        (IsCalled (declared_by here.now.literals items.now) (scope_in here.now) operands.now) }
 {
     match operands.split_first() {
         Some((Operand::Name(Referent::Procedure(index)), given)) => match signature_at(
@@ -117,7 +124,8 @@ pub(crate) fn call(
     operands: &[Operand<Referent>],
 ) -> Result<Option<Statement>, AllocError>
     requires { length items.now ≤ LONGEST_SCRIPT }
-    ensures { IfOk result (IsNestedOf (declared_by here.now.literals items.now) (scope_in here.now) line_kind.Call operands.now) }
+    ensures { IfOk result (IsNestedOf (declared_by here.now.literals items.now) (scope_in here.now)
+        line_kind.Call operands.now) }
 {
     match call_in(alloc, items, here, operands)? {
         Some(called) => Ok(Some(Statement::Call(called.procedure, called.arguments))),
@@ -133,7 +141,8 @@ pub(crate) fn call_to(
     operands: &[Operand<Referent>],
 ) -> Result<Option<Statement>, AllocError>
     requires { length items.now ≤ LONGEST_SCRIPT }
-    ensures { IfOk result (IsNestedOf (declared_by here.now.literals items.now) (scope_in here.now) line_kind.CallTo operands.now) }
+    ensures { IfOk result (IsNestedOf (declared_by here.now.literals items.now) (scope_in here.now)
+        line_kind.CallTo operands.now) }
 {
     match operands.split_first() {
         Some((target, following)) => match here.receiver(target) {

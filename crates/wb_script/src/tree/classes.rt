@@ -1,6 +1,7 @@
 //! The lines of a class: its first, its fields, the first lines of its bodies, and its end.
 
-ghost use Rattle.std.specs.Prelude.{◌≡◌, ◌<◌, ◌≤◌, ℕ, [], ◌∷◌, ◌++◌, Some, is_some, length, nat_le, IfOk, IfSome, IsTrue};
+ghost use Rattle.std.specs.Prelude.{◌≡◌, ◌<◌, ◌≤◌, ℕ, [], ◌∷◌, ◌++◌, Some, is_some, length, nat_le, IfOk, IfSome};
+ghost use Rattle.std.specs.Prelude.{IsTrue};
 ghost use Rattle.wb_model.specs.declared.limits.TheConstants.{MOST_CLASSES, MOST_EXTRA};
 ghost use Rattle.wb_model.specs.declared.script_lines.Form.TheVariants.{Line};
 ghost use Rattle.wb_model.specs.declared.script_lines.LineKind.TheVariants as line_kind;
@@ -13,7 +14,8 @@ ghost use Rattle.wb_model.specs.language.Sound.{Declared, Scope, is_class_among}
 ghost use Rattle.wb_model.specs.language.Trees.{field_line};
 ghost use Rattle.wb_script.specs.Building.{declares, is_small};
 ghost use Rattle.wb_script.specs.Fitting.{operand_places_fit, operands_fit};
-ghost use Rattle.wb_script.specs.Growing.{GrowsWhereFit, IsBelow, IsSound, OpensWhereFit, SaysWhereFit, building_after, declared_in_space, in_class, new_body, outside};
+ghost use Rattle.wb_script.specs.Growing.{GrowsWhereFit, IsBelow, IsSound, OpensWhereFit, SaysWhereFit, building_after};
+ghost use Rattle.wb_script.specs.Growing.{declared_in_space, in_class, new_body, outside};
 
 use crate::tree::bodies::OpenBody;
 use crate::tree::openings::new_body;
@@ -27,8 +29,12 @@ use wb_model::script_lines::{LineKind, Operand, Referent};
 
 /// The extra bytes of the class with an index, by the operands of its first line; none where they are no such.
 fn extra_of(index: usize, operands: &[Operand<Referent>]) -> Option<u32>
-    ensures extra { IfSome result (λ extra. (operands.now ≡ Name (referent.Declared index) ∷ Size extra ∷ []) × IsTrue (nat_le extra MOST_EXTRA)) }
-    ensures found { (literals : ℕ) (scope : Scope) → IsTrue (operand_places_fit literals scope (operand_place.Declared ∷ operand_place.Size ∷ []) operands.now) → IsTrue (declares index operands.now) → IsTrue (is_small MOST_EXTRA operands.now) → IsTrue (is_some result) }
+    ensures extra { IfSome result (λ extra. (operands.now
+        ≡ Name (referent.Declared index) ∷ Size extra ∷ []) × IsTrue (nat_le extra MOST_EXTRA)) }
+    ensures found { (literals : ℕ) (scope : Scope) →
+        IsTrue (operand_places_fit literals scope (operand_place.Declared ∷ operand_place.Size
+        ∷ []) operands.now) → IsTrue (declares index operands.now) →
+        IsTrue (is_small MOST_EXTRA operands.now) → IsTrue (is_some result) }
 {
     match operands {
         [
@@ -55,7 +61,8 @@ pub(crate) fn begin_class(
 ) -> Option<Stage>
     requires sound { IsSound (declared_in_space space) (outside whole.now) }
     requires below { IsBelow number (outside whole.now) }
-    ensures { OpensWhereFit (declared_in_space space.entry) number (Line line_kind.Class operands.now) whole.now result }
+    ensures { OpensWhereFit (declared_in_space space.entry) number
+        (Line line_kind.Class operands.now) whole.now result }
 {
     if whole.classes.len() >= MOST_CLASSES as usize {
         return None;
@@ -79,7 +86,9 @@ pub(crate) fn begin_class(
 fn plain_field(index: usize, operands: &[Operand<Referent>]) -> Option<Option<u16>>
     ensures line { IfSome result (λ f. field_line index f ≡ Line line_kind.Field operands.now) }
     ensures sound { (classes : ℕ) → IfSome result (λ f. IsTrue (is_class_among classes f)) }
-    ensures found { (literals : ℕ) (scope : Scope) → IsTrue (operand_places_fit literals scope (operand_place.Declared ∷ []) operands.now) → IsTrue (declares index operands.now) → IsTrue (is_some result) }
+    ensures found { (literals : ℕ) (scope : Scope) →
+        IsTrue (operand_places_fit literals scope (operand_place.Declared ∷ []) operands.now) →
+        IsTrue (declares index operands.now) → IsTrue (is_some result) }
 {
     match operands {
         [Operand::Name(Referent::Declared(name))] => {
@@ -92,9 +101,12 @@ fn plain_field(index: usize, operands: &[Operand<Referent>]) -> Option<Option<u1
 /// The class of a field, where a line declares it with this index, by a name and a class of the script.
 fn class_field(index: usize, counts: &[u8], operands: &[Operand<Referent>]) -> Option<Option<u16>>
     requires { length counts.now ≤ MOST_CLASSES }
-    ensures line { IfSome result (λ f. field_line index f ≡ Line line_kind.ClassField operands.now) }
+    ensures line { IfSome result (λ f.
+        field_line index f ≡ Line line_kind.ClassField operands.now) }
     ensures sound { IfSome result (λ f. IsTrue (is_class_among (length counts.now) f)) }
-    ensures found { (literals : ℕ) (scope : Scope) → scope.fields ≡ counts.now → IsTrue (operand_places_fit literals scope (operand_place.Declared ∷ operand_place.Class ∷ []) operands.now) → IsTrue (declares index operands.now) → IsTrue (is_some result) }
+    ensures found { (literals : ℕ) (scope : Scope) → scope.fields ≡ counts.now →
+        IsTrue (operand_places_fit literals scope (operand_place.Declared ∷ operand_place.Class
+        ∷ []) operands.now) → IsTrue (declares index operands.now) → IsTrue (is_some result) }
 {
     match operands {
         [
@@ -122,7 +134,10 @@ fn declared_field(
     requires { length counts.now ≤ MOST_CLASSES }
     ensures line { IfSome result (λ f. field_line index f ≡ Line line_kind operands.now) }
     ensures sound { IfSome result (λ f. IsTrue (is_class_among (length counts.now) f)) }
-    ensures found { (declared : Declared) (scope : Scope) → scope.fields ≡ counts.now → role_of line_kind ≡ role.Field → IsTrue (operands_fit declared scope line_kind operands.now) → IsTrue (declares index operands.now) → IsTrue (is_some result) }
+    ensures found { (declared : Declared) (scope : Scope) → scope.fields ≡ counts.now →
+        role_of line_kind ≡ role.Field →
+        IsTrue (operands_fit declared scope line_kind operands.now) →
+        IsTrue (declares index operands.now) → IsTrue (is_some result) }
 {
     match line_kind {
         LineKind::Field => plain_field(index, operands),
@@ -152,7 +167,8 @@ fn read_field(
     requires sound { IsSound (declared_in_space space) (in_class whole.now class.now) }
     requires below { IsBelow number (in_class whole.now class.now) }
     requires field { role_of line_kind ≡ role.Field }
-    ensures { SaysWhereFit (declared_in_space space.entry) number (Line line_kind operands.now) whole.now class.now result }
+    ensures { SaysWhereFit (declared_in_space space.entry) number (Line line_kind operands.now)
+        whole.now class.now result }
 {
     if class.construct.is_some() || class.destroy.is_some() {
         return None;
@@ -186,7 +202,8 @@ fn read_construct(
 ) -> Result<Option<ClassLine>, AllocError>
     requires sound { IsSound (declared_in_space space) (in_class whole.now class.now) }
     requires below { IsBelow number (in_class whole.now class.now) }
-    ensures { IfOk result (SaysWhereFit (declared_in_space space.entry) number (Line line_kind.Constructor operands.now) whole.now class.now) }
+    ensures { IfOk result (SaysWhereFit (declared_in_space space.entry) number
+        (Line line_kind.Constructor operands.now) whole.now class.now) }
 {
     if class.construct.is_some() || class.destroy.is_some() {
         return Ok(None);
@@ -209,7 +226,8 @@ fn read_destroy(
 ) -> Result<Option<ClassLine>, AllocError>
     requires sound { IsSound (declared_in_space space) (in_class whole.now class.now) }
     requires below { IsBelow number (in_class whole.now class.now) }
-    ensures { IfOk result (SaysWhereFit (declared_in_space space.entry) number (Line line_kind.Destructor operands.now) whole.now class.now) }
+    ensures { IfOk result (SaysWhereFit (declared_in_space space.entry) number
+        (Line line_kind.Destructor operands.now) whole.now class.now) }
 {
     if class.destroy.is_some() {
         return Ok(None);
@@ -231,7 +249,8 @@ fn read_end(
 ) -> Option<ClassLine>
     requires sound { IsSound (declared_in_space space) (in_class whole.now class.now) }
     requires below { IsBelow number (in_class whole.now class.now) }
-    ensures { SaysWhereFit (declared_in_space space.entry) number (Line line_kind.End operands.now) whole.now class.now result }
+    ensures { SaysWhereFit (declared_in_space space.entry) number (Line line_kind.End operands.now)
+        whole.now class.now result }
 {
     if operands.is_empty() {
         Some(ClassLine::End)
@@ -252,7 +271,8 @@ fn read_class_line(
 ) -> Result<Option<ClassLine>, AllocError>
     requires sound { IsSound (declared_in_space space) (in_class whole.now class.now) }
     requires below { IsBelow number (in_class whole.now class.now) }
-    ensures { IfOk result (SaysWhereFit (declared_in_space space.entry) number (Line line_kind operands.now) whole.now class.now) }
+    ensures { IfOk result (SaysWhereFit (declared_in_space space.entry) number
+        (Line line_kind operands.now) whole.now class.now) }
 {
     match line_kind {
         LineKind::Field | LineKind::ClassField => Ok(read_field(
@@ -313,7 +333,8 @@ pub(crate) fn add_to_class(
 ) -> Result<Option<Building>, AllocError>
     requires sound { IsSound (declared_in_space space) (in_class whole class) }
     requires below { IsBelow number (in_class whole class) }
-    ensures { IfOk result (GrowsWhereFit (declared_in_space space.entry) number (Line line_kind operands.now) (in_class whole class)) }
+    ensures { IfOk result (GrowsWhereFit (declared_in_space space.entry) number
+        (Line line_kind operands.now) (in_class whole class)) }
 {
     match read_class_line(alloc, space, &whole, &class, number, line_kind, operands)? {
         Some(said) => Ok(Some(building_after(whole, class, said)?)),

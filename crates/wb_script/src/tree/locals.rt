@@ -20,8 +20,11 @@ use wb_model::script_lines::{LineKind, Operand, Referent};
 
 /// The local, where a line declares it by its name alone, with this index in its body.
 fn local_of_name(index: usize, operands: &[Operand<Referent>], local: Local) -> Option<Local>
-    ensures named { IfSome result (λ l. (l ≡ local) × (operands.now ≡ Name (referent.Declared index) ∷ [])) }
-    ensures found { (literals : ℕ) (scope : Scope) → IsTrue (operand_places_fit literals scope (operand_place.Declared ∷ []) operands.now) → IsTrue (declares index operands.now) → IsTrue (is_some result) }
+    ensures named { IfSome result (λ l.
+        (l ≡ local) × (operands.now ≡ Name (referent.Declared index) ∷ [])) }
+    ensures found { (literals : ℕ) (scope : Scope) →
+        IsTrue (operand_places_fit literals scope (operand_place.Declared ∷ []) operands.now) →
+        IsTrue (declares index operands.now) → IsTrue (is_some result) }
 {
     match operands {
         [Operand::Name(Referent::Declared(name))] => {
@@ -36,7 +39,10 @@ fn buffer_of_size(index: usize, operands: &[Operand<Referent>]) -> Option<Local>
     ensures line { IfSome result (λ l. local_line index l ≡ Line line_kind.Buf operands.now) }
     ensures local { IfSome result (λ l. local_of line_kind.Buf operands.now ≡ Some l) }
     ensures sound { (classes : ℕ) → IfSome result (λ l. IsTrue (is_local classes l)) }
-    ensures found { (literals : ℕ) (scope : Scope) → IsTrue (operand_places_fit literals scope (operand_place.Declared ∷ operand_place.Size ∷ []) operands.now) → IsTrue (declares index operands.now) → IsTrue (is_small LARGEST_BUFFER operands.now) → IsTrue (is_some result) }
+    ensures found { (literals : ℕ) (scope : Scope) →
+        IsTrue (operand_places_fit literals scope (operand_place.Declared ∷ operand_place.Size
+        ∷ []) operands.now) → IsTrue (declares index operands.now) →
+        IsTrue (is_small LARGEST_BUFFER operands.now) → IsTrue (is_some result) }
 {
     match operands {
         [Operand::Name(Referent::Declared(name)), Operand::Size(max)] => {
@@ -56,7 +62,9 @@ fn pointer_of_class(index: usize, fields: &[u8], operands: &[Operand<Referent>])
     ensures line { IfSome result (λ l. local_line index l ≡ Line line_kind.ClassPtr operands.now) }
     ensures local { IfSome result (λ l. local_of line_kind.ClassPtr operands.now ≡ Some l) }
     ensures sound { IfSome result (λ l. IsTrue (is_local (length fields.now) l)) }
-    ensures found { (literals : ℕ) (scope : Scope) → scope.fields ≡ fields.now → IsTrue (operand_places_fit literals scope (operand_place.Declared ∷ operand_place.Class ∷ []) operands.now) → IsTrue (declares index operands.now) → IsTrue (is_some result) }
+    ensures found { (literals : ℕ) (scope : Scope) → scope.fields ≡ fields.now →
+        IsTrue (operand_places_fit literals scope (operand_place.Declared ∷ operand_place.Class
+        ∷ []) operands.now) → IsTrue (declares index operands.now) → IsTrue (is_some result) }
 {
     match operands {
         [
@@ -85,7 +93,11 @@ pub(crate) fn declared_local(
     ensures line { IfSome result (λ l. local_line index l ≡ Line line_kind operands.now) }
     ensures local { IfSome result (λ l. local_of line_kind operands.now ≡ Some l) }
     ensures sound { IfSome result (λ l. IsTrue (is_local (length fields.now) l)) }
-    ensures found { (declared : Declared) (scope : Scope) → scope.fields ≡ fields.now → role_of line_kind ≡ Declaration → IsTrue (operands_fit declared scope line_kind operands.now) → IsTrue (declares index operands.now) → IsTrue (is_small LARGEST_BUFFER operands.now) → IsTrue (is_some result) }
+    ensures found { (declared : Declared) (scope : Scope) → scope.fields ≡ fields.now →
+        role_of line_kind ≡ Declaration →
+        IsTrue (operands_fit declared scope line_kind operands.now) →
+        IsTrue (declares index operands.now) → IsTrue (is_small LARGEST_BUFFER operands.now) →
+        IsTrue (is_some result) }
 {
     match line_kind {
         LineKind::Ptr => local_of_name(index, operands, Local::OfPointer(None)),

@@ -5,7 +5,8 @@ ghost use Rattle.wb_model.specs.declared.limits.TheConstants.{MOST_CLASSES, MOST
 ghost use Rattle.wb_model.specs.declared.script_lines.Form.TheVariants.{Line};
 ghost use Rattle.wb_model.specs.declared.script_lines.LineKind.TheVariants as line_kind;
 ghost use Rattle.wb_model.specs.language.Sound.{local_of_parameter};
-ghost use Rattle.wb_script.specs.Growing.{AreParametersOf, AreTaken, IsBelow, IsSound, IsTaken, OpensWhereFit, declared_in_space, has_room, is_operation_head, new_body, outside};
+ghost use Rattle.wb_script.specs.Growing.{AreParametersOf, AreTaken, IsBelow, IsSound, IsTaken, OpensWhereFit};
+ghost use Rattle.wb_script.specs.Growing.{declared_in_space, has_room, is_operation_head, new_body, outside};
 
 use crate::tree::blocks::BlockStack;
 use crate::tree::bodies::OpenBody;
@@ -145,7 +146,8 @@ pub(crate) fn begin_procedure(
 ) -> Result<Option<Stage>, AllocError>
     requires sound { IsSound (declared_in_space space) (outside whole.now) }
     requires below { IsBelow number (outside whole.now) }
-    ensures { IfOk result (OpensWhereFit (declared_in_space space.entry) number (Line line_kind.Proc operands.now) whole.now) }
+    ensures { IfOk result (OpensWhereFit (declared_in_space space.entry) number
+        (Line line_kind.Proc operands.now) whole.now) }
 {
     if !has_room(whole) {
         return Ok(None);
@@ -170,7 +172,8 @@ pub(crate) fn begin_operation(
 ) -> Result<Option<Stage>, AllocError>
     requires sound { IsSound (declared_in_space space) (outside whole.now) }
     requires below { IsBelow number (outside whole.now) }
-    ensures { IfOk result (OpensWhereFit (declared_in_space space.entry) number (Line line_kind.Op operands.now) whole.now) }
+    ensures { IfOk result (OpensWhereFit (declared_in_space space.entry) number
+        (Line line_kind.Op operands.now) whole.now) }
 {
     if !has_room(whole) {
         return Ok(None);

@@ -44,7 +44,8 @@ fn push_operation(
     operands: &[Operand<Referent>],
 ) -> Option<Statement>
     requires { length items.now ≤ LONGEST_SCRIPT }
-    ensures { IsNestedOf (declared_by here.now.literals items.now) (scope_in here.now) line_kind.PushOp operands.now result }
+    ensures { IsNestedOf (declared_by here.now.literals items.now) (scope_in here.now)
+        line_kind.PushOp operands.now result }
 {
     match operands {
         [pointer, named] => {
@@ -59,7 +60,8 @@ fn push_operation(
 /// A `construct` of the object of a pointer.
 #[inline(never)]
 fn construct(here: &Scope, operands: &[Operand<Referent>]) -> Option<Statement>
-    ensures { (declared : Declared) → declared.literals ≡ here.now.literals → IsNestedOf declared (scope_in here.now) line_kind.Construct operands.now result }
+    ensures { (declared : Declared) → declared.literals ≡ here.now.literals →
+        IsNestedOf declared (scope_in here.now) line_kind.Construct operands.now result }
 {
     Some(Statement::Construct(one_pointer(here, operands)?))
 }
@@ -67,7 +69,8 @@ fn construct(here: &Scope, operands: &[Operand<Referent>]) -> Option<Statement>
 /// A `delete` of the object of a pointer.
 #[inline(never)]
 fn delete(here: &Scope, operands: &[Operand<Referent>]) -> Option<Statement>
-    ensures { (declared : Declared) → declared.literals ≡ here.now.literals → IsNestedOf declared (scope_in here.now) line_kind.Delete operands.now result }
+    ensures { (declared : Declared) → declared.literals ≡ here.now.literals →
+        IsNestedOf declared (scope_in here.now) line_kind.Delete operands.now result }
 {
     Some(Statement::Delete(one_pointer(here, operands)?))
 }
@@ -83,7 +86,8 @@ pub(crate) fn plain_statement(
 ) -> Result<Option<Statement>, AllocError>
     requires plain { role_of line_kind ≡ Plain }
     requires few { length items.now ≤ LONGEST_SCRIPT }
-    ensures { IfOk result (IsStatedWhereFit (declared_by here.now.literals items.now) (scope_in here.now) (line_kinds_of_blocks blocks.now) line_kind operands.now) }
+    ensures { IfOk result (IsStatedWhereFit (declared_by here.now.literals items.now)
+        (scope_in here.now) (line_kinds_of_blocks blocks.now) line_kind operands.now) }
 {
     match line_kind {
         LineKind::Call => call(alloc, items, here, operands),

@@ -24,7 +24,8 @@ pub(crate) struct Space<'a> {
 /// Adds how many fields an item has, where it is a class.
 fn add_count(counts: &mut Vec<u8>, item: &Declaration) -> Result<(), AllocError>
     requires { item.now.kind ≡ kind.Class → length item.now.fields ≤ MOST_FIELDS }
-    ensures { OnOk result (counts.new.items ≡ counts.old.items ++ fields_among (bytes_of_items (item.now ∷ []))) }
+    ensures { OnOk result (counts.new.items
+        ≡ counts.old.items ++ fields_among (bytes_of_items (item.now ∷ []))) }
 {
     match item.kind {
         ItemKind::Class => {
@@ -38,7 +39,8 @@ fn add_count(counts: &mut Vec<u8>, item: &Declaration) -> Result<(), AllocError>
 
 /// How many fields each class among items has.
 pub(crate) fn field_counts(alloc: Global, items: &[Declaration]) -> Result<Vec<u8>, AllocError>
-    requires { IsTrue (list_all (λ n. nat_le n MOST_FIELDS) (fields_among (bytes_of_items items.now))) }
+    requires { IsTrue (list_all (λ n.
+        nat_le n MOST_FIELDS) (fields_among (bytes_of_items items.now))) }
     ensures { IfOk result (λ counts. counts.items ≡ fields_among (bytes_of_items items.now)) }
 {
     let mut counts = Vec::new(alloc);

@@ -8,7 +8,9 @@ ghost use Rattle.wb_model.specs.declared.script_lines.OperandPlace.TheVariants a
 ghost use Rattle.wb_model.specs.language.Sound.{is_pointer, is_number};
 ghost use Rattle.wb_model.specs.language.Trees.{pointer_operand, number_operand};
 ghost use Rattle.wb_script.specs.Fitting.{operand_places_fit};
-ghost use Rattle.wb_script.specs.Stated.{IsStatementOf, IsOnlySpelled, IsPairSpelled, IsTripleSpelled, IsReturnOf, alloc_line_kind, is_lasting, new_line_kind, new_text_line_kind, realloc_line_kind, scope_in, takes_number, takes_pointer};
+ghost use Rattle.wb_script.specs.Stated.{IsStatementOf, IsOnlySpelled, IsPairSpelled, IsTripleSpelled, IsReturnOf};
+ghost use Rattle.wb_script.specs.Stated.{alloc_line_kind, is_lasting, new_line_kind, new_text_line_kind};
+ghost use Rattle.wb_script.specs.Stated.{realloc_line_kind, scope_in, takes_number, takes_pointer};
 
 use crate::tree::blocks::{OpenBlock, has_trap};
 use crate::tree::scope::Scope;
@@ -38,7 +40,8 @@ fn statement_without_operands(
 
 /// The operand of a line that takes one pointer.
 pub(crate) fn one_pointer(here: &Scope, operands: &[Operand<Referent>]) -> Option<Pointer>
-    ensures { IsOnlySpelled pointer_operand (is_pointer (scope_in here.now)) here.now operand_place.Pointer operands.now result }
+    ensures { IsOnlySpelled pointer_operand (is_pointer (scope_in here.now)) here.now
+        operand_place.Pointer operands.now result }
 {
     let pointer = one(operands)?;
     here.pointer(pointer)
@@ -46,7 +49,8 @@ pub(crate) fn one_pointer(here: &Scope, operands: &[Operand<Referent>]) -> Optio
 
 /// The operand of a line that takes one number.
 fn one_number(here: &Scope, operands: &[Operand<Referent>]) -> Option<Number>
-    ensures { IsOnlySpelled number_operand (is_number here.now.locals.now) here.now operand_place.Value operands.now result }
+    ensures { IsOnlySpelled number_operand (is_number here.now.locals.now) here.now
+        operand_place.Value operands.now result }
 {
     let number = one(operands)?;
     here.number(number)

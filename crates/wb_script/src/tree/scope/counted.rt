@@ -9,9 +9,10 @@ use wb_model::script_lines::{Operand, Referent};
 
 /// The only operand.
 pub(crate) fn one<'o>(operands: &'o [Operand<Referent>]) -> Option<&'o Operand<Referent>>
-    ensures { MatchOption result
-        ((literals : ℕ) (scope : Scope) (operand_place : model.OperandPlace) → operand_places_fit literals scope (operand_place ∷ []) operands.now ≡ false)
-        (λ r. operands.now ≡ r.now ∷ []) }
+    ensures { MatchOption result ((literals : ℕ) (scope : Scope)
+        (operand_place : model.OperandPlace) →
+        operand_places_fit literals scope (operand_place ∷ []) operands.now ≡ false) (λ r.
+        operands.now ≡ r.now ∷ []) }
 {
     match operands {
         [operand] => Some(operand),
@@ -23,9 +24,10 @@ pub(crate) fn one<'o>(operands: &'o [Operand<Referent>]) -> Option<&'o Operand<R
 pub(crate) fn two<'o>(
     operands: &'o [Operand<Referent>],
 ) -> Option<(&'o Operand<Referent>, &'o Operand<Referent>)>
-    ensures { MatchOption result
-        ((literals : ℕ) (scope : Scope) (first second : model.OperandPlace) → operand_places_fit literals scope (first ∷ second ∷ []) operands.now ≡ false)
-        (λ r. operands.now ≡ r.0.now ∷ r.1.now ∷ []) }
+    ensures { MatchOption result ((literals : ℕ) (scope : Scope)
+        (first second : model.OperandPlace) →
+        operand_places_fit literals scope (first ∷ second ∷ []) operands.now ≡ false) (λ r.
+        operands.now ≡ r.0.now ∷ r.1.now ∷ []) }
 {
     match operands {
         [first, second] => Some((first, second)),
@@ -43,9 +45,10 @@ pub(crate) fn three<'o>(
         &'o Operand<Referent>,
     ),
 >
-    ensures { MatchOption result
-        ((literals : ℕ) (scope : Scope) (first second third : model.OperandPlace) → operand_places_fit literals scope (first ∷ second ∷ third ∷ []) operands.now ≡ false)
-        (λ r. operands.now ≡ r.0.now ∷ r.1.now ∷ r.2.now ∷ []) }
+    ensures { MatchOption result ((literals : ℕ) (scope : Scope)
+        (first second third : model.OperandPlace) →
+        operand_places_fit literals scope (first ∷ second ∷ third ∷ []) operands.now ≡ false) (λ r.
+        operands.now ≡ r.0.now ∷ r.1.now ∷ r.2.now ∷ []) }
 {
     match operands {
         [first, second, third] => Some((first, second, third)),
@@ -64,9 +67,10 @@ pub(crate) fn four<'o>(
         &'o Operand<Referent>,
     ),
 >
-    ensures { MatchOption result
-        ((literals : ℕ) (scope : Scope) (first second third fourth : model.OperandPlace) → operand_places_fit literals scope (first ∷ second ∷ third ∷ fourth ∷ []) operands.now ≡ false)
-        (λ r. operands.now ≡ r.0.now ∷ r.1.now ∷ r.2.now ∷ r.3.now ∷ []) }
+    ensures { MatchOption result ((literals : ℕ) (scope : Scope)
+        (first second third fourth : model.OperandPlace) →
+        operand_places_fit literals scope (first ∷ second ∷ third ∷ fourth ∷ []) operands.now
+        ≡ false) (λ r. operands.now ≡ r.0.now ∷ r.1.now ∷ r.2.now ∷ r.3.now ∷ []) }
 {
     match operands {
         [first, second, third, fourth] => Some((first, second, third, fourth)),

@@ -5,8 +5,10 @@ ghost use Rattle.wb_model.specs.declared.script.Pointer.TheVariants as P;
 ghost use Rattle.wb_model.specs.declared.limits.TheConstants.{MOST_LOCALS};
 ghost use Rattle.wb_model.specs.declared.script_lines.LineKind.TheVariants as line_kind;
 ghost use Rattle.wb_model.specs.declared.script_lines.OperandPlace.TheVariants as operand_place;
-ghost use Rattle.wb_model.specs.language.Sound.{is_pointer, is_target, is_variable, is_number, is_view, is_writable, is_readable};
-ghost use Rattle.wb_model.specs.language.Trees.{class_operand, pointer_operand, variable_operand, number_operand, view_operand, writable_operand, text_operand, set_line_kind};
+ghost use Rattle.wb_model.specs.language.Sound.{is_pointer, is_target, is_variable, is_number, is_view, is_writable};
+ghost use Rattle.wb_model.specs.language.Sound.{is_readable};
+ghost use Rattle.wb_model.specs.language.Trees.{class_operand, pointer_operand, variable_operand, number_operand};
+ghost use Rattle.wb_model.specs.language.Trees.{view_operand, writable_operand, text_operand, set_line_kind};
 ghost use Rattle.wb_script.specs.Fitting.{IsSpelled};
 ghost use Rattle.wb_script.specs.Stated.{IsFieldOf, IsHolderOf, IsPointerLocal, IsReceiver, scope_in};
 
@@ -53,7 +55,8 @@ impl<'a> Scope<'a> {
 
     /// The class that a local or `self` is declared with.
     fn class_of_holder(&self, holder: Holder) -> Option<u16>
-        ensures { result ≡ Rattle.wb_model.specs.language.Sound.class_of_holder (scope_in self.now) holder }
+        ensures { result
+            ≡ Rattle.wb_model.specs.language.Sound.class_of_holder (scope_in self.now) holder }
     {
         match holder {
             Holder::Local(index) => match self.local(index as usize) {
@@ -104,7 +107,8 @@ impl<'a> Scope<'a> {
 
     /// The pointer that an operand spells: a local, `self`, or a field of one of these.
     pub(crate) fn pointer(&self, operand: &Operand<Referent>) -> Option<Pointer>
-        ensures { IsSpelled pointer_operand (is_pointer (scope_in self.now)) self.now.literals (scope_in self.now) operand_place.Pointer operand.now result }
+        ensures { IsSpelled pointer_operand (is_pointer (scope_in self.now)) self.now.literals
+            (scope_in self.now) operand_place.Pointer operand.now result }
     {
         match operand {
             Operand::Name(name) => Some(Pointer::Held(self.holder(*name)?)),
@@ -115,7 +119,8 @@ impl<'a> Scope<'a> {
 
     /// The pointer that an operand spells and that a line may write: a local, or a field.
     pub(crate) fn written_pointer(&self, operand: &Operand<Referent>) -> Option<Pointer>
-        ensures { IsSpelled pointer_operand (is_target (scope_in self.now)) self.now.literals (scope_in self.now) operand_place.Written operand.now result }
+        ensures { IsSpelled pointer_operand (is_target (scope_in self.now)) self.now.literals
+            (scope_in self.now) operand_place.Written operand.now result }
     {
         match operand {
             Operand::Field(base, field) => self.field(*base, *field),
@@ -135,7 +140,8 @@ impl<'a> Scope<'a> {
 
     /// The field that an operand spells.
     pub(crate) fn field_target(&self, operand: &Operand<Referent>) -> Option<Pointer>
-        ensures spelled { IsSpelled pointer_operand (is_target (scope_in self.now)) self.now.literals (scope_in self.now) operand_place.FieldTarget operand.now result }
+        ensures spelled { IsSpelled pointer_operand (is_target (scope_in self.now))
+            self.now.literals (scope_in self.now) operand_place.FieldTarget operand.now result }
         ensures line_kind { IfSome result (λ p. set_line_kind p ≡ line_kind.SetField) }
     {
         match operand {
@@ -146,7 +152,9 @@ impl<'a> Scope<'a> {
 
     /// The class that an operand spells.
     pub(crate) fn class(&self, operand: &Operand<Referent>) -> Option<u16>
-        ensures { IsSpelled class_operand (λ class. nat_lt class (length self.now.fields.now)) self.now.literals (scope_in self.now) operand_place.Class operand.now result }
+        ensures { IsSpelled class_operand (λ class.
+            nat_lt class (length self.now.fields.now)) self.now.literals (scope_in self.now)
+            operand_place.Class operand.now result }
     {
         match operand {
             Operand::Name(Referent::Class(index)) => {
@@ -162,7 +170,8 @@ impl<'a> Scope<'a> {
 
     /// The local that holds a number and that an operand spells.
     pub(crate) fn variable(&self, operand: &Operand<Referent>) -> Option<u8>
-        ensures { IsSpelled variable_operand (is_variable self.now.locals.now) self.now.literals (scope_in self.now) operand_place.Variable operand.now result }
+        ensures { IsSpelled variable_operand (is_variable self.now.locals.now) self.now.literals
+            (scope_in self.now) operand_place.Variable operand.now result }
     {
         match operand {
             Operand::Name(Referent::Number(index)) => match self.local(*index) {
@@ -175,7 +184,8 @@ impl<'a> Scope<'a> {
 
     /// The number that an operand spells, or the local that holds it.
     pub(crate) fn number(&self, operand: &Operand<Referent>) -> Option<Number>
-        ensures { IsSpelled number_operand (is_number self.now.locals.now) self.now.literals (scope_in self.now) operand_place.Value operand.now result }
+        ensures { IsSpelled number_operand (is_number self.now.locals.now) self.now.literals
+            (scope_in self.now) operand_place.Value operand.now result }
     {
         match operand {
             Operand::Number(number) => {
@@ -191,7 +201,8 @@ impl<'a> Scope<'a> {
 
     /// The local that holds a view and that an operand spells.
     pub(crate) fn view(&self, operand: &Operand<Referent>) -> Option<u8>
-        ensures { IsSpelled view_operand (is_view self.now.locals.now) self.now.literals (scope_in self.now) operand_place.ViewName operand.now result }
+        ensures { IsSpelled view_operand (is_view self.now.locals.now) self.now.literals
+            (scope_in self.now) operand_place.ViewName operand.now result }
     {
         match operand {
             Operand::Name(Referent::View(index)) => match self.local(*index) {
@@ -204,7 +215,8 @@ impl<'a> Scope<'a> {
 
     /// The text that an operand spells and that can be changed.
     pub(crate) fn writable(&self, operand: &Operand<Referent>) -> Option<Writable>
-        ensures { IsSpelled writable_operand (is_writable (scope_in self.now)) self.now.literals (scope_in self.now) operand_place.Writable operand.now result }
+        ensures { IsSpelled writable_operand (is_writable (scope_in self.now)) self.now.literals
+            (scope_in self.now) operand_place.Writable operand.now result }
     {
         match operand {
             Operand::Name(Referent::Buffer(index)) => match self.local(*index) {
@@ -217,7 +229,8 @@ impl<'a> Scope<'a> {
 
     /// The text that an operand spells and that can be read.
     pub(crate) fn readable(&self, operand: &Operand<Referent>) -> Option<Readable>
-        ensures { IsSpelled text_operand (is_readable self.now.literals (scope_in self.now)) self.now.literals (scope_in self.now) operand_place.Readable operand.now result }
+        ensures { IsSpelled text_operand (is_readable self.now.literals (scope_in self.now))
+            self.now.literals (scope_in self.now) operand_place.Readable operand.now result }
     {
         match operand {
             Operand::Literal(Referent::Literal(index)) => {
