@@ -1,5 +1,5 @@
 //! The numbers that the limits and the panics are. Definitions and code cite each by its name, and follow it wherever it
-//! goes; what a reader of `docs/LANGUAGE.md` and `docs/REPORTS.md` is told stands here as a law. Each is the contract of a
+//! goes; what `docs/LANGUAGE.md` and `docs/REPORTS.md` say of them is a law here. Each is the contract of a
 //! function that does nothing, so that the gate proves it.
 
 ghost use Rattle.std.specs.Prelude.{◌≡◌, pos, neg_ℤ};
@@ -19,9 +19,8 @@ ghost use Rattle.wb_model.specs.declared.limits.TheConstants.{MOST_PROCEDURES, M
 ghost use Rattle.wb_model.specs.declared.limits.TheConstants.{MOST_PARAMETERS, MOST_LOCALS, DEEPEST_BLOCK};
 ghost use Rattle.wb_model.specs.declared.limits.TheConstants.{LARGEST_BUFFER, LONGEST_PRINTED};
 
-/// What a script may have, in the order of "Limits" in `docs/LANGUAGE.md`; then what its statements may ask for; then the
-/// lengths of heap, and what the options of `docs/REPORTS.md` may say.
-pub fn limits_are()
+/// What a script may have, in the order of "Limits" in `docs/LANGUAGE.md`.
+pub fn script_limits_are()
     ensures script { LONGEST_SCRIPT ≡ 65_536 }
     ensures name { LONGEST_NAME ≡ 32 }
     ensures classes { MOST_CLASSES ≡ 64 }
@@ -31,14 +30,22 @@ pub fn limits_are()
     ensures parameters { MOST_PARAMETERS ≡ 4 }
     ensures locals { MOST_LOCALS ≡ 32 }
     ensures blocks { DEEPEST_BLOCK ≡ 16 }
-    ensures frames { MOST_FRAMES ≡ 128 }
     ensures buffer { LARGEST_BUFFER ≡ 256 }
     ensures numeral { NINE_DIGITS ≡ 999_999_999 }
     ensures literal { LONGEST_LITERAL ≡ 65_536 }
+{}
+
+/// What a run may have, and what its statements may ask for.
+pub fn run_limits_are()
+    ensures frames { MOST_FRAMES ≡ 128 }
     ensures request { LARGEST_REQUEST ≡ 1_048_576 }
     ensures text { MOST_UNITS ≡ 524_286 }
     ensures turns { MOST_TURNS ≡ 1_048_576 }
     ensures printed { LONGEST_PRINTED ≡ 80 }
+{}
+
+/// The lengths of heap, and what the options of `docs/REPORTS.md` may say.
+pub fn option_limits_are()
     ensures ceiling { CEILING ≡ 16_777_216 }
     ensures budget { LARGEST_BUDGET ≡ 1_000_000 }
     ensures default_budget { DEFAULT_BUDGET ≡ 10_000 }
@@ -49,7 +56,7 @@ pub fn limits_are()
     ensures default_step { DEFAULT_STEP ≡ 4096 }
 {}
 
-/// The panics, in the order of their table in `docs/LANGUAGE.md`, and the code with which a refused allocation leaves.
+/// The panics, in the order of their table in `docs/LANGUAGE.md`.
 pub fn panics_are()
     ensures position { POSITION_OUT_OF_BOUNDS ≡ User 10 }
     ensures long { TOO_LONG ≡ User 11 }
@@ -60,8 +67,12 @@ pub fn panics_are()
     ensures item { ANOTHER_ITEM_ON_TOP ≡ Workbench 4 }
     ensures left { ITEMS_LEFT ≡ Workbench 5 }
     ensures mark { NO_OPEN_MARK ≡ Workbench 6 }
-    ensures frames { TOO_MANY_FRAMES ≡ Workbench 7 }
+    ensures frames { MOST_FRAMES ≡ 128 }
     ensures shorter { SHORTER_THAN_TEXT ≡ Workbench 8 }
     ensures range { NUMBER_OUT_OF_RANGE ≡ Workbench 9 }
+{}
+
+/// The code with which a refused allocation leaves.
+pub fn refusal_code_is()
     ensures code { KERR_NO_MEMORY ≡ neg_ℤ (pos 4) }
 {}
