@@ -20,8 +20,8 @@ use Rattle.wb_model.specs.language.Forms.{operand_as, operand_among, operand_of,
 use Rattle.wb_model.specs.language.LineKinds.{line_kinds, operand_places_for, text_of, word_kinds}
 use Rattle.wb_model.specs.language.Lines.{words_of}
 use Rattle.wb_model.specs.language.Names.{Text}
-use Rattle.wb_model.specs.language.Sound.{is_quotable, is_literal_text}
-use Rattle.wb_model.specs.language.Words.{is_digit, with_digit, digits_of, number_spelled, declared_name, used_name, literal_spelled, is_literal, inside, base_name, field_name, parameter_name, parameter_type_of_word, text_of_keyword}
+use Rattle.wb_model.specs.language.Sound.{is_literal_text}
+use Rattle.wb_model.specs.language.Words.{is_quotable, is_digit, with_digit, digits_of, number_spelled, declared_name, used_name, literal_spelled, is_literal, inside, base_name, field_name, parameter_name, parameter_type_of_word, text_of_keyword}
 use Rattle.wb_lines.specs.Typed.{is_short, is_word_of, is_operand, are_operands, is_typed, AreTyped}
 use Rattle.wb_lines.proofs.Cuts.{AreWithin, words_within}
 use Rattle.wb_lines.proofs.Digits.{digit_at_most_nine, one_more_digit, nine_digits}

@@ -4,9 +4,8 @@ ghost use Rattle.std.specs.Prelude.{◌≡◌, ◌<◌, ◌≤◌, ◌^◌, IfSo
 ghost use Rattle.std.specs.List.{list_all, list_any};
 ghost use Rattle.std.specs.Option.{option_copied, option_map};
 ghost use Rattle.std.specs.Str.{bytes_eq};
-ghost use Rattle.wb_model.specs.language.Sound.{is_quotable};
 ghost use Rattle.wb_model.specs.language.Words.{is_letter, is_digit, is_name_byte, is_name, is_reserved, declared_name};
-ghost use Rattle.wb_model.specs.language.Words.{used_name, length_before, before_first, after_first_of, digits_of};
+ghost use Rattle.wb_model.specs.language.Words.{is_quotable, used_name, length_before, before_first, after_first_of, digits_of};
 ghost use Rattle.wb_model.specs.language.Words.{number_spelled, literal_spelled, base_name, field_name};
 ghost use Rattle.wb_model.specs.language.Words.{parameter_type_after_colon, parameter_name, parameter_type_of_word};
 ghost use Rattle.wb_model.specs.language.Words.{text_of_keyword};

@@ -1,5 +1,5 @@
 -- Two meanings of what stands inside that are alike, and show only states of which a lasting fact holds, give alike meanings
--- of whatever a script does. Here stand the ways of going on; the statements are in `AlikeStatements`.
+-- of whatever a script does. Here stand the ways of going on; the statements are in `EachStatement`.
 use Rattle.std.proofs.Common.{◌≡◌, ℕ, ℤ, ◌-◌, ◌<◌, ◌≤◌, Bool, true, false, List, ◌∷◌, refl, ap, ◌∙◌, subst, Option, Some, None, Result, Ok, Err}
 use Rattle.std.proofs.Math.Path.{fun_ext}
 use Rattle.std.specs.Prelude.{nat_lt, [], ◌++◌}

@@ -7,7 +7,8 @@ use Rattle.wb_model.specs.meaning.State.{State, Process, ends, stops, asks, note
 use Rattle.wb_model.specs.meaning.Statements.{Todo, all, turns, destroy_items, destroy_object, Context, Meaning}
 use Rattle.wb_model.specs.meaning.Meaning.{begun, begun_if, piece, meaning_within}
 use Rattle.wb_model.proofs.AlikeLemmas.{Lasting, Fine, Keeps, Alike, AlikeAll, then_do-alike, with_some-alike, with_class-alike, release-alike}
-use Rattle.wb_model.proofs.AlikeStatements.{plain-alike, in_frame-alike, destroyed_item-alike, statement-alike}
+use Rattle.wb_model.proofs.AlikeFrames.{plain-alike, in_frame-alike, destroyed_item-alike}
+use Rattle.wb_model.proofs.EachStatement.{statement-alike}
 
 -- a number of steps at least, and no more than the budget
 abbrev pub Between : ℕ → ℕ → ℕ → Type 0

@@ -1,5 +1,5 @@
--- Ways of going on that keep a slot of the cleanup stack free. The statements are in `FreeSlotLemmas`.
-use Rattle.std.proofs.Common.{◌≡◌, ℕ, ◌<◌, ◌≤◌, Bool, true, false, List, [], ◌∷◌, ◌++◌, length, length-append, refl, arith, Option, Some, None, Result, Ok, Err}
+-- Ways of going on that keep a slot of the cleanup stack free. The statements are in `EachStatement`.
+use Rattle.std.proofs.Common.{◌≡◌, ℕ, ◌<◌, ◌≤◌, Bool, true, false, List, [], ◌∷◌, ◌++◌, length, length-append, refl, arith, Option, Some, None, Result, Ok, Err, ◌+◌, ◌-◌, take, length-take-le}
 use Rattle.std.specs.Prelude.{ℤ, nat_eq, nat_lt}
 use Rattle.std.proofs.lemmas.Bool.{eqb-false}
 use Rattle.wb_model.specs.declared.heap.Ptr.{Ptr}
@@ -30,7 +30,11 @@ use Rattle.wb_model.specs.meaning.State.{Content, Value, Frame, State, Way, goes
 use Rattle.wb_model.specs.meaning.Operands.{with_cell, with_fields, with_pointer, set_pointer}
 use Rattle.wb_model.specs.meaning.Attempts.{attempt, allocate, reallocate, reallocate_longer, grow_if, push, after_growth}
 use Rattle.wb_model.specs.meaning.Reading.{Source, whole, part, set_text, with_writable, with_readable, with_base, with_units, with_room, with_text_cell, write, write_view}
-use Rattle.wb_model.specs.meaning.Statements.{with_words, with_class, with_condition, with_arguments, leave_if, plain, given_to, released, of_script, release, is_null, alloc_raw, realloc_of, realloc_raw}
+use Rattle.wb_model.specs.meaning.Statements.{with_words, with_class, with_condition, with_arguments, leave_if, plain, given_to, released, of_script, release, is_null, alloc_raw, realloc_of, realloc_raw, Todo, destroy_items, Context, Meaning, in_frame, drop_newest, destroyed_object, destroyed_item, trapped}
+use Rattle.wb_model.specs.declared.heap.Item.TheVariants as I
+use Rattle.wb_model.specs.declared.script.Script.{Script}
+use Rattle.wb_model.specs.declared.script.Body.{Body}
+use Rattle.wb_model.specs.runs.FreeSlots.{HasFreeSlot}
 
 -- at least this many slots, one of them free
 abbrev pub HasFree : ℕ → State → Type 0
@@ -270,3 +274,47 @@ pub framed-free : (least : ℕ) (w : Way) (st : State) (frame : Frame) → EndsF
 framed-free least goes_on st frame f = f
 framed-free least (returns p) st frame f = f
 framed-free least (leaves code) st frame f = f
+
+-- The stack as a piece may find it. A push that filled the last slot and left is followed by the destruction of an item, if of any.
+abbrev pub FindsFree : Todo → State → Type 0
+FindsFree (destroy_items n) st = (length st.items ≤ st.slots) × (length st.items < st.slots + n) × (1 ≤ st.slots)
+FindsFree _ st = HasFreeSlot st
+
+abbrev pub KeepsAll : Meaning → Type 0
+KeepsAll rec = (at : Context) (p : Todo) (st : State) → FindsFree p st → KeepsFree st.slots (rec at p st)
+
+-- fewer items leave more slots free
+pub dropped-free : (least n : ℕ) (st : State) → HasFree least st → HasFree least (drop_newest n st)
+dropped-free least n st f =
+    let long : length (take (length st.items - n) st.items) ≡ length st.items - n = length-take-le (length st.items - n) st.items (omega arith) in
+    (f.0, omega (arith, long, f.1))
+
+module _ (rec : Meaning) (keeps : KeepsAll rec) (least : ℕ) where
+  -- what stands inside a piece, from a state with a free slot on
+  pub inside : (at : Context) (p : Todo) (st : State) → least ≤ st.slots → FindsFree p st → KeepsFree least (rec at p st)
+  inside at p st le finds = fewer least st.slots le (rec at p st) (keeps at p st finds)
+
+  pub in_frame-free : (at : Context) (this : Ptr) (given : List Value) (body : Body) (st : State) (go : Way → State → Process) → HasFree least st →
+      ((w : Way) (st : State) → EndsFree least w st → KeepsFree least (go w st)) → KeepsFree least (in_frame rec at this given body st go)
+  unfolding in_frame
+  in_frame-free at this given body st go f k =
+      require-free least _ _ _ _ (and_then-free least _ _ (inside _ _ _ f.0 f.1) (λ w after e. k w _ (framed-free least w after st.frame e)))
+
+  pub destroyed_object-free : (b : Bool) (at : Context) (p : Ptr) (st : State) → HasFree least st → KeepsFree least (destroyed_object b rec at p st)
+  unfolding destroyed_object
+  destroyed_object-free true at p st f = f
+  destroyed_object-free false at p st f = inside _ _ _ f.0 f.1
+
+  pub destroyed_item-free : (script : Script) (at : Context) (item : Item) (st : State) → HasFree least st → KeepsFree least (destroyed_item script rec at item st)
+  unfolding destroyed_item
+  destroyed_item-free script at (I.Free p) st f = release-free least _ _ f
+  destroyed_item-free script at (I.Delete p) st f = destroyed_object-free _ _ _ _ f
+  destroyed_item-free script at (I.Call p op) st f = in_frame-free _ _ _ _ st _ f (λ w st e. plain-free least _ w st e (λ p st f. f))
+
+  -- a TRAP that had a free slot at its entry
+  pub trapped-free : (at : Context) (x entry : ℕ) (w : Way) (st : State) → entry < least → EndsFree least w st → KeepsFree least (trapped rec at x entry w st)
+  unfolding trapped
+  trapped-free at x entry goes_on st had f = require-free least _ _ _ _ f
+  trapped-free at x entry (leaves code) st had f =
+      then_do-free least _ _ (inside _ _ _ f.0 (f.1, omega (arith, had, f.0, f.1), omega (arith, had, f.0))) (λ st f. f)
+  trapped-free at x entry (returns p) st had f = f

@@ -2,8 +2,9 @@ pub mod AccountLemmas
 pub mod AgreementLemmas
 pub mod AlikeLemmas
 pub mod AlikePieces
-pub mod AlikeStatements
+pub mod AlikeFrames
 pub mod CleanupCells
+pub mod EachStatement
 pub mod LineExamples
 pub mod Places
 pub mod Reallocations
@@ -40,3 +41,4 @@ pub mod RuleLemmas
 pub mod SameRuns
 pub mod SweepLemmas
 pub mod QuietRuns
+pub mod QuietWays

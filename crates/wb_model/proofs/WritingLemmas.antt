@@ -5,8 +5,7 @@ use Rattle.std.proofs.lemmas.List.{take_more}
 use Rattle.std.proofs.Math.Seq.{take-append_seam, get_or-append_seam}
 use borrow.Author.Tests.{leb-true, le-leb, eq-eqb, eqb-true}
 use Rattle.wb_model.specs.language.Lines.{is_blank, ends_line, ends_word, quoted_after, onto_first, pieces_from, lines_of, unless_empty, words_of}
-use Rattle.wb_model.specs.language.Sound.{is_quotable}
-use Rattle.wb_model.specs.language.Words.{inside, is_literal, literal_spelled}
+use Rattle.wb_model.specs.language.Words.{is_quotable, inside, is_literal, literal_spelled}
 use Rattle.wb_model.specs.language.Writing.{is_line, ended, ReadsLines, is_quoted_text, quoted, ReadsLiterals, is_plain, IsWord, spaced, ReadsWords}
 
 pub both : (a b : Bool) → a && b ≡ true → (a ≡ true) × (b ≡ true)

@@ -18,8 +18,8 @@ use Rattle.wb_model.specs.declared.script.Local.{Local}
 use Rattle.wb_model.specs.declared.script.StatementAt.{StatementAt}
 use Rattle.wb_model.specs.language.Forms.{role_of_form}
 use Rattle.wb_model.specs.language.Names.{parameter_type_of}
-use Rattle.wb_model.specs.language.Sound.{Declared, Scope, is_local, is_parameter, is_body, is_class_of, are_classes, is_procedure, is_operation, its_parameters, local_of_parameter, locals_of, scope_of, fields_declared, signatures_of}
-use Rattle.wb_model.specs.language.Trees.{Indexed, Marked, Lines, mark, counted, line, head_line, local_line, local_lines, field_lines, own_body_lines, class_head, end_line, body_lines, parameter_operand, each_from, lines_of_class, lines_of_procedure, lines_of_operation, in_order, all_lines}
+use Rattle.wb_model.specs.language.Sound.{Declared, Scope, is_local, is_parameter, is_body, is_class_of, are_classes, is_procedure, is_operation, local_of_parameter, locals_of, scope_of, fields_declared, signatures_of}
+use Rattle.wb_model.specs.language.Trees.{its_parameters, Indexed, Marked, Lines, mark, counted, line, head_line, local_line, local_lines, field_lines, own_body_lines, class_head, end_line, body_lines, parameter_operand, each_from, lines_of_class, lines_of_procedure, lines_of_operation, in_order, all_lines}
 use Rattle.wb_nesting.specs.declared.open.Open.{Open}
 use Rattle.wb_nesting.specs.declared.open.Open.TheVariants.{Fields, Made, Destroyed}
 use Rattle.wb_script.specs.declared.tree.space.Space.{Space}

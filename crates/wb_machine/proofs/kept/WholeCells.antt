@@ -24,7 +24,7 @@ use Rattle.wb_model.specs.meaning.Statements.{Layer, Meaning, Context, is_null, 
 use Rattle.wb_model.specs.heap.Space.{space_of}
 use Rattle.wb_model.specs.heap.Debug.{Debug, keeps_rises, made_by, answer_in, number_of_next, alloc_made, with_row}
 use Rattle.wb_model.proofs.AlikeLemmas.{Keeps, AlikeAll, and_then-alike}
-use Rattle.wb_model.proofs.AlikeStatements.{statement-alike}
+use Rattle.wb_model.proofs.EachStatement.{statement-alike}
 use Rattle.wb_model.proofs.KeptCells.{AreOfKind, found-cell, kinds}
 use Rattle.wb_model.proofs.Rows.{All-placed}
 use Rattle.wb_model.proofs.ThroughoutLemmas.{settled-shows}

@@ -23,7 +23,9 @@ use Rattle.wb_model.specs.declared.script.Statement.TheOpen.{Statement-F}
 use Rattle.wb_model.specs.declared.script.Statement.TheViews.{out-Statement}
 use Rattle.wb_model.specs.meaning.Statements.{Layer, payload_of_object}
 use Rattle.wb_model.specs.meaning.Bodies.{no_body, procedure_at, operation_at, class_at}
-use Rattle.wb_model.specs.language.Sound.{Declared, is_class_among, is_local, is_number, is_variable, is_pointer, is_condition, is_quotable, is_literal_text, is_nested, are_within, are_statements, is_pointer_local, is_parameter, local_of_parameter, is_body, scope_of, is_procedure, is_operation, its_parameters, is_own_body, is_class_of, are_classes, signatures_of, declared_in, fields_declared, is_entry, is_called, is_call, are_passed, are_few, is_sound_script, is_script}
+use Rattle.wb_model.specs.language.Sound.{Declared, is_class_among, is_local, is_number, is_variable, is_pointer, is_condition, is_literal_text, is_nested, are_within, are_statements, is_pointer_local, is_parameter, local_of_parameter, is_body, scope_of, is_procedure, is_operation, is_own_body, is_class_of, are_classes, signatures_of, declared_in, fields_declared, is_entry, is_called, is_call, are_passed, are_few, is_sound_script, is_script}
+use Rattle.wb_model.specs.language.Trees.{its_parameters}
+use Rattle.wb_model.specs.language.Words.{is_quotable}
 use Rattle.wb_model.specs.meaning.Quiet.{is_quiet}
 use Rattle.wb_machine.specs.declared.pieces.PendingPiece.{PendingPiece}
 use Rattle.wb_machine.specs.declared.pieces.PendingPiece.TheVariants.{MainTrap}

@@ -3,6 +3,8 @@
 use Rattle.std.specs.Prelude.{ℕ, zero, suc, ◌+◌, pos, negsuc, List, Bool, true, false, not, ◌&&◌, is_some, nat_eq, nat_le, nat_lt, Option, Some, None, [], ◌∷◌, ◌++◌, length, map, slice_get}
 use Rattle.std.specs.List.{list_all}
 use Rattle.wb_model.specs.declared.limits.TheConstants.{LONGEST_LITERAL, LARGEST_BUFFER, NINE_DIGITS, MOST_CLASSES, MOST_FIELDS, MOST_EXTRA, MOST_LOCALS, MOST_PROCEDURES, DEEPEST_BLOCK, MOST_PARAMETERS}
+use Rattle.wb_model.specs.language.Trees.{its_parameters}
+use Rattle.wb_model.specs.language.Words.{is_quotable}
 use Rattle.wb_model.specs.meaning.Quiet.{is_quiet}
 use Rattle.wb_model.specs.declared.script.Script.{Script}
 use Rattle.wb_model.specs.declared.script.Body.{Body}
@@ -259,10 +261,6 @@ is_procedure declared p =
     list_all (is_parameter (length declared.fields)) p.parameters && nat_le (length p.parameters) MOST_PARAMETERS
     && is_body declared (scope_of declared None p.parameters p.body) p.body.statements
 
--- the one parameter of an operation, a pointer without a class
-abbrev pub its_parameters : List Parameter
-its_parameters = parameter.OfPointer None ∷ []
-
 -- an operation
 abbrev pub is_operation : Declared → Operation → Bool
 is_operation declared o = is_body declared (scope_of declared None its_parameters o.body) o.body.statements
@@ -282,10 +280,6 @@ is_class_of declared index c =
 abbrev pub are_classes : Declared → ℕ → List Class → Bool
 are_classes declared index [] = true
 are_classes declared index (c ∷ classes) = is_class_of declared index c && are_classes declared (suc index) classes
-
--- what may stand between quotes
-abbrev pub is_quotable : ℕ → Bool
-is_quotable byte = nat_le 32 byte && nat_le byte 126 && not (nat_eq byte 34)
 
 -- the text of a literal: no more bytes than a script has
 abbrev pub is_literal_text : List ℕ → Bool

@@ -42,7 +42,6 @@ use Rattle.wb_model.specs.declared.script.Statement.{Statement}
 use Rattle.wb_model.specs.declared.script.Statement.TheOpen.{Statement-F, StatementAt-F}
 use Rattle.wb_model.specs.declared.script.Statement.TheFolds.{fold-Statement}
 use Rattle.wb_model.specs.language.Forms.{role_of_form}
-use Rattle.wb_model.specs.language.Sound.{its_parameters}
 
 abbrev pub Indexed : Type 0
 Indexed = Form Referent
@@ -147,73 +146,90 @@ abbrev pub set_line_kind : Pointer → LineKind
 set_line_kind (Held holder) = line_kind.Set
 set_line_kind (Field holder class i) = line_kind.SetField
 
--- the line of an `if`
-abbrev pub condition_line : Condition → Indexed
-condition_line (IsNull p) = line line_kind.IfNull (keyword_operand ∷ pointer_operand p ∷ [])
-condition_line (NotNull p) = line line_kind.IfSome (keyword_operand ∷ pointer_operand p ∷ [])
-condition_line (Equal v w) = line line_kind.IfEqual (keyword_operand ∷ number_operand v ∷ number_operand w ∷ [])
-condition_line (Less v w) = line line_kind.IfLess (keyword_operand ∷ number_operand v ∷ number_operand w ∷ [])
+-- the line kind of a line, and its operands from left to right
+abbrev pub Spelling : Type 0
+Spelling = LineKind × List Spelled
 
--- The line that a statement begins with, whatever stands inside it.
+abbrev pub spelled_line : Spelling → Indexed
+spelled_line s = line s.0 s.1
+
+-- how the line of an `if` is spelled
+abbrev pub condition_spelling : Condition → Spelling
+condition_spelling (IsNull p) = (line_kind.IfNull, keyword_operand ∷ pointer_operand p ∷ [])
+condition_spelling (NotNull p) = (line_kind.IfSome, keyword_operand ∷ pointer_operand p ∷ [])
+condition_spelling (Equal v w) = (line_kind.IfEqual, keyword_operand ∷ number_operand v ∷ number_operand w ∷ [])
+condition_spelling (Less v w) = (line_kind.IfLess, keyword_operand ∷ number_operand v ∷ number_operand w ∷ [])
+
+abbrev pub condition_line : Condition → Indexed
+condition_line c = spelled_line (condition_spelling c)
+
+-- How the line is spelled that a statement begins with, whatever is inside it.
+abbrev pub statement_spelling : {A B : Type 0} → Statement-F A B → Spelling
+statement_spelling (Statement-F.Alloc p v GivesNull) = (line_kind.Alloc, pointer_operand p ∷ number_operand v ∷ [])
+statement_spelling (Statement-F.Alloc p v Leaves) = (line_kind.AllocL, pointer_operand p ∷ number_operand v ∷ [])
+statement_spelling (Statement-F.Realloc p q v GivesNull) = (line_kind.Realloc, pointer_operand p ∷ pointer_operand q ∷ number_operand v ∷ [])
+statement_spelling (Statement-F.Realloc p q v Leaves) = (line_kind.ReallocL, pointer_operand p ∷ pointer_operand q ∷ number_operand v ∷ [])
+statement_spelling (Statement-F.Free p) = (line_kind.Free, pointer_operand p ∷ [])
+statement_spelling (Statement-F.AllocLen x p) = (line_kind.AllocLen, variable_operand x ∷ pointer_operand p ∷ [])
+statement_spelling (Statement-F.Store p v w) = (line_kind.Store, pointer_operand p ∷ number_operand v ∷ number_operand w ∷ [])
+statement_spelling (Statement-F.Load x p v) = (line_kind.Load, variable_operand x ∷ pointer_operand p ∷ number_operand v ∷ [])
+statement_spelling (Statement-F.New p class GivesNull) = (line_kind.New, pointer_operand p ∷ class_operand class ∷ [])
+statement_spelling (Statement-F.New p class Leaves) = (line_kind.NewLeave, pointer_operand p ∷ class_operand class ∷ [])
+statement_spelling (Statement-F.Construct p) = (line_kind.Construct, pointer_operand p ∷ [])
+statement_spelling (Statement-F.Delete p) = (line_kind.Delete, pointer_operand p ∷ [])
+statement_spelling (Statement-F.Set p q) = (set_line_kind p, pointer_operand p ∷ pointer_operand q ∷ [])
+statement_spelling (Statement-F.SetNumber x v) = (line_kind.Set, variable_operand x ∷ number_operand v ∷ [])
+statement_spelling (Statement-F.SetNull p) = (line_kind.Null, pointer_operand p ∷ [])
+statement_spelling (Statement-F.Add x v) = (line_kind.Add, variable_operand x ∷ number_operand v ∷ [])
+statement_spelling (Statement-F.Push p) = (line_kind.Push, pointer_operand p ∷ [])
+statement_spelling (Statement-F.PushObject p) = (line_kind.PushObj, pointer_operand p ∷ [])
+statement_spelling (Statement-F.PushOperation p n) = (line_kind.PushOp, pointer_operand p ∷ operation_operand n ∷ [])
+statement_spelling (Statement-F.Pop v) = (line_kind.Pop, number_operand v ∷ [])
+statement_spelling (Statement-F.PopDestroy v) = (line_kind.PopDestroy, number_operand v ∷ [])
+statement_spelling (Statement-F.PopCheck p) = (line_kind.PopCheck, pointer_operand p ∷ [])
+statement_spelling Statement-F.Mark = (line_kind.Mark, [])
+statement_spelling (Statement-F.MarkEnd v) = (line_kind.MarkEnd, number_operand v ∷ [])
+statement_spelling (Statement-F.Check v) = (line_kind.Check, number_operand v ∷ [])
+statement_spelling (Statement-F.CheckAll v) = (line_kind.CheckAll, number_operand v ∷ [])
+statement_spelling (Statement-F.FailNext v) = (line_kind.FailNext, number_operand v ∷ [])
+statement_spelling (Statement-F.FailEvery v) = (line_kind.FailEvery, number_operand v ∷ [])
+statement_spelling Statement-F.FailNone = (line_kind.FailNone, [])
+statement_spelling (Statement-F.NewText p v GivesNull) = (line_kind.HNew, pointer_operand p ∷ number_operand v ∷ [])
+statement_spelling (Statement-F.NewText p v Leaves) = (line_kind.HNewL, pointer_operand p ∷ number_operand v ∷ [])
+statement_spelling (Statement-F.ReallocText p q v) = (line_kind.HRealloc, pointer_operand p ∷ pointer_operand q ∷ number_operand v ∷ [])
+statement_spelling (Statement-F.Copy d t) = (line_kind.Copy, writable_operand d ∷ text_operand t ∷ [])
+statement_spelling (Statement-F.Append d t) = (line_kind.Append, writable_operand d ∷ text_operand t ∷ [])
+statement_spelling (Statement-F.Insert d v t) = (line_kind.Insert, writable_operand d ∷ number_operand v ∷ text_operand t ∷ [])
+statement_spelling (Statement-F.DeleteText d v w) = (line_kind.DelText, writable_operand d ∷ number_operand v ∷ number_operand w ∷ [])
+statement_spelling (Statement-F.SetLength d v) = (line_kind.SetLength, writable_operand d ∷ number_operand v ∷ [])
+statement_spelling (Statement-F.Left y t v) = (line_kind.Left, view_operand y ∷ text_operand t ∷ number_operand v ∷ [])
+statement_spelling (Statement-F.Right y t v) = (line_kind.Right, view_operand y ∷ text_operand t ∷ number_operand v ∷ [])
+statement_spelling (Statement-F.Mid y t v w) = (line_kind.Mid, view_operand y ∷ text_operand t ∷ number_operand v ∷ number_operand w ∷ [])
+statement_spelling (Statement-F.GetLength x t) = (line_kind.GetLen, variable_operand x ∷ text_operand t ∷ [])
+statement_spelling (Statement-F.GetMaximum x d) = (line_kind.GetMax, variable_operand x ∷ writable_operand d ∷ [])
+statement_spelling (Statement-F.PrintText t) = (line_kind.Print, text_operand t ∷ [])
+statement_spelling (Statement-F.PrintNumber v) = (line_kind.Print, number_operand v ∷ [])
+statement_spelling Statement-F.NoteHeap = (line_kind.Heap, [])
+statement_spelling Statement-F.NoteAvailable = (line_kind.Available, [])
+statement_spelling Statement-F.NoteCompress = (line_kind.Compress, [])
+statement_spelling (Statement-F.Leave v) = (line_kind.Leave, number_operand v ∷ [])
+statement_spelling (Statement-F.LeaveIfError v) = (line_kind.LeaveIfError, number_operand v ∷ [])
+statement_spelling (Statement-F.LeaveIfNull p) = (line_kind.LeaveIfNull, pointer_operand p ∷ [])
+statement_spelling (Statement-F.Call n arguments) = (line_kind.Call, procedure_operand n ∷ map argument_operand arguments)
+statement_spelling (Statement-F.CallTo x n arguments) = (line_kind.CallTo, pointer_operand (Held (H.Local x)) ∷ procedure_operand n ∷ map argument_operand arguments)
+statement_spelling Statement-F.Return = (line_kind.Return, [])
+statement_spelling (Statement-F.ReturnPointer p) = (line_kind.ReturnPointer, pointer_operand p ∷ [])
+statement_spelling (Statement-F.If c first) = condition_spelling c
+statement_spelling (Statement-F.IfElse c first other) = condition_spelling c
+statement_spelling (Statement-F.Repeat v body) = (line_kind.Repeat, number_operand v ∷ [])
+statement_spelling (Statement-F.Trap x body) = (line_kind.Trap, variable_operand x ∷ [])
+
+-- the line kind of that line, and the line
+abbrev pub statement_kind : {A B : Type 0} → Statement-F A B → LineKind
+statement_kind s = (statement_spelling s).0
+
 abbrev pub statement_line : {A B : Type 0} → Statement-F A B → Indexed
-statement_line (Statement-F.Alloc p v GivesNull) = line line_kind.Alloc (pointer_operand p ∷ number_operand v ∷ [])
-statement_line (Statement-F.Alloc p v Leaves) = line line_kind.AllocL (pointer_operand p ∷ number_operand v ∷ [])
-statement_line (Statement-F.Realloc p q v GivesNull) = line line_kind.Realloc (pointer_operand p ∷ pointer_operand q ∷ number_operand v ∷ [])
-statement_line (Statement-F.Realloc p q v Leaves) = line line_kind.ReallocL (pointer_operand p ∷ pointer_operand q ∷ number_operand v ∷ [])
-statement_line (Statement-F.Free p) = line line_kind.Free (pointer_operand p ∷ [])
-statement_line (Statement-F.AllocLen x p) = line line_kind.AllocLen (variable_operand x ∷ pointer_operand p ∷ [])
-statement_line (Statement-F.Store p v w) = line line_kind.Store (pointer_operand p ∷ number_operand v ∷ number_operand w ∷ [])
-statement_line (Statement-F.Load x p v) = line line_kind.Load (variable_operand x ∷ pointer_operand p ∷ number_operand v ∷ [])
-statement_line (Statement-F.New p class GivesNull) = line line_kind.New (pointer_operand p ∷ class_operand class ∷ [])
-statement_line (Statement-F.New p class Leaves) = line line_kind.NewLeave (pointer_operand p ∷ class_operand class ∷ [])
-statement_line (Statement-F.Construct p) = line line_kind.Construct (pointer_operand p ∷ [])
-statement_line (Statement-F.Delete p) = line line_kind.Delete (pointer_operand p ∷ [])
-statement_line (Statement-F.Set p q) = line (set_line_kind p) (pointer_operand p ∷ pointer_operand q ∷ [])
-statement_line (Statement-F.SetNumber x v) = line line_kind.Set (variable_operand x ∷ number_operand v ∷ [])
-statement_line (Statement-F.SetNull p) = line line_kind.Null (pointer_operand p ∷ [])
-statement_line (Statement-F.Add x v) = line line_kind.Add (variable_operand x ∷ number_operand v ∷ [])
-statement_line (Statement-F.Push p) = line line_kind.Push (pointer_operand p ∷ [])
-statement_line (Statement-F.PushObject p) = line line_kind.PushObj (pointer_operand p ∷ [])
-statement_line (Statement-F.PushOperation p n) = line line_kind.PushOp (pointer_operand p ∷ operation_operand n ∷ [])
-statement_line (Statement-F.Pop v) = line line_kind.Pop (number_operand v ∷ [])
-statement_line (Statement-F.PopDestroy v) = line line_kind.PopDestroy (number_operand v ∷ [])
-statement_line (Statement-F.PopCheck p) = line line_kind.PopCheck (pointer_operand p ∷ [])
-statement_line Statement-F.Mark = line line_kind.Mark []
-statement_line (Statement-F.MarkEnd v) = line line_kind.MarkEnd (number_operand v ∷ [])
-statement_line (Statement-F.Check v) = line line_kind.Check (number_operand v ∷ [])
-statement_line (Statement-F.CheckAll v) = line line_kind.CheckAll (number_operand v ∷ [])
-statement_line (Statement-F.FailNext v) = line line_kind.FailNext (number_operand v ∷ [])
-statement_line (Statement-F.FailEvery v) = line line_kind.FailEvery (number_operand v ∷ [])
-statement_line Statement-F.FailNone = line line_kind.FailNone []
-statement_line (Statement-F.NewText p v GivesNull) = line line_kind.HNew (pointer_operand p ∷ number_operand v ∷ [])
-statement_line (Statement-F.NewText p v Leaves) = line line_kind.HNewL (pointer_operand p ∷ number_operand v ∷ [])
-statement_line (Statement-F.ReallocText p q v) = line line_kind.HRealloc (pointer_operand p ∷ pointer_operand q ∷ number_operand v ∷ [])
-statement_line (Statement-F.Copy d t) = line line_kind.Copy (writable_operand d ∷ text_operand t ∷ [])
-statement_line (Statement-F.Append d t) = line line_kind.Append (writable_operand d ∷ text_operand t ∷ [])
-statement_line (Statement-F.Insert d v t) = line line_kind.Insert (writable_operand d ∷ number_operand v ∷ text_operand t ∷ [])
-statement_line (Statement-F.DeleteText d v w) = line line_kind.DelText (writable_operand d ∷ number_operand v ∷ number_operand w ∷ [])
-statement_line (Statement-F.SetLength d v) = line line_kind.SetLength (writable_operand d ∷ number_operand v ∷ [])
-statement_line (Statement-F.Left y t v) = line line_kind.Left (view_operand y ∷ text_operand t ∷ number_operand v ∷ [])
-statement_line (Statement-F.Right y t v) = line line_kind.Right (view_operand y ∷ text_operand t ∷ number_operand v ∷ [])
-statement_line (Statement-F.Mid y t v w) = line line_kind.Mid (view_operand y ∷ text_operand t ∷ number_operand v ∷ number_operand w ∷ [])
-statement_line (Statement-F.GetLength x t) = line line_kind.GetLen (variable_operand x ∷ text_operand t ∷ [])
-statement_line (Statement-F.GetMaximum x d) = line line_kind.GetMax (variable_operand x ∷ writable_operand d ∷ [])
-statement_line (Statement-F.PrintText t) = line line_kind.Print (text_operand t ∷ [])
-statement_line (Statement-F.PrintNumber v) = line line_kind.Print (number_operand v ∷ [])
-statement_line Statement-F.NoteHeap = line line_kind.Heap []
-statement_line Statement-F.NoteAvailable = line line_kind.Available []
-statement_line Statement-F.NoteCompress = line line_kind.Compress []
-statement_line (Statement-F.Leave v) = line line_kind.Leave (number_operand v ∷ [])
-statement_line (Statement-F.LeaveIfError v) = line line_kind.LeaveIfError (number_operand v ∷ [])
-statement_line (Statement-F.LeaveIfNull p) = line line_kind.LeaveIfNull (pointer_operand p ∷ [])
-statement_line (Statement-F.Call n arguments) = line line_kind.Call (procedure_operand n ∷ map argument_operand arguments)
-statement_line (Statement-F.CallTo x n arguments) = line line_kind.CallTo (pointer_operand (Held (H.Local x)) ∷ procedure_operand n ∷ map argument_operand arguments)
-statement_line Statement-F.Return = line line_kind.Return []
-statement_line (Statement-F.ReturnPointer p) = line line_kind.ReturnPointer (pointer_operand p ∷ [])
-statement_line (Statement-F.If c first) = condition_line c
-statement_line (Statement-F.IfElse c first other) = condition_line c
-statement_line (Statement-F.Repeat v body) = line line_kind.Repeat (number_operand v ∷ [])
-statement_line (Statement-F.Trap x body) = line line_kind.Trap (variable_operand x ∷ [])
+statement_line s = spelled_line (statement_spelling s)
 
 abbrev pub end_line : Marked
 end_line = (None, Line line_kind.End [])
@@ -273,6 +289,10 @@ procedure_head index p = (Some p.line, head_line index p.parameters)
 
 abbrev pub procedure_lines : ℕ → Procedure → List Marked
 procedure_lines index p = procedure_head index p ∷ (body_lines (length p.parameters) p.body ++ end_line ∷ [])
+
+-- the one parameter of an operation, a pointer without a class
+abbrev pub its_parameters : List Parameter
+its_parameters = parameter.OfPointer None ∷ []
 
 abbrev pub operation_head : ℕ → Operation → Marked
 operation_head index o = (Some o.line, line line_kind.Op (Some (Name (referent.Declared index)) ∷ map parameter_operand its_parameters))

@@ -1,5 +1,5 @@
 -- What a word behind the line kind of a line is: a name, a number, a literal, a parameter, a word of the line's own.
-use Rattle.std.specs.Prelude.{ℕ, suc, ℤ, pos, neg_ℤ, ◌+◌, ◌-◌, ◌*◌, List, [], ◌∷◌, Bool, false, not, ◌&&◌, ◌||◌, ◌==◌, nat_le, if◌then◌else◌, Option, Some, None, codes, drop, fold, length, slice_index, slice_range, take}
+use Rattle.std.specs.Prelude.{ℕ, suc, ℤ, pos, neg_ℤ, ◌+◌, ◌-◌, ◌*◌, List, [], ◌∷◌, Bool, false, not, ◌&&◌, ◌||◌, ◌==◌, nat_eq, nat_le, if◌then◌else◌, Option, Some, None, codes, drop, fold, length, slice_index, slice_range, take}
 use Rattle.std.specs.List.{list_all, list_any}
 use Rattle.std.specs.Option.{option_map}
 use Rattle.std.specs.Str.{bytes_eq}
@@ -7,7 +7,6 @@ use Rattle.wb_model.specs.declared.script_lines.ParameterType.{ParameterType}
 use Rattle.wb_model.specs.declared.script_lines.ParameterType.TheVariants as parameter_type
 use Rattle.wb_model.specs.declared.script_lines.Keyword as model
 use Rattle.wb_model.specs.declared.script_lines.Keyword.TheVariants as keyword
-use Rattle.wb_model.specs.language.Sound.{is_quotable}
 
 abbrev pub is_letter : ℕ → Bool
 is_letter byte = (nat_le 97 byte && nat_le byte 122) || (nat_le 65 byte && nat_le byte 90)
@@ -68,6 +67,10 @@ number_spelled (byte ∷ bytes) =
 -- what stands between the first byte and the last
 abbrev pub inside : List ℕ → List ℕ
 inside word = slice_range word 1 (length word - 1)
+
+-- what may stand between quotes
+abbrev pub is_quotable : ℕ → Bool
+is_quotable byte = nat_le 32 byte && nat_le byte 126 && not (nat_eq byte 34)
 
 abbrev pub is_literal : List ℕ → Bool
 is_literal word =

@@ -6,8 +6,7 @@ use Rattle.wb_model.specs.declared.script_lines.Operand.{Operand}
 use Rattle.wb_model.specs.declared.script_lines.Form.TheVariants.{Line}
 use Rattle.wb_model.specs.language.Forms.{line_form}
 use Rattle.wb_model.specs.language.Lines.{is_blank, lines_of, words_of}
-use Rattle.wb_model.specs.language.Sound.{is_quotable}
-use Rattle.wb_model.specs.language.Words.{literal_spelled}
+use Rattle.wb_model.specs.language.Words.{is_quotable, literal_spelled}
 
 -- no line feed stands in it
 abbrev pub is_line : List ℕ → Bool

@@ -1,5 +1,5 @@
 -- Which bodies cannot leave: what a script's operations and destructors may do, so that a destruction never leaves.
-use Rattle.std.specs.Prelude.{ℕ, zero, suc, List, Bool, true, false, ◌&&◌, Option, Some, None}
+use Rattle.std.specs.Prelude.{ℕ, zero, suc, List, [], ◌∷◌, Bool, true, false, ◌&&◌, Option, Some, None}
 use Rattle.std.specs.List.{list_all}
 use Rattle.wb_model.specs.declared.limits.TheConstants.{DEEPEST_BLOCK}
 use Rattle.wb_model.specs.declared.script.Script.{Script}
@@ -10,6 +10,8 @@ use Rattle.wb_model.specs.declared.script.StatementAt.{StatementAt}
 use Rattle.wb_model.specs.declared.script.Statement.{Statement}
 use Rattle.wb_model.specs.declared.script.Statement.TheOpen.{Statement-F}
 use Rattle.wb_model.specs.declared.script.Statement.TheViews.{out-Statement}
+use Rattle.wb_model.specs.language.Kinds as kinds
+use Rattle.wb_model.specs.language.Trees.{statement_kind}
 
 -- a pointer or a number
 abbrev pub is_quiet_local : Local → Bool
@@ -17,26 +19,17 @@ is_quiet_local (OfPointer class) = true
 is_quiet_local OfNumber = true
 is_quiet_local _ = false
 
--- a statement that cannot leave; `inside` says which statements may stand in a block
+-- the blocks of a statement
+abbrev pub blocks_of : {A B : Type 0} → Statement-F A B → List (List B)
+blocks_of (Statement-F.If c first) = first ∷ []
+blocks_of (Statement-F.IfElse c first other) = first ∷ other ∷ []
+blocks_of (Statement-F.Repeat v body) = body ∷ []
+blocks_of (Statement-F.Trap x body) = body ∷ []
+blocks_of _ = []
+
+-- a statement that cannot leave: the line that spells it can't, nor what its blocks are, of which `inside` says it
 abbrev pub is_quiet_statement : (List StatementAt → Bool) → Statement-F Statement StatementAt → Bool
-is_quiet_statement inside (Statement-F.Free p) = true
-is_quiet_statement inside (Statement-F.Delete p) = true
-is_quiet_statement inside (Statement-F.Set p q) = true
-is_quiet_statement inside (Statement-F.SetNumber x v) = true
-is_quiet_statement inside (Statement-F.SetNull p) = true
-is_quiet_statement inside (Statement-F.Add x v) = true
-is_quiet_statement inside (Statement-F.AllocLen x p) = true
-is_quiet_statement inside (Statement-F.Load x p v) = true
-is_quiet_statement inside (Statement-F.Store p v w) = true
-is_quiet_statement inside (Statement-F.PrintText t) = true
-is_quiet_statement inside (Statement-F.PrintNumber v) = true
-is_quiet_statement inside Statement-F.NoteHeap = true
-is_quiet_statement inside Statement-F.NoteAvailable = true
-is_quiet_statement inside Statement-F.NoteCompress = true
-is_quiet_statement inside (Statement-F.If c first) = inside first
-is_quiet_statement inside (Statement-F.IfElse c first other) = inside first && inside other
-is_quiet_statement inside (Statement-F.Repeat v body) = inside body
-is_quiet_statement inside _ = false
+is_quiet_statement inside s = kinds.is_quiet (statement_kind s) && list_all inside (blocks_of s)
 
 -- statements with fewer blocks inside one another than this
 abbrev pub are_quiet : ℕ → List StatementAt → Bool

@@ -34,7 +34,7 @@ lines_of_statement_at = fold-StatementAt (ℕ → List Marked) (List Marked) lay
 same_lines : (s : StatementAt) → lines_of_statement_at s ≡ statement_at_lines s
 same_lines s = fold_out-StatementAt (ℕ → List Marked) (List Marked) layer_lines statement_at_layer s
 
-joined-map : (ss : List StatementAt) → lines_joined (map lines_of_statement_at ss) ≡ statement_lines ss
+pub joined-map : (ss : List StatementAt) → lines_joined (map lines_of_statement_at ss) ≡ statement_lines ss
 joined-map [] = refl
 joined-map (s ∷ ss) = ap (λ l. lines_of_statement_at s ++ l) (joined-map ss) ∙ ap (λ l. l ++ statement_lines ss) (same_lines s)
 
@@ -128,7 +128,7 @@ is_flat (Statement-F.Repeat v body) = false
 is_flat (Statement-F.Trap x body) = false
 is_flat _ = true
 
-flat_layer : (n : ℕ) (layer : Statement-F Statement StatementAt) → IsTrue (is_flat layer) → layer_lines (map-Statement Statement StatementAt (ℕ → List Marked) (List Marked) lines_of_statement lines_of_statement_at layer) n ≡ (Some n, statement_line layer) ∷ []
+pub flat_layer : (n : ℕ) (layer : Statement-F Statement StatementAt) → IsTrue (is_flat layer) → layer_lines (map-Statement Statement StatementAt (ℕ → List Marked) (List Marked) lines_of_statement lines_of_statement_at layer) n ≡ (Some n, statement_line layer) ∷ []
 flat_layer n (Statement-F.If c first) flat = let clash : ⊥ = cc in absurd clash
 flat_layer n (Statement-F.IfElse c first other) flat = let clash : ⊥ = cc in absurd clash
 flat_layer n (Statement-F.Repeat v body) flat = let clash : ⊥ = cc in absurd clash

@@ -14,8 +14,8 @@ use Rattle.wb_model.specs.declared.script_lines.Referent.{Referent}
 use Rattle.wb_model.specs.declared.script_lines.Operand.{Operand}
 use Rattle.wb_model.specs.declared.script_lines.Form.TheVariants.{Skip, Line}
 use Rattle.wb_model.specs.language.LineKinds.{role_of}
-use Rattle.wb_model.specs.language.Sound.{Declared, is_body, is_own_body, is_procedure, is_operation, its_parameters, scope_of}
-use Rattle.wb_model.specs.language.Trees.{Marked, Lines, mark, class_head, field_lines, own_body_lines, end_line, body_lines, each_from, lines_of_class, lines_of_procedure, lines_of_operation, in_order, all_lines}
+use Rattle.wb_model.specs.language.Sound.{Declared, is_body, is_own_body, is_procedure, is_operation, scope_of}
+use Rattle.wb_model.specs.language.Trees.{its_parameters, Marked, Lines, mark, class_head, field_lines, own_body_lines, end_line, body_lines, each_from, lines_of_class, lines_of_procedure, lines_of_operation, in_order, all_lines}
 use Rattle.wb_nesting.specs.declared.open.Open.TheVariants.{Made}
 use Rattle.wb_script.specs.declared.tree.whole.WholeItems.{WholeItems}
 use Rattle.wb_script.specs.declared.tree.whole.Owner.{Owner}

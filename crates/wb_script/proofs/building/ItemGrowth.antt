@@ -11,8 +11,8 @@ use Rattle.wb_model.specs.declared.script_lines.Operand.{Operand}
 use Rattle.wb_model.specs.declared.script_lines.Operand.TheVariants.{Name, Parameter, Size}
 use Rattle.wb_model.specs.declared.script_lines.ParameterType.TheVariants as parameter_type
 use Rattle.wb_model.specs.declared.script_lines.Form.TheVariants.{Line}
-use Rattle.wb_model.specs.language.Sound.{Declared, its_parameters}
-use Rattle.wb_model.specs.language.Trees.{Indexed, Marked, all_lines, and_operand, line_or_unknown}
+use Rattle.wb_model.specs.language.Sound.{Declared}
+use Rattle.wb_model.specs.language.Trees.{its_parameters, Indexed, Marked, all_lines, and_operand, line_or_unknown}
 use Rattle.wb_script.specs.declared.tree.whole.WholeItems.{WholeItems}
 use Rattle.wb_script.specs.declared.tree.whole.Owner.TheVariants as of
 use Rattle.wb_script.specs.Building.{counts_after}

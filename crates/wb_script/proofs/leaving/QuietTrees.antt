@@ -1,5 +1,6 @@
 -- No operation and no destructor of a script that lines spell can leave, since no line of theirs can.
 use Rattle.std.proofs.Common.{refl, sym, subst, ℕ, suc, List, [], ◌∷◌, ◌++◌, Bool, true, false, not, ◌&&◌, ◌||◌, IsTrue, Option, Some, None, if◌then◌else◌, nat_lt, nat_le, length, append_assoc}
+use Rattle.std.proofs.lemmas.Bool.{false≢true}
 use Rattle.std.specs.List.{list_all}
 use Rattle.wb_model.specs.declared.limits.TheConstants.{DEEPEST_BLOCK, MOST_LOCALS, MOST_FIELDS, MOST_EXTRA}
 use Rattle.wb_model.specs.declared.script_lines.BodyKind.{BodyKind}
@@ -18,10 +19,10 @@ use Rattle.wb_model.specs.language.Kinds.{may_leave_in}
 use Rattle.wb_model.specs.language.Names.{Text}
 use Rattle.wb_model.specs.meaning.Quiet.{is_quiet, is_quiet_local, is_quiet_body, is_quiet_if_there, are_quiet}
 use Rattle.wb_model.specs.language.Scripts.{IsTreeOf}
-use Rattle.wb_model.specs.language.Sound.{Declared, Scope, declared_in, scope_of, its_parameters, is_sound_script, are_few, are_classes, is_class_of, is_own_body, is_operation, is_procedure, is_body, is_local, are_statements, is_literal_text, is_class_among}
-use Rattle.wb_model.specs.language.Trees.{Spelled, Marked, class_operand, Lines, local_lines, body_lines, statement_lines, end_line, class_head, field_lines, own_body_lines, class_lines, operation_lines, lines_of_class, lines_of_procedure, lines_of_operation, each_from, in_place, in_order, all_lines, bodies_in_order}
+use Rattle.wb_model.specs.language.Sound.{Declared, Scope, declared_in, scope_of, is_sound_script, are_few, are_classes, is_class_of, is_own_body, is_operation, is_procedure, is_body, is_local, are_statements, is_literal_text, is_class_among}
+use Rattle.wb_model.specs.language.Trees.{its_parameters, Spelled, Marked, class_operand, Lines, local_lines, body_lines, statement_lines, end_line, class_head, field_lines, own_body_lines, class_lines, operation_lines, lines_of_class, lines_of_procedure, lines_of_operation, each_from, in_place, in_order, all_lines, bodies_in_order}
 use Rattle.wb_script.proofs.leaving.QuietLines.{are_quiet_from, QuietFrom, QuietSomewhere, both, both_hold, quiet_parts, quiet_lines}
-use Rattle.wb_script.proofs.leaving.QuietStatements.{Closed, following, loud, quiet_statements}
+use Rattle.wb_script.proofs.leaving.QuietStatements.{Closed, quiet_line, quiet_statements}
 
 operation_closed : Closed of.Operation
 operation_closed k = refl
@@ -38,15 +39,15 @@ module _ (body : BodyKind) (closed : Closed body) where
   quiet_locals : (index : ℕ) (locals : List Local) (rest : List Marked) → QuietFrom body (local_lines index locals ++ rest) → IsTrue (list_all is_quiet_local locals) × QuietFrom body rest
   quiet_locals index [] rest is = (refl, is)
   quiet_locals index (OfPointer None ∷ locals) rest is =
-      quiet_locals (suc index) locals rest (following body closed line_kind.Ptr refl (declared_word index ∷ []) None (local_lines (suc index) locals ++ rest) is)
+      quiet_locals (suc index) locals rest (quiet_line body closed (line_kind.Ptr, declared_word index ∷ []) (record { begins_none = refl; inside = refl; spelled = (refl, tt) }) None (local_lines (suc index) locals ++ rest) is).1
   quiet_locals index (OfPointer (Some class) ∷ locals) rest is =
-      quiet_locals (suc index) locals rest (following body closed line_kind.ClassPtr refl (declared_word index ∷ class_operand class ∷ []) None (local_lines (suc index) locals ++ rest) is)
+      quiet_locals (suc index) locals rest (quiet_line body closed (line_kind.ClassPtr, declared_word index ∷ class_operand class ∷ []) (record { begins_none = refl; inside = refl; spelled = (refl, (refl, tt)) }) None (local_lines (suc index) locals ++ rest) is).1
   quiet_locals index (OfNumber ∷ locals) rest is =
-      quiet_locals (suc index) locals rest (following body closed line_kind.Int refl (declared_word index ∷ []) None (local_lines (suc index) locals ++ rest) is)
+      quiet_locals (suc index) locals rest (quiet_line body closed (line_kind.Int, declared_word index ∷ []) (record { begins_none = refl; inside = refl; spelled = (refl, tt) }) None (local_lines (suc index) locals ++ rest) is).1
   quiet_locals index (OfBuffer max ∷ locals) rest is =
-      absurd (loud body closed line_kind.Buf refl (declared_word index ∷ Some (Size max) ∷ []) (refl, (refl, tt)) None (local_lines (suc index) locals ++ rest) is)
+      absurd (false≢true (quiet_line body closed (line_kind.Buf, declared_word index ∷ Some (Size max) ∷ []) (record { begins_none = refl; inside = refl; spelled = (refl, (refl, tt)) }) None (local_lines (suc index) locals ++ rest) is).0)
   quiet_locals index (OfView ∷ locals) rest is =
-      absurd (loud body closed line_kind.View refl (declared_word index ∷ []) (refl, tt) None (local_lines (suc index) locals ++ rest) is)
+      absurd (false≢true (quiet_line body closed (line_kind.View, declared_word index ∷ []) (record { begins_none = refl; inside = refl; spelled = (refl, tt) }) None (local_lines (suc index) locals ++ rest) is).0)
 
   -- a body, with the lines behind it
   quiet_body : (declared : Declared) (scope : Scope) (parameters : ℕ) (b : Body) (rest : List Marked) → IsTrue (is_body declared scope b.statements) → QuietFrom body (body_lines parameters b ++ rest) → IsTrue (is_quiet_body b)
