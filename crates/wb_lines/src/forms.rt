@@ -12,9 +12,9 @@ ghost use Rattle.wb_model.specs.language.LineKinds.{line_kinds, operand_places_w
 ghost use Rattle.wb_lines.specs.BytesOf.{bytes_of_text, bytes_of_texts, bytes_of_operand, bytes_of_operands};
 ghost use Rattle.wb_lines.specs.BytesOf.{bytes_of_form, bytes_of_forms};
 
-use crate::first_bytes::line_kinds_with_first;
-use crate::line_kinds::{OperandPlaces, role_of, text_of, word_kinds};
+use crate::line_kinds::{line_kinds_with_first, role_of, text_of};
 use crate::lists::add;
+use crate::operand_places::{OperandPlaces, word_kinds};
 use crate::same::are_same;
 use crate::segments::add_words;
 use crate::words::{

@@ -3,11 +3,12 @@
 #![tactic(auto)]
 
 pub mod bytes;
-mod first_bytes;
 pub mod forms;
+pub mod leaving;
 pub mod line_kinds;
 pub mod lists;
 pub mod operand_kinds;
+pub mod operand_places;
 pub mod same;
 pub mod segments;
 pub mod words;

@@ -1,10 +1,16 @@
-//! The tables of the language: a row for each line kind, and one for each operand place. No line's meaning stands here.
+//! The tables of the language that have a row for each line kind. No line's meaning is here.
 
-ghost use Rattle.std.specs.Prelude.{◌≡◌, ◌<◌, ℕ, length, nat_eq, slice_get};
-ghost use Rattle.wb_model.specs.language.LineKinds.{line_kinds, text_of, operand_places_of, rest_of};
-ghost use Rattle.wb_model.specs.language.LineKinds.{operand_places_with, operand_places_for, role_of, word_kinds};
+ghost use Rattle.std.specs.Prelude.{◌≡◌};
+ghost use Rattle.wb_model.specs.language.LineKinds.{is_quiet, line_kinds, operand_places_of, rest_of, role_of};
+ghost use Rattle.wb_model.specs.language.LineKinds.{text_of};
+ghost use Rattle.wb_lines.specs.FirstBytes.{line_kinds_with_first};
 
-use wb_model::script_lines::{Keyword, LineKind, OperandPlace, Role, WordKind};
+use wb_model::script_lines::OperandPlace::{
+    Argument, Class, Declared, FieldTarget, ItsPointer, Operation, Parameter, Pointer, Printed,
+    Procedure, Readable, Receiver, Size, Source, Target, Value, Variable, ViewName, Writable,
+    Written,
+};
+use wb_model::script_lines::{Keyword, LineKind, OperandPlace, Role};
 
 /// Every line kind, in the order in which a line tries them.
 pub fn line_kinds() -> &'static [LineKind]
@@ -87,6 +93,98 @@ pub fn line_kinds() -> &'static [LineKind]
     ]
 }
 
+/// The line kinds whose words begin with this byte, in the order in which a line tries them.
+pub(crate) fn line_kinds_with_first(byte: u8) -> &'static [LineKind]
+    ensures { result.now ≡ line_kinds_with_first byte }
+{
+    match byte {
+        b'a' => &[
+            LineKind::Alloc,
+            LineKind::AllocL,
+            LineKind::AllocLen,
+            LineKind::Add,
+            LineKind::Append,
+            LineKind::Available,
+        ],
+        b'b' => &[LineKind::Buf],
+        b'c' => &[
+            LineKind::Class,
+            LineKind::Constructor,
+            LineKind::Construct,
+            LineKind::Call,
+            LineKind::CallTo,
+            LineKind::Check,
+            LineKind::CheckAll,
+            LineKind::Copy,
+            LineKind::Compress,
+        ],
+        b'd' => &[LineKind::Destructor, LineKind::Delete, LineKind::DelText],
+        b'e' => &[LineKind::Else, LineKind::End],
+        b'f' => &[
+            LineKind::Field,
+            LineKind::ClassField,
+            LineKind::Free,
+            LineKind::FailNext,
+            LineKind::FailEvery,
+            LineKind::FailNone,
+        ],
+        b'g' => &[LineKind::GetLen, LineKind::GetMax],
+        b'h' => &[
+            LineKind::HNew,
+            LineKind::HNewL,
+            LineKind::HRealloc,
+            LineKind::Heap,
+        ],
+        b'i' => &[
+            LineKind::Int,
+            LineKind::Insert,
+            LineKind::IfNull,
+            LineKind::IfSome,
+            LineKind::IfEqual,
+            LineKind::IfLess,
+        ],
+        b'l' => &[
+            LineKind::Load,
+            LineKind::Leave,
+            LineKind::LeaveIfError,
+            LineKind::LeaveIfNull,
+            LineKind::Left,
+        ],
+        b'm' => &[LineKind::Mark, LineKind::MarkEnd, LineKind::Mid],
+        b'n' => &[LineKind::New, LineKind::NewLeave, LineKind::Null],
+        b'o' => &[LineKind::Op],
+        b'p' => &[
+            LineKind::Proc,
+            LineKind::Ptr,
+            LineKind::ClassPtr,
+            LineKind::Push,
+            LineKind::PushObj,
+            LineKind::PushOp,
+            LineKind::Pop,
+            LineKind::PopDestroy,
+            LineKind::PopCheck,
+            LineKind::Print,
+        ],
+        b'r' => &[
+            LineKind::Realloc,
+            LineKind::ReallocL,
+            LineKind::Return,
+            LineKind::ReturnPointer,
+            LineKind::Right,
+            LineKind::Repeat,
+        ],
+        b's' => &[
+            LineKind::Store,
+            LineKind::Set,
+            LineKind::SetField,
+            LineKind::SetLength,
+        ],
+        b't' => &[LineKind::Trap],
+        b'v' => &[LineKind::View],
+        _ => &[],
+    }
+}
+
 /// The word that begins the lines of a line kind.
 pub fn text_of(line_kind: LineKind) -> &'static [u8]
     ensures { result.now ≡ text_of line_kind }
@@ -165,92 +263,47 @@ pub fn operand_places_of(line_kind: LineKind) -> &'static [OperandPlace]
     ensures { result.now ≡ operand_places_of line_kind }
 {
     match line_kind {
-        LineKind::Class => &[OperandPlace::Declared, OperandPlace::Size],
-        LineKind::Field => &[OperandPlace::Declared],
-        LineKind::ClassField | LineKind::ClassPtr => &[OperandPlace::Declared, OperandPlace::Class],
+        LineKind::Class | LineKind::Buf => &[Declared, Size],
+        LineKind::Field => &[Declared],
+        LineKind::ClassField | LineKind::ClassPtr => &[Declared, Class],
         LineKind::Constructor | LineKind::Destructor => &[],
-        LineKind::Proc | LineKind::Ptr | LineKind::Int | LineKind::View => &[
-            OperandPlace::Declared,
-        ],
-        LineKind::Op => &[OperandPlace::Declared, OperandPlace::ItsPointer],
-        LineKind::Buf => &[OperandPlace::Declared, OperandPlace::Size],
-        LineKind::Alloc | LineKind::AllocL => &[OperandPlace::Written, OperandPlace::Value],
-        LineKind::HNew | LineKind::HNewL => &[OperandPlace::Written, OperandPlace::Value],
-        LineKind::Realloc | LineKind::ReallocL => &[
-            OperandPlace::Written,
-            OperandPlace::Pointer,
-            OperandPlace::Value,
-        ],
-        LineKind::HRealloc => &[
-            OperandPlace::Written,
-            OperandPlace::Pointer,
-            OperandPlace::Value,
-        ],
-        LineKind::New | LineKind::NewLeave => &[OperandPlace::Written, OperandPlace::Class],
-        LineKind::Null => &[OperandPlace::Written],
-        LineKind::Free | LineKind::Construct | LineKind::Delete => &[OperandPlace::Pointer],
-        LineKind::LeaveIfNull | LineKind::ReturnPointer => &[OperandPlace::Pointer],
-        LineKind::Leave | LineKind::LeaveIfError | LineKind::Repeat => &[OperandPlace::Value],
-        LineKind::Call => &[OperandPlace::Procedure],
-        LineKind::CallTo => &[OperandPlace::Receiver, OperandPlace::Procedure],
-        LineKind::AllocLen => &[OperandPlace::Variable, OperandPlace::Pointer],
-        LineKind::Store => &[
-            OperandPlace::Pointer,
-            OperandPlace::Value,
-            OperandPlace::Value,
-        ],
-        LineKind::Load => &[
-            OperandPlace::Variable,
-            OperandPlace::Pointer,
-            OperandPlace::Value,
-        ],
-        LineKind::Set => &[OperandPlace::Target, OperandPlace::Source],
-        LineKind::SetField => &[OperandPlace::FieldTarget, OperandPlace::Pointer],
-        LineKind::Add => &[OperandPlace::Variable, OperandPlace::Value],
-        LineKind::Push | LineKind::PushObj | LineKind::PopCheck => &[OperandPlace::Pointer],
-        LineKind::PushOp => &[OperandPlace::Pointer, OperandPlace::Operation],
-        LineKind::Pop | LineKind::PopDestroy => &[OperandPlace::Value],
-        LineKind::MarkEnd | LineKind::Check | LineKind::CheckAll => &[OperandPlace::Value],
-        LineKind::FailNext | LineKind::FailEvery => &[OperandPlace::Value],
-        LineKind::Copy | LineKind::Append => &[OperandPlace::Writable, OperandPlace::Readable],
-        LineKind::Insert => &[
-            OperandPlace::Writable,
-            OperandPlace::Value,
-            OperandPlace::Readable,
-        ],
-        LineKind::DelText => &[
-            OperandPlace::Writable,
-            OperandPlace::Value,
-            OperandPlace::Value,
-        ],
-        LineKind::SetLength => &[OperandPlace::Writable, OperandPlace::Value],
-        LineKind::Left | LineKind::Right => &[
-            OperandPlace::ViewName,
-            OperandPlace::Readable,
-            OperandPlace::Value,
-        ],
-        LineKind::Mid => &[
-            OperandPlace::ViewName,
-            OperandPlace::Readable,
-            OperandPlace::Value,
-            OperandPlace::Value,
-        ],
-        LineKind::GetLen => &[OperandPlace::Variable, OperandPlace::Readable],
-        LineKind::GetMax => &[OperandPlace::Variable, OperandPlace::Writable],
-        LineKind::Print => &[OperandPlace::Printed],
-        LineKind::IfNull => &[OperandPlace::Keyword(Keyword::Null), OperandPlace::Pointer],
-        LineKind::IfSome => &[OperandPlace::Keyword(Keyword::Some), OperandPlace::Pointer],
-        LineKind::IfEqual => &[
-            OperandPlace::Keyword(Keyword::Equal),
-            OperandPlace::Value,
-            OperandPlace::Value,
-        ],
-        LineKind::IfLess => &[
-            OperandPlace::Keyword(Keyword::Less),
-            OperandPlace::Value,
-            OperandPlace::Value,
-        ],
-        LineKind::Trap => &[OperandPlace::Variable],
+        LineKind::Proc | LineKind::Ptr | LineKind::Int | LineKind::View => &[Declared],
+        LineKind::Op => &[Declared, ItsPointer],
+        LineKind::Alloc | LineKind::AllocL => &[Written, Value],
+        LineKind::HNew | LineKind::HNewL => &[Written, Value],
+        LineKind::Realloc | LineKind::ReallocL | LineKind::HRealloc => &[Written, Pointer, Value],
+        LineKind::New | LineKind::NewLeave => &[Written, Class],
+        LineKind::Null => &[Written],
+        LineKind::Free | LineKind::Construct | LineKind::Delete => &[Pointer],
+        LineKind::LeaveIfNull | LineKind::ReturnPointer => &[Pointer],
+        LineKind::Leave | LineKind::LeaveIfError | LineKind::Repeat => &[Value],
+        LineKind::Call => &[Procedure],
+        LineKind::CallTo => &[Receiver, Procedure],
+        LineKind::AllocLen => &[Variable, Pointer],
+        LineKind::Store => &[Pointer, Value, Value],
+        LineKind::Load => &[Variable, Pointer, Value],
+        LineKind::Set => &[Target, Source],
+        LineKind::SetField => &[FieldTarget, Pointer],
+        LineKind::Add => &[Variable, Value],
+        LineKind::Push | LineKind::PushObj | LineKind::PopCheck => &[Pointer],
+        LineKind::PushOp => &[Pointer, Operation],
+        LineKind::Pop | LineKind::PopDestroy => &[Value],
+        LineKind::MarkEnd | LineKind::Check | LineKind::CheckAll => &[Value],
+        LineKind::FailNext | LineKind::FailEvery => &[Value],
+        LineKind::Copy | LineKind::Append => &[Writable, Readable],
+        LineKind::Insert => &[Writable, Value, Readable],
+        LineKind::DelText => &[Writable, Value, Value],
+        LineKind::SetLength => &[Writable, Value],
+        LineKind::Left | LineKind::Right => &[ViewName, Readable, Value],
+        LineKind::Mid => &[ViewName, Readable, Value, Value],
+        LineKind::GetLen => &[Variable, Readable],
+        LineKind::GetMax => &[Variable, Writable],
+        LineKind::Print => &[Printed],
+        LineKind::IfNull => &[OperandPlace::Keyword(Keyword::Null), Pointer],
+        LineKind::IfSome => &[OperandPlace::Keyword(Keyword::Some), Pointer],
+        LineKind::IfEqual => &[OperandPlace::Keyword(Keyword::Equal), Value, Value],
+        LineKind::IfLess => &[OperandPlace::Keyword(Keyword::Less), Value, Value],
+        LineKind::Trap => &[Variable],
         LineKind::Mark | LineKind::FailNone | LineKind::Return => &[],
         LineKind::Heap | LineKind::Available | LineKind::Compress => &[],
         LineKind::Else | LineKind::End => &[],
@@ -262,52 +315,9 @@ pub fn rest_of(line_kind: LineKind) -> Option<OperandPlace>
     ensures { result ≡ rest_of line_kind }
 {
     match line_kind {
-        LineKind::Proc => Some(OperandPlace::Parameter),
-        LineKind::Call | LineKind::CallTo => Some(OperandPlace::Argument),
+        LineKind::Proc => Some(Parameter),
+        LineKind::Call | LineKind::CallTo => Some(Argument),
         _ => None,
-    }
-}
-
-/// What the words behind a line kind are, of which there are so many.
-#[derive(Clone, Copy)]
-pub struct OperandPlaces {
-    pub fixed: &'static [OperandPlace],
-    pub rest: Option<OperandPlace>,
-}
-
-impl OperandPlaces {
-    /// What the words behind this line kind are.
-    pub fn of(line_kind: LineKind) -> OperandPlaces
-        ensures { (count : ℕ) → operand_places_with result.fixed.now result.rest count
-            ≡ operand_places_for line_kind count }
-    {
-        OperandPlaces {
-            fixed: operand_places_of(line_kind),
-            rest: rest_of(line_kind),
-        }
-    }
-
-    /// The operand place of a word by its index; none where no such word stands behind the line kind.
-    pub fn at(self, index: usize) -> Option<OperandPlace>
-        ensures { (count : ℕ) → index < count →
-            slice_get (operand_places_with self.fixed.now self.rest count) index ≡ result }
-    {
-        if index < self.fixed.len() {
-            Some(self.fixed[index])
-        } else {
-            self.rest
-        }
-    }
-
-    /// Whether there may be so many words.
-    pub fn admit(self, count: usize) -> bool
-        ensures { result
-            ≡ nat_eq (length (operand_places_with self.fixed.now self.rest count)) count }
-    {
-        match self.rest {
-            None => count == self.fixed.len(),
-            Some(_) => count >= self.fixed.len(),
-        }
     }
 }
 
@@ -349,36 +359,32 @@ pub fn role_of(line_kind: LineKind) -> Role
     }
 }
 
-/// The words that are grammatical in a place of a line; a word is of the first kind that admits it.
-pub(crate) fn word_kinds(operand_place: OperandPlace) -> &'static [WordKind]
-    ensures { result.now ≡ word_kinds operand_place }
+/// Whether no line of a line kind can leave, so that it may be in the body of an operation or of a destructor.
+pub fn is_quiet(line_kind: LineKind) -> bool
+    ensures { result ≡ is_quiet line_kind }
 {
-    match operand_place {
-        OperandPlace::Declared => &[WordKind::NewName],
-        OperandPlace::Pointer | OperandPlace::Written => &[WordKind::Name, WordKind::Field],
-        OperandPlace::Receiver | OperandPlace::Writable => &[WordKind::Name, WordKind::Field],
-        OperandPlace::FieldTarget => &[WordKind::Field],
-        OperandPlace::Variable | OperandPlace::Target | OperandPlace::ViewName => &[WordKind::Name],
-        OperandPlace::Value => &[WordKind::Number, WordKind::Name],
-        OperandPlace::Source | OperandPlace::Argument => {
-            &[WordKind::Number, WordKind::Name, WordKind::Field]
-        }
-        OperandPlace::Size => &[WordKind::Size],
-        OperandPlace::Readable => &[WordKind::Name, WordKind::Field, WordKind::Literal],
-        OperandPlace::Printed => &[
-            WordKind::Number,
-            WordKind::Name,
-            WordKind::Field,
-            WordKind::Literal,
-        ],
-        OperandPlace::Class | OperandPlace::Procedure | OperandPlace::Operation => &[
-            WordKind::Name,
-        ],
-        OperandPlace::Parameter => &[WordKind::Parameter],
-        OperandPlace::ItsPointer => &[WordKind::NewPointer],
-        OperandPlace::Keyword(Keyword::Null) => &[WordKind::Keyword(Keyword::Null)],
-        OperandPlace::Keyword(Keyword::Some) => &[WordKind::Keyword(Keyword::Some)],
-        OperandPlace::Keyword(Keyword::Equal) => &[WordKind::Keyword(Keyword::Equal)],
-        OperandPlace::Keyword(Keyword::Less) => &[WordKind::Keyword(Keyword::Less)],
+    match line_kind {
+        LineKind::Ptr | LineKind::ClassPtr | LineKind::Int => true,
+        LineKind::Free | LineKind::Delete => true,
+        LineKind::Set | LineKind::SetField | LineKind::Null | LineKind::Add => true,
+        LineKind::AllocLen | LineKind::Load | LineKind::Store => true,
+        LineKind::IfNull | LineKind::IfSome | LineKind::IfEqual | LineKind::IfLess => true,
+        LineKind::Else | LineKind::Repeat | LineKind::End => true,
+        LineKind::Print | LineKind::Heap | LineKind::Available | LineKind::Compress => true,
+        LineKind::Class | LineKind::Field | LineKind::ClassField => false,
+        LineKind::Constructor | LineKind::Destructor | LineKind::Proc | LineKind::Op => false,
+        LineKind::Buf | LineKind::View | LineKind::Trap => false,
+        LineKind::Alloc | LineKind::AllocL | LineKind::Realloc | LineKind::ReallocL => false,
+        LineKind::New | LineKind::NewLeave | LineKind::Construct => false,
+        LineKind::Push | LineKind::PushObj | LineKind::PushOp => false,
+        LineKind::Pop | LineKind::PopDestroy | LineKind::PopCheck => false,
+        LineKind::Leave | LineKind::LeaveIfError | LineKind::LeaveIfNull => false,
+        LineKind::Call | LineKind::CallTo | LineKind::Return | LineKind::ReturnPointer => false,
+        LineKind::Mark | LineKind::MarkEnd | LineKind::Check | LineKind::CheckAll => false,
+        LineKind::FailNext | LineKind::FailEvery | LineKind::FailNone => false,
+        LineKind::HNew | LineKind::HNewL | LineKind::HRealloc => false,
+        LineKind::Copy | LineKind::Append | LineKind::Insert | LineKind::DelText => false,
+        LineKind::SetLength | LineKind::Left | LineKind::Right | LineKind::Mid => false,
+        LineKind::GetLen | LineKind::GetMax => false,
     }
 }

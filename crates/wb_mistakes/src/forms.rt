@@ -2,7 +2,8 @@
 
 use crate::lines::Line;
 use wb_lines::forms::operand_of;
-use wb_lines::line_kinds::{OperandPlaces, line_kinds, operand_places_of, rest_of, text_of};
+use wb_lines::line_kinds::{line_kinds, operand_places_of, rest_of, text_of};
+use wb_lines::operand_places::OperandPlaces;
 use wb_lines::words::text_of_keyword;
 use wb_model::script_lines::{LineKind, OperandPlace};
 use wb_pages::{Fragment, Page, Word};

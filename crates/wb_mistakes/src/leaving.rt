@@ -3,7 +3,31 @@
 use crate::further_lines::mark_line;
 use crate::lines::Line;
 use crate::spaces::body_of;
+use wb_lines::line_kinds::{is_quiet, line_kinds, role_of, text_of};
+use wb_model::script_lines::{LineKind, Role};
 use wb_pages::Page;
+
+/// Whether a line kind is to be named among those that no body forbids: an `else` and an `end` go with the line that they belong to.
+fn is_listed(line_kind: LineKind) -> bool {
+    is_quiet(line_kind) && !matches!(role_of(line_kind), Role::Else | Role::End)
+}
+
+/// Writes the words of these line kinds, each once, with `and` before the last. Line kinds with the same word follow one another.
+fn write_allowed_words(page: &mut Page) {
+    let mut before = "`";
+    let mut word: &[u8] = b"";
+    for line_kind in line_kinds() {
+        let next = text_of(*line_kind);
+        if is_listed(*line_kind) && next != word {
+            if !word.is_empty() {
+                page.write_word(before, word, "`");
+                before = ", `";
+            }
+            word = next;
+        }
+    }
+    page.write_word(" and `", word, "`");
+}
 
 /// Says which line may leave, and in what body it is.
 pub(crate) fn explain_may_leave(page: &mut Page, lines: &[Line], index: usize) {
@@ -21,8 +45,8 @@ pub(crate) fn explain_may_leave(page: &mut Page, lines: &[Line], index: usize) {
         body_of(lines, index),
         "the body begins here: destructors and operations must not leave",
     );
-    page.write_help_text(
-        "allowed here are `ptr`, `int`, `free`, `delete`, `set`, `null`, `add`, `alloclen`, `load`, `store`, `if`, `repeat`, `print`, \
-         `heap`, `available` and `compress`",
-    );
+    page.begin_help();
+    page.write_text("allowed here are ");
+    write_allowed_words(page);
+    page.end_line();
 }

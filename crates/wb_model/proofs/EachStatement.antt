@@ -16,7 +16,7 @@ use Rattle.wb_model.proofs.PrintableLemmas.{printed-printable, signed_decimal-pr
 use Rattle.wb_model.proofs.FreeSlots.{HasFree, KeepsFree, fewer, and_then-free, require-free, with_some-free, unless-free, with_cell-free, with_pointer-free, with_words-free, with_class-free, with_condition-free, with_arguments-free, with_writable-free, with_readable-free, with_units-free, with_room-free, write-free, write_view-free, set_pointer-free, given_to-free, allocate-free, reallocate-free, push-free, release-free, leave_if-free, alloc_raw-free, realloc_of-free, plain-free, KeepsAll, dropped-free, inside, in_frame-free, destroyed_object-free, trapped-free}
 use Rattle.std.proofs.lemmas.Bool.{false≢true}
 use Rattle.wb_model.specs.declared.script.Refusal.TheVariants.{GivesNull, Leaves}
-use Rattle.wb_model.specs.language.Kinds as kinds
+use Rattle.wb_model.specs.language.LineKinds as kinds
 use Rattle.wb_model.specs.language.Trees.{condition_spelling}
 use Rattle.wb_model.specs.meaning.Quiet.{is_quiet_statement, are_quiet}
 use Rattle.wb_model.specs.meaning.Destructions.{GoesOnWith}

@@ -18,7 +18,7 @@ use Rattle.wb_model.specs.declared.script_lines.Form.{Form}
 use Rattle.wb_model.specs.declared.script_lines.Form.TheVariants.{Line}
 use Rattle.wb_model.specs.declared.script_lines.OperandKind.{OperandKind}
 use Rattle.wb_model.specs.declared.script_lines.OperandKind.TheVariants as operand_kind
-use Rattle.wb_model.specs.language.LineKinds.{operand_places_for, takes, is_pointer_kind}
+use Rattle.wb_model.specs.language.LineKinds.{operand_places_for, takes, is_pointer_kind, may_leave_in}
 use Rattle.wb_model.specs.language.Names.{Text, NamesSoFar, Declaration, first_name, is_among, parameters_in, line_kind_in, item_of_kind}
 use Rattle.wb_model.specs.language.Resolved.{resolved_line}
 
@@ -145,52 +145,6 @@ returns_outside known form = list_any returns_pointer (line_kind_in form) && not
 abbrev pub has_wrong_kind : List Declaration → NamesSoFar → Form Text → Bool
 has_wrong_kind items known form =
     not (is_right_line items (resolved_line items known form)) || (misuses_main form || (returns_in_trap known form || returns_outside known form))
-
--- what may stand in the body of an operation or of a destructor: nothing that can leave
-abbrev pub is_quiet : LineKind → Bool
-is_quiet line_kind.Ptr = true
-is_quiet line_kind.ClassPtr = true
-is_quiet line_kind.Int = true
-is_quiet line_kind.Free = true
-is_quiet line_kind.Delete = true
-is_quiet line_kind.Set = true
-is_quiet line_kind.SetField = true
-is_quiet line_kind.Null = true
-is_quiet line_kind.Add = true
-is_quiet line_kind.AllocLen = true
-is_quiet line_kind.Load = true
-is_quiet line_kind.Store = true
-is_quiet line_kind.IfNull = true
-is_quiet line_kind.IfSome = true
-is_quiet line_kind.IfEqual = true
-is_quiet line_kind.IfLess = true
-is_quiet line_kind.Else = true
-is_quiet line_kind.Repeat = true
-is_quiet line_kind.Print = true
-is_quiet line_kind.Heap = true
-is_quiet line_kind.Available = true
-is_quiet line_kind.Compress = true
-is_quiet line_kind.End = true
-is_quiet _ = false
-
--- lines of the script and of its classes are none of the body before them
-abbrev pub is_outside : LineKind → Bool
-is_outside line_kind.Class = true
-is_outside line_kind.Field = true
-is_outside line_kind.ClassField = true
-is_outside line_kind.Constructor = true
-is_outside line_kind.Destructor = true
-is_outside line_kind.Proc = true
-is_outside line_kind.Op = true
-is_outside _ = false
-
-abbrev pub is_loud : LineKind → Bool
-is_loud line_kind = not (is_outside line_kind || is_quiet line_kind)
-
-abbrev pub may_leave_in : BodyKind → LineKind → Bool
-may_leave_in of.Operation line_kind = is_loud line_kind
-may_leave_in of.Destructor line_kind = is_loud line_kind
-may_leave_in _ line_kind = false
 
 -- a line of an operation or of a destructor that may leave
 abbrev pub may_leave : NamesSoFar → Form Text → Bool

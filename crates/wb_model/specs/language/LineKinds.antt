@@ -1,6 +1,6 @@
 -- The tables of the language: for each line kind the word that begins its lines, what stands behind it, and what its lines are to
 -- the grammar of blocks; and for each operand place the words that are grammatical there, and the operand kinds that are right.
-use Rattle.std.specs.Prelude.{ℕ, ◌-◌, List, [], ◌∷◌, ◌++◌, Bool, true, false, Option, Some, None, codes, length, replicate}
+use Rattle.std.specs.Prelude.{ℕ, ◌-◌, List, [], ◌∷◌, ◌++◌, Bool, true, false, not, ◌||◌, Option, Some, None, codes, length, replicate}
 use Rattle.wb_model.specs.declared.script_lines.LineKind.{LineKind}
 use Rattle.wb_model.specs.declared.script_lines.LineKind.TheVariants.{Class, Field, ClassField, Constructor, Destructor, Proc, Op, Ptr, ClassPtr, Int, Buf, View, Alloc, AllocL, Realloc, ReallocL, Free, AllocLen, Store, Load, New, NewLeave, Construct, Delete, Set, SetField, Null, Add, Push, PushObj, PushOp, Pop, PopDestroy, PopCheck, Leave, LeaveIfError, LeaveIfNull, Call, CallTo, Return, ReturnPointer, Mark, MarkEnd, Check, CheckAll, FailNext, FailEvery, FailNone, HNew, HNewL, HRealloc, Copy, Append, Insert, DelText, SetLength, Left, Right, Mid, GetLen, GetMax, Print, Heap, Available, Compress, IfNull, IfSome, IfEqual, IfLess, Else, Repeat, Trap, End}
 use Rattle.wb_model.specs.declared.script_lines.OperandPlace.{OperandPlace}
@@ -12,6 +12,8 @@ use Rattle.wb_model.specs.declared.script_lines.OperandKind.{OperandKind}
 use Rattle.wb_model.specs.declared.script_lines.OperandKind.TheVariants as operand_kind
 use Rattle.wb_model.specs.declared.script_lines.Role.{Role}
 use Rattle.wb_model.specs.declared.script_lines.Role.TheVariants as role
+use Rattle.wb_model.specs.declared.script_lines.BodyKind.{BodyKind}
+use Rattle.wb_model.specs.declared.script_lines.BodyKind.TheVariants as of
 
 -- Opened only where a line is read, so that no other goal grows with the number of line kinds.
 unfoldable pub line_kinds : List LineKind
@@ -263,6 +265,53 @@ role_of Else = role.Else
 role_of Repeat = role.Loop
 role_of Trap = role.Loop
 role_of End = role.End
+
+-- what may stand in the body of an operation or of a destructor: nothing that can leave
+abbrev pub is_quiet : LineKind → Bool
+is_quiet Ptr = true
+is_quiet ClassPtr = true
+is_quiet Int = true
+is_quiet Free = true
+is_quiet Delete = true
+is_quiet Set = true
+is_quiet SetField = true
+is_quiet Null = true
+is_quiet Add = true
+is_quiet AllocLen = true
+is_quiet Load = true
+is_quiet Store = true
+is_quiet IfNull = true
+is_quiet IfSome = true
+is_quiet IfEqual = true
+is_quiet IfLess = true
+is_quiet Else = true
+is_quiet Repeat = true
+is_quiet Print = true
+is_quiet Heap = true
+is_quiet Available = true
+is_quiet Compress = true
+is_quiet End = true
+is_quiet _ = false
+
+-- lines of the script and of its classes are none of the body before them
+abbrev pub is_outside_role : Role → Bool
+is_outside_role role.Class = true
+is_outside_role role.Field = true
+is_outside_role role.Construct = true
+is_outside_role role.Destroy = true
+is_outside_role role.Procedure = true
+is_outside_role _ = false
+
+abbrev pub is_outside : LineKind → Bool
+is_outside line_kind = is_outside_role (role_of line_kind)
+
+abbrev pub is_loud : LineKind → Bool
+is_loud line_kind = not (is_outside line_kind || is_quiet line_kind)
+
+abbrev pub may_leave_in : BodyKind → LineKind → Bool
+may_leave_in of.Operation line_kind = is_loud line_kind
+may_leave_in of.Destructor line_kind = is_loud line_kind
+may_leave_in _ line_kind = false
 
 -- The words that are grammatical in a place of a line. A word that two of them admit is of the first.
 abbrev pub word_kinds : OperandPlace → List WordKind

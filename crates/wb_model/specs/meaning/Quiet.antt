@@ -10,7 +10,7 @@ use Rattle.wb_model.specs.declared.script.StatementAt.{StatementAt}
 use Rattle.wb_model.specs.declared.script.Statement.{Statement}
 use Rattle.wb_model.specs.declared.script.Statement.TheOpen.{Statement-F}
 use Rattle.wb_model.specs.declared.script.Statement.TheViews.{out-Statement}
-use Rattle.wb_model.specs.language.Kinds as kinds
+use Rattle.wb_model.specs.language.LineKinds as kinds
 use Rattle.wb_model.specs.language.Trees.{statement_kind}
 
 -- a pointer or a number

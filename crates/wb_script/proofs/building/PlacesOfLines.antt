@@ -13,8 +13,7 @@ use Rattle.wb_model.specs.declared.script_lines.Role.TheVariants as role
 use Rattle.wb_model.specs.declared.script_lines.Form.{Form}
 use Rattle.wb_model.specs.declared.script_lines.Form.TheVariants.{Skip, Unknown, Line}
 use Rattle.wb_model.specs.language.Forms.{role_of_form}
-use Rattle.wb_model.specs.language.LineKinds.{role_of}
-use Rattle.wb_model.specs.language.Kinds.{is_outside}
+use Rattle.wb_model.specs.language.LineKinds.{role_of, is_outside_role}
 use Rattle.wb_model.specs.language.Names.{Text, NamesSoFar, Declaration, known_after, begins_body, fields_after, first_name}
 use Rattle.wb_model.specs.language.Resolved.{has_this, class_of_this, resolved_line}
 use Rattle.wb_script.specs.Building.{Counts, counts_after, classes_after, with_field, last_count}
@@ -175,19 +174,6 @@ one_name (Line line_kind.ClassField []) typed is = absurd (false≢true typed)
 one_name (Line line_kind.ClassField (_ ∷ os)) typed is = absurd (false≢true typed)
 one_name (Line _ operands) typed is = let clash : ⊥ = cc in absurd clash
 one_name _ typed is = let clash : ⊥ = cc in absurd clash
-
--- what the roles of the lines of a script and its classes are
-abbrev is_outside_role : Role → Bool
-is_outside_role role.Class = true
-is_outside_role role.Field = true
-is_outside_role role.Construct = true
-is_outside_role role.Destroy = true
-is_outside_role role.Procedure = true
-is_outside_role _ = false
-
-outside_by_role : (k : LineKind) → is_outside k ≡ is_outside_role (role_of k)
-outside_by_role line_kind.Class = refl
-outside_by_role _ = refl
 
 module _ (own : List Declaration) (known : NamesSoFar) (counts : Counts) (counted : Counted own known counts) where
   -- what is known and counted behind a line

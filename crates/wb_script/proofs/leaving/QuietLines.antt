@@ -5,7 +5,8 @@ use Rattle.wb_model.specs.declared.script_lines.BodyKind.{BodyKind}
 use Rattle.wb_model.specs.declared.script_lines.BodyKind.TheVariants as of
 use Rattle.wb_model.specs.declared.script_lines.Form.{Form}
 use Rattle.wb_model.specs.declared.script_lines.Form.TheVariants.{Skip, Unknown, Line}
-use Rattle.wb_model.specs.language.Kinds.{may_leave_in, may_leave}
+use Rattle.wb_model.specs.language.Kinds.{may_leave}
+use Rattle.wb_model.specs.language.LineKinds.{may_leave_in}
 use Rattle.wb_model.specs.language.Names.{Text, NamesSoFar, Declaration, nothing_known, known_after, line_kind_in, body_in, body_after, items_of}
 use Rattle.wb_model.specs.language.Passes.{first_bad, each_with}
 use Rattle.wb_model.specs.language.Resolved.{resolved_line, resolved}

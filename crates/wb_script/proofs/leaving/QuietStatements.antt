@@ -24,7 +24,7 @@ use Rattle.wb_model.specs.declared.script.Statement.{Statement}
 use Rattle.wb_model.specs.declared.script.Statement.TheOpen.{Statement-F}
 use Rattle.wb_model.specs.declared.script.Statement.TheFolds.{fold_out-Statement, map-Statement}
 use Rattle.wb_model.specs.declared.script.Statement.TheViews.{out-Statement}
-use Rattle.wb_model.specs.language.Kinds.{is_quiet, is_outside, is_loud, may_leave_in}
+use Rattle.wb_model.specs.language.LineKinds.{is_quiet, is_outside, is_loud, may_leave_in}
 use Rattle.wb_model.specs.language.Names.{body_kind_of, body_after}
 use Rattle.wb_model.specs.meaning.Quiet.{is_quiet_statement, are_quiet}
 use Rattle.wb_model.specs.language.Sound.{Declared, Scope, is_condition, is_number, is_nested, are_within}

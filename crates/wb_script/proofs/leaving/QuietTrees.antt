@@ -15,7 +15,7 @@ use Rattle.wb_model.specs.declared.script.Class.{Class}
 use Rattle.wb_model.specs.declared.script.Operation.{Operation}
 use Rattle.wb_model.specs.declared.script.Local.{Local}
 use Rattle.wb_model.specs.declared.script.Local.TheVariants.{OfPointer, OfNumber, OfBuffer, OfView}
-use Rattle.wb_model.specs.language.Kinds.{may_leave_in}
+use Rattle.wb_model.specs.language.LineKinds.{may_leave_in}
 use Rattle.wb_model.specs.language.Names.{Text}
 use Rattle.wb_model.specs.meaning.Quiet.{is_quiet, is_quiet_local, is_quiet_body, is_quiet_if_there, are_quiet}
 use Rattle.wb_model.specs.language.Scripts.{IsTreeOf}

@@ -25,8 +25,8 @@ use Rattle.wb_model.specs.declared.script_lines.ItemKind.TheVariants as item
 use Rattle.wb_model.specs.declared.script.Local.{Local}
 use Rattle.wb_model.specs.declared.script.Local.TheVariants.{OfPointer, OfNumber, OfBuffer, OfView}
 use Rattle.wb_model.specs.declared.script.Number.TheVariants.{Constant}
-use Rattle.wb_model.specs.language.LineKinds.{operand_places_for, word_kinds, takes}
-use Rattle.wb_model.specs.language.Kinds.{operand_kind_of_field, operand_kind_of_class, operand_kind_of_type, is_right, are_right, is_given, are_given, is_given_to, is_outside}
+use Rattle.wb_model.specs.language.LineKinds.{operand_places_for, word_kinds, takes, is_outside}
+use Rattle.wb_model.specs.language.Kinds.{operand_kind_of_field, operand_kind_of_class, operand_kind_of_type, is_right, are_right, is_given, are_given, is_given_to}
 use Rattle.wb_model.specs.language.Names.{Text, NamesSoFar, Declaration, names_of, of_kind, item_of_kind, count_among, literal_text, first_declaration_of}
 use Rattle.wb_model.specs.language.Resolved.{local_referent, referent_at, has_this, is_this, this_referent, own_referent, referent_of_kind, item_after, item_at, item_referent, class_if_named, class_of_kind, class_of_local, class_of_this, class_of_base, fields_of_item, fields_of_class, field_at, field_referent, name_referent, resolved_parameter_type, resolved_operand, resolved_operands}
 use Rattle.wb_model.specs.language.Sound.{Scope, Declared, is_pointer_local, is_number_local, is_buffer_local, is_view_local, is_class, is_index, is_number}

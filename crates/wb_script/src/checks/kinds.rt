@@ -18,8 +18,8 @@ ghost use Rattle.wb_script.specs.BytesOf.{bytes_of_items};
 
 use crate::checks::items::{Declaration, item_of_kind};
 use crate::checks::names_so_far::NamesSoFar;
-use wb_lines::line_kinds::OperandPlaces;
 use wb_lines::operand_kinds::{is_pointer_kind, takes};
+use wb_lines::operand_places::OperandPlaces;
 use wb_lines::same::are_same;
 use wb_model::script_lines::{
     BodyKind, Form, ItemKind, LineKind, Operand, OperandKind, OperandPlace, ParameterType, Referent,

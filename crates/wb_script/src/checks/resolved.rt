@@ -18,8 +18,8 @@ use crate::checks::items::{Declaration, count_among, item_of_kind, place_of_item
 use crate::checks::names::place_of;
 use crate::checks::names_so_far::NamesSoFar;
 use std::alloc::{AllocError, Global};
-use wb_lines::line_kinds::OperandPlaces;
 use wb_lines::lists::add;
+use wb_lines::operand_places::OperandPlaces;
 use wb_lines::same::are_same;
 use wb_model::items::Items;
 use wb_model::script_lines::{

@@ -4,7 +4,7 @@ use Rattle.std.proofs.lemmas.Bool.Decides.{nat_tests}
 use Rattle.wb_model.specs.language.LineKinds.{line_kinds}
 use Rattle.wb_lines.specs.FirstBytes.{line_kinds_with_first}
 use Rattle.wb_lines.proofs.FirstBytes.{firsts, no_line_kinds}
-use Rattle.wb_lines.proofs.first_bytes.line_kinds_with_first.Goals as goal
+use Rattle.wb_lines.proofs.line_kinds.line_kinds_with_first.Goals as goal
 
 pub returns-in-97 : goal.returns-in-97
 unfolding line_kinds_with_first line_kinds

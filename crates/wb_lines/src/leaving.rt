@@ -1,0 +1,33 @@
+//! Which lines may leave where nothing may.
+
+ghost use Rattle.std.specs.Prelude.{◌≡◌};
+ghost use Rattle.wb_model.specs.language.LineKinds.{is_loud, is_outside, may_leave_in};
+
+use crate::line_kinds::{is_quiet, role_of};
+use wb_model::script_lines::{BodyKind, LineKind, Role};
+
+/// Whether a line of a line kind is one of the script or of a class, and of no body.
+fn is_outside(line_kind: LineKind) -> bool
+    ensures { result ≡ is_outside line_kind }
+{
+    matches!(
+        role_of(line_kind),
+        Role::Class | Role::Field | Role::Construct | Role::Destroy | Role::Procedure
+    )
+}
+
+fn is_loud(line_kind: LineKind) -> bool
+    ensures { result ≡ is_loud line_kind }
+{
+    !(is_outside(line_kind) || is_quiet(line_kind))
+}
+
+/// Whether a line of a line kind may leave in a body that must not.
+pub fn may_leave_in(body: BodyKind, line_kind: LineKind) -> bool
+    ensures { result ≡ may_leave_in body line_kind }
+{
+    match body {
+        BodyKind::Operation | BodyKind::Destructor => is_loud(line_kind),
+        BodyKind::Procedure | BodyKind::Constructor => false,
+    }
+}
