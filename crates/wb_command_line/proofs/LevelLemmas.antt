@@ -49,7 +49,8 @@ level_long called taking.Rule name e =
     let min = first_false (bytes_eq (codes "min") name) _ budget.1 in
     let step = first_false (bytes_eq (codes "step") name) _ min.1 in
     let json = first_false (bytes_eq (codes "json") name) _ step.1 in
-    rw (limit.0, fail.0, also.0, every.0, budget.0, min.0, step.0, json.0) refl
+    let picture = first_false (bytes_eq (codes "picture") name) _ json.1 in
+    rw (limit.0, fail.0, also.0, every.0, budget.0, min.0, step.0, json.0, picture.0) refl
 level_long called taking.Failures name e =
     let every = first_false (bytes_eq (codes "every") name) _ e in
     let pairs = first_false (bytes_eq (codes "pairs") name) _ every.1 in
@@ -57,13 +58,15 @@ level_long called taking.Failures name e =
     let min = first_false (bytes_eq (codes "min") name) _ budget.1 in
     let step = first_false (bytes_eq (codes "step") name) _ min.1 in
     let json = first_false (bytes_eq (codes "json") name) _ step.1 in
-    rw (every.0, pairs.0, budget.0, min.0, step.0, json.0) refl
+    let picture = first_false (bytes_eq (codes "picture") name) _ json.1 in
+    rw (every.0, pairs.0, budget.0, min.0, step.0, json.0, picture.0) refl
 level_long called taking.Neither name e =
     let budget = first_false (bytes_eq (codes "budget") name) _ e in
     let min = first_false (bytes_eq (codes "min") name) _ budget.1 in
     let step = first_false (bytes_eq (codes "step") name) _ min.1 in
     let json = first_false (bytes_eq (codes "json") name) _ step.1 in
-    rw (budget.0, min.0, step.0, json.0) refl
+    let picture = first_false (bytes_eq (codes "picture") name) _ json.1 in
+    rw (budget.0, min.0, step.0, json.0, picture.0) refl
 
 pub level_short : (called : Text) (takes : Takes) (x : ℕ) → arg_by_short (level called takes).rules x ≡ cond ((104 == x) || false) (Some help) None
 level_short called taking.Rule x = refl

@@ -21,7 +21,7 @@ abbrev pub all_words : List Text → List Text
 all_words words = codes "workbench" ∷ words
 
 abbrev pub command_with : Task → ℕ → ℕ → ℕ → Option Text → Command
-command_with task budget min step file = record { task = task; file = file; budget = budget; shape = record { min = min; step = step }; json = false }
+command_with task budget min step file = record { task = task; file = file; budget = budget; shape = record { min = min; step = step }; json = false; picture = None }
 
 abbrev pub run_with : Rule → ℕ → ℕ → Option Text → Command
 run_with rule = command_with (Run rule) 10000
@@ -133,6 +133,18 @@ json-following-a-file = record { taken = refl; faultless = refl; one_rule = refl
 json-as-a-file : Spell (codes "size" ∷ codes "--" ∷ codes "--json" ∷ []) (command_with Size 10000 4096 4096 (Some (codes "--json")))
 unfolding walked walk_passes walk_fault defaults_fault
 json-as-a-file = record { taken = refl; faultless = refl; one_rule = refl; in_order = refl; meaning = refl }
+
+picture-alone : Spell (codes "check" ∷ codes "--picture" ∷ codes "a.svg" ∷ []) (record (command_with (Check Single) 10000 4096 4096 None) { picture = Some (codes "a.svg") })
+unfolding walked walk_passes walk_fault defaults_fault
+picture-alone = record { taken = refl; faultless = refl; one_rule = refl; in_order = refl; meaning = refl }
+
+picture-of-a-file : Spell (codes "run" ∷ codes "--picture=a.svg" ∷ codes "--fail=5" ∷ codes "a.oom" ∷ []) (record (run_with (Number 5) 4096 4096 (Some (codes "a.oom"))) { picture = Some (codes "a.svg") })
+unfolding walked walk_passes walk_fault defaults_fault
+picture-of-a-file = record { taken = refl; faultless = refl; one_rule = refl; in_order = refl; meaning = refl }
+
+picture-as-a-file : Spell (codes "size" ∷ codes "--" ∷ codes "--picture" ∷ []) (command_with Size 10000 4096 4096 (Some (codes "--picture")))
+unfolding walked walk_passes walk_fault defaults_fault
+picture-as-a-file = record { taken = refl; faultless = refl; one_rule = refl; in_order = refl; meaning = refl }
 
 rate-apart : Spell (codes "run" ∷ codes "--every" ∷ codes "3" ∷ []) (run_with (Every 3) 4096 4096 None)
 unfolding walked walk_passes walk_fault defaults_fault
@@ -301,6 +313,14 @@ json-twice = record { refused = refl; fault = refl }
 json-with-a-value : Fail (codes "run" ∷ codes "--json=yes" ∷ []) (TooManyValues ∷ [])
 unfolding walked walk_passes walk_fault defaults_fault flags_fault flags_pass bundle_met chars
 json-with-a-value = record { refused = refl; fault = refl }
+
+picture-twice : Fail (codes "sweep" ∷ codes "--picture=a.svg" ∷ codes "--picture=b.svg" ∷ []) (ArgumentConflict ∷ [])
+unfolding walked walk_passes walk_fault defaults_fault flags_fault flags_pass bundle_met chars
+picture-twice = record { refused = refl; fault = refl }
+
+picture-without-its-file : Fail (codes "run" ∷ codes "a.oom" ∷ codes "--picture" ∷ []) (InvalidValue ∷ [])
+unfolding walked walk_passes walk_fault defaults_fault flags_fault flags_pass bundle_met chars
+picture-without-its-file = record { refused = refl; fault = refl }
 
 rates-with-a-value : Fail (codes "sweep" ∷ codes "--every=3" ∷ []) (TooManyValues ∷ [])
 unfolding walked walk_passes walk_fault defaults_fault flags_fault flags_pass bundle_met chars

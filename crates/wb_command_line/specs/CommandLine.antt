@@ -46,6 +46,10 @@ flag id name = record (new_rule id) { long = Some name; action = Some SetTrue }
 abbrev pub json_flag : Rule
 json_flag = flag (codes "json") (codes "json")
 
+-- `--picture FILE`, where FILE is any text
+abbrev pub picture_option : Rule
+picture_option = record (new_rule (codes "picture")) { long = Some (codes "picture"); value_names = 1 }
+
 -- `--every` of a subcommand that tries failures is a flag, and takes no number, so that it has an id of
 -- its own
 abbrev pub rates_flag : Rule
@@ -66,7 +70,7 @@ number_options = budget_option ∷ min_option ∷ step_option ∷ []
 
 -- those of every subcommand
 abbrev pub shared_options : List Rule
-shared_options = number_options ++ json_flag ∷ []
+shared_options = number_options ++ json_flag ∷ picture_option ∷ []
 
 abbrev pub with_rules : App → List Rule → App
 with_rules = fold with_rule
@@ -75,8 +79,8 @@ with_rules = fold with_rule
 abbrev pub line_with : Text → List Rule → App
 line_with name options = with_rules (new_app name) (file_argument ∷ options ++ shared_options)
 
--- `NAME [--limit L] [--fail N] [--also J] [--every N] [--budget B] [--min M] [--step G] [--json] [FILE]`, the same
--- with flags `--every` and `--pairs` in the place of a rule, or with none of them
+-- `NAME [--limit L] [--fail N] [--also J] [--every N] [--budget B] [--min M] [--step G] [--json] [--picture FILE] [FILE]`,
+-- the same with flags `--every` and `--pairs` in the place of a rule, or with none of them
 abbrev pub subcommand_line : Text → Takes → App
 subcommand_line name takes = line_with name (own_options takes)
 

@@ -124,6 +124,7 @@ command_with rows task = record {
   budget = budget_of rows;
   shape = shape_of rows;
   json = flag_of (codes "json") rows;
+  picture = first_of (codes "picture") rows;
 }
 
 -- the command of a subcommand's name and matches

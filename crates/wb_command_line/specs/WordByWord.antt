@@ -27,7 +27,7 @@ is_flag _ = false
 
 -- the options that every subcommand has
 abbrev pub shared_names : List Text
-shared_names = codes "budget" ∷ codes "min" ∷ codes "step" ∷ codes "json" ∷ []
+shared_names = codes "budget" ∷ codes "min" ∷ codes "step" ∷ codes "json" ∷ codes "picture" ∷ []
 
 -- those that a subcommand has beside them
 abbrev pub own_names : Takes → List Text
@@ -60,9 +60,16 @@ file_named (f ∷ g ∷ []) =
     if is_separator f then Some (Some g) else if not (is_flag f) && is_separator g then Some (Some f) else None
 file_named _ = None
 
--- a task on the file, or on standard input, with the default budget and shape
+-- a task on the file, or on standard input, with the default budget and shape, as lines and without a picture
 abbrev pub plain_command : Task → Option Text → Command
-plain_command task file = record { task = task; file = file; budget = DEFAULT_BUDGET; shape = default_shape; json = false }
+plain_command task file = record {
+  task = task;
+  file = file;
+  budget = DEFAULT_BUDGET;
+  shape = default_shape;
+  json = false;
+  picture = None;
+}
 
 pub record AreTaken (words : List Text) (command : Command) : Type 0 where
   pub taken : takes command_line words ≡ true

@@ -37,6 +37,8 @@ pub struct Command {
     pub shape: Shape,
     /// The report is written as one JSON object, and not as lines.
     pub json: bool,
+    /// The file that a picture of the runs is written to; `None` if none is wanted.
+    pub picture: Option<FileName>,
 }
 
 /// Why words are no command.

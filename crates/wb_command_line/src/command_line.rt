@@ -1,5 +1,5 @@
 //! How the words of a command line are read: `workbench run [--limit L | --fail N [--also J] | --every N] [--budget B]
-//! [--min M] [--step G] [--json] [FILE]`, the same with a flag `--every` or `--pairs` in the place of a rule after `sweep` and
+//! [--min M] [--step G] [--json] [--picture FILE] [FILE]`, the same with a flag `--every` or `--pairs` in the place of a rule after `sweep` and
 //! `check`, and with none of them after `size`. Nothing is opened or run here.
 ghost use Rattle.std.specs.Prelude.{◌≡◌, ◌≤◌, All, IfErr, IfOk, IsSome, IsTrue, List, Some, OnErr, OnOk, codes, false};
 ghost use Rattle.std.specs.Prelude.{map, true};
@@ -73,6 +73,7 @@ fn command_in(alloc: Global, name: &str, options: &ArgMatches) -> Result<Command
         budget: budget_in(options),
         shape,
         json: json_in(options),
+        picture: picture_in(alloc, options)?,
     })
 }
 
@@ -207,6 +208,17 @@ fn file_in(alloc: Global, options: &ArgMatches) -> Result<Option<FileName>, Allo
         (λ file. file ≡ first_of (codes "file") (rows_of (found_of options.now))) }
 {
     match options.get_str("file") {
+        Some(name) => Ok(Some(FileName::copy_of(alloc, name)?)),
+        None => Ok(None),
+    }
+}
+
+/// Returns the file for a picture; `None` if they name none. The only error is that memory ran out.
+fn picture_in(alloc: Global, options: &ArgMatches) -> Result<Option<FileName>, AllocError>
+    ensures { IfOk result
+        (λ picture. picture ≡ first_of (codes "picture") (rows_of (found_of options.now))) }
+{
+    match options.get_str("picture") {
         Some(name) => Ok(Some(FileName::copy_of(alloc, name)?)),
         None => Ok(None),
     }

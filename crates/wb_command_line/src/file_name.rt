@@ -1,4 +1,4 @@
-//! The name of a script's file, as the command line gave it.
+//! The name of a file, as the command line gave it: of the script, or of a picture.
 ghost use Rattle.std.specs.Prelude.{◌≡◌, IfOk};
 
 use std::alloc::{AllocError, Global};

@@ -1,19 +1,19 @@
-//! What `--help` says at its top: what a command tells, an example, and the exit statuses.
+//! What `--help` says at its top: what a command does, an example, and the exit statuses.
 
 /// Where to begin.
-pub(crate) const BEGIN: &str = "Runs scripts against a simulated heap that may refuse
+pub(crate) const BEGIN: &str = "Runs scripts against a simulated heap whose allocations may fail
 
-Begin with a script, a text file with one statement a line:
+Begin with a script, a text file with one statement per line:
 
     proc main
         ptr name
         alloc name 10
     end
 
-`workbench run FILE` runs it and tells its leaks; `workbench check FILE` finds how long the heap must be, and
-which failed allocation leaks or panics; `workbench sweep --every FILE` lets every n-th allocation fail, and
-`workbench sweep --pairs FILE` any two. `workbench help run` has the options, docs/LANGUAGE.md each line of a
-script, and examples/ has scripts to learn from.";
+`workbench run FILE` runs it and reports its leaks; `workbench check FILE` finds how long the heap must be, and
+which failed allocation leaks or panics; `workbench sweep --every FILE` makes every n-th allocation fail, and
+`workbench sweep --pairs FILE` any two. `workbench help run` lists the options, docs/LANGUAGE.md explains each
+line of a script, and examples/ has scripts to learn from.";
 
 /// What the help of a subcommand says at its top, by its name.
 pub(crate) fn long_about(name: &str) -> &'static str {
@@ -36,14 +36,14 @@ const SIZE: &str = "Finds how long the heap must be, and what shorter heaps refu
 
 Example: workbench size examples/holes.oom
 
-Exit status: 0 the length is told, 2 the script is refused, 3 the run was cut,
+Exit status: 0 the length is reported, 2 the script is refused, 3 the run was cut,
 4 no memory, 5 reading or writing failed, 6 command line";
 
 const SWEEP: &str = "Finds the first attempt whose failure leaks or panics
 
-With --every: the least n for which the script leaks or panics where every n-th attempt fails
-With --pairs: the same as without it; and where no single failure leaks or panics, the least pair of attempts i < j,
-in order of i and then of j, for which the script leaks or panics where both fail
+With --every: finds the least n for which the script leaks or panics when every n-th attempt fails
+With --pairs: finds the same; and if no single failure leaks or panics, finds the least pair of attempts i < j,
+in order of i and then of j, for which the script leaks or panics when both fail
 
 Example: workbench sweep examples/second-phase-leaks.oom
 Example: workbench sweep --every examples/fallback-leaks.oom
@@ -52,11 +52,11 @@ Example: workbench sweep --pairs examples/clean-up-fails.oom
 Exit status: 0 no failure that was tried leaks or panics, 1 one does, 2 the script is refused, 3 a run was cut,
 4 no memory, 5 reading or writing failed, 6 command line";
 
-const CHECK: &str = "Does what size does, and then what sweep does
+const CHECK: &str = "Runs size, then sweep
 
-With --every: the least n for which the script leaks or panics where every n-th attempt fails
-With --pairs: the same as without it; and where no single failure leaks or panics, the least pair of attempts i < j,
-in order of i and then of j, for which the script leaks or panics where both fail
+With --every: finds the least n for which the script leaks or panics when every n-th attempt fails
+With --pairs: finds the same; and if no single failure leaks or panics, finds the least pair of attempts i < j,
+in order of i and then of j, for which the script leaks or panics when both fail
 
 Example: workbench check examples/second-phase-leaks.oom
 Example: workbench check --every examples/fallback-leaks.oom

@@ -1,4 +1,4 @@
-//! What options take that take a number, and what the help says of it. The options themselves stand in `parser`.
+//! What options take that take a number, and what the help says of it. The options themselves are in `parser`.
 
 ghost use Rattle.std.specs.Prelude.{◌≡◌, pos};
 
@@ -27,27 +27,27 @@ impl NumberHelp {
     pub(crate) fn new(alloc: Global) -> Result<NumberHelp, AllocError> {
         Ok(NumberHelp {
             limit: format!(in alloc;
-                "Refuses what would make the heap longer than L bytes, from 0 to {CEILING}"
+                "Limits the length of the heap to L bytes, from 0 to {CEILING}"
             )?,
             fail: format!(in alloc;
-                "Refuses the attempt with number N, from 0 to {CEILING}; there is no attempt 0"
+                "Makes attempt N fail, from 0 to {CEILING}; there is no attempt 0"
             )?,
             also: format!(in alloc;
-                "Refuses the attempt with number J as well, after that of --fail; J from 2 to {CEILING}"
+                "Makes attempt J fail too, after that of --fail; J from 2 to {CEILING}"
             )?,
             every: format!(in alloc;
-                "Lets every N-th attempt fail, N from 0 to {CEILING}; 0 lets nothing fail"
+                "Makes every N-th attempt fail, N from 0 to {CEILING}; with 0 none fails"
             )?,
             budget: format!(in alloc;
-                "The greatest number of steps of a run, from 1 to {LARGEST_BUDGET} \
+                "Most steps that a run may take, from 1 to {LARGEST_BUDGET} \
                  [default: {DEFAULT_BUDGET}]"
             )?,
             min: format!(in alloc;
-                "The heap's minimum length in bytes, a multiple of {GRANULE} \
+                "Minimum length of the heap in bytes, a multiple of {GRANULE} \
                  from 0 to {LARGEST_MINIMUM} [default: {DEFAULT_MINIMUM}]"
             )?,
             step: format!(in alloc;
-                "The step by which the heap grows in bytes, a multiple of {GRANULE} \
+                "Step in which the heap grows, in bytes, a multiple of {GRANULE} \
                  from {SMALLEST_STEP} to {LARGEST_STEP} [default: {DEFAULT_STEP}]"
             )?,
         })

@@ -4,8 +4,8 @@ ghost use Rattle.std.specs.Prelude.{◌≡◌, IfOk, false, fold};
 ghost use Rattle.clap.specs.Words.{app_of, rule_of, with_rule, with_subcommand};
 ghost use Rattle.clap.specs.declared.builder.command.Command.TheViews.{out-Command as fields_of};
 ghost use Rattle.wb_command_line.specs.CommandLine.{command_line, file_argument, json_flag, line_of, number_option};
-ghost use Rattle.wb_command_line.specs.CommandLine.{option_rule, own_options, pairs_flag, rates_flag, shared_options};
-ghost use Rattle.wb_command_line.specs.CommandLine.{with_level, with_option, with_rules};
+ghost use Rattle.wb_command_line.specs.CommandLine.{option_rule, own_options, pairs_flag, picture_option, rates_flag};
+ghost use Rattle.wb_command_line.specs.CommandLine.{shared_options, with_level, with_option, with_rules};
 
 use crate::command_line::long_help::{BEGIN, long_about};
 use crate::command_line::number_help::{NumberHelp, between};
@@ -64,7 +64,7 @@ pub(super) fn parser<'a>(
     ensures { IfOk result (λ line. app_of line ≡ command_line) }
 {
     let line = clap::Command::new(alloc, "workbench")
-        .about("Runs scripts against a simulated heap that may refuse")
+        .about("Runs scripts against a simulated heap whose allocations may fail")
         .long_about(BEGIN)
         .subcommand_required(true);
     with_levels(
@@ -88,7 +88,7 @@ pub(super) fn parser<'a>(
             },
             Level {
                 name: "check",
-                about: "Does what size does, and then what sweep does",
+                about: "Runs size, then sweep",
                 takes: Takes::Failures,
             },
         ],
@@ -209,7 +209,7 @@ fn with_shared_options<'a>(
             },
         ],
     )?;
-    with_argument(line, json(alloc))
+    with_argument(with_argument(line, json(alloc))?, picture(alloc))
 }
 
 /// The subcommand with further options.
@@ -247,9 +247,9 @@ fn file<'a>(alloc: Global) -> Arg<'a>
     ensures rule { rule_of result ≡ file_argument }
     ensures own { result.global ≡ false }
 {
-    Arg::new(alloc, "file").value_name("FILE").help(
-        "The script's file; without it the script is standard input",
-    )
+    Arg::new(alloc, "file")
+        .value_name("FILE")
+        .help("Script file [default: standard input]")
 }
 
 /// The flag that asks for the report as JSON.
@@ -263,6 +263,17 @@ fn json<'a>(alloc: Global) -> Arg<'a>
         .help("Writes the report as one JSON object")
 }
 
+/// The option that asks for a picture.
+fn picture<'a>(alloc: Global) -> Arg<'a>
+    ensures rule { rule_of result ≡ picture_option }
+    ensures own { result.global ≡ false }
+{
+    Arg::new(alloc, "picture")
+        .long("picture")
+        .value_name("FILE")
+        .help("Also writes a picture of the heap over time to FILE, as SVG")
+}
+
 /// The flag that asks for rates to be tried. Its id is not `every`, which is an option of `run` that takes a number.
 fn rates<'a>(alloc: Global) -> Arg<'a>
     ensures rule { rule_of result ≡ rates_flag }
@@ -272,7 +283,7 @@ fn rates<'a>(alloc: Global) -> Arg<'a>
         .long("every")
         .action(ArgAction::SetTrue)
         .help(
-            "Lets every n-th attempt fail, and finds the least n with which the script leaks or panics",
+            "Makes every n-th attempt fail, and finds the least n for which the script leaks or panics",
         )
 }
 
@@ -285,7 +296,7 @@ fn pairs<'a>(alloc: Global) -> Arg<'a>
         .long("pairs")
         .action(ArgAction::SetTrue)
         .help(
-            "Where no single failure leaks or panics, lets two attempts fail, and finds the least pair that does",
+            "If no single failure leaks or panics, makes two attempts fail, and finds the least pair that does",
         )
 }
 

@@ -29,8 +29,8 @@ pub returns-clause-meant : goal.returns-clause-meant
 returns-clause-meant c =
     let rows = rows_of (found_of c.args.options.now) in
     let task = c.in_ok-task.task in
-    let command : ◌≡◌ {A = Command} (command_with rows task) (record { task = task; file = c.in_ok-file_in.field-0; budget = c.budget_in.result; shape = c.in_ok-shape.shape; json = c.json_in.result }) =
-    λ i. record { task = task; file = sym c.in_ok-file_in.ensures i; budget = sym c.budget_in.ensures.is i; shape = sym c.in_ok-shape.ensures.ok i; json = sym c.json_in.ensures i } in
+    let command : ◌≡◌ {A = Command} (command_with rows task) (record { task = task; file = c.in_ok-file_in.field-0; budget = c.budget_in.result; shape = c.in_ok-shape.shape; json = c.json_in.result; picture = c.in_ok-picture_in.field-0 }) =
+    λ i. record { task = task; file = sym c.in_ok-file_in.ensures i; budget = sym c.budget_in.ensures.is i; shape = sym c.in_ok-shape.ensures.ok i; json = sym c.json_in.ensures i; picture = sym c.in_ok-picture_in.ensures i } in
     record {
       one_rule = c.in_ok-task.ensures.alone;
       in_order = c.in_ok-task.ensures.ordered;
