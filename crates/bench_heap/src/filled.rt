@@ -77,7 +77,7 @@ impl Filled {
         Ok(())
     }
 
-    /// Grants a cell above all holes and frees it, so many times.
+    /// Grants a cell above all holes and frees it, a number of times.
     pub(crate) fn pass_over_holes(&mut self, times: u32) -> Result<(), AllocError> {
         for _ in 0..times {
             let cell = self.grant(LONG)?;

@@ -3,7 +3,7 @@ use Rattle.wb_model.specs.heap.Debug.{Debug, IsSoundDebug}
 use Rattle.wb_cleanup.specs.declared.cleanup.Cleanup.{Cleanup}
 use Rattle.wb_cleanup.specs.Stacks.{IsStack}
 
--- the stack stands in the heap
+-- the stack is in the heap
 pub record IsStacked (stack : Cleanup) (heap : Debug) : Type 0 where
   pub stands : IsStack stack heap
   pub sound : IsSoundDebug heap

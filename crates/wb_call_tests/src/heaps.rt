@@ -1,4 +1,4 @@
-//! Calls of a debug heap, made one after another as a table tells, with a line of each.
+//! Calls of a debug heap, made one after another as a table says, with a line of each.
 
 ghost use Rattle.std.specs.Prelude.{◌≡◌};
 
@@ -70,7 +70,7 @@ static ATTEMPTS: [Call; 23] = [
     Call::Compress,
 ];
 
-/// Makes the calls of the table, and tells all that the heap shows then.
+/// Makes the calls of the table, and prints all that the heap shows then.
 pub(crate) fn make_attempts(rt: &HostRuntime) -> Result<(), Stop> {
     let mut marked = Marked::new(rt.alloc())?;
     make_and_show(rt, &mut marked)

@@ -1,4 +1,4 @@
-//! The lines that calls are told by. Each is written at once, so that it takes no memory.
+//! The lines that report calls. Each is written at once, so that it takes no memory.
 
 use crate::calls;
 use crate::stop::Stop;

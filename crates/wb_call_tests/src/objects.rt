@@ -20,7 +20,7 @@ const MADE: [u16; 6] = [0, 1, 0, 1, 1, 0];
 /// Every third of them is refused: a call that is made once more is one attempt.
 const RULE: Rule = Rule::Every(3);
 
-/// Makes objects, and tells all that the heap shows then.
+/// Makes objects, and prints all that the heap shows then.
 pub(crate) fn make_objects(rt: &HostRuntime, script: &Script) -> Result<(), Stop> {
     let Ok(mut heap) = DebugHeap::new(rt.alloc(), RULE, SHAPE) else {
         return Err(Stop::NoMemory);
@@ -47,7 +47,7 @@ fn make_again(heap: &mut DebugHeap, script: &Script, class: u16) -> Result<Gave,
     }
 }
 
-/// Whether the script has the class, and one object of it can stand below the ceiling.
+/// Whether the script has the class, and one object of it can be below the ceiling.
 fn has_class(script: &Script, class: u16) -> bool
     ensures there { result ≡ true → class < length script.now.classes }
     ensures fits { result ≡ true → payload_of_object (class_at script.now class) ≤ CEILING }

@@ -15,7 +15,7 @@ use wb_model::memory::NoMemory;
 /// A call of a heap.
 #[derive(Clone, Copy)]
 enum Call {
-    /// An attempt to get a cell for so many bytes.
+    /// An attempt to get a cell for a number of bytes.
     Alloc(u32),
     /// The place and the number of a cell, and the bytes that it is to have.
     Realloc(u32, u32, u32),
@@ -54,7 +54,7 @@ static CALLS: [Call; 21] = [
     Call::Alloc(200),
 ];
 
-/// Makes the calls of the table, and tells the rises then.
+/// Makes the calls of the table, and prints the rises then.
 pub(crate) fn make_attempts(rt: &HostRuntime) -> Result<(), Stop> {
     let mut heap = new_heap(rt.alloc())?;
     make_calls(rt, &mut heap)
@@ -115,7 +115,7 @@ fn realloc(rt: &HostRuntime, heap: &mut DebugHeap, ptr: Ptr, bytes: u32) -> Resu
     write_attempt(rt, heap, "realloc", bytes, gave, before, found)
 }
 
-/// Tells what an attempt gave. One that found no memory at first and isn't a rise is told as that.
+/// Prints what an attempt gave. One that found no memory at first and isn't a rise is printed as that.
 fn write_attempt(
     rt: &HostRuntime,
     heap: &DebugHeap,

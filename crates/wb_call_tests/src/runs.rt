@@ -64,7 +64,7 @@ fn take_turns(rt: &HostRuntime, lead: &mut Machine) -> Result<(), Stop> {
     write_end(rt, lead, &mut spare)
 }
 
-/// Takes a turn while a copy waits, and tells both.
+/// Takes a turn while a copy waits, and prints both.
 fn take_turn(rt: &HostRuntime, lead: &mut Machine) -> Result<Turn, Stop> {
     let waiting = copy(lead)?;
     take_turn_beside(rt, lead, &waiting)
@@ -101,7 +101,7 @@ fn copy<'a>(machine: &Machine<'a>) -> Result<Machine<'a>, NoMemory> {
     }
 }
 
-/// Tells where a run stands.
+/// Tells where a run is.
 fn write_turn(rt: &HostRuntime, name: &str, machine: &Machine) -> Result<(), Stop> {
     println!(rt;
         "{name}: line {}, attempts {}, asks for one {}",
@@ -133,7 +133,7 @@ fn end_of_copy(lead: &Machine, spare: &mut Option<Heap>) -> Result<RunResult, No
     Ok(result)
 }
 
-/// Tells how a run ended, and how much it told.
+/// Prints how a run ended, and how much it reported.
 fn write_result(rt: &HostRuntime, told: &RunResult) -> Result<(), Stop> {
     let written = match &told.outcome {
         Outcome::Ended { left, leaks } => print!(rt; "ended: {left:?}, {} leaks", leaks.len()),

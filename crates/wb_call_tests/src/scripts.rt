@@ -88,7 +88,7 @@ pub(crate) fn read_scripts(rt: &HostRuntime) -> Result<(), Stop> {
     }
 }
 
-/// Reads a script with a fault, and tells which it is.
+/// Reads a script with a fault, and prints which it is.
 fn write_fault(rt: &HostRuntime, bytes: &[u8]) -> Result<(), Stop> {
     match read_again(rt.alloc(), bytes) {
         Err(ScriptFault::NoMemory) => Err(Stop::NoMemory),

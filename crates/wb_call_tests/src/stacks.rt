@@ -15,7 +15,7 @@ use wb_debug::DebugHeap;
 use wb_model::heap::{Gave, Item, Kind, Ptr, Rule};
 use wb_model::memory::NoMemory;
 
-/// So many items are pushed before another cell is made behind the stack's.
+/// How many items are pushed before another cell is made after the stack's.
 const FIRST: u32 = 9;
 
 /// So many are pushed then.
@@ -39,7 +39,7 @@ impl Model for Stacked {
     ghost invariant = { λ s. IsStacked s.stack s.heap };
 }
 
-/// Pushes items, and tells those that stand on the stack then, the newest first.
+/// Pushes items, and prints those that are on the stack then, the newest first.
 pub(crate) fn push_items(rt: &HostRuntime) -> Result<(), Stop> {
     let mut stacked = empty_stack(rt.alloc())?;
     push_and_take(rt, &mut stacked)
@@ -99,7 +99,7 @@ impl Stacked {
         }
     }
 
-    /// Gets a raw cell behind the stack's.
+    /// Gets a raw cell after the stack's.
     fn alloc(&mut self, bytes: u32) -> Result<Gave, NoMemory> {
         calls::alloc(&mut self.heap, bytes, Kind::Raw)
     }
@@ -109,7 +109,7 @@ impl Stacked {
         self.stack.take_top(&self.heap, 0)
     }
 
-    /// Takes all items off, and tells each.
+    /// Takes all items off, and prints each.
     fn take_all(&mut self, rt: &HostRuntime) -> Result<(), Stop> {
         for _ in 0..FIRST + LATER + 1 {
             let item = self.take();
@@ -119,7 +119,7 @@ impl Stacked {
     }
 }
 
-/// An item that can be told from others.
+/// An item that differs from others.
 fn item(i: u32) -> Item {
     let ptr = Ptr {
         place: i,

@@ -13,7 +13,7 @@ use wb_model::heap::{Gave, Kind, Ptr, Rule};
 use wb_model::limits::MOST_UNITS;
 use wb_model::memory::NoMemory;
 
-/// Makes texts, and tells all that the heap shows then.
+/// Makes texts, and prints all that the heap shows then.
 pub(crate) fn make_texts(rt: &HostRuntime) -> Result<(), Stop> {
     let Ok(mut heap) = DebugHeap::new(rt.alloc(), Rule::Unlimited, SHAPE) else {
         return Err(Stop::NoMemory);
@@ -45,7 +45,7 @@ fn alloc(rt: &HostRuntime, heap: &mut DebugHeap, bytes: u32) -> Result<Ptr, Stop
     }
 }
 
-/// A text that grows in the hole, then moves behind the live cell, is denied more, and shrinks.
+/// A text that grows in the hole, then moves after the live cell, is denied more, and shrinks.
 fn grow_text(rt: &HostRuntime, heap: &mut DebugHeap) -> Result<(), Stop> {
     let text = new_text(rt, heap, 4)?;
     let _ = set_length(heap, text, 3);

@@ -1,4 +1,4 @@
--- Where a cell stands in its row: the free bytes on both sides of it, and what the row is without it or with another length.
+-- Where a cell is in its row: the free bytes on both sides of it, and what the row is without it or with another length.
 use Rattle.std.proofs.Common.{◌≡◌, ℕ, ◌+◌, ◌*◌, ◌/◌, ◌%◌, ◌<◌, ◌≤◌, ◌⊎◌, inl, inr, List, [], ◌∷◌, ◌++◌, length, slice_index, Bool, cond, refl, sym, ◌∙◌, ap, subst, arith, zero-add, add-zero, append_assoc}
 use Rattle.std.specs.Prelude.{nat_eq}
 use Rattle.std.proofs.lemmas.List.{append-nil, map-append}

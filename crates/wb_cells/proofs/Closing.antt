@@ -1,4 +1,4 @@
--- A hole that is closed: a free segment, or nothing where no live one follows it.
+-- A hole that is closed: a free segment, or nothing if no live one follows it.
 use Rattle.std.proofs.Common.{◌≡◌, ◌≢◌, ℕ, ◌+◌, ◌-◌, ◌*◌, ◌/◌, ◌%◌, ◌≤◌, ◌⊎◌, inl, inr, List, [], ◌∷◌, ◌++◌, length, Bool, true, false, not, drop, replicate, refl, sym, ◌∙◌, ap, subst, arith, zero-add, append_assoc, AllPairs}
 use Rattle.std.specs.Prelude.{nat_eq}
 use Rattle.std.specs.List.{replace_range}

@@ -1,4 +1,4 @@
--- Where a live cell stands among the segments: by its pointer, and by the bit of its place.
+-- Where a live cell is among the segments: by its pointer, and by the bit of its place.
 use Rattle.std.proofs.Common.{◌≡◌, ◌≢◌, ℕ, zero, suc, ◌+◌, ◌-◌, ◌*◌, ◌/◌, ◌%◌, ◌<◌, ◌≤◌, ◌⊎◌, inl, inr, List, [], ◌∷◌, ◌++◌, length, slice_index, get_or, Bool, true, false, cond, drop, replicate, Some, None, refl, sym, ◌∙◌, ap, subst, arith, add_assoc, add-zero, zero-add, append_assoc, length-append}
 use Rattle.std.specs.Prelude.{nat_eq, option_map}
 use Rattle.std.proofs.lemmas.List.{get_or_at, get_or-drop, length-drop}

@@ -1,4 +1,4 @@
--- What the lengths of the free cells say of a row: where a new cell fits, the longest free run, and the room behind a cell.
+-- What the lengths of the free cells say of a row: where a new cell fits, the longest free run, and the room after a cell.
 use Rattle.std.proofs.Common.{◌≡◌, ◌≢◌, ℕ, ◌+◌, ◌-◌, ◌*◌, ◌/◌, ◌%◌, ◌<◌, ◌≤◌, ◌⊎◌, inl, inr, List, [], ◌∷◌, length, slice_index, Bool, true, false, cond, Option, Some, None, find, refl, sym, ◌∙◌, ap, arith}
 use Rattle.std.specs.Prelude.{nat_eq, nat_le}
 use Rattle.std.proofs.lemmas.Bool.{eq-eqb, ne_eqb, leb-true, leb-false, cases_eq, cases_lt}
@@ -76,7 +76,7 @@ longest-gaps hs lengths greatest s is most some =
     attained (inl e) = omega (arith, e)
     attained (inr any) = let t = some any in omega (arith, t.is, is t.at, longest-least hs 0 t.at s)
 
--- the room behind a cell is the length of the free cell at its end
+-- the room after a cell is the length of the free cell at its end
 abbrev pub room_at : ℕ → ℕ → ℕ → Option ℕ
 room_at end top length = cond (nat_eq end top) None (Some length)
 

@@ -336,7 +336,7 @@ module _ (words : List ℕ) (starts : List Bool) (top first : ℕ) (laid : IsLai
   pub longest_is : (greatest : ℕ) → IsGreatest (slice_index gaps) 0 (length gaps) greatest → greatest ≡ longest (free_runs 0 all (top_of all))
   longest_is greatest is = longest-gaps all gaps greatest spaced_all are (all_most gaps greatest is.most) is.some
 
-  -- the room behind a cell
+  -- the room after a cell
   module _ (p : Ptr) (cell : IsCell p words laid.segments laid.spare) (row : List (Cell (List ℕ))) (is : spelled words top ≡ row) (end : ℕ)
       (ends : end ≡ p.place + slice_index words (p.place / 16 * 4)) where
     room_is : room_after p (headers row) ≡ room_at end top (slice_index gaps (end / 16))

@@ -14,7 +14,7 @@ use Rattle.wb_cells.proofs.Laying.{spelled-laid}
 use Rattle.wb_cells.proofs.Finding.{cell_at-split}
 use Rattle.wb_cells.proofs.Changing.{IsCell, before, length-before}
 
--- a cell that is found stands from the row's start on, and is no shorter than its header
+-- a cell that is found is from the row's start on, and is no shorter than its header
 pub found_from : (p : Ptr) (hs : List Header) (at : ℕ) (h : Header) → IsSpacedFrom at hs → find (is_at p) hs ≡ Some h → (at ≤ h.place) × (16 ≤ h.length)
 found_from p [] at h s found = absurd cc
 found_from p (g ∷ hs) at h s found = go (is_at p g) found (found_from p hs (end_of g) h s.5)

@@ -1,4 +1,4 @@
--- What `resize` leaves: the cells round the one that has another length, and the free cell behind it.
+-- What `resize` leaves: the cells round the one that has another length, and the free cell after it.
 use Rattle.std.proofs.Common.{◌≡◌, ◌≢◌, ℕ, ◌+◌, ◌-◌, ◌*◌, ◌/◌, ◌%◌, ◌≤◌, ◌⊎◌, inl, inr, List, [], ◌∷◌, ◌++◌, length, slice_set, slice_index, None, Bool, true, false, cond, drop, replicate, refl, sym, ◌∙◌, ap, subst, arith, zero-add, add-zero, append_assoc, length-append}
 use Rattle.std.specs.Prelude.{nat_eq}
 use Rattle.std.specs.List.{replace_range}
@@ -36,7 +36,7 @@ module _ (words : List ℕ) (starts : List Bool) (top first : ℕ) (laid : IsLai
   abbrev end : ℕ
   end = p.place + size
 
-  -- the end of the free segment behind it, or its own, and the free one after that
+  -- the end of the free segment after it, or its own, and the free one after that
   abbrev last : ℕ
   last = cond (nat_eq above end) (end_at words above) end
 
@@ -164,7 +164,7 @@ module _ (words : List ℕ) (starts : List Bool) (top first : ℕ) (laid : IsLai
       ∙ ap (λ q. row_from 0 low ++ row_from q cell.back) (ap (λ q. q + size) (zero-add (total cell.front)) ∙ at_end)
       ∙ ap (λ r. row_from 0 low ++ r) following.row
 
-  -- words and bits round what is left behind it
+  -- words and bits round what is left after it
   hollow_from : (high : List Segment) (spare junk : List ℕ) (unset stop link' top' : ℕ) → p.place + to + 4 * length junk ≡ stop → length junk % 4 ≡ 0 →
       lengthened ≡ words_of 0 low link_now ++ (junk ++ (words_of stop high NO_PLACE ++ spare)) → link' ≡ first_free stop high NO_PLACE → top' ≡ stop + total high →
       starts ≡ starts_of low ++ (replicate (length junk / 4) false ++ (starts_of high ++ replicate unset false)) →

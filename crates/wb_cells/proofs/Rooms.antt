@@ -61,7 +61,7 @@ begins_both [] xs ys f b = f b
 begins_both (live kind level number body ∷ front) xs ys f b = tt
 begins_both (free body ∷ front) xs ys f b = absurd b
 
--- other segments behind the same ones
+-- other segments after the same ones
 pub merged_both : (front xs ys : List Segment) → (BeginsLive xs → BeginsLive ys) → (AreMerged xs → AreMerged ys) → AreMerged (front ++ xs) → AreMerged (front ++ ys)
 merged_both [] xs ys f g m = g m
 merged_both (live kind level number body ∷ front) xs ys f g m = merged_both front xs ys f g m
@@ -108,7 +108,7 @@ room_in xs place bytes merged long gap low = let b = between_start xs place byte
         }
         hit (inr after) = absurd (omega (arith, after, here, total-append front (free body ∷ [])))
 
--- a new cell goes behind those below it and before those above
+-- a new cell goes after those below it and before those above
 pub inserted-between : (c : Cell (List ℕ)) (front : List Segment) (at : ℕ) (row : List (Cell (List ℕ))) → at + total front ≤ c.head.place →
     inserted c (row_from at front ++ row) ≡ row_from at front ++ inserted c row
 inserted-between c [] at row le = refl

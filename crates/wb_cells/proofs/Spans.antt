@@ -218,7 +218,7 @@ there_within numbers n greatest any t = go (cases_lt t.at (length numbers))
     go (inl lt) = record { at = t.at; above = t.above; below = lt; is = t.is }
     go (inr ge) = absurd (any (sym t.is ∙ get_or_past numbers t.at 0 ge))
 
--- the last number that is not 0, and those behind it
+-- the last number that is not 0, and those after it
 pub greatest_down : (f : ℕ → ℕ) (from at stop end greatest : ℕ) → stop ≤ end → IsLast f from stop (Some at) → IsGreatest f stop end greatest →
     IsGreatest f at end (max (f at) greatest)
 greatest_down f from at stop end greatest le last is = record {
@@ -249,7 +249,7 @@ greatest_rest f from stop end greatest begun none is = record {
     each k low high (inl under) = omega (arith, none k low under)
     each k low high (inr above) = is.most k above high
 
--- or one of those behind is as great as any
+-- or one of those after is as great as any
 pub greatest_full : (f : ℕ → ℕ) (from stop end greatest most : ℕ) → (greatest ≢ 0 → from ≤ stop) → IsGreatest f stop end greatest →
     ((k : ℕ) → from ≤ k → k < end → f k ≤ most) → most ≤ greatest → IsGreatest f from end greatest
 greatest_full f from stop end greatest most begun is bound full = record {

@@ -16,7 +16,7 @@ replace_range-inside before head body after new at n is fits =
     sym (drop-drop n at ws) ∙ ap (drop n) (ap (drop at) parts ∙ drop_at (before ++ head) (body ++ after) at front) ∙ drop-append-le n body after fits in
     rw (first, last) (simp append_assoc)
 
--- and what stood there
+-- and what was there
 pub slice_range-inside : (before head body after : List ℕ) (at n : ℕ) → length before + length head ≡ at → n ≤ length body →
     slice_range (before ++ (head ++ (body ++ after))) at (at + n) ≡ take n body
 slice_range-inside before head body after at n is fits =

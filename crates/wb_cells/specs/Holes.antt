@@ -1,4 +1,4 @@
--- The hole that a released cell leaves or that lies behind a live one, and how it is closed.
+-- The hole that a released cell leaves or that lies after a live one, and how it is closed.
 use Rattle.std.specs.Prelude.{ℕ, ◌+◌, ◌-◌, ◌*◌, ◌/◌, ◌%◌, ◌≡◌, ◌≤◌, List, [], ◌∷◌, Bool, not, ◌&&◌, slice_index, nat_eq, if◌then◌else◌}
 use Rattle.std.specs.List.{replace_range}
 use Rattle.wb_cells.specs.declared.free_list.Ends.{Ends}
@@ -6,11 +6,11 @@ use Rattle.wb_cells.specs.declared.free_list.Hole.{Hole}
 use Rattle.wb_cells.specs.declared.free_list.Neighbours.{Neighbours}
 use Rattle.wb_cells.specs.FreeList.{NO_PLACE, IsWithin, end_at, linked_first, linked_words, next_past, parted_words}
 
--- whether a free cell stands right below a place
+-- whether a free cell is right below a place
 abbrev pub touches : List ℕ → ℕ → ℕ → Bool
 touches words before place = not (nat_eq before NO_PLACE) && nat_eq (end_at words before) place
 
--- the free bytes behind the cell at a place
+-- the free bytes after the cell at a place
 abbrev pub hole_past : List ℕ → ℕ → Neighbours → Hole
 hole_past words place around = record {
   start = end_at words place;

@@ -58,7 +58,7 @@ impl Bits {
     }
 
     /// Appends bits that are off, in steps of 32, until there are at least `count`. Where memory is refused, the bits
-    /// are as they were; it takes none where there are so many.
+    /// are as they were; it takes none if there are that many.
     pub fn grow_to(&mut self, count: u32) -> Result<(), AllocError>
         requires { count ≤ MOST_PLACES }
         ensures grown { OnOk result (self.new

@@ -95,7 +95,7 @@ impl Cells {
     }
 
     /// Holds at least `bytes` bytes; the cells stay as they are. Where memory is refused, nothing changes; it takes
-    /// none where so many are held.
+    /// none if that many are held.
     pub fn reserve(&mut self, bytes: u32) -> Result<(), NoMemory>
         requires rounded { bytes % 16 ≡ 0 }
         requires within { bytes ≤ CEILING }
@@ -151,7 +151,7 @@ impl Cells {
         self.gaps.longest()
     }
 
-    /// Inserts a live cell with this header, whose payload is zeros whatever stood there. What a free cell has past the
+    /// Inserts a live cell with this header, whose payload is zeros whatever was there. What a free cell has past the
     /// new one's end stays a free cell. It takes no memory.
     pub fn take(&mut self, place: u32, length: u32, header: Header)
         requires rounded { length % 16 ≡ 0 }
@@ -199,8 +199,8 @@ impl Cells {
         self.starts.set(ptr.place / 16, false);
     }
 
-    /// Gives the cell that the pointer names another length where it stands. What it gains is zeros; what it loses, or
-    /// leaves of a free cell behind it, becomes one free cell, or part of the space above the last live cell. It takes no
+    /// Gives the cell that the pointer names another length where it is. What it gains is zeros; what it loses, or
+    /// leaves of a free cell after it, becomes one free cell, or part of the space above the last live cell. It takes no
     /// memory.
     pub fn resize(&mut self, ptr: Ptr, length: u32)
         requires live { IsSome (cell_at ptr self.old.row) }

@@ -165,7 +165,7 @@ pub struct Hole {
     pub next: u32,
 }
 
-/// The free bytes behind a live cell, up to the next live one.
+/// The free bytes after a live cell, up to the next live one.
 pub fn hole_after(words: &Chunk, place: u32, around: Neighbours) -> Hole
     requires cell { IsWithin words.now place }
     requires above { around.after ≡ place + slice_index words.now (place / 16 * 4) →
@@ -206,7 +206,7 @@ pub fn hole_left(words: &Chunk, place: u32, around: Neighbours) -> Hole
     hole
 }
 
-/// Makes a hole a free cell, or nothing where it has no bytes. Where no live cell follows it, its start becomes the
+/// Makes a hole a free cell, or nothing if it has no bytes. Where no live cell follows it, its start becomes the
 /// top, which may then be higher than it was.
 pub fn close(words: &mut Chunk, ends: Ends, hole: Hole) -> Ends
     requires before { hole.before ≢ NO_PLACE → hole.before / 16 * 4 + 4 ≤ length words.old }

@@ -81,7 +81,7 @@ impl GapIndex {
     }
 
     /// Appends places where no free cell begins until there are `count`. Where memory is refused, the lengths are as they
-    /// were; it takes none where there are so many.
+    /// were; it takes none if there are that many.
     pub fn grow_to(&mut self, count: u32) -> Result<(), AllocError>
         requires { count ≤ MOST_PLACES }
         ensures grown { OnOk result (self.new ≡ self.old ++ replicate (count - length self.old) 0) }
@@ -126,7 +126,7 @@ impl GapIndex {
         self.longest = longest;
     }
 
-    /// Lists what a cell of so many bytes leaves of the free cell at whose start it is put, and nothing where it is put at
+    /// Lists what a cell of `bytes` bytes leaves of the free cell at whose start it is put, and nothing if it is put at
     /// the top. Place and top are bytes, as are those below.
     pub fn open(&mut self, top: u32, place: u32, bytes: u32)
         requires below { place + bytes ≤ CEILING }
@@ -179,7 +179,7 @@ impl GapIndex {
         }
     }
 
-    /// The first place with a length of at least so many bytes.
+    /// The first place with a length of at least `bytes` bytes.
     pub fn first_long(&self, bytes: u32) -> Option<u32>
         requires { 0 < bytes }
         ensures { IsFirstLong (slice_index self.now) bytes result }

@@ -15,7 +15,7 @@ use wb_model::heap::{Header, Kind};
 /// The link of the last free cell.
 pub const NONE: u32 = 0xffff_ffff;
 
-/// How many words so many bytes are, in whole places of 16 bytes; so a place's first word has this index.
+/// How many words `bytes` bytes are, in whole places of 16 bytes; so a place's first word has this index.
 pub fn words_in(bytes: u32) -> u32
     ensures { result ≡ bytes / 16 * 4 }
 {
@@ -82,7 +82,7 @@ pub fn write_header(words: &mut Chunk, place: u32, bytes: u32, state: u32, link:
 }
 
 /// Appends words that are 0 until there are `count`. Where memory is refused, the words are as they were; it takes
-/// none where there are so many.
+/// none if there are that many.
 pub fn grow_to(words: &mut Chunk, count: u32) -> Result<(), AllocError>
     requires { count ≤ MOST_WORDS }
     ensures grown { OnOk result (words.new ≡ words.old ++ replicate (count - length words.old) 0) }

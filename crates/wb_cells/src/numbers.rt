@@ -61,7 +61,7 @@ impl Numbers {
     }
 
     /// Appends numbers that are 0 until there are `count`. Where memory is refused, the numbers are as they were; it
-    /// takes none where there are so many.
+    /// takes none if there are that many.
     pub fn grow_to(&mut self, count: u32) -> Result<(), AllocError>
         requires { count ≤ MOST_PLACES }
         ensures grown { OnOk result (self.new ≡ self.old ++ replicate (count - length self.old) 0) }

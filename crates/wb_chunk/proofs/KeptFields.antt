@@ -41,7 +41,7 @@ kept-halves r new count capacity i end len hs marks more alloc kept is far same 
     nearer k (inl lt) = inl lt
     nearer k (inr le) = inr (omega (arith, le, far))
 
--- the words went to a longer region, with zeros behind them
+-- the words went to a longer region, with zeros after them
 pub kept-grown : (r : Region Global) (ws : List ℕ) (count n capacity : ℕ) (marks more : List Bool) (alloc : Global) → count ≡ length ws → r.words ≡ ws ++ zeros n →
     (r.capacity ≡ capacity) × (r.alloc ≡ alloc) → count + n ≤ capacity → capacity ≤ MOST_WORDS → capacity ≤ BLOCK * length more → AreMarked marks ws →
     ((j : ℕ) → j * 1024 < length ws → get_or more j false ≡ get_or marks j false) → IsKept (Some r) (count + n) capacity more alloc

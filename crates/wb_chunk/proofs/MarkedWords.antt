@@ -143,7 +143,7 @@ marked_zero_half ws marks i are k off = at (cases_eq k (i / 2)) (cases_lt k (len
     at (inl e) (inr past) = get_or_past (with_half ws i 0) k 0 (omega (arith, length-with_half ws i 0, past))
     at (inr ne) _ = get_or-set_other ws (i / 2) k _ 0 ne ∙ was
 
--- zeros behind the words need no marks, as long as those of the words stay
+-- zeros after the words need no marks, as long as those of the words stay
 pub marked_longer : (ws : List ℕ) (n : ℕ) (marks more : List Bool) → AreMarked marks ws → ((j : ℕ) → j * 1024 < length ws → get_or more j false ≡ get_or marks j false) →
     AreMarked more (ws ++ zeros n)
 marked_longer ws n marks more are same k off = at (cases_lt k (length ws)) (cases_lt k (length ws + n))

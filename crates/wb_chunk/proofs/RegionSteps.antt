@@ -1,7 +1,7 @@
 -- What the walks of a region share. Assumes `Logic`.
 --     region_had, region_made      what a region owns, taken apart to its block, and made of it
 --     shows_start                  what a `&` to a region shows of its pointer
---     snoc, words_room             a word behind others; words, and room behind them, are room
+--     snoc, words_room             a word after others; words, and room after them, are room
 --     words_dropped                so are the words past a number of them
 use mathlib.Core.Path.{◌≡◌, refl, ◌∙◌}
 use mathlib.Core.List.{List, [], ◌∷◌, ◌++◌}
@@ -67,7 +67,7 @@ module _ (Z : Al) where
   abbrev pub block_at : Rg.Denot → Ptr → List ℕ → Fml
   block_at d p words = block_with_items (token Z d.alloc) u32 p (length words) d.capacity words
 
-  -- the same behind the first m words, with the right to free it
+  -- the same after the first m words, with the right to free it
   abbrev pub spare_at : Rg.Denot → Ptr → ℕ → Fml
   spare_at d p m = fsep (room_for (room_ty (d.capacity - m)) (p +ₚ (m * 4))) (token Z d.alloc (room_ty d.capacity) p)
 

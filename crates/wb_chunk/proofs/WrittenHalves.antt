@@ -148,7 +148,7 @@ set-by_halves old new i vs same fits all inside outside =
         (inside (k - i) (omega arith) ∙ sym (halves-in old i vs (k - i) fits all (omega arith)))
     at k (inr ge) (inr past) = outside k (inr past) ∙ sym (halves-out old i vs k fits all (inr past))
 
--- one more half behind them
+-- one more half after them
 pub with_halves-more : (ws : List ℕ) (i : ℕ) (vs : List ℕ) (k v : ℕ) → k ≡ i + length vs → i + length vs < 2 * length ws → AreHalves (vs ++ v ∷ []) →
     with_half (with_halves ws i vs) k v ≡ with_halves ws i (vs ++ v ∷ [])
 with_halves-more ws i vs k v here fits all =
@@ -333,7 +333,7 @@ pairs-shifted old new s t m same fits fit inside outside =
         let h = get_or-halves_from old (suc (2 * s)) (2 * m) (suc (2 * j)) (omega arith) ∙ ap (half_of old) f ∙ low old (s + j + 1) in
         omega (arith, inside j lt, l, h)
 
--- words that were copied, and then shifted where they stand
+-- words that were copied, and then shifted where they are
 pub shift-written : (old moved ys : List ℕ) (s t m next : ℕ) → length moved ≡ length old → t + m ≤ length old → length ys ≡ m → All (λ w. w < 2 ^ 32) old →
     next ≡ get_or old (s + m) 0 → ((j : ℕ) → j < m → get_or moved (t + j) 0 ≡ get_or old (s + j) 0) →
     ((j : ℕ) → (j < t) ⊎ (t + m ≤ j) → get_or moved j 0 ≡ get_or old j 0) → AreShifted (take m (drop t moved)) next ys →

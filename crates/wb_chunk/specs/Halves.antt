@@ -27,6 +27,6 @@ with_halves words i (v ∷ vs) = with_half (with_halves words (suc i) vs) i v
 abbrev pub high_and_low : ℕ → ℕ → ℕ
 high_and_low word next = word / 2 ^ 16 + next % 2 ^ 16 * 2 ^ 16
 
--- each half stands one place before where it stood, with the low half of another word behind them
+-- each half is one place before where it was, with the low half of another word after them
 abbrev pub AreShifted : List ℕ → ℕ → List ℕ → Type 0
 AreShifted old next new = (k : ℕ) → k < length old → slice_index new k ≡ high_and_low (slice_index old k) (slice_index (old ++ next ∷ []) (k + 1))

@@ -8,7 +8,7 @@ use crate::marks::BLOCK;
 use crate::region::Region;
 use std::alloc::Global;
 
-/// Writes words behind the `count` that are there.
+/// Writes words after the `count` that are there.
 pub(crate) fn append_words(region: &mut Region<Global>, count: u32, words: &[u32])
     requires fits { (count ≡ length region.old.words)
         × (count + length words.now ≤ region.old.capacity) }
@@ -45,7 +45,7 @@ pub(crate) fn append_marked(region: &mut Region<Global>, words: &[u32], marks: &
     }
 }
 
-/// Writes `n` words that are 0 behind the `count` that are there.
+/// Writes `n` words that are 0 after the `count` that are there.
 pub(crate) fn append_zeros(region: &mut Region<Global>, count: u32, n: u32)
     requires fits { (count ≡ length region.old.words) × (count + n ≤ region.old.capacity) }
     requires bound { region.old.capacity ≤ MOST_WORDS }
@@ -58,7 +58,7 @@ pub(crate) fn append_zeros(region: &mut Region<Global>, count: u32, n: u32)
     }
 }
 
-/// Leaves the first `wanted` of the `count` words that are there, or appends words that are 0 until there are so many.
+/// Leaves the first `wanted` of the `count` words that are there, or appends words that are 0 until there are `wanted`.
 pub(crate) fn set_count(region: &mut Region<Global>, count: u32, wanted: u32)
     requires there { (count ≡ length region.old.words) × (count ≤ region.old.capacity) }
     requires fits { wanted ≤ region.old.capacity }

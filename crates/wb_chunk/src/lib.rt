@@ -1,7 +1,7 @@
 //! A list of 32-bit words in one region of memory, which the list owns and frees once.
 //!
 //! This file has the list, in plain code over the region; `region.rt` has the region, and no other file follows a raw
-//! pointer. What words mean stands in the crates above.
+//! pointer. What words mean is in the crates above.
 #![tactic(auto)]
 
 ghost use Rattle.std.specs.Prelude.{◌≡◌, ◌+◌, ◌*◌, ◌^◌, ◌<◌, ◌≤◌, [], ◌++◌, length, replicate, slice_index, slice_set};

@@ -47,7 +47,7 @@ pub(crate) fn zero(words: &mut [u32], marks: &mut [bool], i: usize, n: usize)
 }
 
 /// Puts other words, with marks of their own, over as many words. Only blocks that are marked in either are written. No
-/// block behind the words has a mark afterwards.
+/// block after the words has a mark afterwards.
 pub(crate) fn overwrite(
     words: &mut [u32],
     marks: &mut [bool],

@@ -55,7 +55,7 @@ impl<A: Allocator> Region<A> {
         unsafe { alloc.deallocate(start as *mut u8, capacity as usize * 4, 4) }
     }
 
-    /// Writes a word behind the others.
+    /// Writes a word after the others.
     pub(crate) fn append(&mut self, count: u32, word: u32)
         requires { (count ≡ length self.old.words) × (count < self.old.capacity) }
         ensures { (self.new.words ≡ self.old.words ++ word ∷ [])

@@ -103,7 +103,7 @@ pub words-fewer : (items : List Item) (m : ℕ) (ws : List ℕ) → m ≤ length
 words-fewer items m ws le e =
     sym (take-take (4 * m) (4 * length items) ws (omega (arith, le))) ∙ ap (take (4 * m)) e ∙ words-first items m le
 
--- an item that was written behind others
+-- an item that was written after others
 pub words-put : (items : List Item) (item : Item) (ws : List ℕ) → 4 * (length items + 1) ≤ length ws → take (4 * length items) ws ≡ items_words items →
     take (4 * (length items + 1)) (with_words (4 * length items) (slot_words item) ws) ≡ items_words (items ++ item ∷ [])
 words-put items item ws fits e =

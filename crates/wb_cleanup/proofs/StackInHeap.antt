@@ -18,7 +18,7 @@ use Rattle.wb_cleanup.specs.Slots.{with_words, words_of_slot}
 use Rattle.wb_cleanup.specs.Stacks.{has_above, newest_above, IsStack, IsPopped, cell_of, slots_of, count_of, items_of, all_but}
 use Rattle.wb_cleanup.proofs.SlotWords.{length-slot_words, length-with_words, slot-spells, words-fewer, words-put}
 
--- the stack stands in the heap with these items
+-- the stack is in the heap with these items
 pub record Stands (stack : Cleanup) (items : List Item) (d : Debug) : Type 0 where
   pub is : IsStack stack d
   pub items_are : items_of stack d ≡ items
@@ -39,7 +39,7 @@ stands stack items d at counted bounded =
       items_are = read;
     }
 
--- it stands in every heap with the same cell
+-- it is in every heap with the same cell
 pub stack-kept : (stack : Cleanup) (d e : Debug) → cell_at (cell_of stack) e.heap.row ≡ cell_at (cell_of stack) d.heap.row → IsStack stack d →
     Stands stack (items_of stack d) e
 stack-kept stack d e same is =
@@ -134,7 +134,7 @@ newest-slot stack d item k is found last =
     ∙ ap (λ j. words_of_slot j is.cell.cell.content) here
     ∙ slot-spells items (length items - 1) item is.cell.cell.content is.cell.spells.words found
 
--- an item that stands above a floor
+-- an item that is above a floor
 pub record IsNewest (floor : ℕ) (stack : Cleanup) (d : Debug) : Type 0 where
   pub item : Item
   pub found : newest_above floor (items_of stack d) ≡ Some item
@@ -166,7 +166,7 @@ newest-is floor stack d is above =
       is_item = at-element items (length items - 1) last.0 is.cell.spells.are_items last.1;
     }
 
--- where one stands above a floor there is one
+-- where one is above a floor there is one
 pub newest-within : (floor : ℕ) (stack : Cleanup) (d : Debug) (item : Item) → IsStack stack d → newest_above floor (items_of stack d) ≡ Some item → floor < count_of stack
 newest-within floor stack d item is found = by (has_above floor 1 (items_of stack d)) refl found
   where

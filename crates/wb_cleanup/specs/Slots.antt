@@ -11,7 +11,7 @@ with_words at new ws = take at ws ++ new ++ drop (at + length new) ws
 abbrev pub words_of_slot : ℕ → List ℕ → List ℕ
 words_of_slot slot ws = take 4 (drop (4 * slot) ws)
 
--- the slot stands within the words of a cell, and spells an item
+-- the slot is within the words of a cell, and spells an item
 pub record IsSlot (slot : ℕ) (ws : List ℕ) : Type 0 where
   pub within : 4 * (slot + 1) ≤ length ws
   pub bounded : length ws < 2 ^ 32

@@ -1,4 +1,4 @@
--- The cleanup stack as the list of its items, which stand in a cell of a heap.
+-- The cleanup stack as the list of its items, which are in a cell of a heap.
 use Rattle.std.specs.Prelude.{◌≡◌, ℕ, ◌+◌, ◌-◌, ◌*◌, ◌≤◌, List, [], Bool, nat_le, if◌then◌else◌, Option, Some, None, length, take, unwrap_or}
 use Rattle.wb_model.specs.declared.heap.TheConstants.Panic.{POP_BELOW_TRAP, ANOTHER_ITEM_ON_TOP}
 use Rattle.wb_model.specs.declared.limits.TheConstants.{CEILING}
@@ -20,7 +20,7 @@ cell_of stack = stack.cell
 abbrev pub slots_of : Cleanup → ℕ
 slots_of stack = stack.slots
 
--- how many items stand on it
+-- how many items are on it
 abbrev pub count_of : Cleanup → ℕ
 count_of stack = stack.used
 
@@ -28,14 +28,14 @@ count_of stack = stack.used
 abbrev pub items_of : Cleanup → Debug → List Item
 items_of stack d = unwrap_or (items_in (count_of stack) (payload_of (cell_of stack) d.heap.row)) []
 
--- the stack stands in the heap: the cell is valid there and a Cleanup cell with four words a slot, the slots are a multiple of 4,
+-- the stack is in the heap: the cell is valid there and a Cleanup cell with four words a slot, the slots are a multiple of 4,
 -- and the first ones spell the items; with its header it is no longer than the ceiling, as no cell is
 pub record IsStack (stack : Cleanup) (d : Debug) : Type 0 where
   pub cell : IsCleanupAt (cell_of stack) (slots_of stack) (items_of stack d) d
   pub counted : count_of stack ≡ length (items_of stack d)
   pub bounded : 16 * (slots_of stack + 1) ≤ CEILING
 
--- at least this number of items stand above the first ones, which make up the floor
+-- at least this number of items are above the first ones, which make up the floor
 abbrev pub has_above : ℕ → ℕ → List Item → Bool
 has_above floor n items = nat_le (floor + n) (length items)
 
@@ -43,7 +43,7 @@ has_above floor n items = nat_le (floor + n) (length items)
 abbrev pub all_but : ℕ → List Item → List Item
 all_but n items = take (length items - n) items
 
--- the stack lost its newest items and nothing else: so it is in every heap in which it stood
+-- the stack lost its newest items and nothing else: so it is in every heap in which it was
 pub record IsPopped (n : ℕ) (old new : Cleanup) : Type 0 where
   pub cell : cell_of new ≡ cell_of old
   pub slots : slots_of new ≡ slots_of old
@@ -52,7 +52,7 @@ pub record IsPopped (n : ℕ) (old new : Cleanup) : Type 0 where
   pub stands : (d : Debug) → IsStack old d → IsStack new d
   pub items : (d : Debug) → IsStack old d → items_of new d ≡ all_but n (items_of old d)
 
--- what a pop refuses, by the number of items that stand
+-- what a pop refuses, by the number of items that are there
 abbrev pub pop_refusal : ℕ → ℕ → ℕ → Option Panic
 pop_refusal floor n count = if nat_le (floor + n) count then None else Some POP_BELOW_TRAP
 

@@ -22,12 +22,12 @@ const MORE_SLOTS: u32 = 4;
 
 /// The cleanup stack: items in slots in the words of a cell of a debug heap, the oldest first.
 ///
-/// Every call but `start` that is handed a heap asks for the one in which the stack stands. Source: Symbian OS v9 SDK reference,
+/// Every call but `start` that is handed a heap asks for the one in which the stack is. Source: Symbian OS v9 SDK reference,
 /// CleanupStack, and this project's profile for the slots.
 #[derive(Clone, Copy, Debug, PartialEq, Eq)]
 pub struct Cleanup {
     cell: Ptr,
-    /// How many items stand on it.
+    /// How many items are on it.
     used: u32,
     /// How many items the cell has room for.
     slots: u32,
@@ -72,7 +72,7 @@ impl Cleanup {
         }
     }
 
-    /// How many items stand on the stack.
+    /// How many items are on the stack.
     pub fn used(&self) -> u32
         ensures { result ≡ count_of self.now }
     {
@@ -180,7 +180,7 @@ impl Cleanup {
         self.used += 1;
     }
 
-    /// Takes the `n` newest items off. `Panic::POP_BELOW_TRAP` where fewer than `n` stand above the `floor` first ones, and
+    /// Takes the `n` newest items off. `Panic::POP_BELOW_TRAP` if fewer than `n` are above the `floor` first ones, and
     /// then the stack is as it was.
     ///
     /// What is done with the items is the caller's. Source: Symbian OS v9 SDK reference, CleanupStack::Pop, and this
@@ -201,7 +201,7 @@ impl Cleanup {
 
     /// Takes the newest item off, which must be of this pointer: of its place and of its number.
     ///
-    /// `Panic::POP_BELOW_TRAP` where none stands above the `floor` first ones, then `Panic::ANOTHER_ITEM_ON_TOP` where the
+    /// `Panic::POP_BELOW_TRAP` if none is above the `floor` first ones, then `Panic::ANOTHER_ITEM_ON_TOP` where the
     /// newest is of another pointer; the stack is then as it was. Source: Symbian OS v9 SDK reference,
     /// CleanupStack::Pop, and this project's profile for the floor and the panics.
     pub fn pop_expected(&mut self, heap: &DebugHeap, floor: u32, ptr: Ptr) -> Result<(), Panic>
@@ -223,7 +223,7 @@ impl Cleanup {
         Ok(())
     }
 
-    /// Takes the newest item off that stands above the `floor` first ones, and gives it; `None` where none does, and then
+    /// Takes the newest item off that is above the `floor` first ones, and gives it; `None` if there is none, and then
     /// the stack is as it was.
     ///
     /// Source: Symbian OS v9 SDK reference, CleanupStack::PopAndDestroy, and this project's profile for the floor.

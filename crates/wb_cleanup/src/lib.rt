@@ -1,6 +1,6 @@
 //! The cleanup stack: items in slots in the words of one cell of the debug heap, which grows with them.
 //!
-//! The calls stand in `cleanup`; `slots` writes and reads one slot.
+//! The calls are in `cleanup`; `slots` writes and reads one slot.
 #![tactic(auto)]
 
 pub mod cleanup;

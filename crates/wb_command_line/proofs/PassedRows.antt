@@ -37,7 +37,7 @@ found_in p (x ∷ xs) a e = go (p x) refl (found_in p xs a)
     go true is later = let here : Some x ≡ Some a = rw is at e in inl (cc)
     go false isnt later = inr (later (rw isnt at e))
 
--- a use of the argument neither counts nor adds to what stands
+-- a use of the argument neither counts nor adds to what is
 abbrev pub is_single : ArgAction → Bool
 is_single action.Append = false
 is_single action.Count = false

@@ -91,7 +91,7 @@ level name takes = built_leaf (subcommand_line name takes).top
 abbrev pub level_of : Subcommand → Shape
 level_of s = level s.name s.takes
 
--- a level that has the options of all subcommands, which none of them is: each id stands there once
+-- a level that has the options of all subcommands, which none of them is: each id is there once
 abbrev pub joined_level : Shape
 joined_level =
     built_leaf (line_with [] (own_options taking.Rule ++ own_options taking.Failures)).top

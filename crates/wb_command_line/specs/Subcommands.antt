@@ -1,4 +1,4 @@
--- The subcommands: how each is called, which failures it may be told, and what it asks for.
+-- The subcommands: how each is called, which failures may be named, and what it asks for.
 use Rattle.std.specs.Prelude.{List, [], ◌∷◌, Option, codes, find}
 use Rattle.std.specs.Str.{bytes_eq}
 use Rattle.clap.specs.Words.{Text}

@@ -51,7 +51,7 @@ abbrev pub has_no_option : List Text → List Text → Bool
 has_no_option names [] = true
 has_no_option names (word ∷ rest) = is_separator word || (not (names_option names word) && has_no_option names rest)
 
--- what the words after a subcommand name: FILE, or nothing (`Some None`); `None` where they are not taken. One `--` may stand
+-- what the words after a subcommand name: FILE, or nothing (`Some None`); `None` where they are not taken. One `--` may be
 -- before FILE, which may then be any word, or after it, or alone
 abbrev pub file_named : List Text → Option (Option Text)
 file_named [] = Some None

@@ -1,4 +1,4 @@
-//! What the words of a command line ask for, and why they may ask for nothing. How they are read stands in
+//! What the words of a command line ask for, and why they may ask for nothing. How they are read is in
 //! `command_line`.
 ghost use Rattle.std.specs.Prelude.{◌≡◌};
 ghost use Rattle.wb_command_line.specs.declared.command.CommandFault.TheVariants.{NoMemory};

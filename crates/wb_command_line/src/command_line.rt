@@ -225,7 +225,7 @@ fn picture_in(alloc: Global, options: &ArgMatches) -> Result<Option<FileName>, A
 }
 
 /// Law: which words the command line takes, and what they spell, word by word. After the program's name and that of a
-/// subcommand stands one FILE or none, and one `--` or none before or after it. FILE begins with no hyphen or is `-`, but
+/// subcommand comes one FILE or none, and one `--` or none before or after it. FILE begins with no hyphen or is `-`, but
 /// after `--` it is any word. What is an option of another subcommand is a word that begins with a hyphen. `sweep` and `check`
 /// then try failures of one attempt at a time.
 pub fn words_are_read()

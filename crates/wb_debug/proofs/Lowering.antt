@@ -65,7 +65,7 @@ put-here to c cs = ap (λ b. cond b (record c { head = record c.head { level = t
 put-following : (h : Header) (to : ℕ) (c : Cell (List ℕ)) (cs : List (Cell (List ℕ))) → h.place ≢ c.head.place → put h to (c ∷ cs) ≡ c ∷ put h to cs
 put-following h to c cs apart = ap (λ b. cond b (record c { head = record c.head { level = to } } ∷ cs) (c ∷ put h to cs)) (elsewhere h c.head apart)
 
--- behind a cell the row may as well begin at its end
+-- after a cell the row may as well begin at its end
 lowered_on-following : (from level : ℕ) (h : Header) (row : List (Cell (List ℕ))) → IsSpacedFrom (end_of h) (headers row) → from ≤ end_of h →
     lowered_on (end_of h) level row ≡ lowered_on from level row
 lowered_on-following from level h row s le = lowered_on-all (end_of h) level (end_of h) row s (omega arith) ∙ sym (lowered_on-all from level (end_of h) row s le)
@@ -233,7 +233,7 @@ lowered_on-rest from level (c ∷ cs) none = by (nat_le from c.head.place) (is_c
         ap (λ d. d ∷ lowered_on from level cs) stays
         ∙ ap (λ r. c ∷ r) (rest (omega (arith, left, number-cons (is_counted (One level)) c.head (onward from (headers cs)))))
 
--- the cells behind one that changes its level
+-- the cells after one that changes its level
 onward-put : (h : Header) (to : ℕ) (row : List (Cell (List ℕ))) → 1 ≤ h.length → onward (end_of h) (headers (with_level (pointer_to h) to row)) ≡ onward (end_of h) (headers row)
 onward-put h to [] some = refl
 onward-put h to (c ∷ cs) some = by (is_at (pointer_to h) c.head) refl (onward-put h to cs some)

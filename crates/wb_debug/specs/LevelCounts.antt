@@ -28,7 +28,7 @@ pub record IsAt (cs : List LevelCount) (level i : ℕ) : Type 0 where
   pub in_range : i < length cs
   pub has_level : level_at cs i ≡ level
 
--- the level has no count: lower levels stand before the index, and higher ones from it on
+-- the level has no count: lower levels are before the index, and higher ones from it on
 pub record IsGapFor (cs : List LevelCount) (level i : ℕ) : Type 0 where
   pub in_range : i ≤ length cs
   pub lower_before : (j : ℕ) → j < i → level_at cs j < level

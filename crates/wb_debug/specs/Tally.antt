@@ -23,7 +23,7 @@ number test row = length (filter test row)
 abbrev pub is_below : (Header → Bool) → ℕ → Header → Bool
 is_below test place h = test h && nat_lt h.place place
 
--- the counts tell how many cells each level has, and none of them is below the place
+-- the counts say how many cells each level has, and none of them is below the place
 pub record AreRight (levels : List LevelCount) (row : List Header) : Type 0 where
   pub counts : (l : ℕ) → (counted_at levels l).count ≡ number (is_counted (One l)) row
   pub lowest : (l : ℕ) → number (is_below (is_counted (One l)) (counted_at levels l).lowest) row ≡ 0

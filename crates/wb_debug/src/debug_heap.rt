@@ -1,4 +1,4 @@
-//! The debug heap: attempts and releases. Marks stand in `checks`, what is to fail in `failing`, notes in `notes`, headers and
+//! The debug heap: attempts and releases. Marks are in `checks`, what is to fail in `failing`, notes in `notes`, headers and
 //! the words of payloads in `payloads`, and the cells in the crate below.
 
 ghost use Rattle.std.specs.Prelude.{◌≡◌, ◌≢◌, ◌+◌, ◌^◌, ◌<◌, ◌≤◌, ◌↔◌, [], false, true, None, Some, is_some, length};
@@ -259,8 +259,8 @@ impl DebugHeap {
     /// Gives the cell that the pointer names another length, for `bytes` bytes.
     ///
     /// A cell length that isn't longer is no attempt: it answers `Granted` with the pointer, the tail is free, and what
-    /// stood there is dropped. A longer one is an attempt, and is answered as `attempt_alloc` does. Its place is the
-    /// cell's own where the bytes behind it are free, and else the lowest that fits beside it. What the cell holds is
+    /// was there is dropped. A longer one is an attempt, and is answered as `attempt_alloc` does. Its place is the
+    /// cell's own where the bytes after it are free, and else the lowest that fits beside it. What the cell holds is
     /// kept and followed by zeros; kind and level are kept; a cell that moved bears the attempt's number, so that the old
     /// pointer is stale. Source: Symbian OS v9 SDK reference, RHeap, for what is kept and for a refusal that leaves the
     /// cell, and this project's profile for places and numbers.
@@ -306,7 +306,7 @@ impl DebugHeap {
         Ok(gave)
     }
 
-    /// The line that the next attempt adds to the trace, for a cell of this length at this place, both in bytes; none where
+    /// The line that the next attempt adds to the trace, for a cell of this length at this place, both in bytes; `None` if
     /// the ceiling cuts the run. The setting is asked first, then the rule, then the ceiling.
     fn next_line(&self, len: u32, place: u32) -> Option<Attempt>
         requires number { self.now.attempts + 1 < 2 ^ 32 }

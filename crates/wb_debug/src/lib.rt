@@ -1,7 +1,7 @@
 //! The debug heap: a simulated heap that counts the attempts to get a cell, refuses those that are to fail, and checks
 //! nested marks.
 //!
-//! What an attempt asks stands in `setting` (the script's own) and `rules` (the run's), what is kept of it in `log`, what the
+//! What an attempt asks is in `setting` (the script's own) and `rules` (the run's), what is kept of it in `log`, what the
 //! live cells come to in `tally`, and what a check counts in `marks`.
 #![tactic(auto)]
 

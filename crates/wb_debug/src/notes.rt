@@ -26,7 +26,7 @@ impl DebugHeap {
         Note::Available(total, longest)
     }
 
-    /// Gives up committed length above the last live cell, and tells how much. Source: Symbian OS v9 SDK reference,
+    /// Gives up committed length above the last live cell, and returns how much. Source: Symbian OS v9 SDK reference,
     /// RHeap, and this project's profile for the lengths.
     pub fn note_compress(&mut self) -> Note
         ensures note { result ≡ note_of_compress self.old }

@@ -25,7 +25,7 @@ fn refusal(rule: Rule, number: u32, end: u32) -> Option<Answer>
     }
 }
 
-/// The answer to an attempt whose cell would end here, or none where the ceiling cuts the run. The script's own setting,
+/// The answer to an attempt whose cell would end here, or `None` if the ceiling cuts the run. The script's own setting,
 /// which may be due, is asked before the rule.
 pub fn answer(due: bool, rule: Rule, number: u32, end: u32) -> Option<Answer>
     ensures { result

@@ -15,7 +15,7 @@ use wb_script::read;
 /// What was found.
 #[derive(Clone, Copy, Debug, PartialEq, Eq)]
 pub(crate) enum Comparison {
-    /// So many forks were made under numbers and as many under rates, and so many under pairs, and each comes to what its run
+    /// This many forks were made under numbers and as many under rates, and this many under pairs, and each comes to what its run
     /// does; and as many copies as there are numbers are apart from their sources.
     Same { forks: u32, pairs: u32 },
     /// The fork under this failure comes to something else than its run.

@@ -11,7 +11,7 @@ use wb_model::heap::Rule;
 use wb_model::memory::NoMemory;
 use wb_model::script::Script;
 
-/// Where a run stands, as far as its machine shows it.
+/// Where a run is, as far as its machine shows it.
 #[derive(Clone, Copy, Debug, PartialEq, Eq)]
 struct Place {
     attempts: u32,
@@ -32,7 +32,7 @@ enum First {
 const NONE: Rule = Rule::Number(0);
 
 /// Copies a script's run without failure before each of its attempts, of which there are as many as forks under numbers, and
-/// tells whether each copy and its source are apart, whichever of the two ends first. So many forks under pairs were compared
+/// says whether each copy and its source are apart, whichever of the two ends first. That many forks under pairs were compared
 /// before.
 pub(crate) fn compare_copies(
     alloc: Global,
@@ -50,7 +50,7 @@ pub(crate) fn compare_copies(
     Ok(Comparison::Same { forks, pairs })
 }
 
-/// Whether a copy and its source are apart, where the copy is taken when so many attempts are made and the next is to come.
+/// Whether a copy and its source are apart, where the copy is taken when `made` attempts are made and the next is to come.
 fn are_apart(alloc: Global, script: &Script, made: u32) -> Result<bool, RunFault>
     requires { IsTrue (is_script script.now) }
 {
@@ -70,7 +70,7 @@ fn one_waits(alloc: Global, script: &Script, made: u32, first: First) -> Result<
     Ok(is_source_as_run && is_copy_apart?)
 }
 
-/// Copies a run once so many attempts are made, lets one of the two end, and then the copy. The source is left for its own end.
+/// Copies a run once a number of attempts are made, lets one of the two end, and then the copy. The source is left for its own end.
 fn is_copy_apart(
     alloc: Global,
     script: &Script,
@@ -87,7 +87,7 @@ fn is_copy_apart(
     Ok(is_copy_as_run && stays?)
 }
 
-/// Goes on until so many attempts are made and the next turn makes one more, or to the end of a run that makes no more.
+/// Goes on until a number of attempts are made and the next turn makes one more, or to the end of a run that makes no more.
 fn go_to_attempt(source: &mut Machine, made: u32) -> Result<(), NoMemory> {
     for _ in 0..MOST_TURNS {
         if source.attempts() == made && source.will_attempt() {
@@ -105,7 +105,7 @@ fn one_stays(first: First, source: &mut Machine, copy: &mut Machine) -> Result<b
     }
 }
 
-/// Whether two machines stand at the same place, and one of them still does when the other has come to its end.
+/// Whether two machines are at the same place, and one of them is still there when the other has come to its end.
 fn stays(waiting: &Machine, going: &mut Machine) -> Result<bool, NoMemory> {
     let place = place_of(waiting);
     let is_same = place == place_of(going);

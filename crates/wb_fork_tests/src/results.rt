@@ -1,4 +1,4 @@
-//! What runs come to, beside one another: all that a run tells is compared.
+//! What runs come to, beside one another: all that a run reports is compared.
 
 ghost use Rattle.std.specs.Prelude.{IsTrue};
 ghost use Rattle.wb_model.specs.language.Sound.{is_script};
@@ -45,7 +45,7 @@ pub(crate) fn is_result(
     Ok(is_same(&whole, run_result))
 }
 
-/// Whether two runs tell the same in all that they tell.
+/// Whether two runs report the same in all that they report.
 fn is_same(one: &RunResult, other: &RunResult) -> bool {
     let RunResult {
         outcome,

@@ -29,7 +29,7 @@ half-is (w ∷ ws) zero = refl
 half-is (w ∷ ws) (suc zero) = refl
 half-is (w ∷ ws) (suc (suc i)) = rw (following-two i, same-side i) (half-is ws i)
 
--- a half behind the length word
+-- a half after the length word
 pub half-following : (w : ℕ) (ws : List ℕ) (i k : ℕ) → k ≡ suc (suc i) → half_of (w ∷ ws) k ≡ get_or (halves ws) i 0
 half-following w ws i k e = ap (half_of (w ∷ ws)) e ∙ half-is (w ∷ ws) (suc (suc i))
 
@@ -51,7 +51,7 @@ with_half-is (a ∷ b ∷ us) (suc (suc i)) v even all lt =
     with_half-following (a + b * 2 ^ 16) (joined us) i v
     ∙ ap (λ ws. (a + b * 2 ^ 16) ∷ ws) (with_half-is us i v (omega (arith, even)) (λ k d less. all (suc (suc k)) d (omega (arith, less))) (omega (arith, lt)))
 
--- a unit is set behind the length word
+-- a unit is set after the length word
 pub set-following : (w : ℕ) (us : List ℕ) (i k v : ℕ) → k ≡ suc (suc i) → length us % 2 ≡ 0 → AreUnits us → i < length us →
     with_half (w ∷ joined us) k v ≡ w ∷ joined (set us i v)
 set-following w us i k v e even all lt =
@@ -68,7 +68,7 @@ length-put at us all fits =
 pub units-put : (at : ℕ) (us all : List ℕ) → AreUnits us → AreUnits all → AreUnits (put at us all)
 units-put at us all new old = All-append IsUnit (take at all ++ us) (drop (at + length us) all) (All-append IsUnit (take at all) us (All-take IsUnit at all old) new) (All-drop IsUnit (at + length us) all old)
 
--- some behind others
+-- some after others
 pub put-put : (at k : ℕ) (us vs all : List ℕ) → k ≡ at + length us → at + length us ≤ length all → put k vs (put at us all) ≡ put at (us ++ vs) all
 put-put at k us vs all here fits =
     let front : length (take at all ++ us) ≡ k = omega (arith, length-append (take at all) us, length-take-le at all (omega (arith, fits)), here) in
@@ -95,7 +95,7 @@ put-before at v vs us fits =
     ∙ sym (append_assoc (take at us) (v ∷ vs) rest)
     ∙ ap (λ n. take at us ++ v ∷ vs ++ drop n us) ends
 
--- a run of units is written behind the length word
+-- a run of units is written after the length word
 pub put-following : (w : ℕ) (us : List ℕ) (at k : ℕ) (vs : List ℕ) → k ≡ suc (suc at) → length us % 2 ≡ 0 → AreUnits us → AreUnits vs → at + length vs ≤ length us →
     with_halves (w ∷ joined us) k vs ≡ w ∷ joined (put at vs us)
 put-following w us at k [] here even all new fits = ap (λ vs. w ∷ joined vs) (sym (put-none at us))
@@ -140,7 +140,7 @@ put-more at us all i k v here lt fits is =
     ∙ sym (append_assoc (take at all ++ take i us) (get_or us i 0 ∷ []) (drop (at + length (take (i + 1) us)) all))
     ∙ ap (λ ws. ws ++ drop (at + length (take (i + 1) us)) all) (append_assoc (take at all) (take i us) (get_or us i 0 ∷ []) ∙ ap (λ ws. take at all ++ ws) (sym (take_more us i 0 lt)))
 
--- what stands before and behind them stays
+-- what is before and after them stays
 pub get_or-put_before : (at : ℕ) (us all : List ℕ) (k : ℕ) → at ≤ length all → k < at → get_or (put at us all) k 0 ≡ get_or all k 0
 get_or-put_before at us all k le lt =
     let front : length (take at all) ≡ at = length-take-le at all le in
@@ -203,7 +203,7 @@ part-within all len start there fits =
     let e : start + (len - start) ≡ len = omega arith in
     ap (λ n. take there (drop start (take n all))) (sym e) ∙ ap (take there) (drop-take start (len - start) all) ∙ take-take there (len - start) (drop start all) (omega (arith, fits))
 
--- the units once a text was cut or grew to a number of them: what stands past it is zero
+-- the units once a text was cut or grew to a number of them: what is past it is zero
 pub settled : (n len : ℕ) (t all : List ℕ) → length t ≡ n → n ≤ length all → len ≤ length all → take n all ≡ t →
     ((k : ℕ) → n + (len - n) ≤ k → get_or all k 0 ≡ 0) → put n (replicate (len - n) 0) all ≡ exactly (length all) t
 settled n len t all same fits within front following =

@@ -11,7 +11,7 @@ use Rattle.wb_model.specs.cells.TextCells.{joined, room_in, units_after, text_at
 abbrev pub put : ℕ → List ℕ → List ℕ → List ℕ
 put at us all = take at all ++ us ++ drop (at + length us) all
 
--- the words that a pointer names are a length, and units behind it
+-- the words that a pointer names are a length, and units after it
 pub record HasUnits (p : Ptr) (d : Debug) : Type 0 where
   pub some : 1 ≤ length (payload_of p d.heap.row)
   pub within : slice_index (payload_of p d.heap.row) 0 ≤ room_in (length (payload_of p d.heap.row))
@@ -26,7 +26,7 @@ pub record IsMeasured (p : Ptr) (d : Debug) (len most : ℕ) : Type 0 where
   pub units : HasUnits p d
   pub sound : IsSoundDebug d
 
--- the heap once the cell has this length word and these units behind it
+-- the heap once the cell has this length word and these units after it
 pub record IsDraft (p : Ptr) (old new : Debug) (len : ℕ) (us : List ℕ) : Type 0 where
   pub changed : new ≡ debug_changed old p (len ∷ joined us)
   pub room : length us ≡ room_in (length (payload_of p old.heap.row))

@@ -105,7 +105,7 @@ fn measure(heap: &DebugHeap, ptr: Ptr) -> Measured
     }
 }
 
-/// Changes the text in a cell by the units of a source, which count as they stood before.
+/// Changes the text in a cell by the units of a source, which count as they were before.
 ///
 /// `Panic::POSITION_OUT_OF_BOUNDS` where an insertion's position is past the end, then `Panic::TOO_LONG` where the text
 /// would be longer than its maximum. A refusal leaves the heap as it was. Other cells stay. Source: Symbian OS v9 SDK
@@ -235,8 +235,8 @@ pub fn set_length(heap: &mut DebugHeap, ptr: Ptr, n: u32) -> Result<(), Panic>
     Ok(())
 }
 
-/// Changes a buffer by the units of a source, which count as they stood before. The heap is where the source's cell
-/// stands.
+/// Changes a buffer by the units of a source, which count as they were before. The heap is where the source's cell
+/// is.
 ///
 /// `Panic::POSITION_OUT_OF_BOUNDS` where an insertion's position is past the end, then `Panic::TOO_LONG` where the text
 /// would be longer than its maximum. A refusal leaves the buffer as it was. Source: Symbian OS v9 SDK reference, 16-bit

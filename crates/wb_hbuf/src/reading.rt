@@ -64,7 +64,7 @@ pub fn foreign_unit(heap: &DebugHeap, source: Source, i: u32) -> u16
     }
 }
 
-/// A source other than the destination's own text, with the heap that its cell stands in.
+/// A source other than the destination's own text, with the heap that its cell is in.
 #[derive(Clone, Copy)]
 pub struct Part<'h, 's> {
     pub heap: &'h DebugHeap,
@@ -133,7 +133,7 @@ fn append_literal(to: &mut ArrayVec<u16, 256>, bytes: &[u8], from: u32, count: u
     push_zeros(to, count as usize - there);
 }
 
-/// Appends so many zeros.
+/// Appends `n` zeros.
 fn push_zeros(to: &mut ArrayVec<u16, 256>, n: usize)
     requires { length to.old.items + n ≤ 256 }
     ensures { to.new.items ≡ to.old.items ++ replicate n 0 }

@@ -9,7 +9,7 @@ use wb_text::Buf;
 pub enum Edit {
     /// They take its place.
     Copy,
-    /// They go behind it.
+    /// They go after it.
     Append,
     /// They go in front of the unit at this position.
     Insert(u32),
@@ -25,6 +25,6 @@ pub enum Source<'a> {
     Buffer(&'a Buf, u32, u32),
     /// Of the text in a cell other than the destination.
     Cell(Ptr, u32, u32),
-    /// Of the destination's own text, as it stood before the edit.
+    /// Of the destination's own text, as it was before the edit.
     Own(u32, u32),
 }

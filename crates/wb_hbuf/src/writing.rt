@@ -1,5 +1,5 @@
-//! What edits write into a cell. The length word tells the text as it stood before until `settle`, the last step of each
-//! edit. Units behind the length word are halves of the payload from the third on.
+//! What edits write into a cell. The length word gives the text as it was before until `settle`, the last step of each
+//! edit. Units after the length word are halves of the payload from the third on.
 
 ghost use Rattle.std.specs.Prelude.{◌≡◌, ◌+◌, ◌-◌, ◌*◌, ◌^◌, ◌<◌, ◌≤◌, drop, length, replicate, slice_index};
 ghost use Rattle.wb_hbuf.specs.Drafts.{HasUnits, IsDraft, IsPut, put};
@@ -15,7 +15,7 @@ use wb_debug::DebugHeap;
 use wb_model::heap::Ptr;
 use wb_model::script::Chars;
 
-/// Writes the units of a source from a position on. They count as they stood before, also where they are the text's own.
+/// Writes the units of a source from a position on. They count as they were before, also where they are the text's own.
 pub fn write_units(heap: &mut DebugHeap, ptr: Ptr, at: u32, source: Source)
     requires units { HasUnits ptr heap.old }
     requires most { 2 * length (payload_of ptr heap.old.heap.row) < 2 ^ 32 }
@@ -92,7 +92,7 @@ pub fn open_gap(heap: &mut DebugHeap, ptr: Ptr, at: u32, gap: u32)
     heap.copy_halves(ptr, at + 2, ptr, at + gap + 2, len - at);
 }
 
-/// Writes the length, after zeros for the units of the text that stand past it.
+/// Writes the length, after zeros for the units of the text that are past it.
 pub fn settle(heap: &mut DebugHeap, ptr: Ptr, n: u32)
     requires units { HasUnits ptr heap.old }
     requires most { 2 * length (payload_of ptr heap.old.heap.row) < 2 ^ 32 }

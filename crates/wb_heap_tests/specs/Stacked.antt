@@ -4,7 +4,7 @@ use Rattle.wb_model.specs.heap.Debug.{Debug, IsSoundDebug}
 use Rattle.wb_cleanup.specs.declared.cleanup.Cleanup.{Cleanup}
 use Rattle.wb_cleanup.specs.Stacks.{IsStack, count_of, slots_of}
 
--- the stack stands in the heap, and where it isn't full has a slot for the next item
+-- the stack is in the heap, and where it isn't full has a slot for the next item
 pub record IsStacked (stack : Cleanup) (heap : Debug) (full : Bool) : Type 0 where
   pub stands : IsStack stack heap
   pub sound : IsSoundDebug heap

@@ -19,7 +19,7 @@ enum Change {
     SetLength(u32),
 }
 
-/// Changes that are made one after the other, of a buffer for so many units.
+/// Changes that are made one after the other, of a buffer for a number of units.
 #[derive(Clone, Copy)]
 struct WorkedBuffer {
     max: u8,

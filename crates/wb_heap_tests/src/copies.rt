@@ -1,4 +1,4 @@
-//! Copies of heaps, cells and words: each tells what its source does, and what is done to one changes nothing in the other. Those
+//! Copies of heaps, cells and words: each reports what its source does, and what is done to one changes nothing in the other. Those
 //! of heaps are taken before the sixth attempt of a script that frees neighbours and then asks for a cell in their place.
 
 use crate::debug_calls::{Call as DebugCall, CopiedDebugHeap, Marked, WorkedDebugHeap};
@@ -120,7 +120,7 @@ static HEAP: CopiedHeap = CopiedHeap {
 
 // What a debug heap is asked, and a heap: one function for each step, since a proof grows with the heaps that a function drops.
 
-/// Whether a debug heap tells the same before and after another one changes.
+/// Whether a debug heap reports the same before and after another one changes.
 fn stays_beside(heap: &mut Marked, other: &mut Marked, copied: &CopiedDebugHeap) -> bool {
     let is_same = other.all_answer(copied.told) & heap.all_answer(copied.told);
     let has_changed = other.all_answer(copied.changes);

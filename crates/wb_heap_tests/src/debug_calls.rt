@@ -17,7 +17,7 @@ pub(crate) enum Call {
     /// The attempt is denied.
     NoAlloc(u32),
     AllocPastCeiling(u32),
-    /// Where the cell stands then, and with which number.
+    /// Where the cell is then, and with which number.
     Realloc(Cell, u32, Cell),
     /// The attempt is denied.
     NoRealloc(Cell, u32),
@@ -35,20 +35,20 @@ pub(crate) enum Call {
     FailNone,
     Store(Cell, u32, u32),
     StoreHalf(Cell, u32, u16),
-    /// From the one to the other, so many words.
+    /// From the one to the other, a number of words.
     Copy(Cell, Cell, u32),
     /// So many halves from one on become 0.
     ZeroHalves(Cell, u32, u32),
     /// Halves from one on.
     WriteHalves(Cell, u32, &'static [u16]),
-    /// From a half of the one to a half of the other, so many.
+    /// From a half of the one to a half of the other, a number of halves.
     CopyHalves(Cell, u32, Cell, u32, u32),
     /// A word of the payload.
     Word(Cell, u32, u32),
     Half(Cell, u32, u16),
     /// The cell's length, header included, and its level.
     Header(Cell, u32, u32),
-    /// Nothing is told of a pointer that names no cell.
+    /// Nothing is known of a pointer that names no cell.
     NoHeader(Cell),
     Attempts(u32),
     /// Numbers, lengths, places and answers.
@@ -72,7 +72,7 @@ pub(crate) struct WorkedDebugHeap {
     pub(crate) calls: &'static [Call],
 }
 
-/// A debug heap that is copied after some calls: what both tell then, and calls that change one of them.
+/// A debug heap that is copied after some calls: what both report then, and calls that change one of them.
 #[derive(Clone, Copy)]
 pub(crate) struct CopiedDebugHeap {
     pub(crate) before: WorkedDebugHeap,
@@ -296,7 +296,7 @@ impl Marked {
         }
     }
 
-    /// Makes halves 0, where there are so many.
+    /// Makes halves 0, if there are that many.
     fn zero_halves(&mut self, ptr: Ptr, i: u32, n: u32) -> bool {
         match self.heap.header(ptr) {
             Some(header) if i <= 2 * header.words() && n <= 2 * header.words() - i => {
@@ -307,7 +307,7 @@ impl Marked {
         }
     }
 
-    /// Writes halves, where there are so many.
+    /// Writes halves, if there are that many.
     fn write_halves(&mut self, ptr: Ptr, i: u32, halves: &[u16]) -> bool {
         match self.heap.header(ptr) {
             Some(header) if i <= 2 * header.words() => {

@@ -179,7 +179,7 @@ static ATTEMPTS: [WorkedDebugHeap; 16] = [
         ],
     },
     WorkedDebugHeap {
-        about: "growth fills the hole behind",
+        about: "growth fills the hole after it",
         rule: Rule::Unlimited,
         shape: SHAPE,
         calls: &[

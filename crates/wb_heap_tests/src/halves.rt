@@ -12,7 +12,7 @@ use wb_chunk::Chunk;
 enum Run {
     /// So many from a place on become 0.
     Zero(u32, u32),
-    /// These stand from a place on.
+    /// These are from a place on.
     Write(u32, &'static [u16]),
     /// From, to, and how many.
     Copy(u32, u32, u32),

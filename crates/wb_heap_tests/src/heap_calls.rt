@@ -27,7 +27,7 @@ pub(crate) enum Call {
     Alloc(u32, Cell),
     /// The limit forbids it.
     NoAlloc(u32),
-    /// Where the cell stands then, and with which number.
+    /// Where the cell is then, and with which number.
     Realloc(Cell, u32, Cell),
     /// Why the cell stays as it is.
     NoRealloc(Cell, u32, HeapFault),
@@ -37,13 +37,13 @@ pub(crate) enum Call {
     SetLevel(Cell, u32),
     Store(Cell, u32, u32),
     StoreHalf(Cell, u32, u16),
-    /// From the one to the other, so many words.
+    /// From the one to the other, a number of words.
     Copy(Cell, Cell, u32),
     /// So many halves from one on become 0.
     ZeroHalves(Cell, u32, u32),
     /// Halves from one on.
     WriteHalves(Cell, u32, &'static [u16]),
-    /// From a half of the one to a half of the other, so many.
+    /// From a half of the one to a half of the other, a number of halves.
     CopyHalves(Cell, u32, Cell, u32, u32),
     /// A word of the payload.
     Word(Cell, u32, u32),
@@ -56,7 +56,7 @@ pub(crate) enum Call {
     AllocLen(Cell, u32),
     /// The cell's length and its level.
     Header(Cell, u32, u32),
-    /// Nothing is told of a pointer that names no cell.
+    /// Nothing is known of a pointer that names no cell.
     NoHeader(Cell),
     /// The first cell from a place on.
     NextLive(u32, Cell),
@@ -79,7 +79,7 @@ pub(crate) struct WorkedHeap {
     pub(crate) calls: &'static [Call],
 }
 
-/// A heap that is copied after some calls: what both tell then, and calls that change one of them.
+/// A heap that is copied after some calls: what both report then, and calls that change one of them.
 #[derive(Clone, Copy)]
 pub(crate) struct CopiedHeap {
     pub(crate) before: WorkedHeap,
@@ -304,7 +304,7 @@ impl Numbered {
         }
     }
 
-    /// Makes halves 0, where there are so many.
+    /// Makes halves 0, if there are that many.
     fn zero_halves(&mut self, ptr: Ptr, i: u32, n: u32) -> bool {
         match self.heap.header(ptr) {
             Some(header) if i <= 2 * header.words() && n <= 2 * header.words() - i => {
@@ -315,7 +315,7 @@ impl Numbered {
         }
     }
 
-    /// Writes halves, where there are so many.
+    /// Writes halves, if there are that many.
     fn write_halves(&mut self, ptr: Ptr, i: u32, halves: &[u16]) -> bool {
         match self.heap.header(ptr) {
             Some(header) if i <= 2 * header.words() => {

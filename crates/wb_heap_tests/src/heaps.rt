@@ -307,7 +307,7 @@ static REALLOCATIONS: [WorkedHeap; 9] = [
         ],
     },
     WorkedHeap {
-        about: "room behind a cell is what was freed there",
+        about: "room after a cell is what was freed there",
         limit: CEILING,
         shape: SHAPE,
         calls: &[

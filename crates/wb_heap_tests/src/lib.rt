@@ -1,5 +1,5 @@
 //! Nothing but tests: of the heap, from words of memory up to attempts, of texts, objects and the cleanup stack, by the public
-//! calls of the crates that hold them. They stand here so that those crates are proved once, and not again with their tests.
+//! calls of the crates that hold them. They are here so that those crates are proved once, and not again with their tests.
 #![tactic(auto)]
 
 #[cfg(test)]

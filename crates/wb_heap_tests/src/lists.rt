@@ -57,7 +57,7 @@ enum Part {
     Mid(u32, u32),
 }
 
-/// Parts of a view of 6 units from position 10 on: the position and the length of each, or none where the view has no such part.
+/// Parts of a view of 6 units from position 10 on: the position and the length of each, or `None` if the view has no such part.
 static PARTS: [(Part, Option<(u32, u32)>); 8] = [
     (Part::Left(2), Some((10, 2))),
     (Part::Right(2), Some((14, 2))),

@@ -30,17 +30,17 @@ pub(crate) enum Call {
     ClassOf(Cell, Result<u16, Panic>),
     /// The pointer in a field of an object that is to be of a class.
     Field(Cell, u16, u8, Result<Cell, Panic>),
-    /// The pointer that the field gets stands before the answer.
+    /// The pointer that the field gets is before the answer.
     SetField(Cell, u16, u8, Cell, Result<(), Panic>),
-    /// A cell that is no object, for so many bytes.
+    /// A cell that is no object, for a number of bytes.
     Alloc(u32, Cell),
-    /// An HBufC for so many units.
+    /// An HBufC for a number of units.
     Text(u32, Cell),
     Free(Cell),
     FailNext(u32),
     /// The first words of a payload.
     Words(Cell, &'static [u32]),
-    /// The words of a payload from an index on are so many, all zero.
+    /// The words of a payload from an index on: how many, all zero.
     Zeros(Cell, u32, u32),
     /// The length of a cell, header included, and the class of the object in it.
     Header(Cell, u32, u16),
@@ -153,7 +153,7 @@ fn make_object(heap: &mut DebugHeap, script: &Script, class: u16) -> Option<Gave
     make(heap, script, class).ok()
 }
 
-/// Whether the script has the class, and one object of it can stand below the ceiling.
+/// Whether the script has the class, and one object of it can be below the ceiling.
 fn has_class(script: &Script, class: u16) -> bool
     ensures there { result ≡ true → class < length script.now.classes }
     ensures fits { result ≡ true → payload_of_object (class_at script.now class) ≤ CEILING }
@@ -198,7 +198,7 @@ fn begins_with(heap: &DebugHeap, ptr: Ptr, words: &[u32]) -> bool {
         .all(|(word, i)| word_at(heap, ptr, i) == Some(*word))
 }
 
-/// Whether so many words are left of a payload from an index on, and all are zero.
+/// Whether this many words are left of a payload from an index on, and all are zero.
 fn ends_in_zeros(heap: &DebugHeap, ptr: Ptr, from: u32, count: u32) -> bool {
     let end = from.saturating_add(count);
     (from..end).all(|i| word_at(heap, ptr, i) == Some(0)) && word_at(heap, ptr, end).is_none()

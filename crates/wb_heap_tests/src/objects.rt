@@ -4,7 +4,7 @@ use crate::object_calls::{Call, ClassRow, WorkedObjects, first_other};
 use std::test::Fail;
 use wb_model::heap::Panic;
 
-/// A class with one field, one with three fields and extra bytes, one with nothing, and one of which no object fits behind
+/// A class with one field, one with three fields and extra bytes, one with nothing, and one of which no object fits after
 /// 160 bytes.
 static CLASSES: [ClassRow; 4] = [
     (0, &[None]),

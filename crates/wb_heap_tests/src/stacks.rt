@@ -144,7 +144,7 @@ impl Stacked {
         true
     }
 
-    /// Whether a raw cell of so many bytes is granted.
+    /// Whether a raw cell of a number of bytes is granted.
     fn alloc(&mut self, bytes: u32) -> bool {
         if self.heap.attempts() == u32::MAX || bytes > CEILING {
             return false;

@@ -16,7 +16,7 @@ use wb_model::printed_line::Line;
 use wb_model::script::Chars;
 use wb_text::Buf;
 
-/// Where a text stands: in one of two cells, or in a buffer.
+/// Where a text is: in one of two cells, or in a buffer.
 #[derive(Clone, Copy)]
 pub(crate) enum Target {
     First,
@@ -31,7 +31,7 @@ pub(crate) enum Taken {
     Letters(u16, u16),
     /// Of the text itself.
     Own(u16, u16),
-    /// Of the other cell's text; of the first one's, where the text stands in the buffer.
+    /// Of the other cell's text; of the first one's, where the text is in the buffer.
     Other(u16, u16),
 }
 
@@ -43,7 +43,7 @@ pub(crate) enum Change {
     SetLength(u16),
 }
 
-/// Changes that are made one after the other, of texts in cells for so many units and in a buffer for 8.
+/// Changes that are made one after the other, of texts in cells for a number of units and in a buffer for 8.
 #[derive(Clone, Copy)]
 pub(crate) struct WorkedTexts {
     /// What they show.

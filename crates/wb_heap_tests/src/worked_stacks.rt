@@ -18,7 +18,7 @@ pub(crate) enum Step {
     Push(Entry, Pushed),
     /// So many items, which count from 0, and each is fine.
     PushMany(u32),
-    /// Above a floor, so many; whether it panics, and with what.
+    /// Above a floor, how many; whether it panics, and with what.
     Pop(u32, u32, Option<Panic>),
     /// The same of the pop of an item about this cell.
     PopExpected(u32, Cell, Option<Panic>),
@@ -29,7 +29,7 @@ pub(crate) enum Step {
     Used(u32),
     /// Whether one slot is free and no more, and whether none is.
     Free { one: bool, none: bool },
-    /// A raw cell that is granted in the heap, of so many bytes.
+    /// A raw cell that is granted in the heap, of a number of bytes.
     Alloc(u32),
     FailNext(u32),
     Attempts(u32),

@@ -88,7 +88,7 @@ not_cut r s h n one t = due t.due
     due true e = cc
     due false e = by (refusal_of r n end) (refusal_of s n end) (h n end one) e
 
--- where the answers differ, the second rule refuses, and what the first rule says is told by its answer
+-- where the answers differ, the second rule refuses, and what the first rule says is its answer
 record Parting (r s : Rule) (n end : ℕ) (v w : Answer) : Type 0 where
   answered : unless_refused (refusal_of r n end) end ≡ Some v
   refused : refusal_of s n end ≡ Some w

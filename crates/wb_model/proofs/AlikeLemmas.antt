@@ -1,5 +1,5 @@
--- Two meanings of what stands inside that are alike, and show only states of which a lasting fact holds, give alike meanings
--- of whatever a script does. Here stand the ways of going on; the statements are in `EachStatement`.
+-- Two meanings of what is inside that are alike, and show only states of which a lasting fact holds, give alike meanings
+-- of whatever a script does. Here are the ways of going on; the statements are in `EachStatement`.
 use Rattle.std.proofs.Common.{◌≡◌, ℕ, ℤ, ◌-◌, ◌<◌, ◌≤◌, Bool, true, false, List, ◌∷◌, refl, ap, ◌∙◌, subst, Option, Some, None, Result, Ok, Err}
 use Rattle.std.proofs.Math.Path.{fun_ext}
 use Rattle.std.specs.Prelude.{nat_lt, [], ◌++◌}
@@ -311,6 +311,6 @@ module _ (L : Lasting) where
   unfolding with_class
   with_class-alike _ _ _ _ f k = with_cell-alike _ _ _ _ f (λ c e. with_some-alike _ _ _ _ _ f (λ n e. k n))
 
-  -- two meanings of what stands inside
+  -- two meanings of what is inside
   abbrev pub AlikeAll : Meaning → Meaning → Type 0
   AlikeAll rec rec' = (ns : List ℕ) (at : Context) (p : Todo) (st : State) → Fine ns st → Alike ns (rec at p st) (rec' at p st)

@@ -20,7 +20,7 @@ record AreRunsFrom (at : ℕ) (row : List Header) (committed : ℕ) (runs : List
   found : IsFound at row committed (longest runs)
   longest_of_all : (p length : ℕ) → at ≤ p → IsFreeBelow row committed p length → length ≤ longest runs
 
--- the run before a cell, or the longest behind it
+-- the run before a cell, or the longest after it
 found_before : (h : Header) (hs : List Header) (at committed rest : ℕ) → IsSpacedFrom at (h ∷ hs) → top_from (end_of h) hs ≤ committed →
     IsFound (end_of h) hs committed rest → IsFound at (h ∷ hs) committed (max (h.place - at) rest)
 found_before h hs at committed rest s top following = by (nat_le rest (h.place - at)) refl
@@ -53,7 +53,7 @@ sum-cons n ns = sum_by-cons (λ x. x) n ns
 pub total_length-cons : (h : Header) (hs : List Header) → total_length (h ∷ hs) ≡ h.length + total_length hs
 total_length-cons h hs = sum-cons h.length (map (λ g. g.length) hs)
 
--- a run, a cell, and what is behind them
+-- a run, a cell, and what is after them
 total_more : (at place length runs lengths committed run_sum length_sum : ℕ) → at ≤ place → run_sum ≡ (place - at) + runs → length_sum ≡ length + lengths →
     place + length + (runs + lengths) ≡ committed → at + (run_sum + length_sum) ≡ committed
 total_more at place length runs lengths committed run_sum length_sum le runs_are lengths_are e = omega arith

@@ -290,7 +290,7 @@ dropped-free least n st f =
     (f.0, omega (arith, long, f.1))
 
 module _ (rec : Meaning) (keeps : KeepsAll rec) (least : ℕ) where
-  -- what stands inside a piece, from a state with a free slot on
+  -- what is inside a piece, from a state with a free slot on
   pub inside : (at : Context) (p : Todo) (st : State) → least ≤ st.slots → FindsFree p st → KeepsFree least (rec at p st)
   inside at p st le finds = fewer least st.slots le (rec at p st) (keeps at p st finds)
 

@@ -191,12 +191,12 @@ texts : map line_form (codes "insert b 0 \"a b\"" ∷ codes "left v \"\" 1" ∷ 
 unfolding line_kinds
 texts = refl
 
--- open; with a tab or a carriage return; with something right behind; two at once; behind another byte
+-- open; with a tab or a carriage return; with something right after; two at once; after another byte
 no_literals : map line_form (codes "print \"a b" ∷ codes "print \"" ∷ codes "print \"a\tb\"" ∷ codes "print \"\r\"" ∷ codes "print \"a\"b" ∷ codes "print \"a\"\"b\"" ∷ codes "print a\"b\"" ∷ []) ≡ replicate 7 Unknown
 unfolding line_kinds
 no_literals = refl
 
--- a quote within a word opens none that makes a line of what stands behind it
+-- a quote within a word opens none that makes a line of what is after it
 quotes_within_words : map line_form (codes "alloc a\" 4" ∷ codes "print \"a\" \"b" ∷ codes "free p\" #\"" ∷ []) ≡ replicate 3 Unknown
 unfolding line_kinds
 quotes_within_words = refl
@@ -229,7 +229,7 @@ returns : map line_form (codes "return" ∷ codes "return p" ∷ codes "return 1
 unfolding line_kinds
 returns = refl
 
--- Operations: the one parameter is a pointer, and no kind is told.
+-- Operations: the one parameter is a pointer, and no kind is given.
 
 operations : map line_form (codes "op drop p" ∷ codes " op  p p\r" ∷ codes "pushop p drop" ∷ codes "pushop null p" ∷ []) ≡
     Line Op (Name (codes "drop") ∷ Parameter (codes "p") parameter_type.Pointer ∷ []) ∷ Line Op (Name (codes "p") ∷ Parameter (codes "p") parameter_type.Pointer ∷ [])
@@ -237,7 +237,7 @@ operations : map line_form (codes "op drop p" ∷ codes " op  p p\r" ∷ codes "
 unfolding line_kinds
 operations = refl
 
--- a name and a parameter are wanted, each one that can be declared, and nothing behind them
+-- a name and a parameter are wanted, each one that can be declared, and nothing after them
 no_operations : map line_form (codes "op" ∷ codes "op drop" ∷ codes "op drop p q" ∷ codes "op drop p:ptr" ∷ codes "op drop 1" ∷ codes "op drop self" ∷ codes "op drop ptr" ∷ codes "op null p" ∷ []) ≡ replicate 8 Unknown
 unfolding line_kinds
 no_operations = refl

@@ -5,7 +5,7 @@ use Rattle.wb_model.specs.declared.heap.Header.{Header}
 use Rattle.wb_model.specs.heap.Row.{Cell, headers, pointer_to, cell_at, inserted}
 use Rattle.wb_model.proofs.Reallocations.{at-own, not_at-number}
 
--- where a new cell stands
+-- where a new cell is
 record IsPlaced (c : Cell (List ℕ)) (row : List (Cell (List ℕ))) : Type 0 where
   at : ℕ
   within : at < length (headers row)

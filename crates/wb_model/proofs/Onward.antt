@@ -32,7 +32,7 @@ onward_none from (h ∷ hs) e = by (nat_le from h.place) e (onward_none from hs)
     by true e rest = cc
     by false e rest = rest e
 
--- the next cell, and those behind its end
+-- the next cell, and those after its end
 pub record IsNextCell (from : ℕ) (h : Header) (hs : List Header) : Type 0 where
   pub above : from ≤ h.place
   pub there : onward from hs ≡ h ∷ onward (end_of h) hs

@@ -132,7 +132,7 @@ IsQuiet (all ss) = (depth : ℕ) × IsTrue (are_quiet depth ss)
 IsQuiet (turns n body) = (depth : ℕ) × IsTrue (are_quiet depth body)
 IsQuiet _ = Unit {0}
 
--- the items that stand behind a piece
+-- the items that are after a piece
 abbrev pub items_after : Todo → List Item → List Item
 items_after (destroy_items n) items = take (length items - n) items
 items_after _ items = items

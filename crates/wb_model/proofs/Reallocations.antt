@@ -1,4 +1,4 @@
--- A cell of a row that a pointer names: what is known of it, whether it can be longer where it stands, and the row once
+-- A cell of a row that a pointer names: what is known of it, whether it can be longer where it is, and the row once
 -- another cell stands for it.
 use Rattle.std.proofs.Common.{◌≡◌, ◌≢◌, ℕ, suc, ◌+◌, ◌-◌, ◌*◌, ◌/◌, ◌%◌, ◌≤◌, ◌<◌, ◌⊎◌, inl, inr, Bool, true, false, not, cond, List, [], ◌∷◌, ◌++◌, length, take, drop, replicate, filter, find, All, AllPairs, Option, Some, None, option_map, refl, sym, ◌∙◌, ap, subst, arith, length-append}
 use Rattle.std.specs.Prelude.{◌&&◌, ◌||◌, nat_eq, nat_lt, nat_le}
@@ -71,7 +71,7 @@ found-missed p (g ∷ gs) h place length free e = by (is_at p g) e (found-missed
     by true found rest = let same : g ≡ h = cc in subst (Misses place length) same free.0
     by false found rest = rest found
 
--- the room behind a cell is where it can grow
+-- the room after a cell is where it can grow
 first_room : Header → List Header → Option ℕ
 first_room h [] = None
 first_room h (g ∷ gs) = Some (g.place - end_of h)
@@ -218,7 +218,7 @@ module _ {A : Type 0} where
       All (λ h. h.number ≢ p.number) (headers cs)
   others-apart p c cs apart here k h lt same = apart 0 (suc k) h (omega arith) (omega arith) (sym (at-number p c.head here) ∙ sym same)
 
-  -- a cell that stands below a row goes before it
+  -- a cell that is below a row goes before it
   pub inserted-first : (c : Cell A) (row : List (Cell A)) (at : ℕ) → IsSpacedFrom at (headers row) → c.head.place < at → inserted c row ≡ c ∷ row
   inserted-first c [] at s lt = refl
   inserted-first c (d ∷ ds) at s lt = cond-true (nat_lt c.head.place d.head.place) (c ∷ d ∷ ds) (d ∷ inserted c ds) (lt-ltb c.head.place d.head.place (omega (arith, lt, s.0)))
@@ -303,7 +303,7 @@ copied-resized to n words long le =
     ap (λ w. w ++ drop n (zero_words to)) (take_all n words (omega (arith, long)) ∙ sym (take_all (to / 4 - 4) words (omega (arith, long, le))))
     ∙ ap (λ w. take (to / 4 - 4) words ++ w) (drop-replicate n (to / 4 - 4) 0 ∙ ap (λ m. replicate (to / 4 - 4 - m) 0) (sym long))
 
--- a cell that has another length where it stands
+-- a cell that has another length where it is
 pub with_length-inserted : (p : Ptr) (to : ℕ) (row : List (Cell (List ℕ))) (at : ℕ) (c : Cell (List ℕ)) → IsSpacedFrom at (headers row) →
     AllPairs (λ g h. g.number ≢ h.number) (headers row) → cell_at p row ≡ Some c → with_length p to row ≡ inserted (resized_cell to c) (without p row)
 with_length-inserted p to [] at c s apart e = cc

@@ -1,4 +1,4 @@
--- What a grant and a release keep of a row, and where the row's cells stand in a list.
+-- What a grant and a release keep of a row, and where the row's cells are in a list.
 use Rattle.std.proofs.Common.{◌≡◌, ◌≢◌, ℕ, ◌+◌, ◌%◌, ◌≤◌, suc, one-add, inl, inr, Bool, true, false, not, List, [], ◌∷◌, refl, sym, ap, arith, cond, map, filter, find, All, AllPairs, Some, option_map}
 use Rattle.std.specs.Prelude.{nat_lt, nat_le, insert}
 use Rattle.std.specs.List.{position_or_len}
@@ -62,7 +62,7 @@ module _ {A : Type 0} where
       go true rest = refl
       go false rest = rest
 
-  -- a cell that stands apart goes to its place
+  -- a cell that is apart goes to its place
   pub spaced-inserted : (c : Cell A) (row : List (Cell A)) (at : ℕ) → at ≤ c.head.place → c.head.place % 16 ≡ 0 → c.head.length % 16 ≡ 0 →
       16 ≤ c.head.length → 1 ≤ c.head.number → IsFree (headers row) c.head.place c.head.length → IsSpacedFrom at (headers row) →
       IsSpacedFrom at (headers (inserted c row))

@@ -140,7 +140,7 @@ none_taken : (n : ℕ) (word : List ℕ) → word ≡ [] → take n word ≡ []
 none_taken zero word h = refl
 none_taken (suc n) word h = ap (take (suc n)) h
 
--- what stands before and behind a byte that is plain, and the byte itself
+-- what is before and after a byte that is plain, and the byte itself
 module _ (byte : ℕ) (plain : is_plain (byte ∷ []) ≡ true) where
   -- one byte more, which is this one or not
   plain_here : (b : ℕ) (word : List ℕ) (same : Bool) → nat_eq b byte ≡ same → (is_plain (before_first byte word) ≡ true → is_plain (after_first_of byte word) ≡ true → is_plain word ≡ true) →

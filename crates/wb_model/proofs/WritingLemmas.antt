@@ -130,7 +130,7 @@ chosen_back false text other h = cc
 literal_of_quoted : (text : List ℕ) → is_quoted_text text ≡ true → literal_spelled (quoted text) ≡ Some text
 literal_of_quoted text h = chosen (is_literal (quoted text)) (inside (quoted text)) (quoted_is_literal text h) ∙ ap Some (inside_quoted text)
 
--- a list that is not empty, as what stands before its last element, and that
+-- a list that is not empty, as what is before its last element, and that
 front_and_last : (xs : List ℕ) → 1 ≤ length xs → xs ≡ take (length xs - 1) xs ++ slice_index xs (length xs - 1) ∷ []
 front_and_last xs some = sym (take_all (length xs - 1 + 1) xs (omega arith)) ∙ take_more xs (length xs - 1) 0 (omega arith)
 

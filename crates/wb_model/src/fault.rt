@@ -1,6 +1,6 @@
 //! Why bytes are no script.
 
-/// The first fault of a script, in the order of the checks as they stand here; each check is one pass over
+/// The first fault of a script, in the order of the checks as they are here; each check is one pass over
 /// the whole script. Lines count from 1.
 #[derive(Clone, Copy, Debug, PartialEq, Eq)]
 pub enum ScriptFault {
@@ -8,7 +8,7 @@ pub enum ScriptFault {
     TooLong,
     /// A byte that is neither tab, line feed, carriage return nor printable ASCII.
     NotAscii { line: u32 },
-    /// No script has this line here, whatever were to follow. Where the file ends too early, the line behind its
+    /// No script has this line here, whatever were to follow. Where the file ends too early, the line after its
     /// last.
     Grammar { line: u32 },
     /// A name that is not declared.

@@ -148,7 +148,7 @@ impl Panic {
     pub const NULL_OR_STALE: Panic = Self::Workbench(1);
     /// WORKBENCH 2: the cell is of another kind, or the object of another class.
     pub const WRONG_KIND: Panic = Self::Workbench(2);
-    /// WORKBENCH 3: fewer items stand above the entry of the innermost TRAP than a pop takes.
+    /// WORKBENCH 3: fewer items are above the entry of the innermost TRAP than a pop takes.
     pub const POP_BELOW_TRAP: Panic = Self::Workbench(3);
     /// WORKBENCH 4: another item than the expected one is on top.
     pub const ANOTHER_ITEM_ON_TOP: Panic = Self::Workbench(4);
@@ -156,7 +156,7 @@ impl Panic {
     pub const ITEMS_LEFT: Panic = Self::Workbench(5);
     /// WORKBENCH 6: a mark was closed where none is open.
     pub const NO_OPEN_MARK: Panic = Self::Workbench(6);
-    /// WORKBENCH 7: more frames than may stand at once.
+    /// WORKBENCH 7: more frames than there may be at once.
     pub const TOO_MANY_FRAMES: Panic = Self::Workbench(7);
     /// WORKBENCH 8: an HBufC would be shorter than its text.
     pub const SHORTER_THAN_TEXT: Panic = Self::Workbench(8);

@@ -90,7 +90,7 @@ pub fn lines_are_answered()
     ensures settings { (script : Script) (budget : ℕ) → TellsSettings (process script budget) }
 {}
 
-/// What is measured of a trace, in words: the number of the first line that the heap's limit refused, and none where no line
+/// What is measured of a trace, in words: the number of the first line that the heap's limit refused, and none if no line
 /// is; and the greatest end of a granted line.
 pub fn traces_are_measured()
     ensures refused { (trace : List Attempt) (number : ℕ) →
@@ -152,7 +152,7 @@ pub fn unasked_rules_agree()
 {}
 
 /// What is found among the numbers, or the rates, up to the last attempt of the run without failure is, of all of them, the
-/// least whose run is bad or cut; where nothing is, the run of each is fine.
+/// least whose run is bad or cut; if there is none, the run of each is fine.
 pub fn sweeps_end()
     ensures some { (failures : Failures) (script : Script) (budget : ℕ) (shape : Shape) (n : ℕ) →
         (least_bad_or_cut failures script budget shape ≡ Some n)
@@ -164,7 +164,7 @@ pub fn sweeps_end()
 
 /// The live cells that a run of any script passes through are a row, whatever its attempts are answered: they ascend
 /// without meeting, at multiples of 16, and have different numbers, each that of an attempt made before. Each cell
-/// holds what its kind holds, an object a pointer for each field of its class. So the leaks that a run tells are cells of a row.
+/// holds what its kind holds, an object a pointer for each field of its class. So the leaks that a run reports are cells of a row.
 pub fn cells_stay_a_row()
     ensures throughout { (script : Script) (budget : ℕ) →
         Throughout (λ made st. AreCellsAfter script made st.heap.row) 0 (process script budget) }

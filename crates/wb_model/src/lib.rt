@@ -1,8 +1,8 @@
 //! The plain types of the out-of-memory testing workbench, the definitions of what a script means,
 //! and the laws of these definitions.
 //!
-//! The definitions stand in `specs/`, one subject a file; `docs/ARCHITECTURE.md` says which. No code of
-//! the workbench but small lists stands here.
+//! The definitions are in `specs/`, one subject a file; `docs/ARCHITECTURE.md` says which. No code of
+//! the workbench but small lists is here.
 #![tactic(auto)]
 
 pub mod failures;

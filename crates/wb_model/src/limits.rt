@@ -13,7 +13,7 @@ pub const MOST_UNITS: u32 = 524_286;
 /// The greatest number of turns of a `repeat`.
 pub const MOST_TURNS: u32 = 1_048_576;
 
-/// The greatest number of frames that stand at once.
+/// The greatest number of frames at once.
 pub const MOST_FRAMES: u32 = 128;
 
 /// The greatest budget of a run, in steps.
@@ -58,7 +58,7 @@ pub const MOST_CLASSES: u32 = 64;
 /// The greatest number of fields of a class.
 pub const MOST_FIELDS: u32 = 16;
 
-/// The greatest number of bytes that objects of a class have behind their fields.
+/// The greatest number of bytes that objects of a class have after their fields.
 pub const MOST_EXTRA: u32 = 65_536;
 
 /// The greatest number of parameters of a procedure.
@@ -67,7 +67,7 @@ pub const MOST_PARAMETERS: u32 = 4;
 /// The greatest number of locals of a body, its parameters among them.
 pub const MOST_LOCALS: u32 = 32;
 
-/// How many blocks may stand inside one another.
+/// How many blocks may be inside one another.
 pub const DEEPEST_BLOCK: u32 = 16;
 
 /// The greatest maximum of a local buffer, in units.

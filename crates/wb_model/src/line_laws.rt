@@ -19,7 +19,7 @@ pub fn literals_are_read()
     ensures { (word : List ℕ) (text : List ℕ) → ReadsLiterals word text }
 {}
 
-/// A line that says something is made of words: a quote stands in it only around a literal.
+/// A line that says something is made of words: a quote is in it only around a literal.
 pub fn lines_are_made_of_words()
     ensures { (line : List ℕ) → IsMadeOfWords line }
 {}

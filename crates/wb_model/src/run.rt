@@ -1,4 +1,4 @@
-//! What a run tells.
+//! What a run reports.
 
 use crate::heap::{Attempt, Panic};
 use crate::items::Items;
@@ -56,7 +56,7 @@ pub enum Note {
     Compress(u32),
 }
 
-/// All that a run tells.
+/// All that a run reports.
 #[derive(Debug, Drop)]
 pub struct RunResult {
     pub outcome: Outcome,

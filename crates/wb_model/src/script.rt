@@ -73,7 +73,7 @@ pub struct StatementAt {
     pub statement: Statement,
 }
 
-/// A statement, with what stands inside it. Locals are named by their index.
+/// A statement, with what is inside it. Locals are named by their index.
 #[cycle(statements)]
 #[derive(Drop)]
 pub enum Statement {
@@ -148,7 +148,7 @@ pub enum Local {
 /// What a body declares, and what it does.
 #[derive(Drop)]
 pub struct Body {
-    /// Those that the body declares itself. Parameters stand before them.
+    /// Those that the body declares itself. Parameters come before them.
     pub locals: Items<Local>,
     pub statements: Items<StatementAt>,
 }
@@ -180,7 +180,7 @@ pub struct Operation {
 #[derive(Drop)]
 pub struct Class {
     pub line: u32,
-    /// Bytes of an object behind its fields.
+    /// Bytes of an object after its fields.
     pub extra: u32,
     /// Each field's class, where it has one.
     pub fields: Items<Option<u16>>,

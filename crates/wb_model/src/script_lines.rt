@@ -85,7 +85,7 @@ pub enum LineKind {
     End,
 }
 
-/// What stands in a place behind the line kind. Which words are grammatical there and which kinds of operands are right says
+/// What a place after the line kind holds. Which words are grammatical there and which kinds of operands are right says
 /// one table for all operand places.
 #[derive(Clone, Copy)]
 pub enum OperandPlace {
@@ -202,7 +202,7 @@ pub enum LocalKind<N> {
     View,
 }
 
-/// A word behind the line kind. `N` is a name or the text of a literal: the bytes, or what they stand for.
+/// A word after the line kind. `N` is a name or the text of a literal: the bytes, or what they stand for.
 #[derive(Clone, Copy)]
 pub enum Operand<N> {
     Name(N),
@@ -244,7 +244,7 @@ pub enum Referent {
     Field(usize, usize),
     /// The field of something that isn't declared with a class.
     Classless,
-    /// The next parameter of what the line begins: the order of the words tells which.
+    /// The next parameter of what the line begins: the order of the words says which.
     Parameter,
     /// Nothing: the name is declared nowhere.
     Nothing,
@@ -301,7 +301,7 @@ pub enum Role {
     Procedure,
     /// Declares a local.
     Declaration,
-    /// A statement that no other stands inside.
+    /// A statement with no other inside it.
     Plain,
     /// Begins a `repeat` or a `trap`.
     Loop,

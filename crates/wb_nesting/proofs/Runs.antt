@@ -16,7 +16,7 @@ abbrev pub run : List Open → List Role → Option (List Open)
 run stack [] = Some stack
 run stack (role ∷ lines) = option_and_then (λ next. run next lines) (step stack role)
 
--- what may stand before the `end` of an open block
+-- what may be before the `end` of an open block
 abbrev pub MayFollow : Open → List Role → Type 0
 MayFollow Fields a = (fields construct destroy : List Role) × AreFields fields × IsOptional Construct construct × IsOptional Destroy destroy × (a ≡ fields ++ (construct ++ destroy))
 MayFollow Made a = IsOptional Destroy a

@@ -92,7 +92,7 @@ fn read_line(stack: &mut Vec<Open>, role: Role) -> Result<bool, AllocError>
 }
 
 /// The index of the first line that no script has in its place, whatever follows it, or the number of lines where only
-/// an `end` is missing; none where the lines are those of a script, as the grammar says.
+/// an `end` is missing; `None` if the lines are those of a script, as the grammar says.
 ///
 /// Lines count from 0, with those that count for nothing (`Role::Skip`), which have a place everywhere. An error means that a growth of the list of
 /// open blocks was refused; it says nothing of the lines.

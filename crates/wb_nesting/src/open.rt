@@ -1,6 +1,6 @@
 //! Open blocks, and what a line does to the innermost one.
 
-/// A place in an open block: what may stand next in it.
+/// A place in an open block: what may come next in it.
 #[derive(Clone, Copy)]
 pub enum Open {
     /// A class: fields, bodies or the end.

@@ -1,4 +1,4 @@
--- One field among the words of an object: it is read as it stands, and a write changes it and nothing else.
+-- One field among the words of an object: it is read as it is, and a write changes it and nothing else.
 use Rattle.std.proofs.Common.{◌≡◌, ℕ, zero, suc, ◌+◌, ◌-◌, ◌*◌, ◌<◌, ◌≤◌, List, [], ◌∷◌, ◌++◌, length, take, drop, slice_index, Some, refl, sym, ap, ◌∙◌, arith}
 use Rattle.std.specs.Prelude.{slice_get, slice_set, unwrap_or}
 use Rattle.std.proofs.lemmas.List.{length-set}
@@ -16,7 +16,7 @@ pair-written at a b (c ∷ []) within = absurd (omega (arith, within))
 pair-written zero a b (c ∷ d ∷ ws) within = refl
 pair-written (suc at) a b (c ∷ d ∷ ws) within = ap (λ vs. c ∷ vs) (pair-written at a b (d ∷ ws) (omega (arith, within)))
 
--- a pointer is read where its words stand
+-- a pointer is read where its words are
 pointer-read : (i at : ℕ) (ws : List ℕ) → at ≡ 2 * i → at + 2 ≤ length ws →
     slice_get (pointers ws) i ≡ Some (record { place = slice_index ws at; number = slice_index ws (suc at) })
 pointer-read i at [] e within = absurd (omega (arith, within))

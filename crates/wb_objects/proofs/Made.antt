@@ -29,7 +29,7 @@ use Rattle.wb_model.proofs.TextCellsHeap.{found-changed}
 use Rattle.wb_objects.specs.Objects.{new_words, object_made, IsNewObject}
 use Rattle.wb_objects.proofs.Fields.{object-filled}
 
--- the words of null pointers are zeros, and zeros behind zeros are more of them
+-- the words of null pointers are zeros, and zeros after zeros are more of them
 null-words : (n k : ℕ) → pointer_words (replicate n null) ++ zeros k ≡ zeros (2 * n + k)
 null-words zero k = ap zeros (omega arith)
 null-words (suc n) k =

@@ -44,7 +44,7 @@ words_found d p class = words_of_cell class (cell_at p d.heap.row)
 abbrev pub HasField : Debug → Ptr → ℕ → ℕ → Type 0
 HasField d p class i = IfOk (words_found d p class) (λ ws. 4 + 2 * i ≤ length ws)
 
--- the pointer in a field, which the class and a zero stand before
+-- the pointer in a field, which the class and a zero are before
 abbrev pub field_in : ℕ → List ℕ → Ptr
 field_in i ws = unwrap_or (slice_get (pointers (drop 2 ws)) i) null
 

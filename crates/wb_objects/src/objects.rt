@@ -22,7 +22,7 @@ use wb_model::script::{Class, Script};
 
 /// Which word of an object is the index of its class.
 const CLASS_WORD: u32 = 0;
-/// Where the fields begin, in words: behind the class and a zero.
+/// Where the fields begin, in words: after the class and a zero.
 const FIRST_FIELD: u32 = 2;
 /// How many words a field has: the place and the number of its pointer.
 const FIELD_WORDS: u32 = 2;

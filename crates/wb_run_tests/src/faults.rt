@@ -12,7 +12,7 @@ enum Fault {
     Shape,
 }
 
-/// Words behind the program's name, and their fault.
+/// Words after the program's name, and their fault.
 static FAULTS: [(&[&str], Fault); 23] = [
     (&["run", "--limit", "176", "--fail", "2"], Fault::Both),
     (&["run", "--limit", "176", "--every", "2"], Fault::Both),
@@ -48,7 +48,7 @@ static FAULTS: [(&[&str], Fault); 23] = [
     (&["check", "--pairs", "--step", "40"], Fault::Shape),
 ];
 
-/// The fault of the words behind the program's name, if they have one of these.
+/// The fault of the words after the program's name, if they have one of these.
 fn fault_of(alloc: Global, rest: &[&str]) -> Result<Option<Fault>, Fail> {
     let mut words = vec![in alloc; "workbench"]?;
     words.extend_from_slice(rest)?;

@@ -1,7 +1,7 @@
-//! Nothing but tests: of turns of a machine, shapes that no heap has, lengths that a table tells, attempts that fail at a rate or two
-//! at once, and of the program over words, hosts and streams in memory, with what it tells of a sweep, by the public calls of the
-//! crates that have these. They stand here so that those crates are proved once, and not again with their tests. What a worked case
-//! can show stands in none of them.
+//! Nothing but tests: of turns of a machine, shapes that no heap has, lengths that a table gives, attempts that fail at a rate or two
+//! at once, and of the program over words, hosts and streams in memory, with what it reports of a sweep, by the public calls of the
+//! crates that have these. They are here so that those crates are proved once, and not again with their tests. What a worked case
+//! can show is in none of them.
 #![tactic(auto)]
 
 #[cfg(test)]

@@ -68,7 +68,7 @@ fn outcome(alloc: Global, end: End) -> Result<Outcome, AllocError> {
     })
 }
 
-/// Ends, and the lines that tell of them.
+/// Ends, and the lines that report them.
 static ENDS: [(End, &[u8]); 10] = [
     (
         End::Left(

@@ -75,7 +75,7 @@ struct Wanted {
     lent: usize,
 }
 
-/// Words behind the program's name that are a command, and what it comes to.
+/// Words after the program's name that are a command, and what it comes to.
 static COMMANDS: [(&[&str], Wanted); 4] = [
     (
         &["run"],
@@ -120,7 +120,7 @@ static COMMANDS: [(&[&str], Wanted); 4] = [
     ),
 ];
 
-/// Words behind the program's name that are no command. What is said of them stands in worked cases.
+/// Words after the program's name that are no command. What is said of them is in worked cases.
 static REFUSED: [&[&str]; 28] = [
     &["run", "-", "--limit", "176", "--fail", "2"],
     &["run", "-", "--limit", "176", "--every", "2"],

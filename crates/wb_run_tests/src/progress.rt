@@ -1,4 +1,4 @@
-//! What is told of a sweep while it goes on, and that all of it is told before anything is written.
+//! What is reported of a sweep while it goes on, and that all of it is reported before anything is written.
 
 ghost use Rattle.std.specs.Prelude.{⊤};
 
@@ -13,10 +13,10 @@ use workbench::Progress;
 use workbench::host::Host;
 use workbench::program::program;
 
-/// Holds what it is told against what it is to be told.
+/// Compares what it is notified of with what it is to be notified of.
 #[derive(Drop)]
 struct Listener<'a> {
-    /// The failures that are still to be told.
+    /// The failures that are still to be reported.
     to_come: &'static [Failing],
     is_as_wanted: bool,
     begun: u32,
@@ -96,13 +96,13 @@ impl Host for Desk {
     }
 }
 
-/// What is to be told where the program has these words.
+/// What is to be reported if the program has these words.
 struct Wanted {
     words: &'static [&'static str],
     script: &'static [u8],
     /// How often a sweep begins and ends.
     sweeps: u32,
-    /// How many attempts the run without failure makes, where nothing is found in it.
+    /// How many attempts the run without failure makes, if nothing is found in it.
     last: Option<u32>,
     failures: &'static [Failing],
 }
@@ -194,7 +194,7 @@ static TOLD: [Wanted; 10] = [
     },
 ];
 
-/// Whether this is told, and the sweep is over before anything is written; `is_under_way` is false.
+/// Whether this is reported, and the sweep is over before anything is written; `is_under_way` is false.
 fn is_reported<'a>(
     alloc: Global,
     words: Vec<&'static str>,

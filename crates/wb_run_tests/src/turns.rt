@@ -15,7 +15,7 @@ const SHAPE: Shape = Shape {
 const SIXTEEN_LARGEST: &[u8] =
     b"proc main\nptr a\nalloc a 1048576\nalloc a 1048576\nalloc a 1048576\nalloc a 1048576\nalloc a 1048576\nalloc a 1048576\nalloc a 1048576\nalloc a 1048576\nalloc a 1048576\nalloc a 1048576\nalloc a 1048576\nalloc a 1048576\nalloc a 1048576\nalloc a 1048576\nalloc a 1048576\nalloc a 1048576\nend\n";
 
-/// A stack that moves for its 8th item, since a cell stands behind it, and grows at its place for the 12th and 16th.
+/// A stack that moves for its 8th item, since a cell is after it, and grows at its place for the 12th and 16th.
 const GROWS_THREE_TIMES: &[u8] =
     b"proc main\nptr a\nptr none\nint c\ntrap c\nallocl a 16\npush a\nrepeat 15\npush none\nend\npopdestroy 16\nend\nend\n";
 
@@ -32,7 +32,7 @@ type Setting = (&'static [u8], Rule, u32);
 /// Whether the machine will make an attempt, what its turn answers, and how many attempts were made by then.
 type TurnResult = (bool, Turn, u32);
 
-/// Runs, and what their turns tell, from the first of them past the last.
+/// Runs, and what their turns report, from the first of them past the last.
 static TURNS: [(Setting, &[TurnResult]); 2] = [
     (
         (TWO_CELLS, Rule::Unlimited, 9),
@@ -76,7 +76,7 @@ static TURNS: [(Setting, &[TurnResult]); 2] = [
     ),
 ];
 
-/// What a turn tells, where there is memory for it.
+/// What a turn reports, if there is memory for it.
 fn next_turn(machine: &mut Machine) -> Option<TurnResult> {
     let will = machine.will_attempt();
     match machine.step() {
@@ -85,7 +85,7 @@ fn next_turn(machine: &mut Machine) -> Option<TurnResult> {
     }
 }
 
-/// Whether the next turns tell this.
+/// Whether the next turns report this.
 fn turns_return(machine: &mut Machine, turns: &[TurnResult]) -> bool {
     for told in turns {
         if next_turn(machine) != Some(*told) {
@@ -154,7 +154,7 @@ static SETTINGS: [Setting; 22] = [
     (GROWS_THREE_TIMES, Rule::Unlimited, 40),
 ];
 
-/// Whether a machine tells exactly before those turns that make an attempt that they do, up to the end of its run, and of
+/// Whether a machine announces exactly before those turns that make an attempt that they do, up to the end of its run, and of
 /// none that follows the end.
 fn returns_attempts(machine: &mut Machine, budget: u32) -> bool {
     // one turn begins the run, and one more may cut it
@@ -173,7 +173,7 @@ fn returns_attempts(machine: &mut Machine, budget: u32) -> bool {
     false
 }
 
-/// Whether the first turns of a run tell this, and those that follow tell their attempts.
+/// Whether the first turns of a run report this, and those that follow report their attempts.
 fn returns(alloc: Global, setting: &Setting, turns: &[TurnResult]) -> Result<bool, Fail> {
     let (script, rule, budget) = *setting;
     if budget == 0 || budget > 1_000_000 {

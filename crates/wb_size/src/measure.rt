@@ -24,7 +24,7 @@ use wb_model::script::Script;
 /// The script runs once, without a limit, and of that run the rises alone are kept: so an attempt that isn't a rise adds
 /// nothing. Of every length, also those past the ceiling: from the required one on the run
 /// of a heap of that length meets no heap refusal, and below it each run does, whatever follows it; the first attempt
-/// refused is the one that `refused_at` tells and that the table of rises names. `Cut` comes exactly where the run without
+/// refused is the one that `refused_at` returns and that the table of rises names. `Cut` comes exactly where the run without
 /// a limit is cut, and `BadShape`, exactly where the shape is none that a heap may have, before it.
 pub fn size(alloc: Global, script: &Script, budget: u32, shape: Shape) -> Result<Sizing, SizeFault>
     requires script { IsTrue (is_script script.now) }

@@ -1,4 +1,4 @@
-//! One read and one write, and whether they failed. What is done by them, and how often, stands elsewhere.
+//! One read and one write, and whether they failed. What is done by them, and how often, is elsewhere.
 //!
 //! What a read or a write does to a stream is a relation into which no contract looks. So a body that reads
 //! again where a read failed, or met the end, is never taken for one that read once.

@@ -83,7 +83,7 @@ fn find_later<P: Progress>(
     }
 }
 
-/// The sweep itself, of whose beginning and end `sweep` tells.
+/// The sweep itself, of whose beginning and end `sweep` notifies.
 fn find_least<P: Progress>(
     alloc: Global,
     script: &Script,
@@ -126,7 +126,7 @@ fn find_least<P: Progress>(
 /// the least failure whose run is cut, where no lesser failure's run is bad. `BadShape` comes exactly where the shape is none
 /// that a heap may have. At most three runs are under way at once.
 ///
-/// `progress` is told that the sweep begins, of each failure before its run, and that the sweep is over.
+/// `progress` is notified that the sweep begins, of each failure before its run, and that the sweep is over.
 pub fn sweep<P: Progress>(
     alloc: Global,
     script: &Script,

@@ -72,7 +72,7 @@ impl Buf {
         self.units[at as usize]
     }
 
-    /// Puts a text in place of what stands.
+    /// Puts a text in place of what is there.
     ///
     /// `Panic::TOO_LONG` where it is longer than the maximum.
     pub fn copy<U: Units>(&mut self, source: &U) -> Result<(), Panic>

@@ -14,7 +14,7 @@ abbrev pub content_or_nil : Option (Cell (List ℕ)) → List ℕ
 content_or_nil None = []
 content_or_nil (Some c) = c.content
 
--- the words of the cell that a pointer names, and none where it names no cell
+-- the words of the cell that a pointer names, and none if it names no cell
 abbrev pub payload_of : Ptr → List (Cell (List ℕ)) → List ℕ
 payload_of p row = content_or_nil (cell_at p row)
 
@@ -40,7 +40,7 @@ abbrev pub with_level : Ptr → ℕ → List (Cell (List ℕ)) → List (Cell (L
 with_level p to [] = []
 with_level p to (c ∷ cs) = if is_at p c.head then record c { head = record c.head { level = to } } ∷ cs else c ∷ with_level p to cs
 
--- the free bytes between the cell that a pointer names and the next one; none where it is the last
+-- the free bytes between the cell that a pointer names and the next one; `None` if it is the last
 abbrev pub room_after : Ptr → List Header → Option ℕ
 room_after p (h ∷ g ∷ hs) = if is_at p h then Some (g.place - end_of h) else room_after p (g ∷ hs)
 room_after p _ = None
@@ -49,7 +49,7 @@ room_after p _ = None
 abbrev pub Clears : Ptr → ℕ → Header → Type 0
 Clears p to h = (is_at p h ≡ true) ⊎ Misses p.place to h
 
--- the cell that a pointer names can have this length where it stands: no other cell meets its bytes then
+-- the cell that a pointer names can have this length where it is: no other cell meets its bytes then
 abbrev pub FitsInPlace : Ptr → ℕ → List Header → Type 0
 FitsInPlace p to [] = Unit {0}
 FitsInPlace p to (h ∷ hs) = Clears p to h × FitsInPlace p to hs

@@ -51,7 +51,7 @@ abbrev pub item_before : Option Item → Option (List Item) → Option (List Ite
 item_before None rest = None
 item_before (Some item) rest = option_map (λ items. item ∷ items) rest
 
--- the items in a number of slots from the first on; none where one of these spells no item
+-- the items in a number of slots from the first on; `None` if one of these spells no item
 abbrev pub items_in : ℕ → List ℕ → Option (List Item)
 items_in zero ws = Some []
 items_in (suc n) (what ∷ place ∷ number ∷ operation ∷ ws) =

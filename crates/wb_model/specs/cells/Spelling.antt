@@ -25,7 +25,7 @@ header_of place ws kind = record {
   number = slice_index ws 3;
 }
 
--- the header of the live cell whose words begin at a place, and none where they are no live cell's
+-- the header of the live cell whose words begin at a place, and none if they are no live cell's
 abbrev pub header_at : ℕ → List ℕ → Option Header
 header_at place ws = option_map (header_of place ws) (kind_of (slice_index ws 1))
 

@@ -17,7 +17,7 @@ joined (a ∷ b ∷ us) = (a + b * 2 ^ 16) ∷ joined us
 joined (a ∷ []) = a ∷ []
 joined [] = []
 
--- a number of words have room for a number of units behind the length
+-- a number of words have room for a number of units after the length
 abbrev pub room_in : ℕ → ℕ
 room_in n = 2 * (n - 1)
 
@@ -25,7 +25,7 @@ room_in n = 2 * (n - 1)
 abbrev pub text_words : ℕ → List ℕ → List ℕ
 text_words n t = length t ∷ joined (exactly (room_in n) t)
 
--- the units behind the length, those past it too
+-- the units after the length, those past it too
 abbrev pub units_after : List ℕ → List ℕ
 units_after ws = halves (drop 1 ws)
 

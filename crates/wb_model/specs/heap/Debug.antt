@@ -37,7 +37,7 @@ pub record Debug : Type 0 where
   pub committed : ℕ
   -- how many attempts were made
   pub attempts : ℕ
-  -- their lines, or none where the rises are kept in their place
+  -- their lines, or `None` if the rises are kept in their place
   pub trace : List Attempt
   pub rises : Option (List Rise)
 

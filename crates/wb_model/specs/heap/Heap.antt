@@ -55,7 +55,7 @@ abbrev pub fits_in_place : List Header → Header → ℕ → Bool
 fits_in_place row h length =
     list_all (λ g. is_at (pointer_to h) g || (nat_le (h.place + length) g.place || nat_le (end_of g) h.place)) row
 
--- the place of a cell that is to be longer: its own where the bytes behind it are free, else the first gap beside it
+-- the place of a cell that is to be longer: its own where the bytes after it are free, else the first gap beside it
 abbrev pub realloc_place : List Header → Header → ℕ → ℕ
 realloc_place row h length = if fits_in_place row h length then h.place else place_of row length
 

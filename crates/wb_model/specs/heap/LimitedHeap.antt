@@ -83,7 +83,7 @@ heap_grown heap c length number =
       held = max heap.held (committed_grown heap c.head length);
     }
 
--- the heap once a cell was made no longer: its tail is free, and what stood there is dropped
+-- the heap once a cell was made no longer: its tail is free, and what was there is dropped
 abbrev pub heap_shortened : LimitedHeap → Cell (List ℕ) → ℕ → LimitedHeap
 heap_shortened heap c length =
     record heap {

@@ -74,6 +74,6 @@ abbrev pub unless_refused : Option Answer → ℕ → Option Answer
 unless_refused (Some answer) end = Some answer
 unless_refused None end = if nat_lt CEILING end then None else Some Granted
 
--- the answer to an attempt: the setting is asked first, then the rule; none where the ceiling cuts the run
+-- the answer to an attempt: the setting is asked first, then the rule; `None` if the ceiling cuts the run
 abbrev pub answer_to : Rule → ℕ → Request → Option Answer
 answer_to rule number t = if t.due then Some Simulated else unless_refused (refusal_of rule number (t.place + t.length)) (t.place + t.length)

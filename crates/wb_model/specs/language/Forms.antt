@@ -101,7 +101,7 @@ abbrev pub line_or : LineKind → Option (List (Operand (List ℕ))) → Form (L
 line_or line_kind (Some operands) form = Line line_kind operands
 line_or line_kind None form = form
 
--- the first line kind that fits a first word and the words behind it
+-- the first line kind that fits a first word and the words after it
 abbrev pub form_in : List LineKind → List ℕ → List (List ℕ) → Form (List ℕ)
 form_in [] first words = Unknown
 form_in (line_kind ∷ rest) first words = line_or line_kind (operands_if (bytes_eq (text_of line_kind) first) line_kind words) (form_in rest first words)

@@ -141,7 +141,7 @@ returns_pointer _ = false
 abbrev pub returns_outside : NamesSoFar → Form Text → Bool
 returns_outside known form = list_any returns_pointer (line_kind_in form) && not (is_of_procedure known.body)
 
--- a line with an operand of another kind than it takes, or that has no place where it stands
+-- a line with an operand of another kind than it takes, or that has no place where it is
 abbrev pub has_wrong_kind : List Declaration → NamesSoFar → Form Text → Bool
 has_wrong_kind items known form =
     not (is_right_line items (resolved_line items known form)) || (misuses_main form || (returns_in_trap known form || returns_outside known form))

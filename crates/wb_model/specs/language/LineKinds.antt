@@ -1,4 +1,4 @@
--- The tables of the language: for each line kind the word that begins its lines, what stands behind it, and what its lines are to
+-- The tables of the language: for each line kind the word that begins its lines, what is after it, and what its lines are to
 -- the grammar of blocks; and for each operand place the words that are grammatical there, and the operand kinds that are right.
 use Rattle.std.specs.Prelude.{ℕ, ◌-◌, List, [], ◌∷◌, ◌++◌, Bool, true, false, not, ◌||◌, Option, Some, None, codes, length, replicate}
 use Rattle.wb_model.specs.declared.script_lines.LineKind.{LineKind}
@@ -187,7 +187,7 @@ abbrev pub operand_places_with : List OperandPlace → Option OperandPlace → �
 operand_places_with operand_places None count = operand_places
 operand_places_with operand_places (Some operand_place) count = operand_places ++ replicate (count - length operand_places) operand_place
 
--- what stands behind a line kind where there are so many words
+-- what follows a line kind, by how many words there are
 abbrev pub operand_places_for : LineKind → ℕ → List OperandPlace
 operand_places_for line_kind count = operand_places_with (operand_places_of line_kind) (rest_of line_kind) count
 
@@ -266,7 +266,7 @@ role_of Repeat = role.Loop
 role_of Trap = role.Loop
 role_of End = role.End
 
--- what may stand in the body of an operation or of a destructor: nothing that can leave
+-- what may be in the body of an operation or of a destructor: nothing that can leave
 abbrev pub is_quiet : LineKind → Bool
 is_quiet Ptr = true
 is_quiet ClassPtr = true

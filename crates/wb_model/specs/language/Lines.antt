@@ -19,7 +19,7 @@ ends_line quoted byte = byte == 10
 abbrev pub ends_word : Separator
 ends_word quoted byte = not quoted && is_blank byte
 
--- whether quotes are open behind a byte
+-- whether quotes are open after a byte
 abbrev pub quoted_after : Bool → ℕ → Bool
 quoted_after quoted byte = if byte == 34 then not quoted else quoted
 
@@ -51,7 +51,7 @@ unless_empty (byte ∷ bytes) = (byte ∷ bytes) ∷ []
 abbrev pub words_of : List ℕ → List (List ℕ)
 words_of line = flat_map unless_empty (pieces ends_word line)
 
--- a byte that no line holds: none but blanks, tabs, carriage returns and printable ASCII stand in lines
+-- a byte that no line holds: none but blanks, tabs, carriage returns and printable ASCII are in lines
 abbrev pub is_foreign : ℕ → Bool
 is_foreign byte = not (is_blank byte || byte == 10 || (nat_le 32 byte && nat_le byte 126))
 

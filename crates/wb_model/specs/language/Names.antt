@@ -1,4 +1,4 @@
--- The names of a script: which lines declare them, what stands declared at a line, and which lines declare a name again or
+-- The names of a script: which lines declare them, what is declared at a line, and which lines declare a name again or
 -- pass a limit.
 use Rattle.std.specs.Prelude.{ℕ, ◌+◌, ◌-◌, List, [], ◌∷◌, ◌++◌, Option, Some, None, Bool, true, false, ◌||◌, if◌then◌else◌, is_some, nat_le, nat_lt, length, map, slice_get, take}
 use Rattle.std.specs.List.{list_any, flat_map}
@@ -79,7 +79,7 @@ abbrev pub item_kind_in : {N : Type 0} → Form N → Option ItemKind
 item_kind_in (Line line_kind operands) = item_kind_of line_kind
 item_kind_in _ = None
 
--- the fields that a class has whose first line these follow, by a line's role and what the lines behind it have
+-- the fields that a class has whose first line these follow, by a line's role and what the lines after it have
 abbrev pub fields_with : Role → Form Text → List Text → List Text
 fields_with role.Field form others = first_name form ++ others
 fields_with role.Skip form others = others
@@ -128,7 +128,7 @@ of_kind kind (i ∷ items) = if is_same_kind i.kind kind then (i ∷ of_kind kin
 abbrev pub item_of_kind : ItemKind → List Declaration → ℕ → Option Declaration
 item_of_kind kind items index = slice_get (of_kind kind items) index
 
--- how many of a kind stand among items
+-- how many of a kind are among items
 abbrev pub count_among : ItemKind → List Declaration → ℕ
 count_among kind items = length (of_kind kind items)
 
@@ -170,7 +170,7 @@ abbrev pub line_kind_in : {N : Type 0} → Form N → List LineKind
 line_kind_in (Line line_kind operands) = line_kind ∷ []
 line_kind_in _ = []
 
--- What stands before a line: how many classes, procedures and operations of the script's own space, the fields of the class begun
+-- What is before a line: how many classes, procedures and operations of the script's own space, the fields of the class begun
 -- last, how many literals; what the body is of that is open or was the last, its locals, its parameters first, each with what it
 -- holds; and the line kinds of the blocks that are open, the innermost last.
 pub record NamesSoFar : Type 0 where
@@ -204,7 +204,7 @@ begins_body role.Construct = true
 begins_body role.Destroy = true
 begins_body _ = false
 
--- the locals of the body that is open behind a line
+-- the locals of the body that is open after a line
 abbrev pub locals_after : Role → Form Text → List Text → List Text
 locals_after role form locals = if begins_body role then locals_by role form else locals ++ locals_by role form
 
@@ -222,7 +222,7 @@ fields_after role.Class form fields = []
 fields_after role.Field form fields = fields ++ first_name form
 fields_after _ form fields = fields
 
--- the blocks that are open behind a line
+-- the blocks that are open after a line
 abbrev pub blocks_after : {N : Type 0} → Role → Form N → List LineKind → List LineKind
 blocks_after role.Class form blocks = []
 blocks_after role.Construct form blocks = []
@@ -270,7 +270,7 @@ known_after known form = known_with (role_of_form form) form known
 abbrev pub first_declaration_of : List Text → Text → Option ℕ
 first_declaration_of names name = first_where (λ n. bytes_eq n name) names
 
--- how many procedures and operations stand before a line
+-- how many procedures and operations are before a line
 abbrev pub bodies_before : NamesSoFar → ℕ
 bodies_before known = known.procedures + known.operations
 
@@ -278,7 +278,7 @@ bodies_before known = known.procedures + known.operations
 abbrev pub items_before : NamesSoFar → ℕ
 items_before known = known.classes + bodies_before known
 
--- how many of its kind stand before what a line of a line kind declares
+-- how many of its kind are before what a line of a line kind declares
 abbrev pub names_before : LineKind → NamesSoFar → ℕ
 names_before line_kind.Class known = known.classes
 names_before line_kind.Field known = length known.fields
@@ -291,7 +291,7 @@ names_before _ known = length known.locals
 abbrev pub is_item_before : List Text → ℕ → Text → Bool
 is_item_before items before name = option_map_or (λ index. nat_lt index before) (first_declaration_of items name) false
 
--- a name that stands declared in the space of a line of this role
+-- a name that is declared in the space of a line of this role
 abbrev pub is_declared_there : List Text → NamesSoFar → Role → Text → Bool
 is_declared_there items known role.Class name = is_item_before items (items_before known) name
 is_declared_there items known role.Procedure name = is_item_before items (items_before known) name
@@ -302,12 +302,12 @@ is_declared_there items known _ name = false
 abbrev pub is_among : List Text → Text → Bool
 is_among names name = list_any (λ n. bytes_eq n name) names
 
--- a name stands twice among these
+-- a name is twice among these
 abbrev pub has_double : List Text → Bool
 has_double [] = false
 has_double (name ∷ names) = is_among names name || has_double names
 
--- a line that declares a name which stands declared in its space, or two parameters with one name
+-- a line that declares a name which is declared in its space, or two parameters with one name
 abbrev pub declares_again : List Text → NamesSoFar → Form Text → Bool
 declares_again items known form = list_any (is_declared_there items known (role_of_form form)) (first_name form) || has_double (parameter_names form)
 
@@ -354,6 +354,6 @@ has_more_parameters form = nat_lt MOST_PARAMETERS (length (parameters_in form))
 abbrev pub passes_limit : NamesSoFar → Form Text → Bool
 passes_limit known form = (has_long_name form || has_more_parameters form) || (is_one_more (role_of_form form) known || is_large form)
 
--- the index of the first line that a test refuses, by what stands before it
+-- the index of the first line that a test refuses, by what is before it
 abbrev pub first_refused : (NamesSoFar → Form Text → Bool) → List (Form Text) → Option ℕ
 first_refused bad forms = first_bad known_after bad nothing_known forms

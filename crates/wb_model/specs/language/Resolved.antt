@@ -57,7 +57,7 @@ referent_of_kind item.Class index = referent.Class index
 referent_of_kind item.Procedure index = referent.Procedure index
 referent_of_kind item.Operation index = referent.Operation index
 
--- an item of the script's own space, behind others
+-- an item of the script's own space, after others
 abbrev pub item_after : List Declaration → Option Declaration → Referent
 item_after before (Some i) = referent_of_kind i.kind (count_among i.kind before)
 item_after before None = referent.Nothing
@@ -94,7 +94,7 @@ class_of_local items kinds None = None
 abbrev pub class_of_this : NamesSoFar → Option ℕ
 class_of_this known = if has_this known.body then Some (known.classes - 1) else None
 
--- the class that what holds a pointer is declared with; none where it is of none
+-- the class that what holds a pointer is declared with; `None` if it is of none
 abbrev pub class_of_base : List Declaration → NamesSoFar → Text → Option ℕ
 class_of_base items known name =
     if is_this name then class_of_this known else class_of_local items known.kinds (first_declaration_of known.locals name)
@@ -144,7 +144,7 @@ abbrev pub resolved_operands : List Declaration → NamesSoFar → LineKind → 
 resolved_operands items known line_kind (operand_place ∷ operand_places) (operand ∷ operands) = resolved_operand items known line_kind operand_place operand ∷ resolved_operands items known line_kind operand_places operands
 resolved_operands items known line_kind _ _ = []
 
--- a line, by the script's own space and what stands before it
+-- a line, by the script's own space and what is before it
 abbrev pub resolved_line : List Declaration → NamesSoFar → Form Text → Form Referent
 resolved_line items known Skip = Skip
 resolved_line items known Unknown = Unknown

@@ -23,7 +23,7 @@ AreLines lines = IsGrammatical (map role_of_form (forms_of lines))
 abbrev pub AreFirstLines : List Text → Type 0
 AreFirstLines lines = (more : List Text) × AreLines (lines ++ more)
 
--- The line where a text stops being the beginning of any script. Where it never does and yet is none, it is the line behind
+-- The line where a text stops being the beginning of any script. Where it never does and yet is none, it is the line after
 -- the last.
 pub record IsGrammarLine (lines : List Text) (n : ℕ) : Type 0 where
   pub counted : 0 < n

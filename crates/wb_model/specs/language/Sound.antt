@@ -130,7 +130,7 @@ is_condition scope (NotNull p) = is_pointer scope p
 is_condition scope (Equal v w) = is_number scope.locals v && is_number scope.locals w
 is_condition scope (Less v w) = is_number scope.locals v && is_number scope.locals w
 
--- a statement that no other stands inside and that begins no body, but for the ends of bodies, over a scope and a number of literals
+-- a statement with no other inside it and that begins no body, but for the ends of bodies, over a scope and a number of literals
 abbrev pub is_statement : ℕ → Scope → Statement-F Statement StatementAt → Bool
 is_statement literals scope (Statement-F.Alloc p v refusal) = is_target scope p && is_number scope.locals v
 is_statement literals scope (Statement-F.Realloc p q v refusal) = is_target scope p && (is_pointer scope q && is_number scope.locals v)
@@ -177,7 +177,7 @@ is_statement literals scope Statement-F.NoteAvailable = true
 is_statement literals scope Statement-F.NoteCompress = true
 is_statement literals scope _ = false
 
--- the same and the end of a body, which doesn't stand in a TRAP
+-- the same and the end of a body, which isn't in a TRAP
 abbrev pub is_simple : ℕ → Scope → Bool → Statement-F Statement StatementAt → Bool
 is_simple literals scope trapped Statement-F.Return = not trapped
 is_simple literals scope trapped (Statement-F.ReturnPointer p) = not trapped && is_pointer scope p
@@ -211,7 +211,7 @@ is_called scope None arguments = false
 abbrev pub is_call : List (List Parameter) → Scope → ℕ → List Argument → Bool
 is_call signatures scope index arguments = is_called scope (slice_get signatures index) arguments
 
--- a statement with what stands inside it, in a TRAP or not; `inside` says which blocks may stand there
+-- a statement with what is inside it, in a TRAP or not; `inside` says which blocks may be there
 abbrev pub is_nested : Declared → Scope → Bool → (Bool → List StatementAt → Bool) → Statement-F Statement StatementAt → Bool
 is_nested declared scope trapped inside (Statement-F.Call n arguments) = is_call declared.signatures scope n arguments
 is_nested declared scope trapped inside (Statement-F.CallTo x n arguments) = is_pointer_local (slice_get scope.locals x) && is_call declared.signatures scope n arguments
@@ -252,7 +252,7 @@ abbrev pub is_body : Declared → Scope → List StatementAt → Bool
 is_body declared scope statements =
     list_all (is_local (length scope.fields)) scope.locals && nat_le (length scope.locals) MOST_LOCALS && are_statements declared scope statements
 
--- the scope of a body behind these parameters, in a class or in none
+-- the scope of a body after these parameters, in a class or in none
 abbrev pub scope_of : Declared → Option ℕ → List Parameter → Body → Scope
 scope_of declared this parameters body = record { locals = locals_of parameters body.locals; this = this; fields = declared.fields }
 

@@ -73,7 +73,7 @@ abbrev pub counted_from : ℕ → List Indexed → List Marked
 counted_from number [] = []
 counted_from number (line ∷ lines) = counted number line ++ counted_from (suc number) lines
 
--- The operand that spells a pointer, a number, a text, a class, a procedure or a parameter; none where no line spells it.
+-- The operand that spells a pointer, a number, a text, a class, a procedure or a parameter; `None` if no line spells it.
 abbrev pub Spelled : Type 0
 Spelled = Option (Operand Referent)
 
@@ -241,7 +241,7 @@ abbrev pub lines_joined : {X : Type 0} → List (List X) → List X
 lines_joined [] = []
 lines_joined (part ∷ parts) = part ++ lines_joined parts
 
--- the lines behind the first of a block, with its end; a statement that is no block has none
+-- the lines after the first of a block, with its end; a statement that is no block has none
 abbrev pub lines_inside : {A : Type 0} → Statement-F A (List Marked) → List Marked
 lines_inside (Statement-F.If c first) = lines_joined first ++ end_line ∷ []
 lines_inside (Statement-F.IfElse c first other) = lines_joined first ++ else_line ∷ (lines_joined other ++ end_line ∷ [])
@@ -280,7 +280,7 @@ local_lines index (local ∷ locals) = (None, local_line index local) ∷ local_
 abbrev pub head_line : ℕ → List Parameter → Indexed
 head_line index parameters = line line_kind.Proc (Some (Name (referent.Declared index)) ∷ map parameter_operand parameters)
 
--- a body behind a number of parameters
+-- a body after a number of parameters
 abbrev pub body_lines : ℕ → Body → List Marked
 body_lines parameters body = local_lines parameters body.locals ++ statement_lines body.statements
 

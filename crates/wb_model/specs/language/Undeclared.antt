@@ -1,6 +1,6 @@
 -- What an unknown name is, said of the lines of a script: a line uses a name that no line of its body declares before it, `self`
 -- outside of the bodies of classes, the name of a class, a procedure or an operation that no line of the script declares, or a
--- field that no line of its class declares. By the grammar no declaration stands behind a line that uses a name, so these are all
+-- field that no line of its class declares. By the grammar no declaration is after a line that uses a name, so these are all
 -- that the body declares.
 use Rattle.std.specs.Prelude.{◌≡◌, ◌⊎◌, ℕ, suc, ◌<◌, List, [], ◌∷◌, ◌++◌, Option, Some, None, Bool, true, false, not, if◌then◌else◌, length}
 use Rattle.std.specs.List.{list_all, list_any}
@@ -61,11 +61,11 @@ is_of_object _ = false
 abbrev pub declares : Form Text → Text → Bool
 declares form name = if is_this name then is_of_object (role_of_form form) else is_among (locals_by (role_of_form form) form) name
 
--- The body that is open behind these lines declares the name: one of them does, and none behind that one begins a body.
+-- The body that is open after these lines declares the name: one of them does, and none after that one begins a body.
 abbrev pub IsDeclared : List (Form Text) → Text → Type 0
 IsDeclared before name = (earlier later : List (Form Text)) × (form : Form Text) × (before ≡ earlier ++ form ∷ later) × (declares form name ≡ true) × (list_all stays_inside later ≡ true)
 
--- a line of a script, behind these, uses a name that its body doesn't declare, or one that the script doesn't
+-- a line of a script, after these, uses a name that its body doesn't declare, or one that the script doesn't
 abbrev pub UsesUndeclaredName : List (Form Text) → List (Form Text) → Form Text → Type 0
 UsesUndeclaredName forms before form = (name : Text) ×
     (((is_among (used_in local_used form) name ≡ true) × (IsDeclared before name → ⊥))
@@ -81,7 +81,7 @@ abbrev pub field_missed : List Declaration → NamesSoFar → OperandPlace → O
 field_missed items known operand_place (Field base field) = is_missing items (class_of_base items known base) field ∷ []
 field_missed items known operand_place operand = []
 
--- a line of a script, behind these, uses a field that its class doesn't declare
+-- a line of a script, after these, uses a field that its class doesn't declare
 abbrev pub uses_undeclared_field : List (Form Text) → List (Form Text) → Form Text → Bool
 uses_undeclared_field forms before form =
     list_any (λ b. b) (used_in (field_missed (items_of forms) (state_after known_after nothing_known before)) form)

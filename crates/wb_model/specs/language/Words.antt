@@ -1,4 +1,4 @@
--- What a word behind the line kind of a line is: a name, a number, a literal, a parameter, a word of the line's own.
+-- What a word after the line kind of a line is: a name, a number, a literal, a parameter, a word of the line's own.
 use Rattle.std.specs.Prelude.{ℕ, suc, ℤ, pos, neg_ℤ, ◌+◌, ◌-◌, ◌*◌, List, [], ◌∷◌, Bool, false, not, ◌&&◌, ◌||◌, ◌==◌, nat_eq, nat_le, if◌then◌else◌, Option, Some, None, codes, drop, fold, length, slice_index, slice_range, take}
 use Rattle.std.specs.List.{list_all, list_any}
 use Rattle.std.specs.Option.{option_map}
@@ -37,16 +37,16 @@ declared_name word = if is_name word && not (is_reserved word) then Some word el
 abbrev pub used_name : List ℕ → Option (List ℕ)
 used_name word = if is_name word then Some word else None
 
--- how many bytes of a word stand before the first that is this one
+-- how many bytes of a word are before the first that is this one
 abbrev pub length_before : ℕ → List ℕ → ℕ
 length_before byte [] = 0
 length_before byte (b ∷ word) = if b == byte then 0 else suc (length_before byte word)
 
--- what stands before it
+-- what is before it
 abbrev pub before_first : ℕ → List ℕ → List ℕ
 before_first byte word = take (length_before byte word) word
 
--- what stands behind it
+-- what is after it
 abbrev pub after_first_of : ℕ → List ℕ → List ℕ
 after_first_of byte word = drop (length_before byte word + 1) word
 
@@ -68,7 +68,7 @@ number_spelled (byte ∷ bytes) =
 abbrev pub inside : List ℕ → List ℕ
 inside word = slice_range word 1 (length word - 1)
 
--- what may stand between quotes
+-- what may be between quotes
 abbrev pub is_quotable : ℕ → Bool
 is_quotable byte = nat_le 32 byte && nat_le byte 126 && not (nat_eq byte 34)
 
@@ -84,11 +84,11 @@ literal_spelled word = if is_literal word then Some (inside word) else None
 abbrev pub base_name : List ℕ → Option (List ℕ)
 base_name word = used_name (before_first 46 word)
 
--- the name of a field, behind the dot
+-- the name of a field, after the dot
 abbrev pub field_name : List ℕ → Option (List ℕ)
 field_name word = used_name (after_first_of 46 word)
 
--- what a parameter takes, by the word behind its colon; any name but `ptr` and `int` is that of a class
+-- what a parameter takes, by the word after its colon; any name but `ptr` and `int` is that of a class
 abbrev pub parameter_type_after_colon : List ℕ → Option (ParameterType (List ℕ))
 parameter_type_after_colon word =
     if bytes_eq word (codes "ptr") then Some parameter_type.Pointer else (if bytes_eq word (codes "int") then Some parameter_type.Number else option_map parameter_type.OfClass (used_name word))

@@ -8,7 +8,7 @@ use Rattle.wb_model.specs.language.Forms.{line_form}
 use Rattle.wb_model.specs.language.Lines.{is_blank, lines_of, words_of}
 use Rattle.wb_model.specs.language.Words.{is_quotable, literal_spelled}
 
--- no line feed stands in it
+-- no line feed is in it
 abbrev pub is_line : List ℕ → Bool
 is_line = list_all (λ byte. not (byte == 10))
 
@@ -48,10 +48,10 @@ AreWords (word ∷ words) = IsWord word × AreWords words
 abbrev pub spaced : List ℕ → List ℕ
 spaced word = word ++ 32 ∷ []
 
--- Words with a blank behind each are read as these words.
+-- Words with a blank after each are read as these words.
 abbrev pub ReadsWords : List (List ℕ) → Type 0
 ReadsWords words = AreWords words → words_of (flat_map spaced words) ≡ words
 
--- A line that says something is made of words: no quote stands in it but around a literal.
+-- A line that says something is made of words: no quote is in it but around a literal.
 abbrev pub IsMadeOfWords : List ℕ → Type 0
 IsMadeOfWords line = (line_kind : LineKind) (operands : List (Operand (List ℕ))) → line_form line ≡ Line line_kind operands → AreWords (words_of line)

@@ -16,7 +16,7 @@ use Rattle.wb_model.specs.heap.Rules.{Request}
 abbrev pub null : Ptr
 null = record { place = 0; number = 0 }
 
--- what a cell holds, by its kind; a cleanup cell's items stand in the state itself
+-- what a cell holds, by its kind; a cleanup cell's items are in the state itself
 pub data Content : Type 0 where
   words : List ℤ → Content
   fields : List Ptr → Content

@@ -1,5 +1,5 @@
 -- What each statement means, and the destruction of items and objects. The operands of a clause are refused from left to
--- right, as they stand in its text.
+-- right, as they are in its text.
 use Rattle.std.specs.Prelude.{ℕ, ℤ, pos, negsuc, suc, ◌+◌, ◌-◌, ◌*◌, ◌/◌, ◌+ℤ◌, List, [], ◌∷◌, ◌++◌, Bool, true, false, not, ◌&&◌, nat_eq, nat_le, nat_lt, int_lt, int_le, if◌then◌else◌, Option, Some, None, length, take, replicate, map, slice_get, slice_set, unwrap_or}
 use Rattle.std.specs.Fmt.{signed_decimal}
 use Rattle.wb_model.specs.declared.heap.TheConstants.Panic.{BAD_CELL, WRONG_KIND, NUMBER_OUT_OF_RANGE, TOO_MANY_FRAMES, ITEMS_LEFT, SHORTER_THAN_TEXT, POP_BELOW_TRAP, ANOTHER_ITEM_ON_TOP}
@@ -46,7 +46,7 @@ pub record Context : Type 0 where
   pub depth : ℕ
   pub floor : ℕ
 
--- a meaning of pieces, which the clauses below are given for what stands inside
+-- a meaning of pieces, which the clauses below are given for what is inside
 abbrev pub Meaning : Type 0
 Meaning = Context → Todo → State → Process
 
@@ -157,7 +157,7 @@ newest items = slice_get items (length items - 1)
 abbrev pub drop_newest : ℕ → State → State
 drop_newest n st = record st { items = take (length st.items - n) st.items }
 
--- at least a number of items stand above the entry of the innermost TRAP
+-- at least a number of items are above the entry of the innermost TRAP
 abbrev pub has_above : Context → State → ℕ → Bool
 has_above at st n = nat_le (at.floor + n) (length st.items)
 
@@ -178,7 +178,7 @@ destroyed_item script rec at (I.Delete p) st = destroyed_object (is_null p) rec 
 destroyed_item script rec at (I.Call p op) st =
     in_frame rec at null (pointer p ∷ []) (operation_at script op) st (plain (λ _ st. done st))
 
--- what a TRAP makes of its body's end; no `return` stands inside one
+-- what a TRAP makes of its body's end; no `return` is inside one
 unfoldable pub trapped : Meaning → Context → ℕ → ℕ → Way → State → Process
 trapped rec at target entry goes_on st =
     require (nat_eq (length st.items) entry) ITEMS_LEFT st (λ st. done (set_local st target (number (pos 0))))
@@ -226,7 +226,7 @@ abbrev pub at_least_one : ℤ → Option ℕ
 at_least_one (pos (suc n)) = Some (suc n)
 at_least_one _ = None
 
--- one statement that was begun; `rec` is the meaning of the pieces that it leaves to be done. Above each clause stands the call
+-- one statement that was begun; `rec` is the meaning of the pieces that it leaves to be done. Above each clause is the call
 -- of the SDK that it is for; a line without one is this language's own.
 unfoldable pub statement : Script → Meaning → Context → Layer → State → Process
 -- User::Alloc, User::AllocL
@@ -277,7 +277,7 @@ statement script rec at (Statement-F.Pop count) st =
 statement script rec at (Statement-F.PopDestroy count) st =
     with_some (not_negative (number_of st count)) NUMBER_OUT_OF_RANGE st (λ n.
     require (has_above at st n) POP_BELOW_TRAP st (λ st. rec at (destroy_items n) st))
--- CleanupStack::Pop(TAny*); where an item stands above the entry there is a newest one, so that the second refusal is never met
+-- CleanupStack::Pop(TAny*); where an item is above the entry there is a newest one, so that the second refusal is never met
 statement script rec at (Statement-F.PopCheck expected) st =
     with_pointer st expected (λ p. require (has_above at st 1) POP_BELOW_TRAP st (λ st.
     with_some (newest st.items) POP_BELOW_TRAP st (λ item.

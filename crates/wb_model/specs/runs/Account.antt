@@ -18,7 +18,7 @@ use Rattle.wb_model.specs.meaning.State.{Query, heap_note, available_note, compr
 pub record Account : Type 0 where
   -- how many attempts were made
   pub attempts : ℕ
-  -- their lines, or none where the rises are kept in their place
+  -- their lines, or `None` if the rises are kept in their place
   pub trace : List Attempt
   pub rises : Option (List Rise)
   pub notes : List Note

@@ -50,7 +50,7 @@ in_main rec script st =
     let main = procedure_at script script.main in
     and_then (rec at (all main.statements) (record st { frame = record { this = null; locals = map initial main.locals } })) (main_trapped rec at)
 
--- attempt 1, and then `main`; none where attempt 1 is refused
+-- attempt 1, and then `main`; `None` if attempt 1 is refused
 unfoldable pub started : Meaning → Script → Option Ptr → State → Process
 started rec script (Some p) st = in_main rec script (record st { cleanup = p })
 started rec script None st = stops no_cleanup st
@@ -112,11 +112,11 @@ whole_run keeps_rises script rule budget shape =
 
 -- what a run comes to that keeps the rises, from what one with lines tells
 abbrev pub run_with_rises : RunResult → WholeRun
-run_with_rises told = record { result = record told { trace = [] }; attempts = length told.trace; rises = Some (rises_above 0 told.trace) }
+run_with_rises whole = record { result = record whole { trace = [] }; attempts = length whole.trace; rises = Some (rises_above 0 whole.trace) }
 
--- what is told of a run that keeps the rises
+-- what is reported of a run that keeps the rises
 abbrev pub rises_result_of : RunResult → RisesResult
-rises_result_of told = record { outcome = told.outcome; rises = rises_above 0 told.trace; steps = told.steps }
+rises_result_of whole = record { outcome = whole.outcome; rises = rises_above 0 whole.trace; steps = whole.steps }
 
 -- what a sweep looks for: a panic, or a leak at the end; a leave alone is fine, and so is a run without its cleanup stack
 abbrev pub is_bad_outcome : Outcome → Bool

@@ -14,7 +14,7 @@ abbrev pub refused_or_later : Attempt → Answer → Option ℕ → Option ℕ
 refused_or_later t Refused later = Some t.number
 refused_or_later t _ later = later
 
--- the number of the first line that the heap's limit refused; none where no line is
+-- the number of the first line that the heap's limit refused; `None` if no line is
 abbrev pub first_refusal : List Attempt → Option ℕ
 first_refusal [] = None
 first_refusal (t ∷ ts) = refused_or_later t t.answer (first_refusal ts)
@@ -52,7 +52,7 @@ IsTable refused_by required from (r ∷ rs) =
     (from < r.top) × ((length : ℕ) → from ≤ length → length < r.top → refused_by length ≡ Some r.number)
     × IsTable refused_by required r.top rs
 
--- the first attempt that a heap of a length refuses as it runs a script, whatever follows it; none where it refuses none
+-- the first attempt that a heap of a length refuses as it runs a script, whatever follows it; `None` if it refuses none
 abbrev pub refused_first : Script → ℕ → Shape → ℕ → Option ℕ
 refused_first script budget shape length = first_refusal (run script (Limit length) budget shape).trace
 

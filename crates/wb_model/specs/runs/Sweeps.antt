@@ -21,7 +21,7 @@ is_cut_outcome _ = false
 
 -- neither bad nor cut
 abbrev pub is_fine : RunResult → Bool
-is_fine told = not (is_bad told) && not (is_cut_outcome told.outcome)
+is_fine result = not (is_bad result) && not (is_cut_outcome result.outcome)
 
 abbrev pub AreFineBelow : (ℕ → RunResult) → ℕ → Type 0
 AreFineBelow runs bound = (number : ℕ) → number < bound → is_fine (runs number) ≡ true

@@ -27,7 +27,7 @@ Throughout P made (asks t cut go) = P made cut × ((answer : Answer) → Through
 Throughout P made (notes q p) = ((st : State) × P made st × IsNoteOf st q) × Throughout P made p
 
 -- a Raw cell holds words, an object a pointer for each field of its class, and a text units; what the cleanup stack's cell holds
--- stands in the state itself
+-- is in the state itself
 abbrev pub SuitsKind : Script → Kind → Content → Type 0
 SuitsKind script Raw (words ws) = Unit {0}
 SuitsKind script (Object class) (fields ps) = length ps ≡ length (class_at script class).fields

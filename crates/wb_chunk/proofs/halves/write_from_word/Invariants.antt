@@ -1,4 +1,4 @@
--- So many pairs stand where they belong, and the other words are as they were.
+-- As many pairs are where they belong, and the other words are as they were.
 use Rattle.std.proofs.Common.{◌≡◌, ℕ, ◌+◌, ◌*◌, ◌/◌, ◌^◌, ◌<◌, ◌≤◌, ◌⊎◌, suc, get_or}
 use Rattle.wb_chunk.proofs.halves.write_from_word.Given as goal
 

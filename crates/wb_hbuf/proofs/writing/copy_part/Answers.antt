@@ -33,7 +33,7 @@ module _ (p q : Ptr) (d e : Debug) (has : HasUnits p d) (has' : HasUnits q d) (a
       (All-take IsUnit there (drop start (all q d has')) (All-drop IsUnit start (all q d has') has'.units))
       (made ∙ ap (λ vs. debug_changed d p (with_halves (payload_of p d.heap.row) (at + 2) vs)) (run-following (payload_of q d.heap.row) start (start + 2) there (omega arith) within))
 
-  -- and zeros behind it
+  -- and zeros after it
   filled : (f : Debug) → f ≡ debug_changed e p (with_halves (payload_of p e.heap.row) (at + there + 2) (zeros (count - there))) →
       IsDraft p d f (len p d has) (put at (units_of_part (text_at q d) from count) (all p d has))
   filled f next =

@@ -10,7 +10,7 @@ use Rattle.wb_hbuf.proofs.Drafts.{draft-none, draft-put, draft-words, draft-leng
 use Rattle.wb_hbuf.proofs.WrittenUnits.{len, all, all-room}
 use Rattle.wb_hbuf.proofs.writing.settle.Goals as goal
 
--- zeros for what stands past the new end
+-- zeros for what is past the new end
 cleared : (p : Ptr) (d e : Debug) (has : HasUnits p d) (n k m : ℕ) → k ≡ n + 2 → m ≡ len p d has - n → n ≤ length (all p d has) →
     e ≡ debug_changed d p (with_halves (payload_of p d.heap.row) k (zeros m)) → IsDraft p d e (len p d has) (put n (zeros (len p d has - n)) (all p d has))
 cleared p d e has n k m here count fits made =

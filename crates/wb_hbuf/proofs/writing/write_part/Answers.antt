@@ -28,7 +28,7 @@ module _ (p : Ptr) (d e : Debug) (has : HasUnits p d) (us : List ℕ) (units : A
       draft-put p d d (len p d has) (all p d has) has (draft-none p d has) e at (at + 2) read refl (omega (arith, length-read, long, room))
       (All-take IsUnit there (drop start us) (All-drop IsUnit start us units)) (made ∙ ap (λ vs. debug_changed d p (with_halves (payload_of p d.heap.row) (at + 2) vs)) is)
 
-  -- and zeros behind it
+  -- and zeros after it
   filled : (f : Debug) (k n : ℕ) → k ≡ at + there + 2 → n ≡ count - there → f ≡ debug_changed e p (with_halves (payload_of p e.heap.row) k (zeros n)) →
       IsDraft p d f (len p d has) (put at (units_of_part us from count) (all p d has))
   filled f k n here rest next =

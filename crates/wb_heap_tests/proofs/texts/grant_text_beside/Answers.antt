@@ -20,7 +20,7 @@ old-number q d sound is same =
     let named = found-from q (headers d.heap.row) 0 is.cell.head sound.row.spaced found in
     absurd (omega (arith, same, at-number q is.cell.head named.named, live.counted))
 
--- an attempt for a cell leaves the texts that stand
+-- an attempt for a cell leaves the texts that are there
 stays : (q : Ptr) (d new : Debug) (bytes : ℕ) → IsSoundDebug d → IsTextAt q d → new ≡ (alloc_made d bytes Text).debug → IsTextAt q new
 stays q d new bytes sound is made = by (answer_in d (alloc_request d.heap bytes)) made
   where

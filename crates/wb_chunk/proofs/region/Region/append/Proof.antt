@@ -98,7 +98,7 @@ module _ (Z : Al) {M : Type 1} {𝓤 : Ura M} (𝓛 : Logic 𝓤) (at_mem : Memo
         rewrite ! 0 (λ (k : ℕ). ‵ (froom (room_ty k) b (o + length xs * 4))) one refl $
         use1 𝓛 (‵ (froom (ty_int w32) b (o + length xs * 4)) ⊛ ‵ (froom (room_ty left) b (o + length xs * 4 + 4))) (𝓛.laws.room_uncons (ty_int w32) left b (o + length xs * 4)) $ split ! $
         rewrite ! 0 (λ (k : ℕ). ‵ (froom (ty_int w32) b k)) at refl $
-        -- [the next word's room; the room behind it; the token; the words; the region's cell; the open borrow, in three entries; the other tokens]
+        -- [the next word's room; the room after it; the token; the words; the region's cell; the open borrow, in three entries; the other tokens]
         first ! $ blocks ! $
         sets ! (of_opd ! (load ! (through ! refl (fld ! refl (stop !))) (look_in ! 4 (sub ! 0 refl (whole !))))) refl (tt, tt) $
         sets ! (un ! (get ! refl) (record { fits = wide })) refl (tt, record { fits = wide }) $
@@ -111,7 +111,7 @@ module _ (Z : Al) {M : Type 1} {𝓤 : Ura M} (𝓛 : Logic 𝓤) (at_mem : Memo
         use1 𝓛 (‵ (fsep (feq ℕ (length xs) (length xs)) (row u32 full_share xs b o))) (Array-apart 𝓛 u32 full_share tt (length xs) xs b o) $ fsplit ! $ drop ! $
         use2 𝓛 (‵ (row u32 full_share ws b o)) (snoc 𝓛 b xs x o (n * 4 + o) following) $
         feq_i ! ℕ (length ws) (length ws) refl $ fjoin ! $ use1 𝓛 (‵ (part_at (Array u32 (length ws)) full_share ws b o)) (Array-whole 𝓛 u32 full_share (length ws) ws b o) $
-        -- [the words; the room behind them; the token; the region's cell; ..]
+        -- [the words; the room after them; the token; the region's cell; ..]
         move ! (1 ∷ 2 ∷ []) $ rewrite ! 0 (λ (k : ℕ). ‵ (froom (room_ty left) b k)) end refl $
         rewrite ! 0 (λ (k : ℕ). ‵ (froom (room_ty k) b (o + length ws * 4))) rest refl $ fjoin ! $ move ! (1 ∷ 0 ∷ []) $ fjoin ! $
         rewrite ! 0 (λ (p : Ptr). ‵ (block_at Z d p ws)) (sym e) refl $ region_made Z ! new $ move ! (1 ∷ []) $ rewrite ! 0 (λ (p : Ptr). ‵ (Cell p)) (sym e) refl $

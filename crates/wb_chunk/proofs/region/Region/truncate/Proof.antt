@@ -94,7 +94,7 @@ module _ (Z : Al) {M : Type 1} {𝓤 : Ura M} (𝓛 : Logic 𝓤) (at_mem : Memo
         use1 𝓛 (‵ (fsep (feq ℕ (length xs) (length xs)) (row u32 full_share xs b o))) (Array-apart 𝓛 u32 full_share tt (length xs) xs b o) $ fsplit ! $ drop ! $
         use2 𝓛 (‵ (row u32 full_share ws b o) ⊛ ‵ (froom (room_ty (k + left)) b (o + n * 4))) (words_dropped 𝓛 b xs n k left o (o + length xs * 4) all refl) $ split ! $
         feq_i ! ℕ (length ws) (length ws) refl $ fjoin ! $ use1 𝓛 (‵ (part_at (Array u32 (length ws)) full_share ws b o)) (Array-whole 𝓛 u32 full_share (length ws) ws b o) $
-        -- [the words; the room behind them; the token; the region's cell; the open borrow, in three entries; the other tokens]
+        -- [the words; the room after them; the token; the region's cell; the open borrow, in three entries; the other tokens]
         move ! (1 ∷ 2 ∷ []) $ rewrite ! 0 (λ (j : ℕ). ‵ (froom (room_ty (k + left)) b j)) end refl $
         rewrite ! 0 (λ (j : ℕ). ‵ (froom (room_ty j) b (o + length ws * 4))) rest refl $ fjoin ! $ move ! (1 ∷ 0 ∷ []) $ fjoin ! $
         rewrite ! 0 (λ (p : Ptr). ‵ (block_at Z d p ws)) (sym e) refl $ region_made Z ! new $ move ! (1 ∷ []) $ rewrite ! 0 (λ (p : Ptr). ‵ (Cell p)) (sym e) refl $
