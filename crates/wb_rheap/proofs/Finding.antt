@@ -8,7 +8,7 @@ use Rattle.wb_model.specs.heap.LimitedHeap.{LimitedHeap, IsCellLength, IsSoundHe
 use Rattle.wb_model.specs.heap.Row.{Cell, headers, end_of, usable_of, is_at, cell_at, place_from}
 use Rattle.wb_model.proofs.LimitedHeaps.{place_in-least}
 
--- the place of a request is where it is looked for, or right behind a cell
+-- the place of a request is where it is looked for, or right after a cell
 place_from-begins : (row : List Header) (at length : ℕ) → (place_from at row length ≡ at) ⊎ Any (λ h. end_of h ≡ place_from at row length) row
 place_from-begins [] at length = inl refl
 place_from-begins (h ∷ hs) at length = by (nat_le (at + length) h.place) (place_from-begins hs (end_of h) length)

@@ -39,7 +39,7 @@ own-pointer heap p h is e = pointer-at p h (live-found heap p h is e).named
 pub own-named : (heap : LimitedHeap) (p : Ptr) (h : Header) → IsSoundHeap heap → Names p heap.row h → Names (pointer_to h) heap.row h
 own-named heap p h is e = subst (λ q. Names q heap.row h) (sym (own-pointer heap p h is e)) e
 
--- whether it can be longer where it stands
+-- whether it can be longer where it is
 pub fits-decided : (heap : LimitedHeap) (h : Header) (length : ℕ) (room : Option ℕ) → IsSoundHeap heap → Names (pointer_to h) heap.row h →
     room ≡ room_after (pointer_to h) (headers heap.row) → has_room room h.length length ≡ fits_in_place (headers heap.row) h length
 fits-decided heap h length room is e following =

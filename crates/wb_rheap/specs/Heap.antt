@@ -14,7 +14,7 @@ heap_of inside = record {
   held = inside.cells.held;
 }
 
--- the counters tell the live cells and their lengths
+-- the counters are of the live cells and their lengths
 pub record IsKept (inside : Inside) : Type 0 where
   pub sound : IsSoundHeap (heap_of inside)
   pub counted : inside.count ≡ length inside.cells.row

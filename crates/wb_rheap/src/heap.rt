@@ -1,4 +1,4 @@
-//! The heap, its grants and releases, and what it tells. Reallocation stands in `realloc`, the words of payloads in
+//! The heap, its grants and releases, and what its readers return. Reallocation is in `realloc`, the words of payloads in
 //! `payloads`, the cells in the crate below, and the committed length in `space`.
 
 ghost use Rattle.std.specs.Prelude.{◌≡◌, ◌≢◌, ◌+◌, ◌*◌, ◌<◌, ◌≤◌, ◌↔◌, false, length, take, sum, All, IfOk, IfErr};

@@ -1,7 +1,7 @@
 //! The simulated heap: live cells with their payloads, below a limit.
 //!
-//! What a grant, a release, a compression and a store make of the heap stands here; how cells are laid out in words
-//! stands in the crate below.
+//! What a grant, a release, a compression and a store make of the heap is here; how cells are laid out in words
+//! is in the crate below.
 #![tactic(auto)]
 
 pub use fault::HeapFault;

@@ -1,4 +1,4 @@
-//! A cell that becomes longer, where it stands or elsewhere. Where it goes, and whether it may, is not decided here.
+//! A cell that becomes longer, where it is or elsewhere. Where it goes, and whether it may, is not decided here.
 
 ghost use Rattle.std.specs.Prelude.{◌≡◌, ◌≢◌, ◌+◌, ◌-◌, ◌/◌, ◌%◌, ◌<◌, ◌≤◌, All, Some, IsSome, option_map, length};
 ghost use Rattle.std.specs.Prelude.{nat_eq, if◌then◌else◌};

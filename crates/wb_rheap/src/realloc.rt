@@ -1,4 +1,4 @@
-//! Reallocation: cells that become longer or shorter, where they stand or elsewhere; and what else is asked and told of one
+//! Reallocation: cells that become longer or shorter, where they are or elsewhere; and what else is asked and returned of one
 //! cell.
 
 ghost use Rattle.std.specs.Prelude.{◌≡◌, ◌≢◌, ◌+◌, ◌<◌, ◌≤◌, ◌%◌, ◌↔◌, All, IfOk, IfErr, IfSome, IsOk, IsSome};
@@ -55,7 +55,7 @@ impl Heap {
         }
     }
 
-    /// Whether a live cell can have this length where it stands.
+    /// Whether a live cell can have this length where it is.
     fn fits(&self, cell: Header, length: u32) -> bool
         requires live { option_map (λ c. c.head) (cell_at (pointer_to cell) self.now.row)
             ≡ Some cell }
@@ -72,9 +72,9 @@ impl Heap {
     /// Gives a cell another length, and answers the pointer that names it from then on.
     ///
     /// The length is the cell length in bytes, header included, and the number that of the attempt, from 1 on.
-    /// A cell that becomes no longer keeps place and number: its tail is free, what stood there is dropped, and that is
+    /// A cell that becomes no longer keeps place and number: its tail is free, what was there is dropped, and that is
     /// never refused. One that becomes longer goes to the place that `place_for_realloc` gives; what it holds is kept,
-    /// with zeros behind it, and so are kind and level. It keeps its number where it stays, and takes the new one where
+    /// with zeros after it, and so are kind and level. It keeps its number where it stays, and takes the new one where
     /// it moves: the old pointer is stale then.
     ///
     /// `BadCell` exactly where the pointer names no live cell; `TooShort` exactly where a longer cell would end past
