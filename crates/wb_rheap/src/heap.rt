@@ -9,6 +9,7 @@ ghost use Rattle.wb_model.specs.heap.LimitedHeap.{committed_with, heap_with, hea
 ghost use Rattle.wb_model.specs.heap.LimitedHeap.{reclaimed_from, runs_in, next_live_of};
 ghost use Rattle.wb_model.specs.heap.Row.{IsLeastPlace, cell_at, headers, total_length, usable_of};
 ghost use Rattle.wb_model.specs.heap.Space.{is_shape, longest};
+ghost use Rattle.wb_rheap.specs.Refusals.{RefusesOnly};
 
 use crate::fault::HeapFault;
 use crate::{room, runs, space};
@@ -168,12 +169,8 @@ impl Heap {
         ensures pointer { IfOk result (λ ptr.
             ptr ≡ record { place = place_in self.old length; number = number }) }
         ensures granted { OnOk result (self.new ≡ heap_with self.old length kind number level) }
-        ensures short { (result ≡ Err HeapFault.TooShort)
-            ↔ (self.old.limit < place_in self.old length + length) }
-        ensures no_other { IfErr result (λ fault. fault ≢ HeapFault.TooShort →
-            fault ≡ HeapFault.NoMemory) }
-        ensures no_growth { committed_with self.old length ≤ self.old.held →
-            result ≢ Err HeapFault.NoMemory }
+        ensures refusals { RefusesOnly result self.old.limit (place_in self.old length + length)
+            (committed_with self.old length) self.old.held }
         ensures err { OnErr result (self.new ≡ self.old) }
         ensures sound { IsSoundHeap self.new }
     {

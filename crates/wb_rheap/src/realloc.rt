@@ -9,6 +9,7 @@ ghost use Rattle.wb_model.specs.heap.LimitedHeap.{IsCellLength, IsSoundHeap, hea
 ghost use Rattle.wb_model.specs.heap.LimitedHeap.{heap_reallocated, place_to_grow, committed_grown, grown_pointer};
 ghost use Rattle.wb_model.specs.heap.LimitedHeap.{reallocated_pointer};
 ghost use Rattle.wb_model.specs.heap.Row.{IsLeastPlace, cell_at, headers, pointer_to, usable_of};
+ghost use Rattle.wb_rheap.specs.Refusals.{RefusesOnly};
 
 use crate::fault::HeapFault;
 use crate::heap::Heap;
@@ -141,12 +142,9 @@ impl Heap {
           content = payload_of (pointer_to cell) self.old.row;
         }) length number) }
 
-        ensures short { (result ≡ Err HeapFault.TooShort)
-            ↔ (self.old.limit < place_to_grow self.old cell length + length) }
-        ensures no_other { IfErr result (λ fault. fault ≢ HeapFault.TooShort →
-            fault ≡ HeapFault.NoMemory) }
-        ensures no_growth { committed_grown self.old cell length ≤ self.old.held →
-            result ≢ Err HeapFault.NoMemory }
+        ensures refusals { RefusesOnly result self.old.limit
+            (place_to_grow self.old cell length + length) (committed_grown self.old cell length)
+            self.old.held }
         ensures err { OnErr result (self.new ≡ self.old) }
 
         ensures sound { IsSoundHeap self.new }

@@ -1,7 +1,8 @@
 //! Memory of the workbench itself for the simulated chunk.
 
-ghost use Rattle.std.specs.Prelude.{◌≡◌, ◌≢◌, ◌≤◌, ◌<◌, ◌%◌, ◌↔◌, true, max, IfOk, IfErr, OnOk, OnErr};
+ghost use Rattle.std.specs.Prelude.{◌≡◌, ◌≤◌, ◌%◌, true, max, IfOk, OnOk, OnErr};
 ghost use Rattle.wb_model.specs.heap.Space.{is_shape, space_below, bound_below, committed_by};
+ghost use Rattle.wb_rheap.specs.Refusals.{RefusesOnly};
 
 use crate::fault::HeapFault;
 use crate::space;
@@ -32,12 +33,8 @@ pub fn hold_for(
     ensures fits { OnOk result (end ≤ limit) }
     ensures held { IfOk result (λ bytes.
         cells.new ≡ record cells.old { held = max cells.old.held bytes }) }
-
-    ensures short { (result ≡ Err HeapFault.TooShort) ↔ (limit < end) }
-    ensures no_other { IfErr result (λ fault. fault ≢ HeapFault.TooShort →
-        fault ≡ HeapFault.NoMemory) }
-    ensures no_growth { committed_by (space_below (bound_below limit) shape) committed end
-        ≤ cells.old.held → result ≢ Err HeapFault.NoMemory }
+    ensures refusals { RefusesOnly result limit end
+        (committed_by (space_below (bound_below limit) shape) committed end) cells.old.held }
     ensures err { OnErr result (cells.new ≡ cells.old) }
 {
     if limit < end {

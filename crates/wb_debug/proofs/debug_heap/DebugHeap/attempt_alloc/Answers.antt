@@ -43,8 +43,8 @@ returns-in_err-gave-in-Granted-clause-quiet c measuring same =
     (end-of-grant line (number_of_next d) (request_at d.heap c.place_for-place.result c.cell_length-length.result) c.in-Some.ensures.line c.in-Granted.is ∙ ap (λ p. p + c.cell_length-length.result) c.place_for-place.ensures.place)
     (subst (λ (x : Debug). is_some x.rises ≡ true) (sym c.self.view_is) measuring)
     (subst (λ (x : Debug). rises_with x.rises line ≡ x.rises) (sym c.self.view_is) stays)
-    (omega (arith, within, limit, places, c.place_for-place.ensures.place)) c.in_err-gave-in-Granted.ensures.wanting c.alloc_at-granted.ensures.no_other
-    (λ e. c.alloc_at-granted.ensures.short.0 e) c.alloc_at-granted.ensures.no_growth)
+    (omega (arith, within, limit, places, c.place_for-place.ensures.place)) c.in_err-gave-in-Granted.ensures.wanting c.alloc_at-granted.ensures.refusals.no_other
+    (λ e. c.alloc_at-granted.ensures.refusals.short.0 e) c.alloc_at-granted.ensures.refusals.no_growth)
 
 pub invariant_of-self-2 : goal.invariant_of-self-2
 invariant_of-self-2 c =

@@ -41,8 +41,8 @@ returns-in_err-gave-in-Granted-clause-quiet c =
     subst Quiet c.self.view_is (λ measuring.
     subst (λ o. IfSome o (λ x. (realloc_made (debug_of inside) x c.args.bytes).debug.rises ≡ inside.log.rises → IsOk c.from_residual-in_err-gave-in-Granted.result)) (sym is.found) (λ same.
     absurd (grown-quiet inside c.args.ptr (asked-cell inside c.unwrap-cell.result) c.args.bytes c.cell_length-length.result c.in-Some.line c.lengthen-granted.result is c.in-Granted.is measuring same
-    c.in_err-gave-in-Granted.ensures.wanting c.lengthen-granted.ensures.no_other (λ e. c.lengthen-granted.ensures.short.0 e)
-    c.lengthen-granted.ensures.no_growth c.self.invariant)))
+    c.in_err-gave-in-Granted.ensures.wanting c.lengthen-granted.ensures.refusals.no_other (λ e. c.lengthen-granted.ensures.refusals.short.0 e)
+    c.lengthen-granted.ensures.refusals.no_growth c.self.invariant)))
 
 -- what was asked, and what was answered
 asked-for : (c : goal.After-self-2-1) → IsAsked c.self.inside c.args.ptr (asked-cell c.self.inside c.unwrap-cell.result) c.args.bytes c.cell_length-length.result c.in-Some.line

@@ -29,4 +29,4 @@ returns-clause-done c =
 pub returns-clause-no_growth : goal.returns-clause-no_growth
 returns-clause-no_growth c =
     no-growth c.args.self.now c.args.ptr c.in-Some.cell c.args.length c.args.number c.in-Some.ensures.sound (sym c.in-Some.ensures.header) c.lengthen.result
-    NoMemory (omega arith) c.lengthen.ensures.no_growth
+    NoMemory (omega arith) c.lengthen.ensures.refusals.no_growth
