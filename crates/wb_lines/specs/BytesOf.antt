@@ -1,8 +1,11 @@
--- What references to texts lend: the same forms, operands and texts, with bytes in place of references to bytes.
+-- What references to texts lend: the same forms, operands, kinds of locals and texts, with bytes in place of references to bytes.
 use Rattle.std.specs.Prelude.{List, map}
 use Rattle.std.specs.Borrow.{Bor}
+use Rattle.std.specs.Option.{option_map}
 use Rattle.wb_model.specs.declared.script_lines.Form.{Form}
 use Rattle.wb_model.specs.declared.script_lines.Operand.{Operand}
+use Rattle.wb_model.specs.declared.script_lines.LocalKind.{LocalKind}
+use Rattle.wb_model.specs.declared.script_lines.LocalKind.TheVariants.{Pointer, Number, Buffer, View}
 use Rattle.wb_model.specs.language.Forms.{renamed, renamed_operand}
 use Rattle.wb_model.specs.language.Names.{Text}
 
@@ -23,3 +26,9 @@ bytes_of_form = renamed bytes_of_text
 
 abbrev pub bytes_of_forms : List (Form (Bor Text)) → List (Form Text)
 bytes_of_forms = map bytes_of_form
+
+abbrev pub bytes_of_kind : LocalKind (Bor Text) → LocalKind Text
+bytes_of_kind (Pointer class) = Pointer (option_map bytes_of_text class)
+bytes_of_kind Number = Number
+bytes_of_kind Buffer = Buffer
+bytes_of_kind View = View

@@ -1,10 +1,12 @@
-//! Which kinds of operands are right in a place of a line.
+//! What kinds of operands there are in a line, and which are right in a place of it.
 
 ghost use Rattle.std.specs.Prelude.{◌≡◌};
+ghost use Rattle.wb_model.specs.language.Kinds.{operand_kind_of, operand_kind_of_class, operand_kind_of_field};
+ghost use Rattle.wb_model.specs.language.Kinds.{operand_kind_of_name, operand_kind_of_type};
 ghost use Rattle.wb_model.specs.language.LineKinds.{is_pointer_kind, takes};
 ghost use Rattle.wb_model.specs.declared.script_lines.OperandPlace.TheVariants as operand_place;
 
-use wb_model::script_lines::{OperandKind, OperandPlace};
+use wb_model::script_lines::{Operand, OperandKind, OperandPlace, ParameterType, Referent};
 
 /// Whether an operand of an operand kind is a pointer that can be read.
 pub fn is_pointer_kind(operand_kind: OperandKind) -> bool
@@ -65,5 +67,60 @@ pub fn takes(operand_place: OperandPlace, operand_kind: OperandKind) -> bool
             OperandKind::Parameter
         ),
         OperandPlace::Keyword(_) => matches!(operand_kind, OperandKind::Keyword),
+    }
+}
+
+/// What an operand is that is a name.
+fn operand_kind_of_name(referent: Referent) -> OperandKind
+    ensures { result ≡ operand_kind_of_name referent }
+{
+    match referent {
+        Referent::Declared(_) => OperandKind::Declared,
+        Referent::Pointer(_) => OperandKind::Pointer,
+        Referent::Number(_) => OperandKind::Variable,
+        Referent::Buffer(_) => OperandKind::Buffer,
+        Referent::View(_) => OperandKind::View,
+        Referent::This => OperandKind::This,
+        Referent::Class(_) => OperandKind::Class,
+        Referent::Procedure(_) => OperandKind::Procedure,
+        Referent::Operation(_) => OperandKind::Operation,
+        Referent::Literal(_) | Referent::Field(..) | Referent::Classless => OperandKind::Nothing,
+        Referent::Parameter | Referent::Nothing => OperandKind::Nothing,
+    }
+}
+
+/// What an operand is whose field stands for this.
+fn operand_kind_of_field(field: Referent) -> OperandKind
+    ensures { result ≡ operand_kind_of_field field }
+{
+    match field {
+        Referent::Field(..) => OperandKind::Field,
+        _ => OperandKind::Nothing,
+    }
+}
+
+/// What a parameter is that takes this: nothing if its class is not a class.
+fn operand_kind_of_type(parameter_type: ParameterType<Referent>) -> OperandKind
+    ensures { result ≡ operand_kind_of_type parameter_type }
+{
+    match parameter_type {
+        ParameterType::Pointer | ParameterType::Number => OperandKind::Parameter,
+        ParameterType::OfClass(Referent::Class(_)) => OperandKind::Parameter,
+        ParameterType::OfClass(_) => OperandKind::Nothing,
+    }
+}
+
+/// What an operand is, by what its names refer to.
+pub fn operand_kind_of(operand: &Operand<Referent>) -> OperandKind
+    ensures { result ≡ operand_kind_of operand.now }
+{
+    match operand {
+        Operand::Name(referent) => operand_kind_of_name(*referent),
+        Operand::Field(_, field) => operand_kind_of_field(*field),
+        Operand::Number(_) => OperandKind::Number,
+        Operand::Size(_) => OperandKind::Size,
+        Operand::Literal(_) => OperandKind::Literal,
+        Operand::Parameter(_, parameter_type) => operand_kind_of_type(*parameter_type),
+        Operand::Keyword => OperandKind::Keyword,
     }
 }

@@ -1,10 +1,6 @@
--- What kinds and items lend that hold references to texts: the same with bytes in place of the references. And what the items of a
--- script tell of its classes and procedures.
+-- What items lend that hold references to texts: the same with bytes in place of the references. And what the items of a script
+-- tell of its classes and procedures.
 use Rattle.std.specs.Prelude.{ℕ, List, None, length, map}
-use Rattle.std.specs.Borrow.{Bor}
-use Rattle.std.specs.Option.{option_map}
-use Rattle.wb_model.specs.declared.script_lines.LocalKind.{LocalKind}
-use Rattle.wb_model.specs.declared.script_lines.LocalKind.TheVariants.{Pointer, Number, Buffer, View}
 use Rattle.wb_model.specs.declared.script_lines.ParameterType.{ParameterType}
 use Rattle.wb_model.specs.declared.script_lines.ParameterType.TheVariants as parameter_type
 use Rattle.wb_model.specs.declared.script.Parameter.{Parameter}
@@ -17,12 +13,6 @@ use Rattle.wb_model.specs.language.Names as model
 use Rattle.wb_model.specs.language.Sound.{Declared}
 use Rattle.wb_lines.specs.BytesOf.{bytes_of_text}
 use Rattle.wb_script.specs.declared.checks.items.Declaration.{Declaration}
-
-abbrev pub bytes_of_kind : LocalKind (Bor Text) → LocalKind Text
-bytes_of_kind (Pointer class) = Pointer (option_map bytes_of_text class)
-bytes_of_kind Number = Number
-bytes_of_kind Buffer = Buffer
-bytes_of_kind View = View
 
 abbrev pub bytes_of_item : Declaration → model.Declaration
 bytes_of_item item = record { name = item.name.now; kind = item.kind; parameters = map (renamed_parameter_type bytes_of_text) item.parameters; fields = map bytes_of_text item.fields }

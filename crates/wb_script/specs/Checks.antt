@@ -11,8 +11,7 @@ use Rattle.wb_model.specs.language.Passes.{state_after}
 use Rattle.wb_model.specs.language.Kinds.{has_wrong_kind, may_leave}
 use Rattle.wb_model.specs.language.Resolved.{resolved_among, item_referent, uses_unknown}
 use Rattle.wb_model.specs.language.Scripts.{number_of_line, procedure_referent}
-use Rattle.wb_lines.specs.BytesOf.{bytes_of_texts}
-use Rattle.wb_script.specs.BytesOf.{bytes_of_kind}
+use Rattle.wb_lines.specs.BytesOf.{bytes_of_kind, bytes_of_texts}
 use Rattle.wb_script.specs.declared.checks.names_so_far.NamesSoFar.{NamesSoFar}
 use Rattle.wb_script.specs.declared.checks.Checked.{Checked}
 use Rattle.wb_script.specs.declared.checks.FirstLines.{FirstLines}

@@ -2,22 +2,22 @@
 
 ghost use Rattle.std.specs.Prelude.{◌≡◌, IfOk, OnOk, ◌++◌, map};
 ghost use Rattle.std.specs.List.{flat_map};
-ghost use Rattle.std.specs.Option.{option_map, option_to_list};
+ghost use Rattle.std.specs.Option.{option_map};
 ghost use Rattle.wb_model.specs.language.Forms.{renamed_parameter_type};
 ghost use Rattle.wb_model.specs.language.Names.{count_among, fields_in_item, following_fields, first_declaration_of};
-ghost use Rattle.wb_model.specs.language.Names.{is_same_kind, item_kind_in, declaration_of, item_of_kind, items_by};
-ghost use Rattle.wb_model.specs.language.Names.{items_of, item_kind_of, names_of, parameters_in, parameter_type_of};
-ghost use Rattle.wb_lines.specs.BytesOf.{bytes_of_form, bytes_of_forms, bytes_of_operand, bytes_of_operands};
+ghost use Rattle.wb_model.specs.language.Names.{is_same_kind, declaration_of, item_of_kind, items_by};
+ghost use Rattle.wb_model.specs.language.Names.{items_of, names_of, parameters_in, parameter_type_of};
+ghost use Rattle.wb_lines.specs.BytesOf.{bytes_of_form, bytes_of_forms, bytes_of_operands};
 ghost use Rattle.wb_lines.specs.BytesOf.{bytes_of_text, bytes_of_texts};
 ghost use Rattle.wb_script.specs.BytesOf.{bytes_of_item, bytes_of_items};
 
-use crate::checks::names_so_far::first_name;
 use std::alloc::{AllocError, Global};
+use wb_lines::declares::{first_name, item_kind_in, parameter_type_of};
 use wb_lines::forms::role;
 use wb_lines::lists::{add, add_some};
 use wb_lines::same::are_same;
 use wb_model::items::Items;
-use wb_model::script_lines::{Form, ItemKind, LineKind, Operand, ParameterType, Role};
+use wb_model::script_lines::{Form, ItemKind, Operand, ParameterType, Role};
 
 /// Something of the script's own space: a class with the names of its fields, a procedure or an operation with what its
 /// parameters take.
@@ -27,39 +27,6 @@ pub(crate) struct Declaration<'a> {
     pub kind: ItemKind,
     pub parameters: Items<ParameterType<&'a [u8]>>,
     pub fields: Items<&'a [u8]>,
-}
-
-/// What a line of a line kind begins.
-fn item_kind_of(line_kind: LineKind) -> Option<ItemKind>
-    ensures { result ≡ item_kind_of line_kind }
-{
-    match line_kind {
-        LineKind::Class => Some(ItemKind::Class),
-        LineKind::Proc => Some(ItemKind::Procedure),
-        LineKind::Op => Some(ItemKind::Operation),
-        _ => None,
-    }
-}
-
-/// What a line begins.
-pub(crate) fn item_kind_in(form: &Form<&[u8]>) -> Option<ItemKind>
-    ensures { result ≡ item_kind_in (bytes_of_form form.now) }
-{
-    match form {
-        Form::Line(line_kind, _) => item_kind_of(*line_kind),
-        _ => None,
-    }
-}
-
-/// What an operand takes that is a parameter.
-fn parameter_type_of<'a>(operand: &Operand<&'a [u8]>) -> Option<ParameterType<&'a [u8]>>
-    ensures { option_to_list (option_map (renamed_parameter_type bytes_of_text) result)
-        ≡ parameter_type_of (bytes_of_operand operand.now) }
-{
-    match operand {
-        Operand::Parameter(_, parameter_type) => Some(*parameter_type),
-        _ => None,
-    }
 }
 
 /// What the parameters among operands take.

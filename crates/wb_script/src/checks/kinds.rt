@@ -8,8 +8,7 @@ ghost use Rattle.wb_model.specs.language.Kinds.{are_given, are_right, arguments_
 ghost use Rattle.wb_model.specs.language.Kinds.{has_wrong_kind, is_class_line_kind, is_given, is_nothing};
 ghost use Rattle.wb_model.specs.language.Kinds.{is_of_procedure, is_right, is_right_line, is_trap, misuses_main};
 ghost use Rattle.wb_model.specs.language.Kinds.{returns_in_trap, returns_outside, returns_pointer, sides_agree};
-ghost use Rattle.wb_model.specs.language.Kinds.{operand_kind_of_name, operand_kind_of, operand_kind_of_class};
-ghost use Rattle.wb_model.specs.language.Kinds.{operand_kind_of_field, operand_kind_of_type};
+ghost use Rattle.wb_model.specs.language.Kinds.{operand_kind_of};
 ghost use Rattle.wb_model.specs.language.Names.{parameter_type_of};
 ghost use Rattle.wb_model.specs.language.Resolved.{resolved_line};
 ghost use Rattle.wb_script.specs.Checks.{known_in};
@@ -18,66 +17,12 @@ ghost use Rattle.wb_script.specs.BytesOf.{bytes_of_items};
 
 use crate::checks::items::{Declaration, item_of_kind};
 use crate::checks::names_so_far::NamesSoFar;
-use wb_lines::operand_kinds::{is_pointer_kind, takes};
+use wb_lines::operand_kinds::{is_pointer_kind, operand_kind_of, takes};
 use wb_lines::operand_places::OperandPlaces;
 use wb_lines::same::are_same;
 use wb_model::script_lines::{
-    BodyKind, Form, ItemKind, LineKind, Operand, OperandKind, OperandPlace, ParameterType, Referent,
+    BodyKind, Form, ItemKind, LineKind, Operand, OperandPlace, ParameterType, Referent,
 };
-
-/// What an operand is that is a name.
-fn operand_kind_of_name(referent: Referent) -> OperandKind
-    ensures { result ≡ operand_kind_of_name referent }
-{
-    match referent {
-        Referent::Declared(_) => OperandKind::Declared,
-        Referent::Pointer(_) => OperandKind::Pointer,
-        Referent::Number(_) => OperandKind::Variable,
-        Referent::Buffer(_) => OperandKind::Buffer,
-        Referent::View(_) => OperandKind::View,
-        Referent::This => OperandKind::This,
-        Referent::Class(_) => OperandKind::Class,
-        Referent::Procedure(_) => OperandKind::Procedure,
-        Referent::Operation(_) => OperandKind::Operation,
-        Referent::Literal(_) | Referent::Field(..) | Referent::Classless => OperandKind::Nothing,
-        Referent::Parameter | Referent::Nothing => OperandKind::Nothing,
-    }
-}
-
-/// What an operand is whose field stands for this.
-fn operand_kind_of_field(field: Referent) -> OperandKind
-    ensures { result ≡ operand_kind_of_field field }
-{
-    match field {
-        Referent::Field(..) => OperandKind::Field,
-        _ => OperandKind::Nothing,
-    }
-}
-
-/// What a parameter is that takes this: its class is one.
-fn operand_kind_of_type(parameter_type: ParameterType<Referent>) -> OperandKind
-    ensures { result ≡ operand_kind_of_type parameter_type }
-{
-    match parameter_type {
-        ParameterType::Pointer | ParameterType::Number => OperandKind::Parameter,
-        ParameterType::OfClass(Referent::Class(_)) => OperandKind::Parameter,
-        ParameterType::OfClass(_) => OperandKind::Nothing,
-    }
-}
-
-fn operand_kind_of(operand: &Operand<Referent>) -> OperandKind
-    ensures { result ≡ operand_kind_of operand.now }
-{
-    match operand {
-        Operand::Name(referent) => operand_kind_of_name(*referent),
-        Operand::Field(_, field) => operand_kind_of_field(*field),
-        Operand::Number(_) => OperandKind::Number,
-        Operand::Size(_) => OperandKind::Size,
-        Operand::Literal(_) => OperandKind::Literal,
-        Operand::Parameter(_, parameter_type) => operand_kind_of_type(*parameter_type),
-        Operand::Keyword => OperandKind::Keyword,
-    }
-}
 
 #[inline(always)]
 fn is_right(operand_place: OperandPlace, operand: &Operand<Referent>) -> bool

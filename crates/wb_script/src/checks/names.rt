@@ -11,7 +11,8 @@ ghost use Rattle.wb_lines.specs.BytesOf.{bytes_of_texts, bytes_of_operands, byte
 ghost use Rattle.wb_script.specs.BytesOf.{bytes_of_items};
 
 use crate::checks::items::{Declaration, place_of_item};
-use crate::checks::names_so_far::{NamesSoFar, first_name};
+use crate::checks::names_so_far::NamesSoFar;
+use wb_lines::declares::first_name;
 use wb_lines::forms::role;
 use wb_lines::same::are_same;
 use wb_model::script_lines::{Form, Operand, ParameterType, Referent, Role};

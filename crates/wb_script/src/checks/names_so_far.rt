@@ -3,100 +3,21 @@
 ghost use Rattle.std.specs.Prelude.{◌≡◌, ◌+◌, ◌≤◌, [], ◌++◌, length, map, OnOk};
 ghost use Rattle.std.specs.Option.{option_map, option_to_list};
 ghost use Rattle.std.specs.List.{flat_map};
-ghost use Rattle.wb_model.specs.language.Names.{blocks_after, bodies_before, body_after, body_kind_of, body_in};
-ghost use Rattle.wb_model.specs.language.Names.{count_begun, fields_after, first_name, items_before, line_kind_in};
-ghost use Rattle.wb_model.specs.language.Names.{local_kind_of, local_kind_in, kind_of_parameter, kinds_after};
-ghost use Rattle.wb_model.specs.language.Names.{known_after, literal_text, literals_in, locals_after, name_passed};
-ghost use Rattle.wb_model.specs.language.Names.{nothing_known, parameter_names, parameters_in, second_name};
-ghost use Rattle.wb_model.specs.language.Names.{parameter_type_of, with_one};
-ghost use Rattle.wb_model.specs.language.Forms.{renamed_parameter_type, role_of_form};
+ghost use Rattle.wb_model.specs.language.Names.{blocks_after, bodies_before, body_after, body_in, count_begun};
+ghost use Rattle.wb_model.specs.language.Names.{fields_after, first_name, items_before, kind_of_parameter};
+ghost use Rattle.wb_model.specs.language.Names.{kinds_after, known_after, line_kind_in, literal_text, literals_in};
+ghost use Rattle.wb_model.specs.language.Names.{local_kind_in, locals_after, name_passed, nothing_known};
+ghost use Rattle.wb_model.specs.language.Names.{parameter_names, parameters_in, parameter_type_of, with_one};
 ghost use Rattle.wb_model.specs.declared.script_lines.ItemKind.TheVariants as item;
-ghost use Rattle.wb_lines.specs.BytesOf.{bytes_of_text, bytes_of_texts, bytes_of_operand, bytes_of_operands};
-ghost use Rattle.wb_lines.specs.BytesOf.{bytes_of_form};
-ghost use Rattle.wb_script.specs.BytesOf.{bytes_of_kind};
+ghost use Rattle.wb_lines.specs.BytesOf.{bytes_of_form, bytes_of_kind, bytes_of_operand, bytes_of_operands};
+ghost use Rattle.wb_lines.specs.BytesOf.{bytes_of_text, bytes_of_texts};
 ghost use Rattle.wb_script.specs.Checks.{known_in, AreSameItems, IsFew};
 
-use crate::checks::items::item_kind_in;
 use std::alloc::{AllocError, Global};
+use wb_lines::declares::{body_in, first_name, item_kind_in, kind_of_parameter, local_kind_in};
 use wb_lines::forms::role;
 use wb_lines::lists::{add, add_some};
-use wb_model::script_lines::{
-    BodyKind, Form, ItemKind, LineKind, LocalKind, Operand, ParameterType, Role,
-};
-
-/// The name that the first word of a line spells.
-pub(crate) fn first_name<'a>(form: &Form<&'a [u8]>) -> Option<&'a [u8]>
-    ensures { option_to_list (option_map bytes_of_text result)
-        ≡ first_name (bytes_of_form form.now) }
-{
-    match form {
-        Form::Line(_, operands) => match operands.as_slice() {
-            [Operand::Name(name), ..] => Some(*name),
-            _ => None,
-        },
-        _ => None,
-    }
-}
-
-/// The name that the second word of a line spells.
-fn second_name<'a>(operands: &[Operand<&'a [u8]>]) -> Option<&'a [u8]>
-    ensures { option_map bytes_of_text result ≡ second_name (bytes_of_operands operands.now) }
-{
-    match operands {
-        [_, Operand::Name(name), ..] => Some(*name),
-        _ => None,
-    }
-}
-
-/// What the local holds that a line of a line kind declares.
-fn local_kind_of<'a>(
-    line_kind: LineKind,
-    operands: &[Operand<&'a [u8]>],
-) -> Option<LocalKind<&'a [u8]>>
-    ensures { option_map bytes_of_kind result
-        ≡ local_kind_of line_kind (bytes_of_operands operands.now) }
-{
-    match line_kind {
-        LineKind::Ptr => Some(LocalKind::Pointer(None)),
-        LineKind::ClassPtr => Some(LocalKind::Pointer(second_name(operands))),
-        LineKind::Int => Some(LocalKind::Number),
-        LineKind::Buf => Some(LocalKind::Buffer),
-        LineKind::View => Some(LocalKind::View),
-        _ => None,
-    }
-}
-
-fn local_kind_in<'a>(form: &Form<&'a [u8]>) -> Option<LocalKind<&'a [u8]>>
-    ensures { option_map bytes_of_kind result ≡ local_kind_in (bytes_of_form form.now) }
-{
-    match form {
-        Form::Line(line_kind, operands) => local_kind_of(*line_kind, operands.as_slice()),
-        _ => None,
-    }
-}
-
-/// What the body is of that a line of a line kind begins.
-fn body_kind_of(line_kind: LineKind) -> Option<BodyKind>
-    ensures { result ≡ body_kind_of line_kind }
-{
-    match line_kind {
-        LineKind::Proc => Some(BodyKind::Procedure),
-        LineKind::Op => Some(BodyKind::Operation),
-        LineKind::Constructor => Some(BodyKind::Constructor),
-        LineKind::Destructor => Some(BodyKind::Destructor),
-        _ => None,
-    }
-}
-
-/// What the body is of that a line begins.
-fn body_in(form: &Form<&[u8]>) -> Option<BodyKind>
-    ensures { result ≡ body_in (bytes_of_form form.now) }
-{
-    match form {
-        Form::Line(line_kind, _) => body_kind_of(*line_kind),
-        _ => None,
-    }
-}
+use wb_model::script_lines::{BodyKind, Form, ItemKind, LineKind, LocalKind, Operand, Role};
 
 fn literal_text<'a>(operand: &Operand<&'a [u8]>) -> Option<&'a [u8]>
     ensures { option_to_list (option_map bytes_of_text result)
@@ -121,18 +42,6 @@ fn add_literals<'a>(
         add_some(literals, literal_text(operand))?;
     }
     Ok(())
-}
-
-/// What a parameter holds.
-fn kind_of_parameter<'a>(parameter_type: ParameterType<&'a [u8]>) -> LocalKind<&'a [u8]>
-    ensures { bytes_of_kind result
-        ≡ kind_of_parameter (renamed_parameter_type bytes_of_text parameter_type.entry) }
-{
-    match parameter_type {
-        ParameterType::Pointer => LocalKind::Pointer(None),
-        ParameterType::Number => LocalKind::Number,
-        ParameterType::OfClass(class) => LocalKind::Pointer(Some(class)),
-    }
 }
 
 /// What stands before a line: how many classes, procedures and operations of the script's own space, the fields of the class

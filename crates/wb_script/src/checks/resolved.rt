@@ -10,8 +10,9 @@ ghost use Rattle.wb_model.specs.language.Resolved.{class_of_this, field_at, fiel
 ghost use Rattle.wb_model.specs.language.Resolved.{item_referent, referent_of_kind, local_referent, referent_at};
 ghost use Rattle.wb_model.specs.language.Resolved.{name_referent, own_referent, resolved_line, resolved_operand};
 ghost use Rattle.wb_model.specs.language.Resolved.{resolved_operands, resolved_parameter_type, this_referent};
-ghost use Rattle.wb_lines.specs.BytesOf.{bytes_of_operand, bytes_of_operands, bytes_of_form, bytes_of_text};
-ghost use Rattle.wb_script.specs.BytesOf.{bytes_of_kind, bytes_of_items};
+ghost use Rattle.wb_lines.specs.BytesOf.{bytes_of_form, bytes_of_kind, bytes_of_operand, bytes_of_operands};
+ghost use Rattle.wb_lines.specs.BytesOf.{bytes_of_text};
+ghost use Rattle.wb_script.specs.BytesOf.{bytes_of_items};
 ghost use Rattle.wb_script.specs.Checks.{known_in};
 
 use crate::checks::items::{Declaration, count_among, item_of_kind, place_of_item};

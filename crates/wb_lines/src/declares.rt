@@ -1,0 +1,134 @@
+//! What a line declares, by its form alone: a class, a procedure or an operation, a local, parameters, or what its body is of.
+
+ghost use Rattle.std.specs.Prelude.{◌≡◌};
+ghost use Rattle.std.specs.Option.{option_map, option_to_list};
+ghost use Rattle.wb_model.specs.language.Forms.{renamed_parameter_type};
+ghost use Rattle.wb_model.specs.language.Names.{body_in, body_kind_of, first_name, item_kind_in, item_kind_of};
+ghost use Rattle.wb_model.specs.language.Names.{kind_of_parameter, local_kind_in, local_kind_of};
+ghost use Rattle.wb_model.specs.language.Names.{parameter_type_of, second_name};
+ghost use Rattle.wb_lines.specs.BytesOf.{bytes_of_form, bytes_of_kind, bytes_of_operand, bytes_of_operands};
+ghost use Rattle.wb_lines.specs.BytesOf.{bytes_of_text};
+
+use wb_model::script_lines::{
+    BodyKind, Form, ItemKind, LineKind, LocalKind, Operand, ParameterType,
+};
+
+/// Which of a class, a procedure and an operation a line of a line kind begins; `None` if it begins none of these.
+fn item_kind_of(line_kind: LineKind) -> Option<ItemKind>
+    ensures { result ≡ item_kind_of line_kind }
+{
+    match line_kind {
+        LineKind::Class => Some(ItemKind::Class),
+        LineKind::Proc => Some(ItemKind::Procedure),
+        LineKind::Op => Some(ItemKind::Operation),
+        _ => None,
+    }
+}
+
+/// Which of a class, a procedure and an operation a line begins; `None` if it begins none of these.
+pub fn item_kind_in(form: &Form<&[u8]>) -> Option<ItemKind>
+    ensures { result ≡ item_kind_in (bytes_of_form form.now) }
+{
+    match form {
+        Form::Line(line_kind, _) => item_kind_of(*line_kind),
+        _ => None,
+    }
+}
+
+/// The name that the first operand of a line is: what a line declares, if it declares anything; `None` if it is no name.
+pub fn first_name<'a>(form: &Form<&'a [u8]>) -> Option<&'a [u8]>
+    ensures { option_to_list (option_map bytes_of_text result)
+        ≡ first_name (bytes_of_form form.now) }
+{
+    match form {
+        Form::Line(_, operands) => match operands.as_slice() {
+            [Operand::Name(name), ..] => Some(*name),
+            _ => None,
+        },
+        _ => None,
+    }
+}
+
+/// The name that the second operand is; `None` if it is no name.
+fn second_name<'a>(operands: &[Operand<&'a [u8]>]) -> Option<&'a [u8]>
+    ensures { option_map bytes_of_text result ≡ second_name (bytes_of_operands operands.now) }
+{
+    match operands {
+        [_, Operand::Name(name), ..] => Some(*name),
+        _ => None,
+    }
+}
+
+/// What the local holds that a line of a line kind declares; `None` if it declares none.
+fn local_kind_of<'a>(
+    line_kind: LineKind,
+    operands: &[Operand<&'a [u8]>],
+) -> Option<LocalKind<&'a [u8]>>
+    ensures { option_map bytes_of_kind result
+        ≡ local_kind_of line_kind (bytes_of_operands operands.now) }
+{
+    match line_kind {
+        LineKind::Ptr => Some(LocalKind::Pointer(None)),
+        LineKind::ClassPtr => Some(LocalKind::Pointer(second_name(operands))),
+        LineKind::Int => Some(LocalKind::Number),
+        LineKind::Buf => Some(LocalKind::Buffer),
+        LineKind::View => Some(LocalKind::View),
+        _ => None,
+    }
+}
+
+/// What the local holds that a line declares; `None` if it declares none, as the first line of a body with its parameters.
+pub fn local_kind_in<'a>(form: &Form<&'a [u8]>) -> Option<LocalKind<&'a [u8]>>
+    ensures { option_map bytes_of_kind result ≡ local_kind_in (bytes_of_form form.now) }
+{
+    match form {
+        Form::Line(line_kind, operands) => local_kind_of(*line_kind, operands.as_slice()),
+        _ => None,
+    }
+}
+
+/// What the local of a parameter holds, by what the parameter takes.
+pub fn kind_of_parameter<'a>(parameter_type: ParameterType<&'a [u8]>) -> LocalKind<&'a [u8]>
+    ensures { bytes_of_kind result
+        ≡ kind_of_parameter (renamed_parameter_type bytes_of_text parameter_type.entry) }
+{
+    match parameter_type {
+        ParameterType::Pointer => LocalKind::Pointer(None),
+        ParameterType::Number => LocalKind::Number,
+        ParameterType::OfClass(class) => LocalKind::Pointer(Some(class)),
+    }
+}
+
+/// What a parameter takes; `None` if the operand is none.
+pub fn parameter_type_of<'a>(operand: &Operand<&'a [u8]>) -> Option<ParameterType<&'a [u8]>>
+    ensures { option_to_list (option_map (renamed_parameter_type bytes_of_text) result)
+        ≡ parameter_type_of (bytes_of_operand operand.now) }
+{
+    match operand {
+        Operand::Parameter(_, parameter_type) => Some(*parameter_type),
+        _ => None,
+    }
+}
+
+/// What the body is of that a line of a line kind begins; `None` if it begins none.
+fn body_kind_of(line_kind: LineKind) -> Option<BodyKind>
+    ensures { result ≡ body_kind_of line_kind }
+{
+    match line_kind {
+        LineKind::Proc => Some(BodyKind::Procedure),
+        LineKind::Op => Some(BodyKind::Operation),
+        LineKind::Constructor => Some(BodyKind::Constructor),
+        LineKind::Destructor => Some(BodyKind::Destructor),
+        _ => None,
+    }
+}
+
+/// What the body is of that a line begins; `None` if it begins none.
+pub fn body_in(form: &Form<&[u8]>) -> Option<BodyKind>
+    ensures { result ≡ body_in (bytes_of_form form.now) }
+{
+    match form {
+        Form::Line(line_kind, _) => body_kind_of(*line_kind),
+        _ => None,
+    }
+}
