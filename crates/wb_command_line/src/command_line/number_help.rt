@@ -47,7 +47,7 @@ impl NumberHelp {
                  from 0 to {LARGEST_MINIMUM} [default: {DEFAULT_MINIMUM}]"
             )?,
             step: format!(in alloc;
-                "Step in which the heap grows, in bytes, a multiple of {GRANULE} \
+                "Step by which the heap grows, in bytes, a multiple of {GRANULE} \
                  from {SMALLEST_STEP} to {LARGEST_STEP} [default: {DEFAULT_STEP}]"
             )?,
         })
