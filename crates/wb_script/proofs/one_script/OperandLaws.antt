@@ -24,7 +24,7 @@ use Rattle.wb_model.specs.declared.script.Writable.TheVariants.{OwnBuffer, InCel
 use Rattle.wb_model.specs.declared.script.Readable.{Readable}
 use Rattle.wb_model.specs.declared.script.Readable.TheVariants.{Of, ViewOf, Quoted}
 use Rattle.wb_model.specs.language.Names.{parameter_type_of}
-use Rattle.wb_model.specs.language.Trees.{Spelled, pointer_operand, variable_operand, number_operand, writable_operand, view_operand, text_operand, class_operand, procedure_operand, operation_operand, parameter_operand, argument_operand, and_operand, all_spelled}
+use Rattle.wb_model.specs.language.Trees.{Spelled, pointer_operand, number_operand, writable_operand, text_operand, parameter_operand, argument_operand, and_operand, all_spelled}
 use Rattle.wb_script.specs.Building.{parameter_taking}
 
 -- the pointer, the number or the local that an operand spells
