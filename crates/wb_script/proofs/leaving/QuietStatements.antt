@@ -7,17 +7,13 @@ use Rattle.wb_model.specs.declared.script_lines.LineKind.TheVariants as line_kin
 use Rattle.wb_model.specs.declared.script_lines.Referent.{Referent}
 use Rattle.wb_model.specs.declared.script_lines.Operand.{Operand}
 use Rattle.wb_model.specs.declared.script.Argument.{Argument}
-use Rattle.wb_model.specs.declared.script.Argument.TheVariants.{Passed, Given}
 use Rattle.wb_model.specs.declared.script.Condition.{Condition}
 use Rattle.wb_model.specs.declared.script.Condition.TheVariants.{IsNull, NotNull, Equal, Less}
 use Rattle.wb_model.specs.declared.script.Pointer.{Pointer}
 use Rattle.wb_model.specs.declared.script.Pointer.TheVariants.{Held, Field}
 use Rattle.wb_model.specs.declared.script.Number.{Number}
-use Rattle.wb_model.specs.declared.script.Number.TheVariants.{Constant, Variable}
 use Rattle.wb_model.specs.declared.script.Writable.{Writable}
-use Rattle.wb_model.specs.declared.script.Writable.TheVariants.{OwnBuffer, InCell}
 use Rattle.wb_model.specs.declared.script.Readable.{Readable}
-use Rattle.wb_model.specs.declared.script.Readable.TheVariants.{Of, ViewOf, Quoted}
 use Rattle.wb_model.specs.declared.script.Refusal.TheVariants.{GivesNull, Leaves}
 use Rattle.wb_model.specs.declared.script.StatementAt.{StatementAt}
 use Rattle.wb_model.specs.declared.script.Statement.{Statement}
@@ -30,6 +26,7 @@ use Rattle.wb_model.specs.meaning.Quiet.{is_quiet_statement, are_quiet}
 use Rattle.wb_model.specs.language.Sound.{Declared, Scope, is_condition, is_number, is_nested, are_within}
 use Rattle.wb_model.specs.language.Trees.{Spelled, Spelling, Marked, pointer_operand, number_operand, variable_operand, writable_operand, text_operand, argument_operand, and_operand, all_spelled, line_or_unknown, spelled_line, condition_spelling, statement_spelling, layer_lines, statement_at_layer, lines_joined, lines_of_statement, statement_at_lines, statement_lines, end_line, else_line}
 use Rattle.wb_script.proofs.building.ClosedBlocks.{lines_of_statement_at, joined-map, flat_layer}
+use Rattle.wb_script.proofs.one_script.OperandLaws.{pointer_is, number_is, writable_is, text_is, argument_spelled}
 use Rattle.wb_script.proofs.leaving.QuietLines.{are_quiet_from, QuietFrom, both, both_hold}
 
 -- each word of a line is spelled
@@ -43,25 +40,16 @@ spelled (None ∷ words) (is, are) = absurd (false≢true is)
 spelled (Some operand ∷ words) (is, are) = let (operands, same) = spelled words are in (operand ∷ operands, ap (and_operand (Some operand)) same)
 
 pointer_spelled : (p : Pointer) → IsTrue (is_some (pointer_operand p))
-pointer_spelled (Held holder) = refl
-pointer_spelled (Field holder class i) = refl
+pointer_spelled p = ap is_some (pointer_is p)
 
 number_spelled : (v : Number) → IsTrue (is_some (number_operand v))
-number_spelled (Constant z) = refl
-number_spelled (Variable i) = refl
+number_spelled v = ap is_some (number_is v)
 
-writable_spelled : (w : Writable) → IsTrue (is_some (writable_operand w))
-writable_spelled (OwnBuffer i) = refl
-writable_spelled (InCell p) = pointer_spelled p
+writable_spelled : (d : Writable) → IsTrue (is_some (writable_operand d))
+writable_spelled d = ap is_some (writable_is d)
 
 text_spelled : (t : Readable) → IsTrue (is_some (text_operand t))
-text_spelled (Of w) = writable_spelled w
-text_spelled (ViewOf i) = refl
-text_spelled (Quoted i) = refl
-
-argument_spelled : (a : Argument) → IsTrue (is_some (argument_operand a))
-argument_spelled (Passed p) = pointer_spelled p
-argument_spelled (Given v) = number_spelled v
+text_spelled t = ap is_some (text_is t)
 
 arguments_spelled : (arguments : List Argument) → AreSpelled (map argument_operand arguments)
 arguments_spelled [] = tt

@@ -1,11 +1,13 @@
--- An operand that is spelled tells what it spells.
-use Rattle.std.proofs.Common.{◌≡◌, refl, sym, ap, subst, ◌∙◌, ℕ, List, [], ◌∷◌, ◌++◌, Option, Some, None, map, append-nil}
+-- An operand that is spelled says what it spells.
+use Rattle.std.proofs.Common.{◌≡◌, refl, sym, ap, subst, ◌∙◌, ℕ, List, [], ◌∷◌, ◌++◌, IsTrue, is_some, Option, Some, None, map, append-nil}
 use Rattle.std.specs.List.{flat_map}
+use Rattle.std.specs.Prelude.{unwrap_or}
+use Rattle.std.proofs.lemmas.Bool.{false≢true}
 use Rattle.std.proofs.lemmas.List.{map-append}
 use Rattle.wb_model.specs.declared.script_lines.Referent.{Referent}
 use Rattle.wb_model.specs.declared.script_lines.Referent.TheVariants as referent
 use Rattle.wb_model.specs.declared.script_lines.Operand.{Operand}
-use Rattle.wb_model.specs.declared.script_lines.Operand.TheVariants.{Name, Number, Literal}
+use Rattle.wb_model.specs.declared.script_lines.Operand.TheVariants.{Name, Number, Literal, Keyword}
 use Rattle.wb_model.specs.declared.script_lines.Operand.TheVariants as spelled
 use Rattle.wb_model.specs.declared.script_lines.ParameterType.TheVariants as parameter_type
 use Rattle.wb_model.specs.declared.script.Parameter.{Parameter}
@@ -22,7 +24,7 @@ use Rattle.wb_model.specs.declared.script.Writable.TheVariants.{OwnBuffer, InCel
 use Rattle.wb_model.specs.declared.script.Readable.{Readable}
 use Rattle.wb_model.specs.declared.script.Readable.TheVariants.{Of, ViewOf, Quoted}
 use Rattle.wb_model.specs.language.Names.{parameter_type_of}
-use Rattle.wb_model.specs.language.Trees.{Spelled, pointer_operand, variable_operand, number_operand, writable_operand, view_operand, text_operand, class_operand, procedure_operand, operation_operand, parameter_operand, argument_operand, and_operand, all_spelled}
+use Rattle.wb_model.specs.language.Trees.{Spelled, pointer_operand, number_operand, writable_operand, text_operand, parameter_operand, argument_operand, and_operand, all_spelled}
 use Rattle.wb_script.specs.Building.{parameter_taking}
 
 -- the pointer, the number or the local that an operand spells
@@ -98,9 +100,6 @@ spelled_otherwise read make local this field (P.Field H.This class index) a is =
     let same : spelled.Field referent.This (referent.Field class index) ≡ a = cc in
     subst (λ o. read o ≡ make (P.Field H.This class index)) same (field referent.This (referent.Field class index))
 
-pub variable_back : (x : ℕ) (a : Operand Referent) → variable_operand x ≡ Some a → variable_in a ≡ x
-variable_back x a is = let same : Name (referent.Number x) ≡ a = cc in subst (λ o. variable_in o ≡ x) same refl
-
 pub number_back : (v : N.Number) (a : Operand Referent) → number_operand v ≡ Some a → number_in a ≡ v
 number_back (Constant z) a is = let same : Number z ≡ a = cc in subst (λ o. number_in o ≡ Constant z) same refl
 number_back (Variable i) a is = let same : Name (referent.Number i) ≡ a = cc in subst (λ o. number_in o ≡ Variable i) same refl
@@ -109,26 +108,11 @@ pub writable_back : (d : Writable) (a : Operand Referent) → writable_operand d
 writable_back (OwnBuffer i) a is = let same : Name (referent.Buffer i) ≡ a = cc in subst (λ o. writable_in o ≡ OwnBuffer i) same refl
 writable_back (InCell p) a is = spelled_otherwise writable_in InCell (λ i. refl) refl (λ base field. refl) p a is
 
-pub view_back : (y : ℕ) (a : Operand Referent) → view_operand y ≡ Some a → view_in a ≡ y
-view_back y a is = let same : Name (referent.View y) ≡ a = cc in subst (λ o. view_in o ≡ y) same refl
-
 pub text_back : (t : Readable) (a : Operand Referent) → text_operand t ≡ Some a → text_in a ≡ t
 text_back (Of (OwnBuffer i)) a is = let same : Name (referent.Buffer i) ≡ a = cc in subst (λ o. text_in o ≡ Of (OwnBuffer i)) same refl
 text_back (Of (InCell p)) a is = spelled_otherwise text_in (λ p. Of (InCell p)) (λ i. refl) refl (λ base field. refl) p a is
 text_back (ViewOf i) a is = let same : Name (referent.View i) ≡ a = cc in subst (λ o. text_in o ≡ ViewOf i) same refl
 text_back (Quoted i) a is = let same : Literal (referent.Literal i) ≡ a = cc in subst (λ o. text_in o ≡ Quoted i) same refl
-
-pub local_back : (x : ℕ) (a : Operand Referent) → pointer_operand (P.Held (H.Local x)) ≡ Some a → local_in a ≡ x
-local_back x a is = let same : Name (referent.Pointer x) ≡ a = cc in subst (λ o. local_in o ≡ x) same refl
-
-pub class_back : (n : ℕ) (a : Operand Referent) → class_operand n ≡ Some a → class_in a ≡ n
-class_back n a is = let same : Name (referent.Class n) ≡ a = cc in subst (λ o. class_in o ≡ n) same refl
-
-pub procedure_back : (n : ℕ) (a : Operand Referent) → procedure_operand n ≡ Some a → procedure_in a ≡ n
-procedure_back n a is = let same : Name (referent.Procedure n) ≡ a = cc in subst (λ o. procedure_in o ≡ n) same refl
-
-pub operation_back : (n : ℕ) (a : Operand Referent) → operation_operand n ≡ Some a → operation_in a ≡ n
-operation_back n a is = let same : Name (referent.Operation n) ≡ a = cc in subst (λ o. operation_in o ≡ n) same refl
 
 -- how operands that are spelled begin
 begun : (s : Spelled) (rest : Option (List (Operand Referent))) (operands : List (Operand Referent)) → and_operand s rest ≡ Some operands → (a : Operand Referent) × (more : List (Operand Referent)) × (s ≡ Some a) × (rest ≡ Some more) × (a ∷ more ≡ operands)
@@ -146,6 +130,84 @@ arguments_back [] operands is = let same : [] ≡ operands = cc in subst (λ l. 
 arguments_back (argument ∷ arguments) operands is =
     let (a, more, first, rest, parts) = begun (argument_operand argument) (all_spelled (map argument_operand arguments)) operands is in
     subst (λ l. map argument_in l ≡ argument ∷ arguments) parts (ap (λ z. z ∷ map argument_in more) (argument_back argument a first) ∙ ap (λ l. argument ∷ l) (arguments_back arguments more rest))
+
+-- the operand that spells a pointer, a number, a text or arguments, and is read as what it spells
+pub pointer_word : Pointer → Operand Referent
+pointer_word p = unwrap_or (pointer_operand p) Keyword
+
+pub pointer_is : (p : Pointer) → pointer_operand p ≡ Some (pointer_word p)
+unfolding pointer_word
+pointer_is (P.Held holder) = refl
+pointer_is (P.Field holder class i) = refl
+
+pub pointer_read : (p : Pointer) → pointer_in (pointer_word p) ≡ p
+pointer_read p = pointer_back p (pointer_word p) (pointer_is p)
+
+pub number_word : N.Number → Operand Referent
+number_word v = unwrap_or (number_operand v) Keyword
+
+pub number_is : (v : N.Number) → number_operand v ≡ Some (number_word v)
+unfolding number_word
+number_is (Constant z) = refl
+number_is (Variable i) = refl
+
+pub number_read : (v : N.Number) → number_in (number_word v) ≡ v
+number_read v = number_back v (number_word v) (number_is v)
+
+pub writable_word : Writable → Operand Referent
+writable_word d = unwrap_or (writable_operand d) Keyword
+
+pub writable_is : (d : Writable) → writable_operand d ≡ Some (writable_word d)
+unfolding writable_word
+writable_is (OwnBuffer i) = refl
+writable_is (InCell (P.Held holder)) = refl
+writable_is (InCell (P.Field holder class i)) = refl
+
+pub writable_read : (d : Writable) → writable_in (writable_word d) ≡ d
+writable_read d = writable_back d (writable_word d) (writable_is d)
+
+pub text_word : Readable → Operand Referent
+text_word t = unwrap_or (text_operand t) Keyword
+
+pub text_is : (t : Readable) → text_operand t ≡ Some (text_word t)
+unfolding text_word
+text_is (Of (OwnBuffer i)) = refl
+text_is (Of (InCell (P.Held holder))) = refl
+text_is (Of (InCell (P.Field holder class i))) = refl
+text_is (ViewOf i) = refl
+text_is (Quoted i) = refl
+
+pub text_read : (t : Readable) → text_in (text_word t) ≡ t
+text_read t = text_back t (text_word t) (text_is t)
+
+pub argument_words : List Argument → List (Operand Referent)
+argument_words arguments = unwrap_or (all_spelled (map argument_operand arguments)) []
+
+and_words : (s : Spelled) (o : Option (List (Operand Referent))) → IsTrue (is_some s) → IsTrue (is_some o) → IsTrue (is_some (and_operand s o))
+and_words (Some a) (Some words) p q = refl
+and_words (Some a) None p q = q
+and_words None o p q = absurd (false≢true p)
+
+pub argument_spelled : (a : Argument) → IsTrue (is_some (argument_operand a))
+argument_spelled (Passed (P.Held holder)) = refl
+argument_spelled (Passed (P.Field holder class i)) = refl
+argument_spelled (Given (Constant z)) = refl
+argument_spelled (Given (Variable i)) = refl
+
+arguments_spelled : (arguments : List Argument) → IsTrue (is_some (all_spelled (map argument_operand arguments)))
+arguments_spelled [] = refl
+arguments_spelled (a ∷ arguments) = and_words (argument_operand a) (all_spelled (map argument_operand arguments)) (argument_spelled a) (arguments_spelled arguments)
+
+pub arguments_are : (arguments : List Argument) → all_spelled (map argument_operand arguments) ≡ Some (argument_words arguments)
+unfolding argument_words
+arguments_are arguments = by (all_spelled (map argument_operand arguments)) (arguments_spelled arguments)
+  where
+    by : (o : Option (List (Operand Referent))) → IsTrue (is_some o) → o ≡ Some (unwrap_or o [])
+    by (Some words) is = refl
+    by None is = absurd (false≢true is)
+
+pub arguments_read : (arguments : List Argument) → map argument_in (argument_words arguments) ≡ arguments
+arguments_read arguments = arguments_back arguments (argument_words arguments) (arguments_are arguments)
 
 -- the parameters that operands declare
 abbrev pub parameters_in : List (Operand Referent) → List Parameter
