@@ -137,7 +137,7 @@ impl<'a> Control<'a> {
     }
 
     /// The panic that ended the run; `None` if none did.
-    pub fn raised(&self) -> Option<Raised> {
+    pub fn raised_panic(&self) -> Option<Raised> {
         let Ending::Panics(panic) = self.ending else {
             return None;
         };
