@@ -14,6 +14,7 @@ pub mod StateView
 pub mod Seen
 pub mod SlotInvariant
 pub mod StackInvariant
+pub mod Steps
 pub mod LocalValues
 pub mod ObjectInvariant
 pub mod Owed

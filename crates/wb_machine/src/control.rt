@@ -16,15 +16,17 @@ ghost use Rattle.wb_model.specs.declared.script.Statement.TheViews.{out-Statemen
 ghost use Rattle.wb_machine.specs.declared.pieces.Ending.TheVariants.{GoesOn};
 ghost use Rattle.wb_machine.specs.declared.pieces.PendingPiece.{PendingPiece};
 ghost use Rattle.wb_machine.specs.declared.pieces.PendingPiece.TheVariants.{Turns};
-ghost use Rattle.wb_machine.specs.RunState.{first_state, state_of};
+ghost use Rattle.wb_machine.specs.RunState.{state_of};
 ghost use Rattle.wb_machine.specs.Flow.{context_of, pending_in, is_stop, is_over, progress_by, needs_step, AreOwn};
-ghost use Rattle.wb_machine.specs.Flow.{IsOwn, AreSound, IsReady, rest_from, rest_of_piece, rest_of_statement};
+ghost use Rattle.wb_machine.specs.Flow.{IsFirst, IsOwn, AreSound, IsReady, rest_from, rest_of_piece};
+ghost use Rattle.wb_machine.specs.Flow.{rest_of_statement};
 ghost use Rattle.wb_machine.specs.Asks.{asks_next};
 ghost use Rattle.wb_machine.specs.Effects.{stepped};
 ghost use Rattle.wb_machine.specs.ObjectInvariant.{AreWhole, StaysWhole};
-ghost use Rattle.wb_machine.specs.Owed.{HasStack, MayAttempt, Stays};
-ghost use Rattle.wb_machine.specs.SlotInvariant.{slots_for, slots_for_all, to_destroy, to_destroy_first, IsFree};
+ghost use Rattle.wb_machine.specs.Owed.{HasStack, Stays};
+ghost use Rattle.wb_machine.specs.SlotInvariant.{slots_for, slots_for_all, to_destroy, to_destroy_first};
 ghost use Rattle.wb_machine.specs.SlotInvariant.{HasRoom};
+ghost use Rattle.wb_machine.specs.Steps.{MayBegin, MayStep};
 
 mod calls;
 mod depths;
@@ -137,7 +139,7 @@ impl<'a> Control<'a> {
     }
 
     /// The panic that ended the run; `None` if none did.
-    pub fn raised(&self) -> Option<Raised> {
+    pub fn raised_panic(&self) -> Option<Raised> {
         let Ending::Panics(panic) = self.ending else {
             return None;
         };
@@ -214,10 +216,7 @@ impl<'a> Control<'a> {
     #[inline(never)]
     pub fn begin(&mut self, script: &'a Script, state: &mut State) -> Result<(), NoMemory>
         requires script { IsTrue (is_script script.now) }
-        requires pieces { self.old.pieces.items ≡ [] }
-        requires ending { self.old.ending ≡ GoesOn }
-        requires start { state.old
-            ≡ first_state (keeps_rises state.old.debug) state.old.debug.rule state.old.debug.shape }
+        requires first { IsFirst self.old.ending self.old.pieces.items state.old }
         ensures kept { OnOk result ((r : Rule) (budget : ℕ) →
             Fits r state.old.debug.rule (is_stop self.new.ending) state.new.debug.attempts →
             rest_from script.now budget r self.new.ending self.new.pieces.items state.new
@@ -253,13 +252,8 @@ impl<'a> Control<'a> {
         state: &mut State,
     ) -> Result<(), NoMemory>
         requires script { IsTrue (is_script script.now) }
-        requires going { self.old.ending ≡ GoesOn }
         requires own { IsOwn script.now (out-Statement first.now.statement) }
-        requires sound { AreSound script.now self.old.pieces.items }
-        requires number { MayAttempt state.old }
-        requires level { state.old.debug.heap.level + 1 < 2 ^ 32 }
-        requires free { IsFree self.old.pieces.items state.old }
-        requires stack { HasStack state.old }
+        requires may { MayBegin script.now self.old.ending self.old.pieces.items state.old }
         requires steps { state.old.steps + 1 < 2 ^ 32 }
         ensures kept { OnOk result ((r : Rule) (budget : ℕ) →
             Fits r state.old.debug.rule (is_stop self.new.ending) state.new.debug.attempts →
@@ -324,13 +318,7 @@ impl<'a> Control<'a> {
     #[inline(always)]
     pub fn step(&mut self, script: &'a Script, state: &mut State) -> Result<(), NoMemory>
         requires script { IsTrue (is_script script.now) }
-        requires ready { IsReady self.old.ending self.old.pieces.items }
-        requires sound { AreSound script.now self.old.pieces.items }
-        requires number { MayAttempt state.old }
-        requires level { state.old.debug.heap.level + 1 < 2 ^ 32 }
-        requires room { HasRoom self.old.ending self.old.pieces.items state.old }
-        requires stack { HasStack state.old }
-        requires steps { state.old.steps + 1 < 2 ^ 32 }
+        requires may { MayStep script.now self.old.ending self.old.pieces.items state.old }
         ensures kept { OnOk result ((r : Rule) (budget : ℕ) → state.old.steps < budget →
             Fits r state.old.debug.rule (is_stop self.new.ending) state.new.debug.attempts →
             rest_from script.now budget r self.new.ending self.new.pieces.items state.new

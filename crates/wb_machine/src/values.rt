@@ -17,8 +17,8 @@ impl<'a> Machine<'a> {
     }
 
     /// The panic that ended the run; `None` if none did.
-    pub fn raised(&self) -> Option<Raised> {
-        self.control.raised()
+    pub fn raised_panic(&self) -> Option<Raised> {
+        self.control.raised_panic()
     }
 
     /// The number of an operand, in the innermost body.

@@ -53,7 +53,7 @@ pub struct Meant {
 
 /// The values with which a line raised the panic that ended a run; `None` where nothing is said of any.
 pub fn values_of(machine: &Machine<'_>) -> Option<Meant> {
-    let raised = machine.raised()?;
+    let raised = machine.raised_panic()?;
     if raised.raiser != Raiser::Statement {
         return None;
     }
@@ -161,7 +161,7 @@ fn out_of_range(machine: &Machine<'_>, statement: &Statement) -> Option<Meant> {
             let second = machine.number(*number);
             about(2, Values::Sum { first, second })
         }
-        Statement::Insert(_, position, _) => inserted(machine.number(*position)),
+        Statement::Insert(_, position, _) => below_zero_or_own_text(machine.number(*position)),
         Statement::DeleteText(_, one, other) => either_below_zero(machine, 2, *one, *other),
         Statement::Mid(_, _, one, other) => either_below_zero(machine, 3, *one, *other),
         Statement::Repeat(number, _) | Statement::FailNext(number) | Statement::FailEvery(number) =>
@@ -200,8 +200,8 @@ fn out_of_line(machine: &Machine<'_>, word: usize, number: Number) -> Option<Mea
     about(word, Values::OutOfRange(machine.number(number)))
 }
 
-/// A text can't be inserted at a position below 0, nor into itself.
-fn inserted(position: i32) -> Option<Meant> {
+/// What keeps a text from being inserted: a position below 0, and else that it is the text itself.
+fn below_zero_or_own_text(position: i32) -> Option<Meant> {
     below_zero(2, position).or(about(3, Values::OwnText))
 }
 

@@ -152,7 +152,7 @@ fn take_turn(machine: &mut Machine<'_>, lines: &mut Lines) -> Result<Turn, NoMem
 
 /// The result of a run whose turns were watched. Those left, if any, are taken unwatched.
 fn finish(machine: Machine<'_>, lines: Lines) -> Result<Seen, NoMemory> {
-    let raised = machine.raised();
+    let raised = machine.raised_panic();
     let values = values_of(&machine);
     Ok(Seen {
         result: machine.run_to_end()?,

@@ -137,6 +137,9 @@ module _ (n : ℕ) where
   with_arguments_later st (Passed p ∷ rest) go k = with_pointer_later st p _ (λ q. with_arguments_later st rest _ (λ vs. k _))
   with_arguments_later st (Given v ∷ rest) go k = with_arguments_later st rest _ (λ vs. k _)
 
+-- what a statement is made of that no other stands inside: no part asks for anything, unless what follows does
+ruleset in_turn = (with_some_later, require_later, unless_later, with_cell_later, with_pointer_later, with_writable_later, with_readable_later, with_text_cell_later, with_base_later, with_units_later, with_room_later, write_later, write_view_later, release_later, with_words_later, leave_if_later)
+
 -- statements that may ask for an attempt
 abbrev pub may_ask : Layer → Bool
 may_ask (Statement-F.Alloc p v x) = true
@@ -224,72 +227,15 @@ module _ (script : Script) (budget : ℕ) where
   -- one that doesn't asks for nothing before a further step is counted, nor does what stands inside it
   pub nothing_asked : (at : Context) (layer : Layer) (st : State) → st.steps ≤ budget → may_ask layer ≡ false → IsLater st.steps (statement script (meant script budget) at layer st)
   unfolding statement
-  nothing_asked at (Statement-F.Alloc p v x) st within plain = cc
-  nothing_asked at (Statement-F.Realloc p q v x) st within plain = cc
-  nothing_asked at (Statement-F.NewText p v x) st within plain = cc
-  nothing_asked at (Statement-F.ReallocText p q v) st within plain = cc
-  nothing_asked at (Statement-F.New p class x) st within plain = cc
   nothing_asked at (Statement-F.Construct p) st within plain =
       with_pointer_later st.steps st p _ (λ q. with_class_later st q _ (λ class. frame_later at q [] _ st _ within (λ p st'. tt)))
   nothing_asked at (Statement-F.Delete p) st within plain = with_pointer_later st.steps st p _ (λ q. deleted_later (is_null q) at q st within)
-  nothing_asked at (Statement-F.Push p) st within plain = cc
-  nothing_asked at (Statement-F.PushObject p) st within plain = cc
-  nothing_asked at (Statement-F.PushOperation p operation) st within plain = cc
-  nothing_asked at (Statement-F.Pop v) st within plain = with_some_later st.steps _ _ _ _ (λ n. require_later st.steps _ _ st _ tt)
   nothing_asked at (Statement-F.PopDestroy v) st within plain =
       with_some_later st.steps _ _ _ _ (λ n. require_later st.steps _ _ st _ (meaning_later script budget at (destroy_items n) st within).0)
-  nothing_asked at (Statement-F.PopCheck p) st within plain =
-      with_pointer_later st.steps st p _ (λ q. require_later st.steps _ _ st _ (with_some_later st.steps _ _ _ _ (λ item. require_later st.steps _ _ st _ tt)))
-  nothing_asked at (Statement-F.Free p) st within plain = with_pointer_later st.steps st p _ (λ q. release_later st.steps q st)
-  nothing_asked at (Statement-F.AllocLen x p) st within plain = with_pointer_later st.steps st p _ (λ q. with_some_later st.steps _ _ _ _ (λ c. tt))
-  nothing_asked at (Statement-F.Store p v w) st within plain =
-      with_pointer_later st.steps st p _ (λ q. with_words_later st.steps st q _ (λ c ws. with_some_later st.steps _ _ _ _ (λ k. tt)))
-  nothing_asked at (Statement-F.Load x p v) st within plain =
-      with_pointer_later st.steps st p _ (λ q. with_words_later st.steps st q _ (λ c ws. with_some_later st.steps _ _ _ _ (λ k. tt)))
-  nothing_asked at (Statement-F.Set p q) st within plain = with_pointer_later st.steps st p _ (λ _. with_pointer_later st.steps st q _ (λ _. tt))
-  nothing_asked at (Statement-F.SetNumber x v) st within plain = tt
-  nothing_asked at (Statement-F.SetNull p) st within plain = with_pointer_later st.steps st p _ (λ _. tt)
-  nothing_asked at (Statement-F.Add x v) st within plain = require_later st.steps _ _ st _ tt
-  nothing_asked at (Statement-F.Leave v) st within plain = tt
-  nothing_asked at (Statement-F.LeaveIfError v) st within plain = leave_if_later st.steps _ _ st
-  nothing_asked at (Statement-F.LeaveIfNull p) st within plain = with_pointer_later st.steps st p _ (λ q. leave_if_later st.steps _ _ st)
   nothing_asked at (Statement-F.Call index arguments) st within plain =
       with_arguments_later st.steps st arguments _ (λ given. frame_later at null given (procedure_at script index) st _ within (λ p st'. tt))
   nothing_asked at (Statement-F.CallTo x index arguments) st within plain =
       with_arguments_later st.steps st arguments _ (λ given. frame_later at null given (procedure_at script index) st _ within (λ p st'. tt))
-  nothing_asked at Statement-F.Return st within plain = tt
-  nothing_asked at (Statement-F.ReturnPointer p) st within plain = with_pointer_later st.steps st p _ (λ _. tt)
-  nothing_asked at Statement-F.Mark st within plain = tt
-  nothing_asked at (Statement-F.MarkEnd v) st within plain = with_some_later st.steps _ _ _ _ (λ k. unless_later st.steps _ st _ tt)
-  nothing_asked at (Statement-F.Check v) st within plain = with_some_later st.steps _ _ _ _ (λ k. unless_later st.steps _ st _ tt)
-  nothing_asked at (Statement-F.CheckAll v) st within plain = with_some_later st.steps _ _ _ _ (λ k. unless_later st.steps _ st _ tt)
-  nothing_asked at (Statement-F.FailNext v) st within plain = with_some_later st.steps _ _ _ _ (λ k. tt)
-  nothing_asked at (Statement-F.FailEvery v) st within plain = with_some_later st.steps _ _ _ _ (λ k. tt)
-  nothing_asked at Statement-F.FailNone st within plain = tt
-  nothing_asked at (Statement-F.Copy d t) st within plain =
-      with_writable_later st.steps st d _ (λ to. with_readable_later st.steps st t _ (λ from. with_room_later st.steps st to _ (λ max old. with_units_later st.steps _ st from _ (λ us. write_later st.steps _ st to max))))
-  nothing_asked at (Statement-F.Append d t) st within plain =
-      with_writable_later st.steps st d _ (λ to. with_readable_later st.steps st t _ (λ from. with_room_later st.steps st to _ (λ max old. with_units_later st.steps _ st from _ (λ us. write_later st.steps _ st to max))))
-  nothing_asked at (Statement-F.Insert d v t) st within plain =
-      with_writable_later st.steps st d _ (λ to. with_readable_later st.steps st t _ (λ from. with_room_later st.steps st to _ (λ max old. with_units_later st.steps _ st from _ (λ us.
-      with_some_later st.steps _ _ _ _ (λ k. require_later st.steps _ _ st _ (write_later st.steps _ st to max))))))
-  nothing_asked at (Statement-F.DeleteText d v w) st within plain =
-      with_writable_later st.steps st d _ (λ to. with_room_later st.steps st to _ (λ max old. with_some_later st.steps _ _ _ _ (λ k. with_some_later st.steps _ _ _ _ (λ m. write_later st.steps _ st to max))))
-  nothing_asked at (Statement-F.SetLength d v) st within plain =
-      with_writable_later st.steps st d _ (λ to. with_room_later st.steps st to _ (λ max old. with_some_later st.steps _ _ _ _ (λ k. write_later st.steps _ st to max)))
-  nothing_asked at (Statement-F.Left x t v) st within plain =
-      with_readable_later st.steps st t _ (λ from. with_units_later st.steps _ st from _ (λ us. with_some_later st.steps _ _ _ _ (λ k. write_view_later st.steps _ st x from)))
-  nothing_asked at (Statement-F.Right x t v) st within plain =
-      with_readable_later st.steps st t _ (λ from. with_units_later st.steps _ st from _ (λ us. with_some_later st.steps _ _ _ _ (λ k. write_view_later st.steps _ st x from)))
-  nothing_asked at (Statement-F.Mid x t v w) st within plain =
-      with_readable_later st.steps st t _ (λ from. with_units_later st.steps _ st from _ (λ us. with_some_later st.steps _ _ _ _ (λ k. with_some_later st.steps _ _ _ _ (λ m. write_view_later st.steps _ st x from))))
-  nothing_asked at (Statement-F.GetLength x t) st within plain = with_readable_later st.steps st t _ (λ from. with_units_later st.steps _ st from _ (λ us. tt))
-  nothing_asked at (Statement-F.GetMaximum x d) st within plain = with_writable_later st.steps st d _ (λ to. with_room_later st.steps st to _ (λ max us. tt))
-  nothing_asked at (Statement-F.PrintText t) st within plain = with_readable_later st.steps st t _ (λ from. with_units_later st.steps _ st from _ (λ us. tt))
-  nothing_asked at (Statement-F.PrintNumber v) st within plain = tt
-  nothing_asked at Statement-F.NoteHeap st within plain = tt
-  nothing_asked at Statement-F.NoteAvailable st within plain = tt
-  nothing_asked at Statement-F.NoteCompress st within plain = tt
   nothing_asked at (Statement-F.If c first) st within plain = with_condition_later st.steps st c _ (λ b. (meaning_later script budget at _ st within).0)
   nothing_asked at (Statement-F.IfElse c first other) st within plain = with_condition_later st.steps st c _ (λ b. (meaning_later script budget at _ st within).0)
   nothing_asked at (Statement-F.Repeat v body) st within plain = with_some_later st.steps _ _ _ _ (λ k. (meaning_later script budget at _ st within).0)
@@ -297,3 +243,4 @@ module _ (script : Script) (budget : ℕ) where
       let entry = length st.items in
       let m = meaning_later script budget (record at { floor = entry }) (all body) st within in
       later_then script budget st.steps _ _ m.0 m.1 (λ w st' least most. trap_later at x entry w st.steps st' least most)
+  nothing_asked at _ st within plain = first_of (cc, search in_turn depth 9)

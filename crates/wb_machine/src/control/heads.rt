@@ -1,6 +1,6 @@
 //! What the head of a statement leaves: it is carried out, or leaves pieces.
 
-ghost use Rattle.std.specs.Prelude.{◌≡◌, ◌+◌, ◌^◌, ◌<◌, ◌≤◌, [], ◌∷◌, ℕ, None, length, max, IsTrue, OnOk};
+ghost use Rattle.std.specs.Prelude.{◌≡◌, ◌+◌, ◌≤◌, [], ◌∷◌, ℕ, None, length, max, IsTrue, OnOk};
 ghost use Rattle.std.specs.List.{list_all};
 ghost use Rattle.wb_model.specs.language.Sound.{is_script};
 ghost use Rattle.wb_model.specs.declared.heap.Rule.{Rule};
@@ -16,7 +16,8 @@ ghost use Rattle.wb_machine.specs.Flow.{context_of, afterwards, AreOwn, IsOwn, A
 ghost use Rattle.wb_machine.specs.Flow.{rest_of_statement, rest_of_body};
 ghost use Rattle.wb_machine.specs.ObjectInvariant.{StaysWhole};
 ghost use Rattle.wb_machine.specs.SlotInvariant.{slots_for_all, IsFree, HasRoom};
-ghost use Rattle.wb_machine.specs.Owed.{HasStack, MayAttempt, KeepsSteps, IsQuiet};
+ghost use Rattle.wb_machine.specs.Owed.{KeepsSteps, IsQuiet};
+ghost use Rattle.wb_machine.specs.Steps.{MayBegin};
 
 use crate::arguments::CallArguments;
 use crate::bodies::{BodyContent, construct_at};
@@ -272,14 +273,9 @@ impl<'a> Control<'a> {
         state: &mut State,
     ) -> Result<(), NoMemory>
         requires script { IsTrue (is_script script.now) }
-        requires going { self.old.ending ≡ GoesOn }
         requires own { IsOwn script.now (out-Statement statement.now) }
         requires operands { operands_refusal state.old (out-Statement statement.now) ≡ None }
-        requires sound { AreSound script.now self.old.pieces.items }
-        requires number { MayAttempt state.old }
-        requires level { state.old.debug.heap.level + 1 < 2 ^ 32 }
-        requires free { IsFree self.old.pieces.items state.old }
-        requires stack { HasStack state.old }
+        requires may { MayBegin script.now self.old.ending self.old.pieces.items state.old }
         ensures kept { OnOk result ((r : Rule) (budget : ℕ) →
             FitsStep r state.old self.new.ending state.new →
             rest_from script.now budget r self.new.ending self.new.pieces.items state.new
@@ -335,13 +331,8 @@ impl<'a> Control<'a> {
         state: &mut State,
     ) -> Result<(), NoMemory>
         requires script { IsTrue (is_script script.now) }
-        requires going { self.old.ending ≡ GoesOn }
         requires own { IsOwn script.now (out-Statement statement.now) }
-        requires sound { AreSound script.now self.old.pieces.items }
-        requires number { MayAttempt state.old }
-        requires level { state.old.debug.heap.level + 1 < 2 ^ 32 }
-        requires free { IsFree self.old.pieces.items state.old }
-        requires stack { HasStack state.old }
+        requires may { MayBegin script.now self.old.ending self.old.pieces.items state.old }
         ensures kept { OnOk result ((r : Rule) (budget : ℕ) →
             FitsStep r state.old self.new.ending state.new →
             rest_from script.now budget r self.new.ending self.new.pieces.items state.new

@@ -30,7 +30,7 @@ returns-then-not-branch-clause-kept c r budget f =
     let script = c.args.script.now in
     let after = with_debug h (first_made h).debug in
     let refused = sym c.in_ok-start.ensures.granted ∙ c.if-not-branch.true in
-    run_begun r script budget h c.start.new.self NoCleanup (main_of script).statements c.args.self.now.pieces.items c.requires.start
+    run_begun r script budget h c.start.new.self NoCleanup (main_of script).statements c.args.self.now.pieces.items c.requires.first.start
     (sym (refused_ends after (main_of script).locals (first_made h).gave refused c.in_ok-start.ensures.uncut))
     (c.in_ok-start.ensures.started ∙ refused_stays after (main_of script).locals (first_made h).gave refused) f refl (λ e callers. cc)
 
@@ -41,33 +41,33 @@ returns-clause-kept c r budget f =
     let locals = (main_of script).locals in
     let after = with_debug h (first_made h).debug in
     let granted = sym c.in_ok-start.ensures.granted ∙ c.if-not-branch.false in
-    run_begun r script budget h c.enter.new.self c.push-2.new.self.ending c.as_slice-2.result.now c.push-2.new.self.pieces.items c.requires.start
-    (c.in_ok-push-2.ensures.ending ∙ c.in_ok-push.ensures.ending ∙ c.requires.ending ∙ sym (granted_goes after locals (first_made h).gave granted))
+    run_begun r script budget h c.enter.new.self c.push-2.new.self.ending c.as_slice-2.result.now c.push-2.new.self.pieces.items c.requires.first.start
+    (c.in_ok-push-2.ensures.ending ∙ c.in_ok-push.ensures.ending ∙ c.requires.first.goes_on ∙ sym (granted_goes after locals (first_made h).gave granted))
     (c.in_ok-enter.ensures.entered ∙ ap (λ x. entered x c.as_slice.result.now) c.in_ok-start.ensures.started
     ∙ ap (entered (started_by after (first_made h).gave)) (c.as_slice.ensures ∙ ap (λ b. b.locals) c.procedure_at-main.ensures) ∙ granted_enters after locals (first_made h).gave granted)
     f (c.as_slice-2.ensures ∙ ap (λ b. b.statements) c.procedure_at-main.ensures)
-    (λ e callers. begun_pieces callers c.args.self.now.pieces.items c.push.new.self.pieces.items c.push-2.new.self.pieces.items (Code IN_MAIN c.as_slice-2.result) c.requires.pieces
+    (λ e callers. begun_pieces callers c.args.self.now.pieces.items c.push.new.self.pieces.items c.push-2.new.self.pieces.items (Code IN_MAIN c.as_slice-2.result) c.requires.first.nothing
     c.in_ok-push.ensures.pieces c.in_ok-push-2.ensures.pieces)
 
 pub returns-clause-sound : goal.returns-clause-sound
 returns-clause-sound c =
     let script = c.args.script.now in
-    sound_begun script c.args.self.now.pieces.items c.push.new.self.pieces.items c.push-2.new.self.pieces.items (Code IN_MAIN c.as_slice-2.result) c.requires.pieces
+    sound_begun script c.args.self.now.pieces.items c.push.new.self.pieces.items c.push-2.new.self.pieces.items (Code IN_MAIN c.as_slice-2.result) c.requires.first.nothing
     c.in_ok-push.ensures.pieces c.in_ok-push-2.ensures.pieces
     (subst (AreOwn script) (sym (c.as_slice-2.ensures ∙ ap (λ b. b.statements) c.procedure_at-main.ensures)) (procedure_statements script c.requires.script script.main (main_there script c.requires.script)))
 
 pub returns-then-not-branch-clause-whole : goal.returns-then-not-branch-clause-whole
-returns-then-not-branch-clause-whole c = started_whole c.args.script.now c.args.state.now c.start.new.self c.requires.start c.in_ok-start.ensures.started
+returns-then-not-branch-clause-whole c = started_whole c.args.script.now c.args.state.now c.start.new.self c.requires.first.start c.in_ok-start.ensures.started
 
 pub returns-clause-whole : goal.returns-clause-whole
 returns-clause-whole c =
     let script = c.args.script.now in
-    subst (λ (d : Debug). AreWhole script d.heap.row) (sym c.enter.ensures.debug) (started_whole script c.args.state.now c.start.new.self c.requires.start c.in_ok-start.ensures.started)
+    subst (λ (d : Debug). AreWhole script d.heap.row) (sym c.enter.ensures.debug) (started_whole script c.args.state.now c.start.new.self c.requires.first.start c.in_ok-start.ensures.started)
 
 pub returns-then-not-branch-clause-room : goal.returns-then-not-branch-clause-room
 returns-then-not-branch-clause-room c = stop_room NoCleanup c.args.self.now.pieces.items c.start.new.self refl
 
 pub returns-clause-room : goal.returns-clause-room
 returns-clause-room c =
-    begun_room c.push-2.new.self.ending c.push-2.new.self.pieces.items c.args.state.now c.start.new.self c.enter.new.self c.as_slice.result.now c.requires.start c.in_ok-start.ensures.started
-    c.in_ok-enter.ensures.entered (omega (arith, c.in_ok-push-2.ensures.slots, c.in_ok-push.ensures.slots, ap slots_for_all c.requires.pieces))
+    begun_room c.push-2.new.self.ending c.push-2.new.self.pieces.items c.args.state.now c.start.new.self c.enter.new.self c.as_slice.result.now c.requires.first.start c.in_ok-start.ensures.started
+    c.in_ok-enter.ensures.entered (omega (arith, c.in_ok-push-2.ensures.slots, c.in_ok-push.ensures.slots, ap slots_for_all c.requires.first.nothing))

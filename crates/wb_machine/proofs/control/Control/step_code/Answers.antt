@@ -1,4 +1,4 @@
-use Rattle.std.proofs.Common.{ap, ◌∙◌, sym, subst, arith}
+use Rattle.std.proofs.Common.{rules, ap, ◌∙◌, sym, subst, arith}
 use Rattle.wb_model.specs.declared.script.Statement.TheViews.{out-Statement}
 use Rattle.wb_machine.specs.RunState.{RunState}
 use Rattle.wb_machine.specs.Flow.{context_of, FitsStep, rest_of_statement}
@@ -18,10 +18,17 @@ returns-clause-whole c =
     on_ok_then c.begin_unless_refused.result c.begin_unless_refused.ensures.whole (λ stays whole.
     stays (stepped_whole c.args.script.now c.args.state.now c.tick.new.self c.tick.ensures whole))
 
-pub begin_unless_refused-requires-clause-free : goal.begin_unless_refused-requires-clause-free
-begin_unless_refused-requires-clause-free c =
+pub begin_unless_refused-requires-clause-may : goal.begin_unless_refused-requires-clause-may
+begin_unless_refused-requires-clause-may c =
     let pieces = c.args.self.now.pieces.items in
-    stepped_free pieces pieces c.args.state.now c.tick.new.self c.tick.ensures (omega arith) c.requires.free
+    record {
+      going = c.requires.may.going;
+      sound = c.requires.may.sound;
+      free = stepped_free pieces pieces c.args.state.now c.tick.new.self c.tick.ensures (omega arith) c.requires.may.free;
+      stack = search rules;
+      number = search rules;
+      level = search rules;
+    }
 
 pub returns-clause-room : goal.returns-clause-room
 returns-clause-room c =

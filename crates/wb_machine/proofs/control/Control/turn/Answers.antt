@@ -116,6 +116,21 @@ returns-clause-asked c =
           })
     ]
 
+pub step-requires-clause-may : goal.step-requires-clause-may
+step-requires-clause-may c =
+    let between = c.requires.between in
+    let begun = c.if-not-begun.false in
+    let ready = c.requires.later begun in
+    record {
+      ready = ready;
+      sound = between.pieces_are;
+      room = between.room begun;
+      stack = between.stack begun (ap is_stop ready.0);
+      number = search rules;
+      level = search rules;
+      steps = search rules;
+    }
+
 -- the pieces are sound, the cells whole and the stack has room, in each of the ways
 pieces_are : (c : goal.In_ok-settle) → AreSound c.args.script.now c.settle.new.self.pieces.items
 pieces_are c =
