@@ -17,9 +17,12 @@ from crates import NOT_BUILT, PROGRAM, PROGRAM_CRATE, ROOT, Crates, is_being_bui
 
 NAME = "workbench"
 
+# the option whose file is written
+PICTURE = "--picture"
+
 # the commands that read a script, and the options that take a further word; those of the second set do so of `run` alone
 COMMANDS = {"run", "size", "sweep", "check"}
-WITH_VALUE = {"--min", "--step", "--budget", "--limit", "--fail"}
+WITH_VALUE = {"--min", "--step", "--budget", "--limit", "--fail", PICTURE}
 OF_RUN = {"--also", "--every"}
 
 # the program reads one byte more than the longest script has
@@ -68,6 +71,25 @@ def reads_standard_input(words: list[str]) -> bool:
     return bool(words) and words[0] in COMMANDS and not asks_for_help and script_in(words) is None
 
 
+def with_whole_picture(words: list[str]) -> list[str]:
+    """The words with the whole path of the picture's file, since the run has a folder of its own."""
+    whole: list[str] = []
+    for word in words:
+        name, is_joined, file = word.partition("=")
+        if "--" in whole:
+            whole.append(word)
+        elif name == PICTURE and is_joined:
+            whole.append(f"{PICTURE}={whole_path(file)}")
+        else:
+            whole.append(whole_path(word) if whole[-1:] == [PICTURE] else word)
+    return whole
+
+
+def whole_path(file: str) -> str:
+    """The whole path of a file; an empty name stays empty."""
+    return file and os.path.join(os.getcwd(), file)
+
+
 def handed_on(words: list[str]) -> tuple[list[str], list[str]]:
     """The words for a run in a folder of its own, and those that hand the script on under its own name there. A name that
     leads out of the folder is made a whole path."""
@@ -83,7 +105,7 @@ def handed_on(words: list[str]) -> tuple[list[str], list[str]]:
 
 def first_answer(crates: Crates, words: list[str]) -> int:
     """Compiles the sources without their proof, runs them on these words, and gives the status that they end with."""
-    words, data = handed_on(words)
+    words, data = handed_on(with_whole_picture(words))
     with tempfile.TemporaryDirectory(prefix="workbench-") as folder:
         room = Path(folder)
         # a copy, since `rt` works alone in a crate's folder

@@ -18,7 +18,7 @@ pub fn file_fault(
     deed: Deed,
     kind: ErrorKind,
 ) -> Result<String, AllocError> {
-    let why = reason(kind);
+    let why = reason(deed, kind);
     if why.is_empty() {
         let what = doing(deed);
         return format!(in alloc; "workbench: {file}: {what} failed\n");
@@ -28,11 +28,11 @@ pub fn file_fault(
 }
 
 /// What is wrong, in words; empty where there are none for it.
-fn reason(kind: ErrorKind) -> &'static str {
+fn reason(deed: Deed, kind: ErrorKind) -> &'static str {
     match kind {
-        ErrorKind::NotFound => "no such file",
+        ErrorKind::NotFound => not_found(deed),
         ErrorKind::PermissionDenied => "no permission",
-        ErrorKind::IsADirectory => "it is a directory, not a script",
+        ErrorKind::IsADirectory => is_directory(deed),
         ErrorKind::NotADirectory => "a part of its path is not a directory",
         ErrorKind::FilesystemLoop => "its symbolic links form a loop",
         ErrorKind::InvalidFilename => "invalid or too long file name",
@@ -45,6 +45,21 @@ fn reason(kind: ErrorKind) -> &'static str {
         ErrorKind::Interrupted => "interrupted by a signal",
         ErrorKind::WouldBlock => "it isn't ready, and the workbench doesn't wait",
         _ => "",
+    }
+}
+
+/// What isn't there. A file that is to be written needs its directory alone.
+fn not_found(deed: Deed) -> &'static str {
+    match deed {
+        Deed::Opening | Deed::Reading => "no such file",
+        Deed::Writing => "no such directory",
+    }
+}
+
+fn is_directory(deed: Deed) -> &'static str {
+    match deed {
+        Deed::Opening | Deed::Reading => "it is a directory, not a script",
+        Deed::Writing => "it is a directory",
     }
 }
 

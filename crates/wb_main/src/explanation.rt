@@ -3,6 +3,7 @@
 ghost use Rattle.std.specs.Prelude.{◌≤◌, IsTrue};
 ghost use Rattle.wb_model.specs.language.Sound.{is_script};
 
+use crate::asked::{budget_of, script_name, source_name};
 use crate::recorded::FirstFault;
 use std::alloc::Global;
 use wb_explain::files::{Deed, file_fault};
@@ -20,9 +21,6 @@ use workbench::{Command, Task};
 
 /// The status of a report that found nothing.
 const NOTHING_FOUND: u8 = 0;
-
-/// How standard input is called before the number of a line.
-const INPUT: &str = "<stdin>";
 
 /// Returns the explanation of an answer, by what the program's words came to and by what failed first of what was read and
 /// written; empty if there is nothing to say. The only error is that memory ran out.
@@ -59,18 +57,9 @@ fn explain_fault(alloc: Global, command: &Command, first: FirstFault) -> Result<
     };
     let name = match deed {
         Deed::Writing => "standard output",
-        Deed::Opening | Deed::Reading => name_of(command, "standard input"),
+        Deed::Opening | Deed::Reading => source_name(command, "standard input"),
     };
     Ok(file_fault(alloc, name, deed, kind)?)
-}
-
-/// The name of the script's file, or how standard input is called. An empty name is shown as one.
-fn name_of<'a>(command: &'a Command, input: &'a str) -> &'a str {
-    match &command.file {
-        Some(name) if name.as_str().is_empty() => "\"\"",
-        Some(name) => name.as_str(),
-        None => input,
-    }
 }
 
 /// Why the script is refused, or what its runs found.
@@ -84,7 +73,7 @@ fn explain_script(
     match wb_script::read(alloc, bytes) {
         Ok(script) => explain_runs(alloc, command, findings, status, &script),
         Err(fault) => {
-            let name = name_of(command, INPUT);
+            let name = script_name(command);
             Ok(refused_script(alloc, name, bytes, &fault)?)
         }
     }
@@ -103,7 +92,7 @@ fn explain_runs(
     let Ok(text) = str::from_utf8(findings.bytes.as_slice()) else {
         return Ok(String::new(alloc));
     };
-    let name = name_of(command, INPUT);
+    let name = script_name(command);
     let file = ScriptFile { name, text };
     let mut found = String::new(alloc);
     if let Some(rises) = &findings.rises {
@@ -136,12 +125,4 @@ fn setting_of(command: &Command, rule: Rule) -> Setting
         budget: budget_of(command),
         shape: command.shape,
     }
-}
-
-/// The command's budget, which is in its range.
-fn budget_of(command: &Command) -> u32
-    ensures least { 1 ≤ result }
-    ensures greatest { result ≤ LARGEST_BUDGET }
-{
-    command.budget.max(1).min(LARGEST_BUDGET)
 }

@@ -1,12 +1,15 @@
-//! The program: hands the process's own words, files and streams to the workbench, and says on standard error what there is
-//! to say of the answer, and how far a sweep is that takes long.
+//! The program: hands the process's own words, files and streams to the workbench, says on standard error what there is
+//! to say of the answer, and how far a sweep is that takes long, and draws the picture that is asked for.
 #![tactic(auto)]
 
+mod asked;
 mod explanation;
+mod picture;
 mod progress_line;
 mod recorded;
 
 use crate::explanation::explain_answer;
+use crate::picture::put_picture;
 use crate::progress_line::ProgressLine;
 use crate::recorded::{FirstFault, Recorded, RecordedHost};
 use std::cell::RefCell;
@@ -32,7 +35,7 @@ fn main(rt: HostRuntime) -> ExitCode {
         &mut ProgressLine::new(&rt),
     );
     explain(&rt, &first, &exit);
-    ExitCode::from(exit.status)
+    ExitCode::from(put_picture(&rt, &exit))
 }
 
 /// Says what there is to say of the answer. Where memory runs out, or a write fails, it is left out.

@@ -79,7 +79,8 @@ const SHAPES: &str = ".raw{fill:#56b4e9}.txt{fill:#009e73}.stk{fill:#aaa}
 .ob1{fill:#e69f00}.ob2{fill:#f0e442}.ob3{fill:#cc79a7}.ob4{fill:#0072b2}
 .cell{stroke:#fff;stroke-opacity:.7;stroke-width:.5}
 .leak{fill:#d55e00}.cell.leak{stroke:#000;stroke-opacity:1;stroke-width:1}
-.n{fill:#000;text-anchor:middle;pointer-events:none}.n4{fill:#fff}
+.n{fill:#000;text-anchor:middle;pointer-events:none;paint-order:stroke;stroke:#fff;stroke-opacity:.5;stroke-width:3}
+.n4{fill:#fff;stroke:#0072b2}
 .c{text-anchor:middle}.e{text-anchor:end}
 .sim{stroke:#d55e00;fill:none;stroke-width:1.5}
 .ref{stroke:#0072b2;fill:none;stroke-width:1.5;stroke-dasharray:3 2}

@@ -11,7 +11,7 @@ use crate::marks::{put_failed, put_ticks};
 use crate::refusals::put_refusals;
 use crate::scale::{Area, Frame, Scale};
 use crate::titles::{put_group_title, put_part_title};
-use crate::watch::WatchedRun;
+use crate::watch::{LocatedAttempt, WatchedRun};
 use std::alloc::AllocError;
 use wb_model::heap::Answer;
 
@@ -36,13 +36,24 @@ pub struct Panel<'a, 'b> {
     pub has_table: bool,
     /// The most rectangles of cells.
     pub most_cells: usize,
+    /// The attempt with which the lower run of two begins to fail.
+    pub failing: Option<LocatedAttempt>,
 }
 
-/// Draws a panel, but for its heading.
+/// Draws a panel, but for its heading. The numbers of cells come last, so that no line is over them.
 pub fn put_panel(text: &mut String, panel: &Panel<'_, '_>) -> Result<(), AllocError> {
-    let attempts = panel.run.course.attempts.as_slice();
+    let parts = panel.run.course.cells.parts();
+    let groups = groups_of(*text.allocator(), parts, &panel.scale, panel.most_cells)?;
     put_frame(text, panel)?;
-    put_cells(text, panel)?;
+    put_cells(text, panel, groups.as_slice())?;
+    put_lines(text, panel)?;
+    put_bands(text, panel)?;
+    put_numbers(text, parts, groups.as_slice())
+}
+
+/// Draws what is over the cells: lengths, attempts, and how the run ended.
+fn put_lines(text: &mut String, panel: &Panel<'_, '_>) -> Result<(), AllocError> {
+    let attempts = panel.run.course.attempts.as_slice();
     put_lengths(text, &panel.scale, panel.run)?;
     let rises = rises_of(*text.allocator(), attempts)?;
     put_rises(text, panel.lines, &panel.scale, rises.as_slice())?;
@@ -51,7 +62,29 @@ pub fn put_panel(text: &mut String, panel: &Panel<'_, '_>) -> Result<(), AllocEr
     }
     put_attempts(text, panel)?;
     put_ending(text, panel.lines, &panel.scale, panel.run)?;
-    put_bands(text, panel)
+    put_failing_step(text, panel)
+}
+
+/// Draws the part that is in this panel of the line at which the lower run begins to fail.
+fn put_failing_step(text: &mut String, panel: &Panel<'_, '_>) -> Result<(), AllocError> {
+    let Some(attempt) = panel.failing else {
+        return Ok(());
+    };
+    let frame = panel.scale.frame;
+    let x = panel.scale.x_of_step(attempt.step);
+    let line = Area {
+        left: x,
+        top: frame.top,
+        right: x,
+        bottom: frame.bottom().saturating_add(UNDER - 14),
+    };
+    open_line(text, "fail strong", line)?;
+    let (number, step) = (attempt.number, attempt.step);
+    write!(
+        text,
+        "attempt {number}, in step {step}: from here on the run below fails"
+    )?;
+    close_line(text)
 }
 
 fn put_attempts(text: &mut String, panel: &Panel<'_, '_>) -> Result<(), AllocError> {
@@ -107,7 +140,7 @@ fn place_step(reach: u32) -> u32 {
     step
 }
 
-/// Writes steps below the frame, each at the left edge of its column.
+/// Writes steps below the frame, each at the left of its column.
 fn put_steps(text: &mut String, scale: &Scale) -> Result<(), AllocError> {
     let y = scale.frame.bottom().saturating_add(16);
     let left = scale.frame.left.saturating_sub(6);
@@ -123,7 +156,7 @@ fn put_steps(text: &mut String, scale: &Scale) -> Result<(), AllocError> {
         put_number(
             text,
             "dim",
-            scale.x(column),
+            scale.x(column).saturating_add(3),
             y,
             scale.columns.first_step(column),
         )?;
@@ -132,10 +165,9 @@ fn put_steps(text: &mut String, scale: &Scale) -> Result<(), AllocError> {
     Ok(())
 }
 
-fn put_cells(text: &mut String, panel: &Panel<'_, '_>) -> Result<(), AllocError> {
+fn put_cells(text: &mut String, panel: &Panel<'_, '_>, groups: &[Group]) -> Result<(), AllocError> {
     let parts = panel.run.course.cells.parts();
-    let groups = groups_of(*text.allocator(), parts, &panel.scale, panel.most_cells)?;
-    for group in groups.as_slice() {
+    for group in groups {
         put_group(text, panel, parts, group)?;
     }
     Ok(())
@@ -168,11 +200,21 @@ fn put_group(
     }
     put_part_title(text, panel.lines, first)?;
     close_rect(text)?;
-    put_inside(text, group, first)?;
     put_join(text, panel, parts, first)
 }
 
-/// Writes into a rectangle which cell it is, if there is room.
+/// Writes into the rectangles of single cells which they are, if there is room.
+fn put_numbers(text: &mut String, parts: &[Part], groups: &[Group]) -> Result<(), AllocError> {
+    for group in groups {
+        if group.count == 1
+            && let Some(part) = parts.get(group.first)
+        {
+            put_inside(text, group, part)?;
+        }
+    }
+    Ok(())
+}
+
 fn put_inside(text: &mut String, group: &Group, part: &Part) -> Result<(), AllocError> {
     let (width, height) = (group.area.width(), group.area.height());
     if height < 11 || width < 22 {

@@ -4,12 +4,12 @@ ghost use Rattle.std.specs.Prelude.{◌≤◌, IsTrue};
 ghost use Rattle.wb_model.specs.language.Sound.{is_script};
 
 use crate::columns::Columns;
-use crate::labels::{close_line, close_text, open_line, open_text};
+use crate::labels::{close_text, open_text};
 use crate::lengths::longest_end;
 use crate::lines::{ScriptFile, ScriptLines};
 use crate::page::{close_page, legend_height, open_page, put_heading_text, put_legend};
 use crate::panel::{ABOVE, Panel, UNDER, put_panel};
-use crate::scale::{Area, Frame, Scale};
+use crate::scale::{Frame, Scale};
 use crate::watch::{LocatedAttempt, Setting, WatchedRun, watch_run};
 use std::alloc::{AllocError, Global};
 use wb_model::failures::Failing;
@@ -25,7 +25,7 @@ const TOP: u32 = 8;
 
 const RIGHT: u32 = 150;
 
-const TABLE: u32 = 170;
+const TABLE: u32 = 190;
 
 /// How wide a frame is at least, and how high, if there is one or if there are two.
 const LEAST_WIDTH: u32 = 960;
@@ -183,7 +183,6 @@ fn put_page(
     let height = bottom.saturating_add(legend).saturating_add(24);
     open_page(text, width, height, lines, runs)?;
     put_panels(text, sheet, runs, has_table)?;
-    put_failing_step(text, sheet, runs)?;
     put_legend(text, lines, LEFT, width, bottom.saturating_add(14))?;
     put_note(text, sheet, height.saturating_sub(12))?;
     close_page(text)
@@ -204,6 +203,7 @@ fn put_panels(
             scale: scale_at(sheet, top, run),
             has_table: has_table && index == 0,
             most_cells: sheet.most_cells,
+            failing: failing_attempt(runs),
         };
         put_heading_text(text, run, LEFT, top.saturating_add(16))?;
         put_panel(text, &panel)?;
@@ -212,49 +212,12 @@ fn put_panels(
     Ok(())
 }
 
-/// Draws one line through both panels where the lower run begins to fail.
-fn put_failing_step(
-    text: &mut String,
-    sheet: &Sheet<'_, '_>,
-    runs: &[&WatchedRun],
-) -> Result<(), AllocError> {
-    let [upper, failing] = runs else {
-        return Ok(());
-    };
-    let Some(attempt) = first_failing(failing) else {
-        return Ok(());
-    };
-    put_failing_line(text, sheet, 0, upper, attempt)?;
-    put_failing_line(text, sheet, 1, failing, attempt)
-}
-
-/// The part of the line that is in one panel.
-fn put_failing_line(
-    text: &mut String,
-    sheet: &Sheet<'_, '_>,
-    index: u32,
-    run: &WatchedRun,
-    attempt: LocatedAttempt,
-) -> Result<(), AllocError> {
-    let scale = scale_at(sheet, panel_top(sheet, index), run);
-    let x = scale.x_of_step(attempt.step);
-    let line = Area {
-        left: x,
-        top: scale.frame.top,
-        right: x,
-        bottom: scale
-            .frame
-            .bottom()
-            .saturating_add(UNDER)
-            .saturating_sub(14),
-    };
-    open_line(text, "fail strong", line)?;
-    let (number, step) = (attempt.number, attempt.step);
-    write!(
-        text,
-        "attempt {number}, in step {step}: from here on the run below fails"
-    )?;
-    close_line(text)
+/// Returns the attempt with which the lower run of two begins to fail; `None` if there is one run.
+fn failing_attempt(runs: &[&WatchedRun]) -> Option<LocatedAttempt> {
+    match runs {
+        [_, failing] => first_failing(failing),
+        _ => None,
+    }
 }
 
 /// The first attempt that the run's own rule made fail.

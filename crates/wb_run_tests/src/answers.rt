@@ -162,6 +162,7 @@ fn run_command_in(json: bool) -> Command
             step: 4096,
         },
         json,
+        picture: None,
     }
 }
 

@@ -90,6 +90,7 @@ fn command_of(wanted: &Wanted) -> Command
         budget: 10_000,
         shape: SHAPE,
         json: wanted.json,
+        picture: None,
     }
 }
 

@@ -1,0 +1,39 @@
+//! What the command says of the script: how its file is called, and how many steps its runs may take.
+
+ghost use Rattle.std.specs.Prelude.{◌≤◌};
+
+use wb_model::limits::LARGEST_BUDGET;
+use workbench::{Command, FileName};
+
+/// How standard input is called before the number of a line.
+const INPUT: &str = "<stdin>";
+
+/// Returns how the script is called in a page or a picture.
+pub fn script_name(command: &Command) -> &str {
+    source_name(command, INPUT)
+}
+
+/// Returns the name of the script's file, or how standard input is called.
+pub fn source_name<'a>(command: &'a Command, input: &'a str) -> &'a str {
+    match &command.file {
+        Some(name) => shown_name(name),
+        None => input,
+    }
+}
+
+/// Returns a file's name. An empty one is shown as two quotes.
+pub fn shown_name(name: &FileName) -> &str {
+    if name.as_str().is_empty() {
+        "\"\""
+    } else {
+        name.as_str()
+    }
+}
+
+/// Returns the command's budget, which is in its range.
+pub fn budget_of(command: &Command) -> u32
+    ensures least { 1 ≤ result }
+    ensures greatest { result ≤ LARGEST_BUDGET }
+{
+    command.budget.max(1).min(LARGEST_BUDGET)
+}

@@ -1,0 +1,268 @@
+#!/usr/bin/env python3
+"""Draws pictures with the built program, and checks what they hold.
+
+    tools/pictures.py PROGRAM [--write]
+
+Each example has its picture in docs/pictures, which must be the one that the program draws; --write writes them anew. A table of scripts
+says which shapes their pictures must have. Each picture must be well-formed XML of a few elements, and the report, the messages and the
+status beside it those without a picture. Where it can't be written, the status must be 5 and the last message must say so. Pictures of
+long runs must be no longer than 5 MiB; how long they are, and how many seconds they took, is printed.
+The last line is `N passed, M failed`.
+"""
+
+import argparse
+import subprocess
+import sys
+import tempfile
+import time
+import xml.etree.ElementTree as ET
+from collections.abc import Iterator
+from pathlib import Path
+from typing import NamedTuple
+
+ROOT = Path(__file__).resolve().parent.parent
+KEPT = ROOT / "docs" / "pictures"
+SVG = "{http://www.w3.org/2000/svg}"
+ELEMENTS = {f"{SVG}{it}" for it in ("svg", "title", "style", "rect", "path", "text")}
+NOT_WRITTEN = 5
+MOST_BYTES = 5 << 20
+
+# the examples that show nothing where a single attempt fails are checked in another way
+OTHERWISE = {
+    "clean-up-fails": "--pairs",
+    "clean-up-fails-mended": "--pairs",
+    "fallback-leaks": "--every",
+    "fallback-leaks-mended": "--every",
+}
+
+
+class Row(NamedTuple):
+    """A script, the words that draw it, how many rectangles of cells its picture has, and which shapes by the beginnings of their titles."""
+
+    name: str
+    words: str
+    script: str
+    cells: int
+    rectangles: dict[str, int]
+    lines: dict[str, int] = {}
+
+
+def example(name: str) -> str:
+    """The text of an example."""
+    return (ROOT / "examples" / f"{name}.oom").read_text(encoding="utf-8")
+
+
+LEAK = "proc main\nptr a\nalloc a 16\nend\n"
+MARKUP = 'class A 4\nfield t\nend\nproc main\nptr t\nhnew t 4\nappend t "</title></svg><script>&\' ]]>"\nend\n'
+TABLE = [
+    Row(
+        "a cell that is freed",
+        "run",
+        "proc main\nptr a\nalloc a 16\nfree a\nend\n",
+        2,
+        {"cell 1, the cleanup stack's own, 144 bytes at place 0": 1, "cell 2, raw, 32 bytes at place 144, granted by attempt 2 in step 1, freed in step 2": 1},
+        {"rise: attempt 1 made the heap 144 bytes long": 1, "rise: attempt 2 made the heap 176 bytes long": 1, "required 176": 1},
+    ),
+    Row("a leak", "run", LEAK, 2, {"leak: cell 2, raw, 32 bytes at place 144, granted by attempt 2 in step 1, never freed; line 3: alloc a 16": 1}),
+    Row(
+        "a cell that moves",
+        "run",
+        "proc main\nptr a\nptr b\nalloc a 16\nalloc b 16\nrealloc a a 100\nfree a\nfree b\nend\n",
+        4,
+        {"cell 2, raw, 32 bytes at place 144, granted by attempt 2 in step 1, moved away in step 3": 1, "cell 4, raw, 128 bytes at place 208, moved here by attempt 4": 1},
+        {"attempt 4 moved the cell from place 144 to place 208": 1},
+    ),
+    Row(
+        "a cell that grows at its place",
+        "run",
+        "proc main\nptr a\nalloc a 16\nrealloc a a 100\nfree a\nend\n",
+        3,
+        {"cell 2, raw, 32 bytes at place 144, granted by attempt 2 in step 1, given another length in step 2": 1, "cell 2, raw, 128 bytes at place 144, grown by attempt 3": 1},
+    ),
+    Row(
+        "a cell that becomes shorter",
+        "run",
+        "proc main\nptr a\nalloc a 100\nrealloc a a 16\nfree a\nend\n",
+        3,
+        {"cell 2, raw, 32 bytes at place 144, made shorter in step 2, freed in step 3": 1},
+    ),
+    Row(
+        "a cleanup stack that grows",
+        "run",
+        "proc main\nptr a\n" + "alloc a 16\npush a\n" * 8 + "popdestroy 8\nend\n",
+        10,
+        {"cell 1, the cleanup stack's own, 144 bytes at place 0": 1, "cell 10, the cleanup stack's own": 1, "cleanup: 8": 1},
+        {"attempt 10 moved the cell from place 0": 1},
+    ),
+    Row("an object", "run", "class Note 4\nfield text\nend\nproc main\nptr n Note\nnew n Note\ndelete n\nend\n", 2, {"cell 2, object of class Note": 1}),
+    Row("a TRAP", "run", "proc main\nint e\ntrap e\nleave -4\nend\nend\n", 1, {"TRAPs: 1": 1}),
+    Row("an attempt that was made to fail", "run --fail 2", LEAK, 1, {"attempt 2, made to fail: 32 bytes at place 144": 1}, {"attempt 2, made to fail": 1}),
+    Row("a limit", "run --limit 160", LEAK, 1, {"attempt 2, refused by the limit": 1}, {"limit 160": 1}),
+    Row(
+        "two failures",
+        "sweep --pairs",
+        example("clean-up-fails"),
+        5,
+        {"attempt 3, made to fail": 1, "attempt 4, made to fail": 1, "leak: cell 2": 1},
+        {"attempt 3, in step": 2},
+    ),
+    Row("a cut", "run --budget 50", "proc main\nint n\nrepeat 100\nadd n 1\nend\nend\n", 1, {}, {"cut at the budget": 1}),
+    Row("a table", "size", LEAK, 2, {"from 0 refuses 1": 1, "from 144 refuses 2; line 3": 1}),
+    Row("text of a user", "run", MARKUP, 2, {"leak": 0}, {"panic USER 11; line 7: append t \"</title></svg><script>&' ]]>\"": 1}),
+]
+
+# scripts with long runs, and one that fills the longest heap
+LONG = {
+    "a million steps": "proc main\nptr a\nrepeat 333333\nalloc a 100\nfree a\nend\nend\n",
+    "half a million attempts": "proc main\nptr a\nrepeat 499999\nalloc a 16\nend\nend\n",
+    "the ceiling of the heap": "proc main\nptr a\nrepeat 17\nalloc a 1048576\nend\nend\n",
+}
+
+UNWRITABLE = {"none/heap.svg": "no such directory", ".": "it is a directory", "/dev/full": "no space is left on the device", "": "no such directory"}
+
+
+class Answer(NamedTuple):
+    """What the program writes, and its status."""
+
+    output: bytes
+    messages: bytes
+    status: int
+
+
+class Picture:
+    """A picture that the program drew."""
+
+    def __init__(self, text: str) -> None:
+        self.text = text
+        self.root = ET.fromstring(text)
+
+    def shapes(self, tag: str) -> Iterator[ET.Element]:
+        """The shapes with a tag that have a title."""
+        return (it for it in self.root.iter(f"{SVG}{tag}") if it.find(f"{SVG}title") is not None)
+
+    def titles(self, tag: str) -> list[str]:
+        """The titles of these shapes."""
+        return [it.findtext(f"{SVG}title") or "" for it in self.shapes(tag)]
+
+    def cells(self) -> int:
+        """How many rectangles are cells."""
+        return sum(it.get("class", "").split()[0] in ("cell", "thin") for it in self.shapes("rect"))
+
+    def is_plain(self) -> bool:
+        """Whether it has only the elements of a picture, and is named for those who don't see it."""
+        names = {it.tag for it in self.root.iter()}
+        return names <= ELEMENTS and self.root.get("role") == "img" and bool(self.root.get("aria-label"))
+
+
+class Pictures:
+    """What the program draws in a folder of its own, and how much of it was right."""
+
+    def __init__(self, program: Path, room: Path) -> None:
+        self.program, self.room = program, room
+        self.passed = self.failed = 0
+
+    def check(self, is_fine: bool, what: str) -> None:
+        """Counts a check, and says which failed."""
+        self.passed += is_fine
+        self.failed += not is_fine
+        if not is_fine:
+            print(f"FAILED: {what}")
+
+    def run(self, words: list[str], script: str = "") -> Answer:
+        """What the program answers, where file names start at the top of the repository."""
+        ran = subprocess.run([self.program, *words], input=script.encode(), capture_output=True, cwd=ROOT, check=False)
+        return Answer(ran.stdout, ran.stderr, ran.returncode)
+
+    def draw(self, what: str, words: list[str], script: str = "") -> Picture | None:
+        """The picture that goes with an answer; None if there is none. The answer must be the one without a picture."""
+        file = self.room / "heap.svg"
+        file.unlink(missing_ok=True)
+        answer = self.run([*words, "--picture", str(file)], script)
+        self.check(answer == self.run(words, script), f"{what}: another answer beside the picture")
+        try:
+            picture = Picture(file.read_text(encoding="utf-8"))
+        except (OSError, ET.ParseError) as error:
+            self.check(False, f"{what}: {error}")
+            return None
+        self.check(picture.is_plain(), f"{what}: other elements, or no label")
+        self.check(len(picture.text.encode()) <= MOST_BYTES, f"{what}: longer than {MOST_BYTES} bytes")
+        return picture
+
+    def check_example(self, file: Path, is_writing: bool) -> None:
+        """The picture of an example must be the one that is kept."""
+        name = file.relative_to(ROOT)
+        words = ["check", *filter(None, [OTHERWISE.get(file.stem)]), str(name)]
+        picture = self.draw(str(name), words)
+        kept = KEPT / f"{file.stem}.svg"
+        if picture and is_writing:
+            kept.write_text(picture.text, encoding="utf-8")
+        is_kept = kept.exists() and picture is not None and kept.read_text(encoding="utf-8") == picture.text
+        self.check(is_kept, f"{kept.relative_to(ROOT)}: another picture is drawn; --write writes it anew")
+
+    def check_row(self, row: Row) -> None:
+        """A script of the table must have the shapes that its row names."""
+        picture = self.draw(row.name, row.words.split(), row.script)
+        if picture is None:
+            return
+        self.check(picture.cells() == row.cells, f"{row.name}: {picture.cells()} rectangles of cells, not {row.cells}")
+        for tag, wanted in (("rect", row.rectangles), ("path", row.lines)):
+            titles = picture.titles(tag)
+            for begins, count in wanted.items():
+                found = sum(it.startswith(begins) for it in titles)
+                self.check(found == count, f"{row.name}: {found} titles of {tag} begin with {begins!r}, not {count}")
+
+    def check_names(self) -> None:
+        """The name of a file is a text of a user too."""
+        file = self.room / "\"><script>alert('&')]]>.oom"
+        file.write_text(LEAK, encoding="utf-8")
+        self.draw("a name with markup", ["run", str(file)])
+
+    def check_unwritable(self) -> None:
+        """A picture that can't be written changes the status, and adds a message."""
+        plain = self.run(["run"], LEAK)
+        for name, why in UNWRITABLE.items():
+            answer = self.run(["run", "--picture", name], LEAK)
+            shown = name or '""'
+            message = f"workbench: {shown}: {why}\n".encode()
+            wanted = Answer(plain.output, plain.messages + message, NOT_WRITTEN)
+            self.check(answer == wanted, f"a picture in {name!r}: {answer}")
+
+    def check_refused(self) -> None:
+        """A script that is refused has no picture."""
+        file = self.room / "none.svg"
+        answer = self.run(["check", f"--picture={file}"], "proc main\n")
+        self.check(answer == self.run(["check"], "proc main\n"), "a refused script: another answer beside the picture")
+        self.check(not file.exists(), "a refused script: a picture")
+
+    def check_long(self, name: str, script: str) -> None:
+        """The picture of a long run must not be too long."""
+        start = time.monotonic()
+        picture = self.draw(name, ["run", "--budget", "1000000"], script)
+        if picture:
+            seconds = time.monotonic() - start
+            print(f"{name}: {len(picture.text.encode())} bytes, {seconds:.1f} s with a run beside it", flush=True)
+
+
+def main() -> None:
+    parser = argparse.ArgumentParser(description=__doc__, formatter_class=argparse.RawDescriptionHelpFormatter)
+    parser.add_argument("program", type=Path, metavar="PROGRAM")
+    parser.add_argument("--write", action="store_true", help="write the pictures of the examples anew")
+    given = parser.parse_args()
+    KEPT.mkdir(exist_ok=True)
+    with tempfile.TemporaryDirectory() as folder:
+        pictures = Pictures(given.program.resolve(), Path(folder))
+        for file in sorted((ROOT / "examples").glob("*.oom")):
+            pictures.check_example(file, given.write)
+        for row in TABLE:
+            pictures.check_row(row)
+        pictures.check_names()
+        pictures.check_unwritable()
+        pictures.check_refused()
+        for name, script in LONG.items():
+            pictures.check_long(name, script)
+    print(f"{pictures.passed} passed, {pictures.failed} failed")
+    sys.exit(1 if pictures.failed else 0)
+
+
+if __name__ == "__main__":
+    main()

@@ -1,0 +1,57 @@
+#!/usr/bin/env python3
+"""What is read off a picture, and how its file is named where the program isn't built."""
+
+import os
+import sys
+import unittest
+import xml.etree.ElementTree as ET
+from pathlib import Path
+
+# what starts this leaves the tools' folder out of Python's path
+sys.path.insert(0, str(Path(__file__).resolve().parent.parent))
+from pictures import Picture  # noqa: E402
+from workbench import script_in, with_whole_picture  # noqa: E402
+
+HEAD = '<svg xmlns="http://www.w3.org/2000/svg" role="img" aria-label="a heap"><title>a heap</title>'
+CELLS = (
+    '<rect class="cell raw"><title>cell 2</title></rect><rect class="thin leak"><title>leak: cell 3</title></rect>'
+    '<rect class="band"><title>TRAPs: 1</title></rect><rect class="raw"/><path class="need strong"><title>required 176</title></path>'
+)
+
+
+class OfPictures(unittest.TestCase):
+    """Shapes and titles."""
+
+    def test_shapes(self) -> None:
+        picture = Picture(f"{HEAD}{CELLS}</svg>")
+        self.assertEqual(picture.cells(), 2)
+        self.assertEqual(picture.titles("rect"), ["cell 2", "leak: cell 3", "TRAPs: 1"])
+        self.assertEqual(picture.titles("path"), ["required 176"])
+        self.assertTrue(picture.is_plain())
+
+    def test_other_elements(self) -> None:
+        self.assertFalse(Picture(f"{HEAD}<script>1</script></svg>").is_plain())
+        self.assertFalse(Picture(HEAD.replace("a heap", "", 1) + "</svg>").is_plain())
+
+    def test_markup_that_is_not_escaped(self) -> None:
+        with self.assertRaises(ET.ParseError):
+            Picture(f"{HEAD}<rect><title></title></svg><script></title></rect></svg>")
+
+
+class OfWords(unittest.TestCase):
+    """The file of a picture, where a run has a folder of its own."""
+
+    def test_whole_path(self) -> None:
+        here = os.path.join(os.getcwd(), "a.svg")
+        self.assertEqual(with_whole_picture(["run", "--picture", "a.svg", "x.oom"]), ["run", "--picture", here, "x.oom"])
+        self.assertEqual(with_whole_picture(["run", "--picture=a.svg"]), ["run", f"--picture={here}"])
+        self.assertEqual(with_whole_picture(["run", "--picture", ""]), ["run", "--picture", ""])
+        self.assertEqual(with_whole_picture(["run", "--", "--picture", "a.svg"]), ["run", "--", "--picture", "a.svg"])
+
+    def test_script(self) -> None:
+        self.assertEqual(script_in(["check", "--picture", "a.svg", "x.oom"]), "x.oom")
+        self.assertIsNone(script_in(["check", "--picture", "a.svg"]))
+
+
+if __name__ == "__main__":
+    unittest.main()
