@@ -8,7 +8,7 @@ use Rattle.wb_model.specs.language.Words.{is_digit}
 pub digit_at_most_nine : (byte : ℕ) → is_digit byte ≡ true → byte - 48 ≤ 9
 digit_at_most_nine byte digit = grind (arith, common_steps, nat_tests)
 
--- one more digit behind fewer than nine
+-- one more digit after fewer than nine
 pub one_more_digit : (i value digit : ℕ) → i < 9 → value < 10 ^ i → digit ≤ 9 → 10 * value + digit < 10 ^ (i + 1)
 one_more_digit i value digit few below one = omega (arith, pow_more 10 i)
 

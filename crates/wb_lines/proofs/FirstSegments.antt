@@ -49,7 +49,7 @@ last_piece ends (byte ∷ bytes) quoted i some le so_far =
     let rest = drop_all i (byte ∷ bytes) le in
     sym so_far ∙ ap (λ l. onto_all l (pieces_from ends quoted (drop i (byte ∷ bytes)))) front ∙ ap (λ l. onto_all (byte ∷ bytes) (pieces_from ends quoted l)) rest ∙ onto_all-whole byte bytes
 
--- one more piece of a line is a word, or nothing where it is empty
+-- one more piece of a line is a word, or nothing if it is empty
 pub words_more : (rest piece after : List ℕ) (word found whole : List (List ℕ)) → pieces ends_word rest ≡ piece ∷ pieces ends_word after → word ≡ unless_empty piece → found ++ words_of rest ≡ whole → (found ++ word) ++ words_of after ≡ whole
 words_more rest piece after word found whole cut is so_far =
     ap (λ w. (found ++ w) ++ words_of after) is ∙ append_assoc found (unless_empty piece) (words_of after) ∙ ap (λ ps. found ++ flat_map unless_empty ps) (sym cut) ∙ so_far

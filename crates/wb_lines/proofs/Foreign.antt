@@ -9,7 +9,7 @@ use Rattle.wb_model.specs.language.Lines.{is_foreign, first_foreign_line, is_too
 pub at_most : (bytes : List ℕ) → is_too_long bytes ≡ false → length bytes ≤ 65536
 at_most bytes short = grind (arith, common_steps, nat_tests)
 
--- the same at a byte, where the lines behind it do not depend on whether quotes are open
+-- the same at a byte, where the lines after it do not depend on whether quotes are open
 at_byte : (byte : ℕ) (bytes : List ℕ) (quoted : Bool) (b : Bool) → ((q : Bool) → pieces_from ends_line q bytes ≡ pieces_from ends_line false bytes) →
     elim b as (λ _. List (List ℕ)) [ true ↦ [] ∷ pieces_from ends_line false bytes | false ↦ onto_first byte (pieces_from ends_line (quoted_after quoted byte) bytes) ]
     ≡ elim b as (λ _. List (List ℕ)) [ true ↦ [] ∷ pieces_from ends_line false bytes | false ↦ onto_first byte (pieces_from ends_line false bytes) ]

@@ -21,7 +21,7 @@ module _ {X : Type 0} where
       let within = slice_get_within xs i x is in
       rw (add-one i) (drop-cons xs i x within ∙ ap (λ y. y ∷ drop (suc i) xs) (get_or_from_slice_get xs i x x is))
 
-  -- behind the last one
+  -- after the last one
   pub drop_none : (xs : List X) (i : ℕ) → slice_get xs i ≡ None → drop i xs ≡ []
   drop_none [] i is = drop_all i [] (omega arith)
   drop_none (x ∷ xs) zero is = let clash : ⊥ = cc in absurd clash
@@ -67,7 +67,7 @@ module _ (operand_places : List OperandPlace) (words : List (Bor Text)) (many : 
   pub no_operand_here : (found : List (Operand Text)) → option_and_then (λ operand_place. operand_of operand_place (get_or words i d).now) (slice_get operand_places i) ≡ None → option_map (λ (rest : List (Operand Text)). found ++ rest) (operands_of (drop i operand_places) (bytes_of_texts (drop i words))) ≡ None
   no_operand_here found is = rw (words_here None is) refl
 
--- the first line kind that fits is one of the line kinds behind, or the one here
+-- the first line kind that fits is one of the line kinds after, or the one here
 pub form_here : (line_kinds : List LineKind) (i : ℕ) (d : LineKind) (first : Text) (words : List Text) → i < length line_kinds →
     form_in (drop i line_kinds) first words ≡ line_or (get_or line_kinds i d) (operands_if (bytes_eq (text_of (get_or line_kinds i d)) first) (get_or line_kinds i d) words) (form_in (drop (i + 1) line_kinds) first words)
 form_here line_kinds i d first words lt = rw (drop-cons line_kinds i d lt, add-one i) refl

@@ -87,7 +87,7 @@ mapped : {X Y : Type 0} (P : Y → Type 0) (f : X → Y) (o : Option X) (y : Y) 
 mapped P f None y each is = let clash : ⊥ = cc in absurd clash
 mapped P f (Some x) y each is = let same : f x ≡ y = cc in subst P same (each x refl)
 
--- what stands in a word is no longer than the word
+-- what is in a word is no longer than the word
 inside_within : (word : Text) → length (inside word) ≤ length word
 inside_within word = omega (arith, length-take (length word - 1 - 1) (drop 1 word), length-drop 1 word)
 

@@ -13,7 +13,7 @@ pub fn is_too_long(bytes: &[u8]) -> bool
     bytes.len() > LONGEST_SCRIPT as usize
 }
 
-/// Whether a byte is none that stands in a line or ends one.
+/// Whether a byte is none that may be in a line or end one.
 pub fn is_foreign(byte: u8) -> bool
     ensures { result ≡ is_foreign byte }
 {

@@ -149,7 +149,7 @@ pub fn operand_of<'a>(operand_place: OperandPlace, word: &'a [u8]) -> Option<Ope
     operand_among(word_kinds(operand_place), word)
 }
 
-/// What a word is by its index behind a line kind; none where no such word stands there.
+/// What a word is by its index after a line kind; `None` if there is no such word.
 fn operand_at<'a>(
     operand_places: OperandPlaces,
     index: usize,
@@ -167,7 +167,7 @@ fn operand_at<'a>(
     }
 }
 
-/// What the words behind a line kind are; none where they do not fit. Memory is asked for only where there may be so many words.
+/// What the words after a line kind are; `None` if they do not fit. Memory is asked for only if there may be that many words.
 fn operands_of<'a>(
     alloc: Global,
     operand_places: OperandPlaces,
@@ -193,7 +193,7 @@ fn operands_of<'a>(
     Ok(Some(found))
 }
 
-/// The operands of a line kind whose text the first word is; none where a word does not fit.
+/// The operands of a line kind whose text the first word is; `None` if a word does not fit.
 fn operands_if<'a>(
     alloc: Global,
     line_kind: LineKind,
@@ -211,7 +211,7 @@ fn operands_if<'a>(
     }
 }
 
-/// The line of the first of the line kinds that fits a first word and the words behind it.
+/// The line of the first of the line kinds that fits a first word and the words after it.
 fn form_in<'a>(
     alloc: Global,
     line_kinds: &[LineKind],

@@ -258,7 +258,7 @@ pub fn text_of(line_kind: LineKind) -> &'static [u8]
     }
 }
 
-/// What stands behind a line kind.
+/// What follows a line kind.
 pub fn operand_places_of(line_kind: LineKind) -> &'static [OperandPlace]
     ensures { result.now ≡ operand_places_of line_kind }
 {

@@ -1,4 +1,4 @@
-//! The words behind a line kind: which operand place each of them has, and what is grammatical in an operand place.
+//! The words after a line kind: which operand place each of them has, and what is grammatical in an operand place.
 
 ghost use Rattle.std.specs.Prelude.{◌≡◌, ◌<◌, ℕ, length, nat_eq, slice_get};
 ghost use Rattle.wb_model.specs.language.LineKinds.{operand_places_with, operand_places_for, word_kinds};
@@ -6,7 +6,7 @@ ghost use Rattle.wb_model.specs.language.LineKinds.{operand_places_with, operand
 use crate::line_kinds::{operand_places_of, rest_of};
 use wb_model::script_lines::{Keyword, LineKind, OperandPlace, WordKind};
 
-/// What the words behind a line kind are, of which there are so many.
+/// What the words after a line kind are, by how many there are.
 #[derive(Clone, Copy)]
 pub struct OperandPlaces {
     pub fixed: &'static [OperandPlace],
@@ -14,7 +14,7 @@ pub struct OperandPlaces {
 }
 
 impl OperandPlaces {
-    /// What the words behind this line kind are.
+    /// What the words after this line kind are.
     pub fn of(line_kind: LineKind) -> OperandPlaces
         ensures { (count : ℕ) → operand_places_with result.fixed.now result.rest count
             ≡ operand_places_for line_kind count }
@@ -25,7 +25,7 @@ impl OperandPlaces {
         }
     }
 
-    /// The operand place of a word by its index; none where no such word stands behind the line kind.
+    /// The operand place of a word by its index; `None` if no such word follows the line kind.
     pub fn at(self, index: usize) -> Option<OperandPlace>
         ensures { (count : ℕ) → index < count →
             slice_get (operand_places_with self.fixed.now self.rest count) index ≡ result }
@@ -37,7 +37,7 @@ impl OperandPlaces {
         }
     }
 
-    /// Whether there may be so many words.
+    /// Whether there may be `count` words.
     pub fn admit(self, count: usize) -> bool
         ensures { result
             ≡ nat_eq (length (operand_places_with self.fixed.now self.rest count)) count }

@@ -40,7 +40,7 @@ fn quoted_after(quoted: bool, byte: u8) -> bool
     if byte == b'"' { !quoted } else { quoted }
 }
 
-/// The first piece, and the bytes behind its end.
+/// The first piece, and the bytes after its end.
 fn first_segment<'a>(cut: Cut, bytes: &'a [u8]) -> (&'a [u8], &'a [u8])
     requires { bytes.now ≢ [] }
     ensures pieces { pieces (ends_of cut) bytes.now

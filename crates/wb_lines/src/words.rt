@@ -1,4 +1,4 @@
-//! What a word behind a line kind is: a name, a field, a number, a literal, a parameter, a word of the line's own.
+//! What a word after a line kind is: a name, a field, a number, a literal, a parameter, a word of the line's own.
 
 ghost use Rattle.std.specs.Prelude.{◌≡◌, ◌<◌, ◌≤◌, ◌^◌, IfSome, length};
 ghost use Rattle.std.specs.List.{list_all, list_any};
@@ -89,7 +89,7 @@ pub fn used_name<'a>(word: &'a [u8]) -> Option<&'a [u8]>
     if is_name(word) { Some(word) } else { None }
 }
 
-/// How many bytes of a word stand before the first that is this one.
+/// How many bytes of a word are before the first that is this one.
 fn length_before(byte: u8, word: &[u8]) -> usize
     ensures length { result ≡ length_before byte word.now }
     ensures within { result ≤ length word.now }
@@ -102,14 +102,14 @@ fn length_before(byte: u8, word: &[u8]) -> usize
     word.len()
 }
 
-/// What stands before the first of a byte.
+/// What comes before the first of a byte.
 pub fn before_first<'a>(byte: u8, word: &'a [u8]) -> &'a [u8]
     ensures { result.now ≡ before_first byte word.now }
 {
     &word[..length_before(byte, word)]
 }
 
-/// What stands behind the first of a byte: nothing where there is none.
+/// What follows the first of a byte: nothing if there is none.
 pub fn after_first_of<'a>(byte: u8, word: &'a [u8]) -> &'a [u8]
     ensures { result.now ≡ after_first_of byte word.now }
 {
@@ -171,21 +171,21 @@ pub fn literal_of<'a>(word: &'a [u8]) -> Option<&'a [u8]>
     }
 }
 
-/// What stands before the dot of a field: the name of what holds a pointer.
+/// What comes before the dot of a field: the name of what holds a pointer.
 pub fn base_name<'a>(word: &'a [u8]) -> Option<&'a [u8]>
     ensures { option_copied result ≡ base_name word.now }
 {
     used_name(before_first(b'.', word))
 }
 
-/// What stands behind the dot: the name of the field.
+/// What follows the dot: the name of the field.
 pub fn field_name<'a>(word: &'a [u8]) -> Option<&'a [u8]>
     ensures { option_copied result ≡ field_name word.now }
 {
     used_name(after_first_of(b'.', word))
 }
 
-/// What a parameter takes by the word behind its colon. Any name but `ptr` and `int` is that of a class.
+/// What a parameter takes by the word after its colon. Any name but `ptr` and `int` is that of a class.
 fn parameter_type_after_colon<'a>(word: &'a [u8]) -> Option<ParameterType<&'a [u8]>>
     ensures { option_map (renamed_parameter_type bytes_of_text) result
         ≡ parameter_type_after_colon word.now }

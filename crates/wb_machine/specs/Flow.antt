@@ -25,7 +25,7 @@ use Rattle.wb_machine.specs.declared.pieces.After.TheVariants.{Nothing, Gives, R
 use Rattle.wb_machine.specs.declared.pieces.Context as pieces
 use Rattle.wb_machine.specs.RunState.{Values, RunState, first_state, state_of, account_of}
 
--- `main` stands in the first frame, over no items
+-- `main` is in the first frame, over no items
 abbrev pub in_main_frame : Context
 in_main_frame = record { depth = 1; floor = 0 }
 
@@ -76,13 +76,13 @@ abbrev pub first_statement : PendingPiece → Option StatementAt
 first_statement (Code at statements) = slice_get statements.now 0
 first_statement _ = None
 
--- statements as they stand in a script
+-- statements as they are in a script
 abbrev pub AreOwn : Script → List StatementAt → Type 0
 AreOwn script statements =
     (scope : Scope) × (scope.fields ≡ fields_declared script.classes) × (trapped : Bool) × (depth : ℕ)
     × (are_within (declared_in script) scope depth trapped statements ≡ true)
 
--- a statement as it stands in a script
+-- a statement as it is in a script
 pub record IsOwn (script : Script) (layer : Layer) : Type 0 where
   pub scope : Scope
   pub shaped : scope.fields ≡ fields_declared script.classes
@@ -90,17 +90,17 @@ pub record IsOwn (script : Script) (layer : Layer) : Type 0 where
   pub depth : ℕ
   pub sound : is_nested (declared_in script) scope trapped (are_within (declared_in script) scope depth) layer ≡ true
 
--- a statement leaves steps to be taken, though no other stands inside it
+-- a statement leaves steps to be taken, though no other is inside it it
 abbrev pub leaves_steps : Layer → Bool
 leaves_steps (Statement-F.PopDestroy v) = true
 leaves_steps _ = false
 
--- a statement that no other stands inside, over a number of literals and the scope of a body
+-- a statement with no other inside it, over a number of literals and the scope of a body
 abbrev pub is_carried_out : ℕ → Scope → Bool → Layer → Bool
 is_carried_out literals scope trapped (Statement-F.PushOperation p n) = is_pointer scope p
 is_carried_out literals scope trapped layer = is_simple literals scope trapped layer
 
--- the same of one that no other stands inside, and that leaves none
+-- the same of one with no other inside it, and that leaves none
 pub record IsSimple (script : Script) (layer : Layer) : Type 0 where
   pub scope : Scope
   pub shaped : scope.fields ≡ fields_declared script.classes
@@ -124,7 +124,7 @@ abbrev pub AreSound : Script → List PendingPiece → Type 0
 AreSound script [] = Unit {0}
 AreSound script (p ∷ ps) = IsSoundPiece script p × AreSound script ps
 
--- An open TRAP weighs as much as the two pieces that a leave makes of it, and one more: so a piece that is done leaves less behind.
+-- An open TRAP weighs as much as the two pieces that a leave makes of it, and one more: so a piece that is done leaves less after.
 abbrev pub weight : PendingPiece → ℕ
 weight (Trap at x entry) = 3
 weight MainTrap = 3
@@ -197,13 +197,13 @@ IsSameFlow r p h q g = (k : Way → State → Process) → flow r (and_then p k)
 abbrev pub FitsStep : Rule → RunState → Ending → RunState → Type 0
 FitsStep r h ending g = Fits r h.debug.rule (is_stop ending) g.debug.attempts
 
--- a statement was carried out that ended so and left this state, wherever it stands: under each rule that fits, it comes to what it means
+-- a statement was carried out that ended so and left this state, wherever it is: under each rule that fits, it comes to what it means
 abbrev pub IsCarriedAnywhere : Script → Layer → RunState → Ending → RunState → Type 0
 IsCarriedAnywhere script layer h ending g =
     (r : Rule) → FitsStep r h ending g → (rec : Meaning) (at : Context) →
     IsSameFlow r (ended_by ending (state_of script g)) g (statement script rec at layer (state_of script h)) h
 
--- the same where this number of items stood at the entry of the innermost TRAP
+-- the same where this number of items were at the entry of the innermost TRAP
 abbrev pub IsCarriedOut : Script → ℕ → Layer → RunState → Ending → RunState → Type 0
 IsCarriedOut script floor layer h ending g =
     (r : Rule) → FitsStep r h ending g → (rec : Meaning) (at : Context) → at.floor ≡ floor →

@@ -103,7 +103,7 @@ of_arguments [] = []
 of_arguments (Passed p ∷ rest) = p ∷ of_arguments rest
 of_arguments (Given v ∷ rest) = of_arguments rest
 
--- the pointer operands of a statement, from left to right as they stand in its text, its target among them
+-- the pointer operands of a statement, from left to right as they are in its text, its target among them
 abbrev pub operands_of : Layer → List Pointer
 operands_of (Statement-F.Alloc p v x) = p ∷ []
 operands_of (Statement-F.Realloc p q v x) = p ∷ q ∷ []

@@ -1,4 +1,4 @@
--- The cleanup stack beside the heap that it stands in, and what always holds of both.
+-- The cleanup stack beside the heap that it is in, and what always holds of both.
 use Rattle.std.specs.Prelude.{◌≡◌, ℕ, List, [], Option, Some, None}
 use Rattle.wb_model.specs.declared.heap.Ptr.{Ptr}
 use Rattle.wb_model.specs.declared.heap.Item.{Item}
@@ -24,12 +24,12 @@ abbrev pub slots_or_first : Option Cleanup → ℕ
 slots_or_first None = 8
 slots_or_first (Some stack) = slots_of stack
 
--- where there is a stack it stands in each heap with these cells
+-- where there is a stack it is in each heap with these cells
 abbrev pub StandsIn : Option Cleanup → List (Cell (List ℕ)) → Type 0
 StandsIn None row = Unit {0}
 StandsIn (Some stack) row = (d : Debug) → d.heap.row ≡ row → IsStack stack d
 
--- the heap is sound, its text cells hold texts, and the stack stands in it
+-- the heap is sound, its text cells hold texts, and the stack is in it
 pub record IsMemory (d : Debug) (stack : Option Cleanup) : Type 0 where
   pub sound : IsSoundDebug d
   pub texts : AreTexts d.heap.row

@@ -47,7 +47,7 @@ fn argument_slot(context: ReadContext, frame: &[Stored], argument: Argument) -> 
     }
 }
 
-/// Puts what the arguments give, from left to right, behind the caller's locals, which begin at `base`.
+/// Puts what the arguments give, from left to right, after the caller's locals, which begin at `base`.
 fn pass(
     slots: &mut Vec<Stored>,
     base: usize,
@@ -72,7 +72,7 @@ fn pass(
     Ok(())
 }
 
-/// Puts what a body is handed behind the caller's locals, which begin at `base`.
+/// Puts what a body is handed after the caller's locals, which begin at `base`.
 pub fn hand(
     slots: &mut Vec<Stored>,
     base: usize,

@@ -1,4 +1,4 @@
-//! The bodies of a script. One that it doesn't have stands for a body without a line.
+//! The bodies of a script. One that it doesn't have is a body without a line.
 
 ghost use Rattle.wb_model.specs.meaning.Bodies.{class_at, no_body, operation_at};
 ghost use Rattle.std.specs.Prelude.{unwrap_or};

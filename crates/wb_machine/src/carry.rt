@@ -1,4 +1,4 @@
-//! Which function carries out which statement. Those on texts stand in `carry_text`.
+//! Which function carries out which statement. Those on texts are in `carry_text`.
 
 ghost use Rattle.std.specs.Prelude.{◌≡◌, ◌+◌, ◌^◌, ◌<◌, length, None, IfOk, OnOk, IsTrue};
 ghost use Rattle.wb_model.specs.language.Sound.{is_script};
@@ -14,9 +14,9 @@ use wb_model::memory::NoMemory;
 use wb_model::script::{Script, Statement};
 
 impl State {
-    /// Carries out a statement that runs no other, and tells how it ends.
+    /// Carries out a statement that runs no other, and returns how it ends.
     ///
-    /// The `floor` is how many items stood at the entry of the innermost TRAP.
+    /// The `floor` is how many items were at the entry of the innermost TRAP.
     #[inline(always)]
     pub fn carry_out(
         &mut self,

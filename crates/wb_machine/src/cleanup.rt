@@ -40,7 +40,7 @@ impl State {
         Ok(self.cleanup.is_some())
     }
 
-    /// How many items stand on the stack.
+    /// How many items are on the stack.
     pub fn items(&self) -> u32
         ensures items { result ≡ length self.now.items }
         ensures small { length self.now.items < 2 ^ 32 }
@@ -51,7 +51,7 @@ impl State {
         }
     }
 
-    /// Takes the newest item off; `None` where none stands there.
+    /// Takes the newest item off; `None` if there is none.
     pub fn take_newest(&mut self) -> Option<Item>
         ensures item { result ≡ newest self.old.items }
         ensures taken { self.new
@@ -84,7 +84,7 @@ impl State {
         }
     }
 
-    /// Pushes an item. A growth that is refused leaves, and the item stands on the stack.
+    /// Pushes an item. A growth that is refused leaves, and the item is on the stack.
     pub fn push_item(&mut self, item: Item) -> Result<Ending, NoMemory>
         requires stack { HasStack self.old }
         requires room { length self.old.items < self.old.slots }
@@ -160,7 +160,7 @@ impl State {
         self.push_item(Item::Call(self.pointer(script, *pointer), operation))
     }
 
-    /// Takes the `count` newest items off, where so many stand above the `floor` first ones.
+    /// Takes the `count` newest items off, if there are that many above the `floor` first ones.
     fn take_off(&mut self, floor: u32, count: u32) -> Result<(), Panic>
         requires { HasStack self.old }
         ensures refused { IfErr result (λ panic.
@@ -175,7 +175,7 @@ impl State {
         }
     }
 
-    /// Takes the newest item off, where it stands above the `floor` first ones and is of this pointer.
+    /// Takes the newest item off, if it is above the `floor` first ones and is of this pointer.
     fn take_expected(&mut self, floor: u32, ptr: Ptr) -> Result<(), Panic>
         requires { HasStack self.old }
         ensures refused { IfErr result (λ panic.

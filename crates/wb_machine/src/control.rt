@@ -1,4 +1,4 @@
-//! What is still to do, as explicit pieces, and its steps. What the pieces act on stands in `state`, what the head of a
+//! What is still to do, as explicit pieces, and its steps. What the pieces act on is in `state`, what the head of a
 //! statement leaves in `heads` and `calls`, the steps that destroy in `destroying`, what becomes of pieces that are done in `unwinding`, and turns in
 //! `running`.
 

@@ -39,7 +39,7 @@ impl<'a> Machine<'a> {
         Ok(self.into_finished())
     }
 
-    /// What the run tells, once it is over: exactly what the definitions say of the script, the rule, the
+    /// What the run reports, once it is over: exactly what the definitions say of the script, the rule, the
     /// budget and the shape. Its trace has a line for each attempt. The machine is one made by `new`.
     pub fn result(self) -> RunResult
         requires over { self.over ≡ true }

@@ -41,7 +41,7 @@ pub enum Slot {
     NoBuffer,
 }
 
-/// Where a buffer stands among those of all frames.
+/// Where a buffer is among those of all frames.
 #[derive(Clone, Copy)]
 pub struct BufferIndex {
     at: usize,
@@ -100,7 +100,7 @@ fn copies_of(buffers: &Vec<Buf>) -> Result<Vec<Buf>, AllocError>
     Ok(copies)
 }
 
-/// Puts a value that isn't a buffer of its own behind the locals.
+/// Puts a value that isn't a buffer of its own after the locals.
 pub fn push_slot(slots: &mut Vec<Stored>, slot: Slot) -> Result<(), AllocError>
     ensures pushed { (buffers : List Buffer) →
         OnOk result (values_stored buffers slots.new.items
@@ -113,7 +113,7 @@ pub fn push_slot(slots: &mut Vec<Stored>, slot: Slot) -> Result<(), AllocError>
     Ok(())
 }
 
-/// Puts a local behind others, with what it holds at first.
+/// Puts a local after others, with what it holds at first.
 fn declare_one(
     slots: &mut Vec<Stored>,
     buffers: &mut Vec<Buf>,
@@ -139,7 +139,7 @@ fn declare_one(
     }
 }
 
-/// Puts locals behind others, with what they hold at first.
+/// Puts locals after others, with what they hold at first.
 fn declare(
     slots: &mut Vec<Stored>,
     buffers: &mut Vec<Buf>,
@@ -168,7 +168,7 @@ fn stored_at(slots: &[Stored], at: usize) -> Stored
     }
 }
 
-/// Where the first buffer of a frame stands among all; their end where the frame has none.
+/// Where the first buffer of a frame is among all; their end where the frame has none.
 fn first_buffer(frame: &[Stored], end: usize) -> usize
     ensures { result ≡ first_buffer end frame.now }
 {
@@ -208,7 +208,7 @@ impl Locals {
     }
 
     /// A frame on top, for a body that is handed this and declares these locals. Answers where the caller's frame begins. No
-    /// memory is asked for where as many locals, and as many buffers, stood at once before.
+    /// memory is asked for where as many locals, and as many buffers, were there at once before.
     pub fn call(
         &mut self,
         context: ReadContext,
@@ -282,7 +282,7 @@ impl Locals {
         &self.none
     }
 
-    /// The view in a local; an empty one of nothing where it holds none.
+    /// The view in a local; an empty one of nothing if it holds none.
     pub fn view(&self, index: u8) -> Window
         ensures { result ≡ window_in (value_in self.now.locals index) }
     {
@@ -321,9 +321,9 @@ impl Locals {
     }
 }
 
-/// Edits of the buffer in a local, where it stands. A refusal leaves it as it was.
+/// Edits of the buffer in a local, where it is. A refusal leaves it as it was.
 impl Locals {
-    /// Changes it by the units of a source. The heap is where the source's cell stands.
+    /// Changes it by the units of a source. The heap is where the source's cell is.
     pub fn edit_buffer(
         &mut self,
         index: u8,

@@ -1,4 +1,4 @@
-//! The machine that callers see, and a whole run. What a turn does stands in `control`, and what a run leaves in `finished`.
+//! The machine that callers see, and a whole run. What a turn does is in `control`, and what a run leaves in `finished`.
 
 ghost use Rattle.std.specs.Prelude.{◌≡◌, ◌+◌, ◌≤◌, ◌↔◌, true, false, length, is_err, IsTrue};
 ghost use Rattle.std.specs.Prelude.{IfOk, IsOk, OnOk, OnErr};
@@ -264,7 +264,7 @@ fn at_start<'a>(alloc: Global, script: &'a Script, budget: u32, state: State) ->
     }
 }
 
-/// Lists the leaks of a run that ended so, where its outcome tells them. For any other outcome no memory is
+/// Lists the leaks of a run that ended so, where its outcome says so. For any other outcome no memory is
 /// asked for.
 fn list_leaks(leaks: &mut Leaks, ending: Ending, state: &State) -> Result<(), NoMemory>
     ensures run_result { OnOk result (is_stop ending ≡ false → leaks.new ≡ leaks_at_end state.now) }

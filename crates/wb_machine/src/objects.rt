@@ -1,4 +1,4 @@
-//! Statements that make objects, what objects tell of themselves, and their fields.
+//! Statements that make objects, what objects say of themselves, and their fields.
 
 ghost use Rattle.std.specs.Prelude.{◌≡◌, ◌+◌, ◌*◌, ◌^◌, ◌<◌, ◌≤◌, Ok, length, IfOk, OnErr, OnOk, IsTrue};
 ghost use Rattle.wb_model.specs.meaning.Bodies.{class_at};

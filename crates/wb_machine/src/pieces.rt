@@ -38,7 +38,7 @@ impl Ending {
     }
 }
 
-/// Where a piece stands: how many frames there are, and how many items stood at the entry of the innermost
+/// Where a piece is: how many frames there are, and how many items were at the entry of the innermost
 /// TRAP.
 #[derive(Clone, Copy)]
 pub struct Context {
@@ -46,7 +46,7 @@ pub struct Context {
     pub floor: u32,
 }
 
-/// Where `main` stands.
+/// Where `main` is.
 pub const IN_MAIN: Context = Context { depth: 1, floor: 0 };
 
 /// What follows the end of a body.
@@ -70,7 +70,7 @@ pub enum PendingPiece<'a> {
     Items(Context, u32),
     /// The destruction of an object, by a pointer that isn't null.
     Object(Context, Ptr),
-    /// A TRAP: its local, which gets the code, and how many items stood at its entry.
+    /// A TRAP: its local, which gets the code, and how many items were at its entry.
     Trap(Context, u8, u32),
     /// The code that a TRAP's local gets once the items are destroyed.
     Caught(u8, i32),

@@ -1,4 +1,4 @@
-//! What all bodies of a script share. What each statement does with it stands in files by subject, and what
+//! What all bodies of a script share. What each statement does with it is in files by subject, and what
 //! is still to do in `control`.
 
 ghost use Rattle.std.specs.Prelude.{◌≡◌, ◌+◌, ◌^◌, ◌<◌, ◌↔◌, [], length, false, true, IfOk, OnOk, IsSome, IsTrue, Some};
@@ -247,7 +247,7 @@ impl State {
         self.heap.leaks()
     }
 
-    /// What a run tells that kept the rises, by how it ended and by its leaks.
+    /// What a run reports that kept the rises, by how it ended and by its leaks.
     pub fn finish_rises(self, ending: Ending, leaks: Leaks) -> RisesResult
         requires { IsSome self.debug.rises }
         ensures outcome { result.outcome ≡ outcome_by ending leaks }

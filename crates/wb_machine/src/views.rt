@@ -44,7 +44,7 @@ impl State {
         }
     }
 
-    /// The first so many units of a text, or what refuses them.
+    /// The first `count` units of a text, or what refuses them.
     fn left_part(&self, script: &Script, text: Readable, count: Number) -> Result<Window, Panic>
         requires { IsTrue (is_script script.now) }
         ensures { result ≡ left_read script.now self.now text count }
@@ -53,7 +53,7 @@ impl State {
         window.left(self.count(count)?)
     }
 
-    /// The last so many units of a text, or what refuses them.
+    /// The last `count` units of a text, or what refuses them.
     fn right_part(&self, script: &Script, text: Readable, count: Number) -> Result<Window, Panic>
         requires { IsTrue (is_script script.now) }
         ensures { result ≡ right_read script.now self.now text count }

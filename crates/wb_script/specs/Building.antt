@@ -67,8 +67,8 @@ abbrev pub parameters_of : Indexed → List kinds.Parameter
 parameters_of line = map parameter_taking (parameters_in line)
 
 -- The classes so far, each by how many fields it has so far, the procedures, each by its parameters, and how many operations; the
--- class of `self` in the body that stands open or was the last, its locals, its parameters first; and the line kinds of the blocks that
--- stand open in it, the innermost last.
+-- class of `self` in the body that is open or was the last, its locals, its parameters first; and the line kinds of the blocks that
+-- are open in it, the innermost last.
 pub record Counts : Type 0 where
   pub classes : List ℕ
   pub procedures : List (List kinds.Parameter)
@@ -80,7 +80,7 @@ pub record Counts : Type 0 where
 abbrev pub nothing_counted : Counts
 nothing_counted = record { classes = []; procedures = []; operations = 0; this = None; locals = []; blocks = [] }
 
--- the scope in which a line stands
+-- the scope in which a line is
 abbrev pub scope_at : Declared → Counts → Scope
 scope_at declared counts = record { locals = counts.locals; this = counts.this; fields = declared.fields }
 
@@ -141,7 +141,7 @@ abbrev pub declares : ℕ → List (Operand Referent) → Bool
 declares index (Name (referent.Declared name) ∷ operands) = nat_eq name index
 declares index _ = false
 
--- a size within a greatest one, where a size is told
+-- a size within a greatest one, where a size is given
 abbrev pub is_small : ℕ → List (Operand Referent) → Bool
 is_small greatest (name ∷ Size size ∷ []) = nat_le size greatest
 is_small greatest _ = true
@@ -169,11 +169,11 @@ is_due Loop counts line operands = nat_lt (length counts.blocks) DEEPEST_BLOCK
 is_due If counts line operands = nat_lt (length counts.blocks) DEEPEST_BLOCK
 is_due _ counts line operands = true
 
--- no `return` stands in a TRAP
+-- no `return` is in a TRAP
 abbrev pub may_stand : List LineKind → LineKind → Bool
 may_stand blocks k = not (ends_body k && list_any is_trap blocks)
 
--- a line has the operands of its line kind and keeps the limits, behind lines with these counts
+-- a line has the operands of its line kind and keeps the limits, after lines with these counts
 abbrev pub fits : Declared → Counts → Indexed → Bool
 fits declared counts (Line line_kind operands) =
     operands_fit declared (scope_at declared counts) line_kind operands && (is_due (role_of line_kind) counts (Line line_kind operands) operands && may_stand counts.blocks line_kind)
@@ -209,7 +209,7 @@ head_form (head.Else c first) = condition_line c
 head_form (head.Repeat v) = line line_kind.Repeat (number_operand v ∷ [])
 head_form (head.Trap x) = line line_kind.Trap (variable_operand x ∷ [])
 
--- what stands before the `else` of a block, and that line
+-- what is before the `else` of a block, and that line
 abbrev pub first_part : Head → List Marked
 first_part (head.Else c first) = statement_lines first ++ else_line ∷ []
 first_part _ = []
@@ -244,7 +244,7 @@ place_in_body _ _ = Statements
 abbrev pub block_stack_places : BlockStack → List Open
 block_stack_places block_stack = fold (λ below b. place_in_block b ∷ below) (place_in_body block_stack.blocks block_stack.statements ∷ []) block_stack.blocks
 
--- in a TRAP, where these blocks stand in one or not
+-- in a TRAP, where these blocks are in one or not
 abbrev pub in_trap : Bool → List OpenBlock → Bool
 in_trap trapped [] = trapped
 in_trap trapped (b ∷ blocks) = in_trap (trapped || is_trap (head_line_kind b.head)) blocks
@@ -301,6 +301,6 @@ pub record BecomesElse (block_stack next : BlockStack) : Type 0 where
   pub next_blocks : next.blocks ≡ below ++ (record { before = before; line = line; head = head.Else condition block_stack.statements }) ∷ []
   pub statements : next.statements ≡ []
 
--- what an `else` leaves; none where no `if` without one is the innermost block
+-- what an `else` leaves; `None` if no `if` without one is the innermost block
 abbrev pub TurnsToElse : BlockStack → Option BlockStack → Type 0
 TurnsToElse block_stack next = MatchOption next (step (block_stack_places block_stack) Else ≡ None) (BecomesElse block_stack)

@@ -52,7 +52,7 @@ or_here (Some first) line refused = Some first
 or_here None line true = Some line
 or_here None line false = None
 
--- what stands behind all lines
+-- what is after all lines
 abbrev pub known_of : List (Form Text) → model.NamesSoFar
 known_of forms = state_after known_after nothing_known forms
 

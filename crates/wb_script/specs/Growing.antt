@@ -38,7 +38,7 @@ use Rattle.wb_script.specs.Building.{Counts, AreOpen, counts_after, fits, line_k
 use Rattle.wb_script.specs.BytesOf.{declared_by}
 use Rattle.wb_nesting.specs.Machine.{step, after_line}
 
--- what the statements of a script may name, whichever body they stand in
+-- what the statements of a script may name, whichever body they are in
 abbrev pub declared_in_space : Space → Declared
 declared_in_space space = declared_by space.literals space.items.now
 
@@ -47,7 +47,7 @@ declared_in_space space = declared_by space.literals space.items.now
 abbrev pub scope_in_body : Declared → OpenBody → Scope
 scope_in_body declared p = record { locals = p.scope; this = p.this; fields = declared.fields }
 
--- the lines of an open body behind its first
+-- the lines of an open body after its first
 abbrev pub inside_lines : OpenBody → List Marked
 inside_lines p = local_lines (length p.parameters) p.locals ++ block_stack_lines p.block_stack
 
@@ -124,7 +124,7 @@ abbrev pub if_added : {X : Type 0} → Bool → X → Option X
 if_added true x = Some x
 if_added false x = None
 
--- the body behind its first line
+-- the body after its first line
 abbrev pub new_body : Option ℕ → List kinds.Parameter → OpenBody
 new_body this parameters =
     record { parameters = parameters; this = this; locals = []; scope = map local_of_parameter parameters; block_stack = record { blocks = []; statements = [] } }
@@ -209,7 +209,7 @@ items_in_order b = in_order (each_from lines_of_class 0 b.classes) (in_order (ea
 abbrev pub open_class_lines : ℕ → Class → List Marked
 open_class_lines index c = class_head index c ∷ (field_lines 0 c.fields ++ (own_body_lines line_kind.Constructor c.construct ++ own_body_lines line_kind.Destructor c.destroy))
 
--- what stands before an open body, its first line among them
+-- what is before an open body, its first line among them
 abbrev pub owner_lines : WholeItems → Owner → List kinds.Parameter → List Marked
 owner_lines b (of.Procedure number) parameters = (Some number, head_line (length b.procedures) parameters) ∷ []
 owner_lines b (of.Operation number) parameters = (Some number, line line_kind.Op (Some (Name (referent.Declared (length b.operations))) ∷ map parameter_operand its_parameters)) ∷ []
@@ -225,7 +225,7 @@ stage_lines b (InBody owner p) = owner_lines b owner p.parameters ++ inside_line
 abbrev pub building_lines : Building → List Marked
 building_lines b = all_lines (items_in_order b.whole) ++ stage_lines b.whole b.stage
 
--- the place behind these bodies of a class
+-- the place after these bodies of a class
 abbrev pub place_after : Option Body → Option Body → Open
 place_after construct (Some destroy) = Destroyed
 place_after (Some construct) None = Made
@@ -298,7 +298,7 @@ IsOwned declared b (of.Constructor c) this parameters =
     IsSoundClass declared b c × (this ≡ Some (length b.classes)) × (parameters ≡ []) × (c.construct ≡ None) × (c.destroy ≡ None)
 IsOwned declared b (of.Destructor c) this parameters = IsSoundClass declared b c × (this ≡ Some (length b.classes)) × (parameters ≡ []) × (c.destroy ≡ None)
 
--- what stands so far keeps what a script's tree has to keep
+-- what is there so far keeps what a script's tree has to keep
 abbrev pub IsSoundWhere : Declared → WholeItems → Stage → Type 0
 IsSoundWhere declared b Outside = AreSound declared b
 IsSoundWhere declared b (InClass c) = AreSound declared b × IsSoundClass declared b c
@@ -307,7 +307,7 @@ IsSoundWhere declared b (InBody owner p) = AreSound declared b × IsOwned declar
 pub record IsSound (declared : Declared) (b : Building) : Type 0 where
   pub stands : IsSoundWhere declared b.whole b.stage
 
--- the first lines of whole items stand before the line with this number
+-- the first lines of whole items are before the line with this number
 pub record AreBelow (number : ℕ) (b : WholeItems) : Type 0 where
   pub classes : IsTrue (list_all (λ c. nat_lt c.line number) b.classes)
   pub procedures : IsTrue (list_all (λ p. nat_lt p.line number) b.procedures)
@@ -343,14 +343,14 @@ GrowsWhereFit declared number line b next =
     ((counts : Counts) → AreCounts b counts → IsTrue (fits declared counts line) → after_line (building_places b) (role_of_form line) ≡ None)
     (Grows declared number line b)
 
--- what is open behind a line that leaves what is whole, or nothing, where a line that fits has no place
+-- what is open after a line that leaves what is whole, or nothing, where a line that fits has no place
 abbrev pub OpensWhereFit : Declared → ℕ → Indexed → WholeItems → Option Stage → Type 0
 OpensWhereFit declared number line b next =
     MatchOption next
     ((counts : Counts) → AreCounts (outside b) counts → IsTrue (fits declared counts line) → after_line (building_places (outside b)) (role_of_form line) ≡ None)
     (λ stage. Grows declared number line (outside b) (record { whole = b; stage = stage }))
 
--- the tree behind what a line of an open class says
+-- the tree after what a line of an open class says
 abbrev pub building_after : WholeItems → Class → ClassLine → Building
 building_after b c (says.Field field) = in_class b (record c { fields = c.fields ++ field ∷ [] })
 building_after b c (says.Constructor p) = in_body b (of.Constructor c) p

@@ -1,4 +1,4 @@
--- What the forms of all lines tell of a script: no fault, or the first.
+-- What the forms of all lines say of a script: no fault, or the first.
 use Rattle.std.specs.Prelude.{◌≡◌, ℕ, ◌+◌, List, map}
 use Rattle.wb_model.specs.declared.fault.ScriptFault.{ScriptFault}
 use Rattle.wb_model.specs.declared.fault.ScriptFault.TheVariants.{Grammar}
@@ -12,7 +12,7 @@ use Rattle.wb_model.specs.language.Scripts.{IsLinesFault}
 abbrev pub roles_of : List (Form Text) → List Role
 roles_of forms = map role_of_form forms
 
--- the first fault, the line of a grammar fault as an index behind which it stands
+-- the first fault, the line of a grammar fault as an index after which it is
 abbrev pub IsFormsFault : List (Form Text) → ScriptFault → Type 0
 IsFormsFault forms (Grammar n) = (k : ℕ) × (n ≡ k + 1) × IsFirstMisfit (roles_of forms) k
 IsFormsFault forms fault = IsGrammatical (roles_of forms) × IsLinesFault forms fault

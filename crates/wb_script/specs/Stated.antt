@@ -157,7 +157,7 @@ takes_number line_kind.FailNext = true
 takes_number line_kind.FailEvery = true
 takes_number _ = false
 
--- the numbers that a line compares, behind this keyword
+-- the numbers that a line compares, after this keyword
 abbrev pub AreCompared : Scope → Keyword → List (Operand Referent) → Option (Number × Number) → Type 0
 AreCompared scope keyword operands result =
     MatchOption result
@@ -210,7 +210,7 @@ pub record IsOneLine (declared : Declared) (scope : model.Scope) (trapped : Bool
   pub lines : (number : ℕ) → lines_of_statement statement number ≡ (Some number, Line line_kind operands) ∷ []
   pub sound : (inside : Bool → List StatementAt → Bool) → IsTrue (is_nested declared scope trapped inside (out-Statement statement))
 
--- a statement that may stand anywhere
+-- a statement that may be anywhere
 abbrev pub IsNestedOf : Declared → model.Scope → LineKind → List (Operand Referent) → Option Statement → Type 0
 IsNestedOf declared scope line_kind operands result =
     MatchOption result

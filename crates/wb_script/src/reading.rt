@@ -194,7 +194,7 @@ fn read_text(alloc: Global, bytes: &[u8]) -> Result<Result<Script, ScriptFault>,
 /// The script that bytes spell, or their first fault.
 ///
 /// The checks are made in the order of `ScriptFault`'s variants, each over the whole script, and the first
-/// that finds a fault names the first line where it stands; lines count from 1. `NoMemory` is answered only
+/// that finds a fault names the first line where it is; lines count from 1. `NoMemory` is answered only
 /// where a growth of the reader's own memory was refused, at which point the bytes were found to be neither
 /// too long nor foreign; it says nothing else of them.
 pub fn read(alloc: Global, bytes: &[u8]) -> Result<Script, ScriptFault>

@@ -38,7 +38,7 @@ use wb_lines::line_kinds::role_of;
 use wb_model::limits::LONGEST_SCRIPT;
 use wb_model::script_lines::{Form, LineKind, Operand, Referent, Role};
 
-/// What a line opens where nothing is open, with its number; none where it has no place there.
+/// What a line opens where nothing is open, with its number; `None` if it has no place there.
 fn begin_item(
     alloc: Global,
     space: Space,
@@ -60,7 +60,7 @@ fn begin_item(
     }
 }
 
-/// Adds a line where nothing is open, with its number; none where it has no place.
+/// Adds a line where nothing is open, with its number; `None` if it has no place.
 fn add_outside(
     alloc: Global,
     space: Space,
@@ -80,7 +80,7 @@ fn add_outside(
     }
 }
 
-/// Adds a line to the body that is open, with its number; none where it has no place there.
+/// Adds a line to the body that is open, with its number; `None` if it has no place there.
 fn add_inside(
     alloc: Global,
     space: Space,
@@ -108,7 +108,7 @@ fn add_inside(
     }
 }
 
-/// Adds a line that says something to the tree, with its number; none where it has no place there.
+/// Adds a line that says something to the tree, with its number; `None` if it has no place there.
 fn add_line(
     alloc: Global,
     space: Space,
@@ -136,7 +136,7 @@ fn add_line(
     }
 }
 
-/// Adds a line that can be read to the tree, with its number; none where it has no place there.
+/// Adds a line that can be read to the tree, with its number; `None` if it has no place there.
 fn add_form(
     alloc: Global,
     space: Space,
@@ -204,7 +204,7 @@ fn add_next(
     }
 }
 
-/// What is whole of a script behind all its lines.
+/// What is whole of a script after all its lines.
 fn items_from(
     alloc: Global,
     space: Space,

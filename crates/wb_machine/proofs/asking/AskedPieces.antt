@@ -198,7 +198,7 @@ module _ (script : Script) (budget : ℕ) where
   ready_asks pieces below (MainCaught code) h is needs sound less = cc
   ready_asks pieces below (Call base this after) h is needs sound less = cc
 
-  -- the same of whatever stands on top
+  -- the same of whatever is on top
   pub settled_asks : (ending : Ending) (pieces : List PendingPiece) (p : PendingPiece) (h : RunState) → slice_get pieces (length pieces - 1) ≡ Some p →
       (is_over ending pieces ≡ true) ⊎ IsReady ending pieces → is_over ending pieces ≡ false → AreSound script pieces → h.steps < budget →
       held_asks ending pieces h ≡ asked_of h (first_statement p)

@@ -137,7 +137,7 @@ module _ (n : ℕ) where
   with_arguments_later st (Passed p ∷ rest) go k = with_pointer_later st p _ (λ q. with_arguments_later st rest _ (λ vs. k _))
   with_arguments_later st (Given v ∷ rest) go k = with_arguments_later st rest _ (λ vs. k _)
 
--- what a statement is made of that no other stands inside: no part asks for anything, unless what follows does
+-- what a statement is made of that no other is inside: no part asks for anything, unless what follows does
 ruleset in_turn = (with_some_later, require_later, unless_later, with_cell_later, with_pointer_later, with_writable_later, with_readable_later, with_text_cell_later, with_base_later, with_units_later, with_room_later, write_later, write_view_later, release_later, with_words_later, leave_if_later)
 
 -- statements that may ask for an attempt
@@ -224,7 +224,7 @@ module _ (script : Script) (budget : ℕ) where
       later_higher script budget low st.steps (trapped (meant script budget) at x entry (leaves code) st) least
       (destroyed_onward script budget at (length st.items - entry) st (λ st. done (set_local st x (number code))) most (λ low st. tt) (λ ns st g. (refl, g))).0
 
-  -- one that doesn't asks for nothing before a further step is counted, nor does what stands inside it
+  -- one that doesn't asks for nothing before a further step is counted, nor does what is inside it
   pub nothing_asked : (at : Context) (layer : Layer) (st : State) → st.steps ≤ budget → may_ask layer ≡ false → IsLater st.steps (statement script (meant script budget) at layer st)
   unfolding statement
   nothing_asked at (Statement-F.Construct p) st within plain =

@@ -20,7 +20,7 @@ use Rattle.wb_machine.specs.Owed.{CarriesOut}
 abbrev pub Means : Script → RunState → Layer → Effect → Type 0
 Means script h layer c = IsCarriedAnywhere script layer h c.ending c.state
 
--- where a number of items stood at the entry of the innermost TRAP
+-- where a number of items were at the entry of the innermost TRAP
 abbrev pub MeansOver : Script → ℕ → RunState → Layer → Effect → Type 0
 MeansOver script floor h layer c = IsCarriedOut script floor layer h c.ending c.state
 
@@ -39,7 +39,7 @@ effect_over {h} {c} {ending} {g} script {layer} fine was is made means r f rec a
     ∙ means (sym (ap (operands_refusal h) is) ∙ fine) r fits rec at over k
     ∙ ap (λ (l : Layer). flow r (and_then (statement script rec at l (state_of script h)) k) h) (sym is)
 
--- wherever it stands
+-- wherever it is
 pub effect_of : {h : RunState} {c : Effect} {ending : Ending} {g : RunState} {floor : ℕ} (script : Script) {layer : Layer} → operands_refusal h layer ≡ None → (was : Layer) →
     layer ≡ was → CarriesOut h c ending g →
     (operands_refusal h was ≡ None → Means script h was c) → IsCarriedOut script floor layer h ending g

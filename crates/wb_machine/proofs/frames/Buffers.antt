@@ -101,7 +101,7 @@ not_past low end zero (T.Buffer b ∷ xs) i h is =
     omega (arith, ordered (suc b.at) end xs h.1, ap (λ (x : BufferIndex). x.at) same)
 not_past low end (suc k) (T.Buffer b ∷ xs) i h is = not_past (suc b.at) end k xs i h.1 is
 
--- a new buffer behind the others, for a new slot behind the others
+-- a new buffer after the others, for a new slot after the others
 pub buffer_declared : (bs cs : List Buffer) (b : Buffer) (xs ys : List Stored) (end : ℕ) → end ≡ length bs → cs ≡ bs ++ b ∷ [] → ys ≡ xs ++ T.Buffer (record { at = end }) ∷ [] →
     AreAscending 0 end xs → values_stored cs ys ≡ values_stored bs xs ++ value_of_buffer b ∷ []
 buffer_declared bs cs b xs ys end long new following h =

@@ -1,4 +1,4 @@
--- A buffer that is edited where it stands, in the locals that hold it.
+-- A buffer that is edited where it is, in the locals that hold it.
 use Rattle.std.proofs.Common.{◌≡◌, ℕ, ◌+◌, ◌≤◌, List, take, drop, length, get_or, ap, subst, sym, ◌∙◌}
 use Rattle.std.specs.Prelude.{slice_set as set, Result, Ok, Err}
 use Rattle.std.proofs.lemmas.List.{set-get_or}

@@ -18,7 +18,7 @@ one_more g new old y vs zs i a is done this within =
     ∙ ap (λ ys. vs ++ ys) (sym (map-append g (take i zs) (get_or zs i a ∷ [])))
     ∙ ap (λ ys. vs ++ map g ys) (sym (ap (λ k. take k zs) next ∙ take-suc zs i a within))
 
--- what stands above a frame doesn't change it
+-- what is above a frame doesn't change it
 pub frame_below : {X Y : Type 0} (f : X → Y) (items : List X) (vs more : List Y) (base end : ℕ) →
     map f items ≡ vs ++ more → length vs ≡ end → base ≤ end → map f (slice_range items base end) ≡ drop base vs
 frame_below f items vs more base end is long within =

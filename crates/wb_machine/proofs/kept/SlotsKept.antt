@@ -221,7 +221,7 @@ leave_room ending goes entry old new h going is had entered first room _ =
       free = omega (arith, first, had, r.within);
     })
 
--- `main` has ended, and no item stands
+-- `main` has ended, and no item is left
 pub main_room : (ending goes : Ending) (pieces : List PendingPiece) (h : RunState) → is_stop ending ≡ false → length h.items ≡ 0 → HasRoomUnder ending pieces h → HasRoom goes pieces h
 main_room ending goes pieces h going none room _ =
     let r = room going in record { entered = r.entered; some = r.some; within = r.within; free = omega (arith, none, r.some) }

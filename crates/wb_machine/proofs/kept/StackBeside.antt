@@ -29,7 +29,7 @@ use Rattle.wb_machine.specs.StateView.{run_state}
 use Rattle.wb_machine.specs.declared.state.State.TheInside.{Inside}
 use Rattle.wb_machine.proofs.kept.TextInvariant.{texts_edited}
 
--- a stack stands in another heap with the items that it has
+-- a stack is in another heap with the items that it has
 pub record Stays (o : Option Cleanup) (d e : Debug) : Type 0 where
   pub stands : StandsIn o e.heap.row
   pub items : items_or_none o e ≡ items_or_none o d

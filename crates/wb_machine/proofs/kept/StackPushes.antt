@@ -27,7 +27,7 @@ numbered stack d sound is =
     let named = found-from (cell_of stack) (headers d.heap.row) 0 is.cell.cell.head sound.row.spaced (found-head (cell_of stack) d.heap.row is.cell.cell is.cell.found) in
     omega (arith, at-number (cell_of stack) is.cell.cell.head named.named, named.numbered)
 
--- where it stands, it stands in each heap with these cells
+-- where it is, it is in each heap with these cells
 pub context : (stack : Cleanup) (d : Debug) → IsStack stack d → StandsIn (Some stack) d.heap.row
 context stack d is = λ e row. (stack-kept stack d e (ap (cell_at (cell_of stack)) row) is).is
 
@@ -85,7 +85,7 @@ stays_as h g x is has stays = record {
   stack = λ held. has;
 }
 
--- a stack that was pushed on stands in its heap, whose texts are as they were
+-- a stack that was pushed on is in its heap, whose texts are as they were
 pub memory_pushed : {Y : Type 0} (r : Result Pushed Y) (item : Item) (stack new : Cleanup) (d e : Debug) → IsMemory d (Some stack) → IsStack new e → IsSoundDebug e →
     IfOk r (λ pushed. PushLeaves pushed item stack new d e) → OnErr r (IsUnchanged stack new d e) → IsMemory e (Some new)
 memory_pushed {Y} r item stack new d e memory now sound ok err = record { sound = sound; texts = by r ok err; stands = context new e now }

@@ -135,7 +135,7 @@ module _ (script : Script) (budget : ℕ) (r : Rule) (at : Context) where
   abbrev below : Context
   below = record at { depth = at.depth + 1 }
 
-  -- a body begins: it is to be done, and then the caller's frame stands again
+  -- a body begins: it is to be done, and then the caller's frame is current again
   pub body_rest : (this : Ptr) (given : Values) (body : Body) (after : Afterwards) (base : ℕ) (old new : List PendingPiece) (h g : RunState) →
       at.depth < MOST_FRAMES → base ≡ length h.callers → g ≡ framed_with h this given body.locals →
       pending_in g.callers new ≡ doing below (all body.statements) ∷ calling (frame_with h.this (drop base g.callers)) after ∷ pending_in (take base g.callers) old →

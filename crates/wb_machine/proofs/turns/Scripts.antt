@@ -78,7 +78,7 @@ all_small classes (OfBuffer max ∷ rest) ok =
     and_both small (list_all is_small rest) (and_left small more ok) (all_small classes rest (and_right small more ok))
 all_small classes (OfView ∷ rest) ok = all_small classes rest ok
 
--- a body that a script has: its locals are small, and its statements stand in the script
+-- a body that a script has: its locals are small, and its statements are in the script
 abbrev IsOwnBody : Script → Body → Type 0
 IsOwnBody script body = AreOwn script body.statements × (list_all is_small body.locals ≡ true)
 
@@ -280,7 +280,7 @@ pub sound_begun : (script : Script) (none one two : List PendingPiece) (code : P
 sound_begun script none one two code e f g ok =
     sound_pushed script one two code g (sound_pushed script none one MainTrap f (subst (AreSound script) (sym e) tt) tt) ok
 
--- the first of statements that stand in a script, and the rest
+-- the first of statements that are in a script, and the rest
 pub own_first : (script : Script) (s : StatementAt) (ss : List StatementAt) → AreOwn script (s ∷ ss) → IsOwn script (out-Statement s.statement)
 own_first script s ss (scope, shaped, trapped, zero, ok) = cc
 own_first script s ss (scope, shaped, trapped, suc depth, ok) = record {
@@ -299,7 +299,7 @@ own_rest script s ss (scope, shaped, trapped, suc depth, ok) =
 pub own_none : (script : Script) → AreOwn script []
 own_none script = (no_body_own script).0
 
--- what stands inside a statement
+-- what is inside a statement
 module _ (script : Script) (layer : Layer) (own : IsOwn script layer) where
   abbrev inside : Bool → List StatementAt → Bool
   inside = are_within (declared_in script) own.scope own.depth
@@ -358,7 +358,7 @@ module _ (script : Script) (layer : Layer) (own : IsOwn script layer) where
   pub own_delete : (p : Pointer) → layer ≡ Statement-F.Delete p → is_pointer own.scope p ≡ true
   own_delete p e = seen_as _ e
 
-  -- one that no other stands inside
+  -- one with no other inside it
   pub own_simple : ((c : Condition) (first : List StatementAt) → layer ≡ Statement-F.If c first → ⊥) →
       ((c : Condition) (first other : List StatementAt) → layer ≡ Statement-F.IfElse c first other → ⊥) →
       ((v : Number) (body : List StatementAt) → layer ≡ Statement-F.Repeat v body → ⊥) → ((x : ℕ) (body : List StatementAt) → layer ≡ Statement-F.Trap x body → ⊥) →

@@ -25,7 +25,7 @@ run_over m s is machine over well =
     ∙ machine.keeps fine m.state.debug.rule (inl refl)
     ∙ ap (λ (s : Seen). whole_run s.keeps_rises s.script s.rule s.budget s.shape) is
 
--- what is told of a machine that kept the rises
+-- what is reported of a machine that kept the rises
 pub rises_over : (m : Inside) (s : Seen) → seen m ≡ s → IsMachine m → s.over ≡ true → s.failed ≡ false → s.keeps_rises ≡ true → (run_result : RisesResult) →
     run_result.outcome ≡ outcome_by m.control.ending m.leaks → Some run_result.rises ≡ m.state.debug.rises → run_result.steps ≡ m.state.steps →
     run_result ≡ rises_result_of (run s.script s.rule s.budget s.shape)

@@ -97,7 +97,7 @@ impl<'a> Control<'a> {
         Ok(())
     }
 
-    /// The body of a TRAP, over the items that stand at its entry.
+    /// The body of a TRAP, over the items that are at its entry.
     #[inline(never)]
     fn begin_trap(
         &mut self,
@@ -125,7 +125,7 @@ impl<'a> Control<'a> {
         Ok(())
     }
 
-    /// The destruction of the newest items. As many must stand above the entry of the innermost TRAP, which is asked before the
+    /// The destruction of the newest items. As many must be above the entry of the innermost TRAP, which is tested before the
     /// first is destroyed.
     #[inline(never)]
     fn begin_pop(&mut self, at: Context, count: &Number, state: &State) -> Result<(), NoMemory>
@@ -220,7 +220,7 @@ impl<'a> Control<'a> {
         self.begin_delete(at, state.pointer(script, *object))
     }
 
-    /// A body begins in a frame of its own, of an object or of none, and then its caller's frame stands again. One frame too
+    /// A body begins in a frame of its own, of an object or of none, and then its caller's frame is current again. One frame too
     /// many is refused.
     #[inline(never)]
     pub fn begin_body(
@@ -262,7 +262,7 @@ impl<'a> Control<'a> {
         Ok(())
     }
 
-    /// A statement begins whose operands aren't refused: one that no other stands inside is carried out, and of any other its
+    /// A statement begins whose operands aren't refused: one with no other inside it is carried out, and of any other its
     /// pieces are left.
     #[inline(always)]
     pub fn begin_statement(

@@ -45,7 +45,7 @@ impl<'a> Control<'a> {
         }
     }
 
-    /// The items above the `entry` first ones are to be destroyed, and a piece stands under that.
+    /// The items above the `entry` first ones are to be destroyed, and a piece is under that.
     fn destroy_to(
         &mut self,
         at: Context,
@@ -75,7 +75,7 @@ impl<'a> Control<'a> {
         Ok(())
     }
 
-    /// A TRAP's local gets 0 where its body ended plainly; the items of its entry must be those that stand now. Where it was
+    /// A TRAP's local gets 0 where its body ended plainly; the items of its entry must be those that are there now. Where it was
     /// left, the items above those of its entry are to be destroyed, and then the local gets the code. No body returns out
     /// of one.
     #[inline(never)]
@@ -136,7 +136,7 @@ impl<'a> Control<'a> {
         }
     }
 
-    /// `main` ends plainly where its body returned; no item may stand then. Where it was left, all items are to be destroyed,
+    /// `main` ends plainly where its body returned; no item may be left then. Where it was left, all items are to be destroyed,
     /// and then the leave goes on.
     #[inline(never)]
     fn unwind_main(&mut self, state: &State) -> Result<(), AllocError>

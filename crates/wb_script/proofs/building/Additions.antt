@@ -55,7 +55,7 @@ begins_none _ is = refl
 abbrev inner_counts : Role → Indexed → Counts → Counts
 inner_counts r line counts = record counts { locals = locals_after r line counts.locals; blocks = blocks_after r line counts.blocks }
 
--- the counts behind a line, by what it begins and its role
+-- the counts after a line, by what it begins and its role
 abbrev pub counts_by : Option ItemKind → Role → Indexed → Counts → Counts
 counts_by begun r line counts = record {
   classes = classes_after r counts.classes;
@@ -74,7 +74,7 @@ inner_is role.Destroy line counts inner = let clash : ⊥ = cc in absurd clash
 inner_is role.Procedure line counts inner = let clash : ⊥ = cc in absurd clash
 inner_is _ line counts inner = refl
 
--- the counts behind a line that begins no item, by its role
+-- the counts after a line that begins no item, by its role
 pub counts_as : (k : LineKind) (operands : List (Operand Referent)) (r : Role) (counts : Counts) → role_of k ≡ r → item_kind_of k ≡ None → counts_by None r (Line k operands) counts ≡ counts_after counts (Line k operands)
 counts_as k operands r counts is none =
     let line : Indexed = Line k operands in
@@ -83,7 +83,7 @@ counts_as k operands r counts is none =
 same_counts : (k : LineKind) (operands : List (Operand Referent)) (r : Role) (counts : Counts) → role_of k ≡ r → opens r ≡ false → inner_counts r (Line k operands) counts ≡ counts_after counts (Line k operands)
 same_counts k operands r counts is inner = inner_is r (Line k operands) counts inner ∙ counts_as k operands r counts is (begins_none k (ap opens is ∙ inner))
 
--- a line that adds to what stands in the blocks
+-- a line that adds to what is in the blocks
 following : (p : OpenBody) (block_stack : BlockStack) (line : Marked) → block_stack_lines block_stack ≡ block_stack_lines p.block_stack ++ line ∷ [] → local_lines (length p.parameters) p.locals ++ block_stack_lines block_stack ≡ inside_lines p ++ line ∷ []
 following p block_stack line is =
     ap (λ l. local_lines (length p.parameters) p.locals ++ l) is
@@ -216,7 +216,7 @@ nothing (x ∷ l) e = absurd (some (length l) e)
     some : (n : ℕ) → true ≡ (suc n == 0) → ⊥
     some n e = grind (arith, nat_tests)
 
--- no local comes behind a block, behind a statement, or past the limit
+-- no local comes after a block, after a statement, or past the limit
 pub late_by_block : (p : OpenBody) → 0 < length p.block_stack.blocks → step (block_stack_places p.block_stack) role.Declaration ≡ None
 late_by_block p lt = late_declaration p.block_stack.blocks p.block_stack.statements lt
 

@@ -27,7 +27,7 @@ two_of_three true true c none all = let clash : ⊥ = cc in absurd clash
 two_of_three true false c none all = let clash : ⊥ = cc in absurd clash
 two_of_three false b c none all = let clash : ⊥ = cc in absurd clash
 
--- a statement whose operands don't fit, or that may not stand in a TRAP
+-- a statement whose operands don't fit, or that may not be in a TRAP
 pub unstated : {X : Type 0} (declared : Declared) (p : OpenBody) (k : LineKind) (operands : List (Operand Referent)) (before : Counts) →
     (operands_fit declared (scope_in_body declared p) k operands && may_stand (line_kinds_of_blocks p.block_stack.blocks) k) ≡ false → IsTrue (fits declared (counts_in before p) (Line k operands)) → X
 unstated declared p k operands before none fit =

@@ -1,4 +1,4 @@
--- The lines of a statement, with those of what stands inside it, and what a closed block is.
+-- The lines of a statement, with those of what is inside it, and what a closed block is.
 use Rattle.std.proofs.Common.{◌≡◌, refl, sym, ap, subst, ◌∙◌, ℕ, List, [], ◌∷◌, ◌++◌, map, Some, Bool, true, false, ◌&&◌, IsTrue, append_assoc}
 use Rattle.std.specs.Prelude.{◌||◌, nat_lt, slice_get}
 use Rattle.wb_model.specs.declared.script.Condition.{Condition}
@@ -120,7 +120,7 @@ whole_trap x ss = record {
       (both (is_variable scope.locals x) (are_within declared scope depth true ss) is (subst (λ t. IsTrue (are_within declared scope depth t ss)) (always_or trapped) inner));
 }
 
--- a statement that nothing stands inside
+-- a statement that nothing is inside
 abbrev pub is_flat : {A B : Type 0} → Statement-F A B → Bool
 is_flat (Statement-F.If c first) = false
 is_flat (Statement-F.IfElse c first other) = false

@@ -28,7 +28,7 @@ never : (a : Bool) → (a && false) ≡ true → ⊥
 never true e = cc
 never false e = cc
 
--- an operand that fits where a parameter stands is one
+-- an operand that fits a parameter's place is one
 fit_parameter : (literals : ℕ) (scope : Scope) (o : Operand Referent) → operand_fits literals scope operand_place.Parameter o ≡ true → is_parameter_operand (length scope.fields) o ≡ true
 fit_parameter literals scope (Parameter referent.Parameter parameter_type.Pointer) is = refl
 fit_parameter literals scope (Parameter referent.Parameter parameter_type.Number) is = refl
@@ -123,7 +123,7 @@ module _ (declared : Declared) (counts : Counts) where
       let (next, few) = parts (declares (last_count counts.classes) operands) (nat_lt (last_count counts.classes) MOST_FIELDS) due in
       record { operand_places = operand_places; next = next; room = below_of (last_count counts.classes) 16 few }
 
--- The counts, by what stands.
+-- The counts, by what is there.
 pub class_index : (b : WholeItems) (counts : Counts) → counts ≡ counts_whole b counts → length counts.classes ≡ length b.classes
 class_index b counts are = ap (λ (c : Counts). length c.classes) are ∙ length-map b.classes (λ c. length c.fields)
 

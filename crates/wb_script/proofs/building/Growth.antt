@@ -1,4 +1,4 @@
--- One more line of the tree, inside a body and behind one.
+-- One more line of the tree, inside a body and after one.
 use Rattle.std.proofs.Common.{◌≡◌, refl, sym, ap, subst, ◌∙◌, ℕ, ◌+◌, ◌<◌, ◌≤◌, List, [], ◌∷◌, ◌++◌, length, Option, Some, None, Bool, true, false, ◌&&◌, nat_lt, IsTrue, append_assoc, append-nil, zero-add, length-append, arith}
 use Rattle.std.specs.Prelude.{IfOk, Result, Ok, Err}
 use Rattle.std.proofs.lemmas.List.{map-append}
@@ -89,7 +89,7 @@ module _ (declared : Declared) (number : ℕ) (k : LineKind) (operands : List (O
   result_grows (Ok added) next adds = added_grows added next adds
   result_grows (Err error) next adds = tt
 
--- the lines of a whole body behind those of what it is of
+-- the lines of a whole body after those of what it is of
 abbrev closed_lines : List Parameter → Body → List Marked
 closed_lines ps body = body_lines (length ps) body ++ end_line ∷ []
 
@@ -240,7 +240,7 @@ done_below b body ps (of.Operation number) later lt below =
 done_below b body ps (of.Constructor c) later lt below = (below, lt)
 done_below b body ps (of.Destructor c) later lt below = (below, lt)
 
--- the counts behind a whole body
+-- the counts after a whole body
 done_counts : (b : WholeItems) (body : Body) (p : OpenBody) (owner : Owner) (before : Counts) → AreCounts (with_whole_body b owner p.parameters body) (progress_counts (counts_owned b owner p.parameters before) p (Done p.parameters body))
 done_counts b body p (of.Procedure number) before =
     let q : Procedure = record { line = number; parameters = p.parameters; body = body } in

@@ -1,4 +1,4 @@
--- The parameters that operands declare, and the body behind a first line that has them.
+-- The parameters that operands declare, and the body after a first line that has them.
 use Rattle.std.proofs.Common.{◌≡◌, refl, sym, ap, subst, ◌∙◌, ℕ, suc, ◌≤◌, List, [], ◌∷◌, ◌++◌, length, map, Option, Some, None, true, IsTrue, append-nil, arith}
 use Rattle.std.specs.List.{list_all, flat_map}
 use Rattle.std.proofs.lemmas.Grind.{flat_map-append}
@@ -79,7 +79,7 @@ sound_locals classes (p ∷ ps) is =
     let (here, rest) = parts (is_parameter classes p) (list_all (is_parameter classes) ps) is in
     together _ _ (one_local classes p ∙ here) (sound_locals classes ps rest)
 
--- the body behind its first line
+-- the body after its first line
 pub new_sound : (declared : Declared) (this : Option ℕ) (ps : List model.Parameter) → IsTrue (list_all (is_parameter (length declared.fields)) ps) → length ps ≤ 4 → IsSoundOpen declared (new_body this ps)
 new_sound declared this ps sound few = record {
   scope = sym (append-nil (map local_of_parameter ps));

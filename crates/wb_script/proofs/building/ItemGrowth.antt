@@ -27,7 +27,7 @@ module _ (declared : Declared) (number : ℕ) (b : WholeItems) (sound : AreSound
   abbrev front : List Marked
   front = all_lines (items_in_order b)
 
-  -- the first line of an item behind those that are whole
+  -- the first line of an item after those that are whole
   first_line : (line : Indexed) → front ++ (Some number, line) ∷ [] ≡ (front ++ []) ++ (Some number, line) ∷ []
   first_line line = ap (λ l. l ++ (Some number, line) ∷ []) (sym (append-nil front))
 

@@ -151,7 +151,7 @@ is_inner Branch = true
 is_inner Block = true
 is_inner _ = false
 
--- places: behind one statement
+-- places: after one statement
 abbrev pub around : List OpenBlock → List Open
 around blocks = fold (λ below b. place_in_block b ∷ below) (Statements ∷ []) blocks
 
@@ -283,7 +283,7 @@ block_inner (head.Else x first) b = refl
 block_inner (head.Repeat v) b = refl
 block_inner (head.Trap x) b = refl
 
--- no item begins in a body, and no part of one, and no declaration stands behind a statement or in a block
+-- no item begins in a body, and no part of one, and no declaration is after a statement or in a block
 pub no_body_inside : (blocks : List OpenBlock) (statements : List StatementAt) (r : Role) → opens r ≡ true → step (places blocks statements) r ≡ None
 no_body_inside [] [] r is = none_opens Declarations [] r refl is
 no_body_inside [] (s ∷ statements) r is = none_opens Statements [] r refl is

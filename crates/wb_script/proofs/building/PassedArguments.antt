@@ -118,7 +118,7 @@ two_items (x ∷ []) d least below = absurd (omega arith)
 two_items (x ∷ y ∷ []) d least below = refl
 two_items (x ∷ y ∷ z ∷ xs) d least below = absurd (omega arith)
 
--- a statement that may stand anywhere stands inside these blocks
+-- a statement that may be anywhere is inside these blocks
 pub stands_inside : (declared : Declared) (scope : Scope) (blocks : List LineKind) (k : LineKind) (operands : List Operand) (result : Option Statement) → may_stand blocks k ≡ true → IsNestedOf declared scope k operands result → IsStatedWhereFit declared scope blocks k operands result
 stands_inside declared scope blocks k operands None stands misfit = ap (λ b. b && may_stand blocks k) misfit
 stands_inside declared scope blocks k operands (Some s) stands line = line (list_any is_trap blocks)

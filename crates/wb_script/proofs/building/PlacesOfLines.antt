@@ -1,4 +1,4 @@
--- Where lines stand, by the blocks that are open before them: in the head of a class, whose fields so far are known, or in a body,
+-- Where lines are, by the blocks that are open before them: in the head of a class, whose fields so far are known, or in a body,
 -- where the class of `self` is known.
 use Rattle.std.proofs.Common.{◌≡◌, refl, sym, ap, subst, ◌∙◌, ℕ, suc, ◌+◌, ◌-◌, ◌<◌, List, [], ◌∷◌, ◌++◌, Bool, true, false, ◌&&◌, length, Option, Some, None, add-zero, length-append, arith}
 use Rattle.std.proofs.lemmas.Bool.{false≢true}
@@ -92,7 +92,7 @@ class_outside [] next is = (refl, cc)
 class_outside (Fields ∷ below) next is = let clash : ⊥ = cc in absurd clash
 class_outside (_ ∷ below) next is = let clash : ⊥ = cc in absurd clash
 
--- what may stand in the head of a class alone
+-- what may be in the head of a class alone
 abbrev needs_head : Role → Bool
 needs_head role.Field = true
 needs_head role.Construct = true
@@ -108,7 +108,7 @@ never_in_body (place ∷ below) next role.Field needs free is = cc
 never_in_body (place ∷ below) next role.Construct needs free is = cc
 never_in_body stack next _ needs free is = false≢true needs
 
--- what may stand in bodies alone
+-- what may be in bodies alone
 abbrev needs_body : Role → Bool
 needs_body role.Declaration = true
 needs_body role.Plain = true
@@ -176,7 +176,7 @@ one_name (Line _ operands) typed is = let clash : ⊥ = cc in absurd clash
 one_name _ typed is = let clash : ⊥ = cc in absurd clash
 
 module _ (own : List Declaration) (known : NamesSoFar) (counts : Counts) (counted : Counted own known counts) where
-  -- what is known and counted behind a line
+  -- what is known and counted after a line
   abbrev next_known : Form Text → NamesSoFar
   next_known form = known_after known form
 
@@ -265,7 +265,7 @@ module _ (own : List Declaration) (known : NamesSoFar) (counts : Counts) (counte
     from_inside role.Procedure stack next this free is moves = in_begun next (begins role.Procedure is refl) (no_heads_after stack next role.Procedure refl free moves)
     from_inside r stack next this free is moves = IsWhere.inside (this_kept form (ap is_outside_role is) this) (no_heads_after stack next r refl free moves)
 
-    -- where the next line stands
+    -- where the next line is
     pub where_next : (stack next : List Open) → is_typed form ≡ true → IsWhere known counts stack → step stack (role_of_form form) ≡ Some next → Behind next
     where_next stack next typed IsWhere.outside moves = from_outside (role_of_form form) next refl moves
     where_next stack next typed (IsWhere.heading some fields) moves = from_heading (role_of_form form) next typed some fields refl moves

@@ -97,7 +97,7 @@ module _ (own : List Declaration) where
   abbrev classes_of : List (Form Text) → NamesSoFar → Counts → List ℕ
   classes_of forms known counts = (state_after counts_after counts (lines_from own known forms)).classes
 
-  -- what is counted of lines behind these
+  -- what is counted of lines after these
   abbrev Are : {stack : List Open} → At stack → List (Form Text) → NamesSoFar → Counts → Type 0
   Are at forms known counts = classes_of forms known counts ≡ classes_with at forms counts.classes ++ fields_among (items_of forms)
 

@@ -12,7 +12,7 @@ use Rattle.wb_lines.specs.BytesOf.{bytes_of_text}
 use Rattle.wb_script.specs.BytesOf.{fields_among, bytes_of_item, bytes_of_items}
 use Rattle.wb_script.proofs.lists.Tests.{parts, within_of}
 
--- the counts of items behind others, with that of the first where it is a class
+-- the counts of items after others, with that of the first where it is a class
 abbrev with_first : Bool → ℕ → List ℕ → List ℕ
 with_first true count counts = count ∷ counts
 with_first false count counts = counts

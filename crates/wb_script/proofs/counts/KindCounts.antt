@@ -1,4 +1,4 @@
--- How many items of a kind stand among items.
+-- How many items of a kind are among items.
 use Rattle.std.proofs.Common.{◌≡◌, sym, ◌∙◌, ◌+◌, List, [], ◌∷◌, length, arith}
 use Rattle.std.proofs.lemmas.List.{length-map}
 use Rattle.wb_model.specs.declared.script_lines.ItemKind.{ItemKind}

@@ -153,7 +153,7 @@ loud = codes "new p c" ∷ codes "newleave p c" ∷ codes "construct p" ∷ code
 abbrev quiet : List (List ℕ)
 quiet = codes "delete p" ∷ codes "set p.a p" ∷ codes "ptr q c" ∷ codes "free p.a" ∷ codes "null p.a" ∷ codes "if some p" ∷ codes "repeat 2" ∷ codes "else" ∷ codes "end" ∷ []
 
--- what may leave stands neither in a destructor nor in an operation
+-- what may leave is neither in a destructor nor in an operation
 may_not_stand : (map in_destroy loud ≡ replicate 10 (Some 5)) × (map in_operation loud ≡ replicate 10 (Some 4))
 unfolding line_kinds
 may_not_stand = (refl, refl)

@@ -61,7 +61,7 @@ unknown_operations : map unknown (codes "proc main\nptr p\npushop p drop\nend" �
 unfolding line_kinds
 unknown_operations = refl
 
--- procedures and operations share one space, and a parameter stands in that of its body
+-- procedures and operations share one space, and a parameter is in that of its body
 one_space : map again (codes "op f p\nend\nproc f\nend" ∷ codes "op f p\nend\nop f q\nend" ∷ codes "op f f\nend" ∷ codes "op f p\nptr p\nend" ∷ []) ≡ Some 2 ∷ Some 2 ∷ None ∷ Some 1 ∷ []
 unfolding line_kinds
 one_space = refl
@@ -105,7 +105,7 @@ may_not_stand : map in_operation loud ≡ replicate (length loud) (Some 2)
 unfolding line_kinds
 may_not_stand = refl
 
--- the body of a procedure behind it may leave
+-- the body of a procedure after it may leave
 may_stand_in_procedures : map in_procedure loud ≡ replicate (length loud) None
 unfolding line_kinds
 may_stand_in_procedures = refl

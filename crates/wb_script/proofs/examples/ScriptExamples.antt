@@ -80,7 +80,7 @@ same_in_both : again (codes "proc p\nptr p\nend\nproc main\nptr p\nend") ≡ Non
 unfolding line_kinds
 same_in_both = refl
 
--- the script's own names stand in one space over the whole script
+-- the script's own names are in one space over the whole script
 same_item : again (codes "proc p\nend\nproc q\nend\nproc p\nend") ≡ Some 4
 unfolding line_kinds
 same_item = refl
@@ -143,7 +143,7 @@ unknown_procedures : map unknown (codes "proc main\ncall f\nend" ∷ codes "proc
 unfolding line_kinds
 unknown_procedures = refl
 
--- Parameters stand in the space of their body alone.
+-- Parameters are in the space of their body alone.
 parameters_again : map again (codes "proc f a:ptr a:int\nend" ∷ codes "proc f a:ptr\nint b\nint a\nend" ∷ codes "proc f f:ptr\nend" ∷ codes "proc f a:ptr\nend\nproc g a:int\nend" ∷ []) ≡ Some 0 ∷ Some 2 ∷ None ∷ None ∷ []
 unfolding line_kinds
 parameters_again = refl
@@ -163,7 +163,7 @@ main_with_parameters : wrong (codes "proc main a:int\nend") ≡ Some 0
 unfolding line_kinds
 main_with_parameters = refl
 
--- A TRAP holds what stands in its blocks too, and nothing behind its end.
+-- A TRAP holds what is in its blocks too, and nothing after its end.
 returns_in_traps : map wrong (codes "proc main\nint x\ntrap x\nif null p\nend\nreturn\nend\nend" ∷ codes "proc f p:ptr x:int\ntrap x\nif null p\nreturn p\nend\nend\nend" ∷ codes "proc main\nint x\ntrap x\nend\nrepeat 2\nreturn\nend\nend" ∷ [])
     ≡ Some 3 ∷ Some 3 ∷ None ∷ []
 unfolding line_kinds

@@ -1,4 +1,4 @@
--- Lines of which none may leave where it stands: those of a script, where the check of its lines refused none.
+-- Lines of which none may leave where it is: those of a script, where the check of its lines refused none.
 use Rattle.std.proofs.Common.{◌≡◌, refl, ℕ, suc, List, [], ◌∷◌, ◌++◌, Bool, true, false, not, ◌&&◌, Option, Some, None, if◌then◌else◌, option_map}
 use Rattle.std.specs.List.{list_any}
 use Rattle.wb_model.specs.declared.script_lines.BodyKind.{BodyKind}
@@ -17,11 +17,11 @@ use Rattle.wb_model.specs.language.Trees.{Indexed, Marked, counted_from}
 abbrev pub is_quiet_in : BodyKind → Indexed → Bool
 is_quiet_in body form = not (list_any (may_leave_in body) (line_kind_in form))
 
--- the kind of the body that is open behind a line, or was the last
+-- the kind of the body that is open after a line, or was the last
 abbrev pub following_body : BodyKind → Indexed → BodyKind
 following_body body form = body_after (body_in form) body
 
--- none of the lines may leave, where the first stands in a body of this kind or behind it
+-- none of the lines may leave, where the first is in a body of this kind or after it
 abbrev pub are_quiet_from : BodyKind → List Marked → Bool
 are_quiet_from body [] = true
 are_quiet_from body (m ∷ lines) = is_quiet_in body m.1 && are_quiet_from (following_body body m.1) lines
@@ -29,7 +29,7 @@ are_quiet_from body (m ∷ lines) = is_quiet_in body m.1 && are_quiet_from (foll
 abbrev pub QuietFrom : BodyKind → List Marked → Type 0
 QuietFrom body lines = are_quiet_from body lines ≡ true
 
--- wherever the lines stand, none of them may leave there
+-- wherever the lines are, none of them may leave there
 abbrev pub QuietSomewhere : List Marked → Type 0
 QuietSomewhere lines = (body : BodyKind) × QuietFrom body lines
 

@@ -120,7 +120,7 @@ module _ (body : BodyKind) (closed : Closed body) where
     Inside depth = (trapped : Bool) (ss : List StatementAt) (rest : List Marked) → IsTrue (are_within declared scope depth trapped ss) → QuietFrom body (statement_lines ss ++ rest) → IsTrue (are_quiet depth ss) × QuietFrom body rest
 
     module _ (depth : ℕ) (inside : Inside depth) where
-      -- the statements of a block, with what stands behind them
+      -- the statements of a block, with what is after them
       block : (trapped : Bool) (ss : List StatementAt) (end rest : List Marked) → IsTrue (are_within declared scope depth trapped ss) → QuietFrom body ((lines_joined (map lines_of_statement_at ss) ++ end) ++ rest) → IsTrue (are_quiet depth ss) × QuietFrom body (end ++ rest)
       block trapped ss end rest within is =
           inside trapped ss (end ++ rest) within
@@ -175,7 +175,7 @@ module _ (body : BodyKind) (closed : Closed body) where
           let (all, last) = each trapped ss rest others more in
           (both_hold (is_quiet_statement (are_quiet depth) layer) (are_quiet (suc depth) ss) quiet all, last)
 
-    -- the statements of a body, and the lines behind them
+    -- the statements of a body, and the lines after them
     pub quiet_statements : (depth : ℕ) → Inside depth
     quiet_statements zero trapped ss rest within is = absurd (false≢true within)
     quiet_statements (suc depth) trapped ss rest within is = each depth (quiet_statements depth) trapped ss rest within is

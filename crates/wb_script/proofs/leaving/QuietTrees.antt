@@ -35,7 +35,7 @@ abbrev declared_word : ℕ → Spelled
 declared_word index = Some (Name (referent.Declared index))
 
 module _ (body : BodyKind) (closed : Closed body) where
-  -- the locals that a body declares, and the lines behind them
+  -- the locals that a body declares, and the lines after them
   quiet_locals : (index : ℕ) (locals : List Local) (rest : List Marked) → QuietFrom body (local_lines index locals ++ rest) → IsTrue (list_all is_quiet_local locals) × QuietFrom body rest
   quiet_locals index [] rest is = (refl, is)
   quiet_locals index (OfPointer None ∷ locals) rest is =
@@ -49,7 +49,7 @@ module _ (body : BodyKind) (closed : Closed body) where
   quiet_locals index (OfView ∷ locals) rest is =
       absurd (false≢true (quiet_line body closed (line_kind.View, declared_word index ∷ []) (record { begins_none = refl; inside = refl; spelled = (refl, tt) }) None (local_lines (suc index) locals ++ rest) is).0)
 
-  -- a body, with the lines behind it
+  -- a body, with the lines after it
   quiet_body : (declared : Declared) (scope : Scope) (parameters : ℕ) (b : Body) (rest : List Marked) → IsTrue (is_body declared scope b.statements) → QuietFrom body (body_lines parameters b ++ rest) → IsTrue (is_quiet_body b)
   quiet_body declared scope parameters b rest sound is =
       let (kept, within) = both (list_all (is_local (length scope.fields)) scope.locals && nat_le (length scope.locals) MOST_LOCALS) (are_statements declared scope b.statements) sound in
@@ -94,7 +94,7 @@ all_quiet (item ∷ items) body is =
     let (first, (kind, more)) = quiet_parts item.lines (all_lines items) body is in
     ((body, first), all_quiet items kind more)
 
--- an item that stands among others, and these
+-- an item that is among others, and these
 placed : (item : Lines) (others : List Lines) → AllQuiet (in_place item others) → QuietSomewhere item.lines × AllQuiet others
 placed item [] all = all
 placed item (other ∷ others) all = go (nat_lt other.number item.number) (placed item others) all

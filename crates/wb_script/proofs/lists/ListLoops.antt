@@ -16,12 +16,12 @@ module _ {V L X : Type 0} (view : V → L) (gives : L → List X) (xs : List V) 
   pub one_found : (d : V) (found : List X) → i < length xs → (found ++ gives (view (get_or xs i d))) ++ flat_map gives (map view (drop (i + 1) xs)) ≡ found ++ flat_map gives (map view (drop i xs))
   one_found d found lt = rw (drop-cons xs i d lt, add-one i) (append_assoc found (gives (view (get_or xs i d))) (flat_map gives (map view (drop (suc i) xs))))
 
-  -- behind the last element nothing is left to find
+  -- after the last element nothing is left to find
   pub all_found : (found whole : List X) → length xs ≤ i → found ++ flat_map gives (map view (drop i xs)) ≡ whole → found ≡ whole
   all_found found whole le is = sym (append-nil found) ∙ (rw (drop_all i xs le) at is)
 
 module _ (forms : List (Form (Bor Text))) (i : ℕ) (found whole : List Text) (so_far : found ++ following_fields (bytes_of_forms (drop i forms)) ≡ whole) where
-  -- behind the last line no field is left to find
+  -- after the last line no field is left to find
   pub all_fields : length forms ≤ i → found ≡ whole
   all_fields le = sym (append-nil found) ∙ (rw (drop_all i forms le) at so_far)
 

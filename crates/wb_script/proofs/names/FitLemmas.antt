@@ -179,7 +179,7 @@ is_apart operand_place.Parameter = true
 is_apart operand_place.ItsPointer = true
 is_apart _ = false
 
--- an operand place of a line that stands apart from bodies
+-- an operand place of a line that is apart from bodies
 abbrev pub may_be : Bool → OperandPlace → Bool
 may_be apart at = not apart || is_apart at
 
@@ -307,7 +307,7 @@ module _ (literals : ℕ) (items : List Declaration) (known : NamesSoFar) (scope
       by_class None is right = absurd (never_right at right)
       by_class (Some class) is right = by_index class (first_declaration_of (fields_of_class items class) field) is refl right
 
-  -- a field stands only inside a body
+  -- a field is only inside a body
   field_inside : (at : OperandPlace) (base field : Text) → is_operand at (Field base field) ≡ true → may_be apart at ≡ true → apart ≡ false
   field_inside operand_place.Declared base field typed seen = let clash : ⊥ = cc in absurd clash
   field_inside operand_place.Class base field typed seen = let clash : ⊥ = cc in absurd clash

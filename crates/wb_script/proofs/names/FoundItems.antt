@@ -28,7 +28,7 @@ same_as_itself item.Class = refl
 same_as_itself item.Procedure = refl
 same_as_itself item.Operation = refl
 
--- an item stands among those of its kind, behind the ones of the items before it
+-- an item is among those of its kind, after the ones of the items before it
 pub item_here : (kind : ItemKind) (items : List Declaration) (n : ℕ) (i : Declaration) → slice_get items n ≡ Some i → is_same_kind i.kind kind ≡ true → item_of_kind kind items (count_among kind (take n items)) ≡ Some i
 item_here kind [] n i is same = let clash : ⊥ = cc in absurd clash
 item_here kind (x ∷ xs) zero i is same =

@@ -1,4 +1,4 @@
--- The literals of a script: what may stand in quotes, no longer than a script, and no more than four of a line.
+-- The literals of a script: what may be in quotes, no longer than a script, and no more than four of a line.
 use Rattle.std.proofs.Common.{◌≡◌, refl, ap, ◌∙◌, ℕ, zero, suc, ◌+◌, ◌-◌, ◌*◌, ◌≤◌, List, [], ◌∷◌, ◌++◌, replicate, Bool, true, false, length, IsTrue, length-append, arith}
 use Rattle.std.specs.Prelude.{if◌then◌else◌}
 use Rattle.std.specs.List.{list_all, list_any, flat_map}
@@ -30,7 +30,7 @@ may_quote [] = false
 may_quote (word.Literal ∷ kinds) = true
 may_quote (_ ∷ kinds) = may_quote kinds
 
--- how many words may stand in quotes
+-- how many words may be in quotes
 abbrev quotes : List OperandPlace → ℕ
 quotes [] = 0
 quotes (at ∷ operand_places) = if may_quote (word_kinds at) then suc (quotes operand_places) else quotes operand_places
@@ -40,7 +40,7 @@ never_quoted [] text no_quote is = let clash : ⊥ = cc in clash
 never_quoted (word.Literal ∷ kinds) text no_quote is = let clash : ⊥ = cc in clash
 never_quoted (_ ∷ kinds) text no_quote is = never_quoted kinds text no_quote is
 
--- of a line there are no more than operand places that stand in quotes, and each may do so
+-- of a line there are no more than operand places that are in quotes, and each may do so
 sound_of : (operand_places : List OperandPlace) (operands : List (Operand Text)) → are_operands operand_places operands ≡ true → (list_all is_literal_text (flat_map literal_text operands) ≡ true) × (length (flat_map literal_text operands) ≤ quotes operand_places)
 sound_of [] [] typed = (refl, omega arith)
 sound_of [] (o ∷ os) typed = let clash : ⊥ = cc in absurd clash
@@ -56,7 +56,7 @@ sound_of (at ∷ operand_places) (o ∷ os) typed =
     by_operand _ true may here (sound, few) = (sound, omega (arith, few))
     by_operand _ false may here (sound, few) = (sound, few)
 
--- no further word of a line stands in quotes
+-- no further word of a line is in quotes
 more_operand_places : (operand_places : List OperandPlace) (operand_place : OperandPlace) (n : ℕ) → may_quote (word_kinds operand_place) ≡ false → quotes (operand_places ++ replicate n operand_place) ≡ quotes operand_places
 more_operand_places [] operand_place zero no_quote = refl
 more_operand_places [] operand_place (suc n) no_quote = rw no_quote (more_operand_places [] operand_place n no_quote)

@@ -13,7 +13,7 @@ use Rattle.wb_model.specs.language.Resolved.{resolved_operand, resolved_operands
 use Rattle.wb_lines.proofs.OperandPlaces.{drop_some, drop_none}
 
 module _ (operand_places : List OperandPlace) (operands : List (Operand Referent)) (i : ℕ) where
-  -- whether an operand is right, and the ones behind it
+  -- whether an operand is right, and the ones after it
   pub right_here : (d : Operand Referent) (operand_place : OperandPlace) (here : Bool) → i < length operands → slice_get operand_places i ≡ Some operand_place → is_right operand_place (get_or operands i d) ≡ here →
       are_right (drop i operand_places) (drop i operands) ≡ (here && are_right (drop (i + 1) operand_places) (drop (i + 1) operands))
   right_here d operand_place here lt at is = rw (drop_some operand_places i operand_place at, drop-cons operands i d lt, add-one i, is) refl

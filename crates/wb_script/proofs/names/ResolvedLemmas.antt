@@ -72,7 +72,7 @@ stands known counted k same e = go (ends_body k) e
     go true no_trap = none no_trap
     go false no_trap = refl
 
--- a line that is neither wrong nor past a limit fits where it stands
+-- a line that is neither wrong nor past a limit fits where it is
 line_fits : (literals : ℕ) (items : List Declaration) (known : NamesSoFar) (counts : Counts) (k : LineKind) (operands : List (Operand Text)) → Counted items known counts → (stands_apart k ≡ false → counts.this ≡ class_of_this known) →
     (role_of k ≡ role.Field → last_count counts.classes ≡ length known.fields) → is_typed (Line k operands) ≡ true → has_wrong_kind items known (Line k operands) ≡ false → passes_limit known (Line k operands) ≡ false →
     known.literals + length (literals_in (Line k operands)) ≤ literals → fits (declared_among literals items) counts (resolved_line items known (Line k operands)) ≡ true

@@ -40,7 +40,7 @@ inside_is (s ∷ ss) = ap (λ l. l ++ inside ss) (statement_at_fold_is s) ∙ ap
 abbrev pub with_all : List StatementAt → Part → Part
 with_all ss part = record part { inner = record part.inner { here = ss ++ part.inner.here } }
 
--- the lines of a statement, with all that stands inside it, say that it stands there
+-- the lines of a statement, with all that is inside it, say that it is there
 abbrev pub Said : Statement → Type 0
 Said s = (number : ℕ) (part : Part) → list_all is_of_a_script (lines_of_statement s number) ≡ true → with_lines (lines_of_statement s number) part ≡ with_all (record { line = number; statement = s } ∷ []) part
 

@@ -26,7 +26,7 @@ use Rattle.wb_model.specs.language.Trees.{Indexed, Marked, line}
 use Rattle.wb_script.proofs.one_script.OperandLaws.{pointer_in, variable_in, number_in, writable_in, view_in, text_in, argument_in, local_in, procedure_in, operation_in, parameters_in}
 use Rattle.wb_script.proofs.one_script.OperandLaws as operand
 
--- the statements of a block that were read, and those behind its `else`
+-- the statements of a block that were read, and those after its `else`
 pub record Level : Type 0 where
   pub here : List StatementAt
   pub other : Option (List StatementAt)
@@ -46,7 +46,7 @@ pub record IndexedItem : Type 0 where
   pub item : Item
 
 -- What lines say, read from the last to the first: an `end` opens a block, and the block's head closes it. What is read of a class
--- stands in its own places until the first line of the class.
+-- is in its own places until the first line of the class.
 pub record Part : Type 0 where
   pub locals : List Local
   pub inner : Level

@@ -41,7 +41,7 @@ fields_said index [] part = refl
 fields_said index (None ∷ fields) part = ap (with_line 0 (field_line index None)) (fields_said (suc index) fields part)
 fields_said index (Some class ∷ fields) part = ap (with_line 0 (field_line index (Some class))) (fields_said (suc index) fields part)
 
--- a body that was read, and what was read behind it
+-- a body that was read, and what was read after it
 abbrev in_body : Body → Part → Part
 in_body body part = record (opened part) { locals = body.locals ++ part.locals; inner = record { here = body.statements; other = None } }
 
@@ -65,7 +65,7 @@ body_said index body part known =
 abbrev so_far : List IndexedItem → Part
 so_far items = record nothing { items = items }
 
--- behind the last line of a class, and behind each of its bodies
+-- after the last line of a class, and after each of its bodies
 abbrev in_class : List IndexedItem → Part
 in_class items = opened (so_far items)
 
@@ -104,7 +104,7 @@ class_said index c items known =
     ∙ fields_said 0 c.fields inside
     ∙ ap (λ l. record inside { fields = l }) (append-nil c.fields))
 
--- behind the first line of a procedure or an operation
+-- after the first line of a procedure or an operation
 abbrev in_item : Body → List IndexedItem → Part
 in_item body items = record (opened (so_far items)) { locals = body.locals; inner = record { here = body.statements; other = None } }
 

@@ -1,4 +1,4 @@
--- Which classes, procedures and operations stand in an order of all: those of the three lists, whichever order it is. So they tell the lists.
+-- Which classes, procedures and operations are in an order of all: those of the three lists, whichever order it is. So they tell the lists.
 use Rattle.std.proofs.Common.{◌≡◌, ◌⊎◌, inl, inr, refl, sym, ap, subst, ◌∙◌, ℕ, zero, suc, ◌+◌, List, [], ◌∷◌, map, Some, Bool, true, false, nat_lt, add-zero, zero-add, arith}
 use Rattle.std.specs.Prelude.{if◌then◌else◌, fold, slice_get}
 use Rattle.wb_model.specs.declared.script.Class.{Class}
@@ -24,7 +24,7 @@ placed t (o ∷ os) = if nat_lt (line_of_indexed o) (line_of_indexed t) then (o 
 abbrev pub ordered : List IndexedItem → List IndexedItem → List IndexedItem
 ordered ts os = fold (λ found t. placed t found) os ts
 
--- their lines stand in the same order
+-- their lines are in the same order
 module _ (lines : IndexedItem → Lines) (its_number : (t : IndexedItem) → (lines t).number ≡ line_of_indexed t) where
   lines_placed : (t : IndexedItem) (os : List IndexedItem) → map lines (placed t os) ≡ in_place (lines t) (map lines os)
   lines_placed t [] = refl

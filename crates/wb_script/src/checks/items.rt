@@ -158,7 +158,7 @@ fn is_same_kind(kind: ItemKind, other: ItemKind) -> bool
     }
 }
 
-/// How many of a kind stand among items.
+/// How many of a kind are among items.
 pub(crate) fn count_among(kind: ItemKind, items: &[Declaration]) -> usize
     ensures { result ≡ count_among kind (bytes_of_items items.now) }
 {

@@ -31,7 +31,7 @@ fn is_right(operand_place: OperandPlace, operand: &Operand<Referent>) -> bool
     takes(operand_place, operand_kind_of(operand))
 }
 
-/// Whether the words behind a line kind are all right.
+/// Whether the words after a line kind are all right.
 fn are_right(line_kind: LineKind, operands: &[Operand<Referent>]) -> bool
     ensures { result ≡ are_right (operand_places_for line_kind (length operands.now)) operands.now }
 {
@@ -95,7 +95,7 @@ fn are_given(parameters: &[ParameterType<&[u8]>], operands: &[Operand<Referent>]
     true
 }
 
-/// Whether a procedure stands there with what it takes.
+/// Whether a procedure is there with what it takes.
 fn call_agrees(items: &[Declaration], operands: &[Operand<Referent>]) -> bool
     ensures { result ≡ call_agrees (bytes_of_items items.now) operands.now }
 {
@@ -163,7 +163,7 @@ fn misuses_main(form: &Form<&[u8]>) -> bool
     }
 }
 
-/// Whether a parameter stands among operands.
+/// Whether a parameter is among operands.
 fn has_parameter(operands: &[Operand<&[u8]>]) -> bool
     ensures { not result
         ≡ is_nothing (flat_map parameter_type_of (bytes_of_operands operands.now)) }
@@ -227,7 +227,7 @@ fn returns_outside(known: &NamesSoFar, form: &Form<&[u8]>) -> bool
     }
 }
 
-/// Whether a line has an operand of another kind than it takes, or has no place where it stands.
+/// Whether a line has an operand of another kind than it takes, or has no place where it is.
 pub(crate) fn has_wrong_kind(
     items: &[Declaration],
     known: &NamesSoFar,

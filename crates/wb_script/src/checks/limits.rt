@@ -86,7 +86,7 @@ fn is_large(form: &Form<&[u8]>) -> bool
     }
 }
 
-/// How many parameters stand among operands.
+/// How many parameters are among operands.
 fn parameter_count(operands: &[Operand<&[u8]>]) -> usize
     ensures { result ≡ length (flat_map parameter_type_of (bytes_of_operands operands.now)) }
 {

@@ -39,7 +39,7 @@ fn is_item_before(items: &[Declaration], before: usize, name: &[u8]) -> bool
     }
 }
 
-/// Whether a name stands declared in the space of a line of this role.
+/// Whether a name is declared in the space of a line of this role.
 fn is_declared_there(items: &[Declaration], known: &NamesSoFar, role: Role, name: &[u8]) -> bool
     requires { IsFew known.now }
     ensures { result ≡ is_declared_there (names_of (bytes_of_items items.now)) (known_in known.now)
@@ -97,7 +97,7 @@ fn has_double_parameter(form: &Form<&[u8]>) -> bool
     }
 }
 
-/// Whether a line declares a name which stands declared in its space, or two parameters with one name.
+/// Whether a line declares a name that is declared in its space, or two parameters with one name.
 pub(crate) fn declares_again(items: &[Declaration], known: &NamesSoFar, form: &Form<&[u8]>) -> bool
     requires { IsFew known.now }
     ensures { result ≡ declares_again (names_of (bytes_of_items items.now)) (known_in known.now)

@@ -44,7 +44,7 @@ fn add_literals<'a>(
     Ok(())
 }
 
-/// What stands before a line: how many classes, procedures and operations of the script's own space, the fields of the class
+/// What is before a line: how many classes, procedures and operations of the script's own space, the fields of the class
 /// begun last, the literals, the locals of the body that is open or was the last, its parameters first, each with what it holds,
 /// and the line kinds of the blocks that are open.
 #[derive(Drop)]
@@ -104,7 +104,7 @@ impl<'a> NamesSoFar<'a> {
         Ok(())
     }
 
-    /// How many procedures and operations stand before a line.
+    /// How many procedures and operations are before a line.
     pub(crate) fn bodies_before(&self) -> usize
         requires { IsFew self.now }
         ensures { result ≡ bodies_before (known_in self.now) }
@@ -112,7 +112,7 @@ impl<'a> NamesSoFar<'a> {
         self.procedures + self.operations
     }
 
-    /// How many items of the script's own space stand before a line.
+    /// How many items of the script's own space are before a line.
     pub(crate) fn items_before(&self) -> usize
         requires { IsFew self.now }
         ensures { result ≡ items_before (known_in self.now) }

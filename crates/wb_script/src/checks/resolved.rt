@@ -194,7 +194,7 @@ fn field_at(class: usize, index: Option<usize>) -> Referent
     }
 }
 
-/// What a field stands for, by the class of what stands before its dot.
+/// What a field stands for, by the class of what is before its dot.
 fn field_referent(items: &[Declaration], class: Option<usize>, name: &[u8]) -> Referent
     ensures { result ≡ field_referent (bytes_of_items items.now) class name.now }
 {
@@ -207,7 +207,7 @@ fn field_referent(items: &[Declaration], class: Option<usize>, name: &[u8]) -> R
     }
 }
 
-/// How many of its kind stand before what a line of a line kind declares.
+/// How many of its kind are before what a line of a line kind declares.
 fn names_before(line_kind: LineKind, known: &NamesSoFar) -> usize
     ensures { result ≡ names_before line_kind (known_in known.now) }
 {
@@ -316,7 +316,7 @@ fn resolved_operands(
     Ok(found)
 }
 
-/// A line, by the script's own space and what stands before it.
+/// A line, by the script's own space and what is before it.
 pub(crate) fn resolved_line(
     alloc: Global,
     items: &[Declaration],

@@ -1,4 +1,4 @@
-//! The blocks that stand open in a body, and the statements around and inside them.
+//! The blocks that are open in a body, and the statements around and inside them.
 
 ghost use Rattle.std.specs.Prelude.{◌≡◌, [], ◌∷◌, ◌++◌, IfOk};
 ghost use Rattle.std.specs.List.{list_any};
@@ -19,7 +19,7 @@ pub(crate) enum Head {
     Trap(u8),
 }
 
-/// A block that stands open: the statements before it in what is around it, the number of its line, from 1, and what it
+/// A block that is open: the statements before it in what is around it, the number of its line, from 1, and what it
 /// began with.
 #[derive(Drop)]
 pub(crate) struct OpenBlock {
@@ -94,7 +94,7 @@ pub(crate) fn enter_block(
     })
 }
 
-/// The `else` of the innermost block; none where that is no `if`, or has one.
+/// The `else` of the innermost block; `None` if that is no `if`, or has one.
 pub(crate) fn turn_to_else(
     alloc: Global,
     block_stack: BlockStack,

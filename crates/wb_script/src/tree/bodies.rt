@@ -56,7 +56,7 @@ fn scope_of<'a>(space: Space<'a>, body: &'a OpenBody) -> Scope<'a>
     }
 }
 
-/// The local that a line declares as the next of a body; none where it takes no such.
+/// The local that a line declares as the next of a body; `None` if it takes no such.
 fn next_local(
     space: Space,
     body: &OpenBody,
@@ -93,7 +93,7 @@ fn with_local(body: OpenBody, local: Local) -> Result<OpenBody, AllocError>
     })
 }
 
-/// Adds a declaration, with the number of its line; none where it has no place.
+/// Adds a declaration, with the number of its line; `None` if it has no place.
 fn add_declaration(
     space: Space,
     body: OpenBody,
@@ -112,7 +112,7 @@ fn add_declaration(
     }
 }
 
-/// The statement of a line of an open body that begins no block; none where its operands don't fit.
+/// The statement of a line of an open body that begins no block; `None` if its operands don't fit.
 fn statement_in(
     alloc: Global,
     space: Space,
@@ -165,7 +165,7 @@ pub(crate) fn add_statement_in_place(
     }
 }
 
-/// Adds a statement that is no block, with the number of its line; none where its operands don't fit.
+/// Adds a statement that is no block, with the number of its line; `None` if its operands don't fit.
 fn add_statement(
     alloc: Global,
     space: Space,
@@ -187,7 +187,7 @@ fn add_statement(
     }
 }
 
-/// Begins a block, with the number of its line; none where its operands don't fit.
+/// Begins a block, with the number of its line; `None` if its operands don't fit.
 fn begin_block(
     alloc: Global,
     space: Space,
@@ -217,7 +217,7 @@ fn begin_block(
     }
 }
 
-/// Adds an `else`; none where it has no place.
+/// Adds an `else`; `None` if it has no place.
 fn add_else(
     alloc: Global,
     space: Space,
@@ -241,7 +241,7 @@ fn add_else(
     }
 }
 
-/// Adds an `end`; none where it has operands.
+/// Adds an `end`; `None` if it has operands.
 fn add_end(
     space: Space,
     body: OpenBody,
@@ -270,7 +270,7 @@ fn add_end(
     }
 }
 
-/// Adds a line to an open body, with its number; none where it has no place there.
+/// Adds a line to an open body, with its number; `None` if it has no place there.
 pub(crate) fn add_to_body(
     alloc: Global,
     space: Space,

@@ -18,7 +18,7 @@ use wb_model::items::Items;
 use wb_model::script::{Argument, Statement};
 use wb_model::script_lines::{ItemKind, Operand, ParameterType, Referent};
 
-/// The argument that an operand is for a parameter; none where it doesn't fit.
+/// The argument that an operand is for a parameter; `None` if it doesn't fit.
 fn argument(
     here: &Scope,
     parameter: &ParameterType<&[u8]>,
@@ -38,7 +38,7 @@ fn argument(
     }
 }
 
-/// The arguments that operands are, one for each parameter; none where they don't fit.
+/// The arguments that operands are, one for each parameter; `None` if they don't fit.
 fn arguments(
     alloc: Global,
     here: &Scope,
@@ -88,7 +88,7 @@ pub(crate) struct Called {
     pub arguments: Items<Argument>,
 }
 
-/// What operands call: a procedure by its name, and its arguments behind it; none where they don't fit.
+/// What operands call: a procedure by its name, and its arguments after it; `None` if they don't fit.
 fn call_in(
     alloc: Global,
     items: &[Declaration],

@@ -27,7 +27,7 @@ use wb_model::limits::{MOST_CLASSES, MOST_EXTRA, MOST_FIELDS};
 use wb_model::script::Class;
 use wb_model::script_lines::{LineKind, Operand, Referent};
 
-/// The extra bytes of the class with an index, by the operands of its first line; none where they are no such.
+/// The extra bytes of the class with an index, by the operands of its first line; `None` if they are no such.
 fn extra_of(index: usize, operands: &[Operand<Referent>]) -> Option<u32>
     ensures extra { IfSome result (λ extra. (operands.now
         ≡ Name (referent.Declared index) ∷ Size extra ∷ []) × IsTrue (nat_le extra MOST_EXTRA)) }
@@ -51,7 +51,7 @@ fn extra_of(index: usize, operands: &[Operand<Referent>]) -> Option<u32>
     }
 }
 
-/// Begins a class, by its first line with the number of it; none where it has no place.
+/// Begins a class, by its first line with the number of it; `None` if it has no place.
 pub(crate) fn begin_class(
     alloc: Global,
     space: Space,
@@ -123,8 +123,8 @@ fn class_field(index: usize, counts: &[u8], operands: &[Operand<Referent>]) -> O
     }
 }
 
-/// The class of a field, where it has one, that a line declares with this index, in a script whose classes have so many
-/// fields; none where the line declares no such field.
+/// The class of a field, where it has one, that a line declares with this index, in a script whose classes have these numbers of
+/// fields; `None` if the line declares no such field.
 fn declared_field(
     index: usize,
     counts: &[u8],
@@ -155,7 +155,7 @@ pub(crate) enum ClassLine {
     End,
 }
 
-/// A line that declares a field; none where it has no place.
+/// A line that declares a field; `None` if it has no place.
 fn read_field(
     space: Space,
     whole: &WholeItems,
@@ -182,7 +182,7 @@ fn read_field(
     }
 }
 
-/// A body of the next class behind its first line.
+/// A body of the next class after its first line.
 fn own_body(alloc: Global, whole: &WholeItems) -> Result<OpenBody, AllocError>
     requires { length whole.now.classes < MOST_CLASSES }
     ensures { IfOk result (λ p. p ≡ new_body (Some (length whole.now.classes)) []) }
@@ -191,7 +191,7 @@ fn own_body(alloc: Global, whole: &WholeItems) -> Result<OpenBody, AllocError>
     new_body(alloc, Some(this), Items::new(alloc))
 }
 
-/// The first line of `construct`; none where it has no place.
+/// The first line of `construct`; `None` if it has no place.
 fn read_construct(
     alloc: Global,
     space: Space,
@@ -215,7 +215,7 @@ fn read_construct(
     Ok(Some(ClassLine::Constructor(body)))
 }
 
-/// The first line of `destroy`; none where it has no place.
+/// The first line of `destroy`; `None` if it has no place.
 fn read_destroy(
     alloc: Global,
     space: Space,
@@ -239,7 +239,7 @@ fn read_destroy(
     Ok(Some(ClassLine::Destructor(body)))
 }
 
-/// The end of the class; none where the line has operands.
+/// The end of the class; `None` if the line has operands.
 fn read_end(
     space: Space,
     whole: &WholeItems,
@@ -259,7 +259,7 @@ fn read_end(
     }
 }
 
-/// What a line says to the class that is open; none where it has no place there.
+/// What a line says to the class that is open; `None` if it has no place there.
 fn read_class_line(
     alloc: Global,
     space: Space,
@@ -294,7 +294,7 @@ fn with_field(class: Class, field: Option<u16>) -> Result<Class, AllocError>
     Ok(Class { fields, ..class })
 }
 
-/// The tree behind what a line says to the class that is open.
+/// The tree after what a line says to the class that is open.
 fn building_after(whole: WholeItems, class: Class, said: ClassLine) -> Result<Building, AllocError>
     ensures { IfOk result (λ next. next ≡ building_after whole class said) }
 {
@@ -321,7 +321,7 @@ fn building_after(whole: WholeItems, class: Class, said: ClassLine) -> Result<Bu
     }
 }
 
-/// Adds a line to the class that is open, with its number; none where it has no place there.
+/// Adds a line to the class that is open, with its number; `None` if it has no place there.
 pub(crate) fn add_to_class(
     alloc: Global,
     space: Space,

@@ -31,7 +31,7 @@ fn if_some(here: &Scope, operands: &[Operand<Referent>]) -> Option<Head>
     }
 }
 
-/// The two numbers that a line compares, behind its keyword.
+/// The two numbers that a line compares, after its keyword.
 fn numbers_to_compare(here: &Scope, operands: &[Operand<Referent>]) -> Option<(Number, Number)>
     ensures { (keyword : Keyword) → AreCompared here.now keyword operands.now result }
 {
@@ -81,7 +81,7 @@ fn trap(here: &Scope, operands: &[Operand<Referent>]) -> Option<Head>
     }
 }
 
-/// What a line begins; none where its operands don't fit.
+/// What a line begins; `None` if its operands don't fit.
 pub(crate) fn head_of(
     here: &Scope,
     line_kind: LineKind,

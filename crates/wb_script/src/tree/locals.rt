@@ -81,7 +81,7 @@ fn pointer_of_class(index: usize, fields: &[u8], operands: &[Operand<Referent>])
     }
 }
 
-/// The local that a line declares, with this index in its body, in a script whose classes have so many fields; none where
+/// The local that a line declares, with this index in its body, in a script whose classes have these numbers of fields; `None` if
 /// it declares no such.
 pub(crate) fn declared_local(
     index: usize,

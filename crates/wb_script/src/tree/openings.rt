@@ -1,4 +1,4 @@
-//! The lines that begin a procedure or an operation, and the body behind the first line of one.
+//! The lines that begin a procedure or an operation, and the body after the first line of one.
 
 ghost use Rattle.std.specs.Prelude.{◌≡◌, ◌≤◌, ◌+◌, length, map, IfOk};
 ghost use Rattle.wb_model.specs.declared.limits.TheConstants.{MOST_CLASSES, MOST_PROCEDURES};
@@ -72,7 +72,7 @@ fn locals_of(alloc: Global, parameters: &[Parameter]) -> Result<Items<Local>, Al
     Ok(locals)
 }
 
-/// The body behind its first line: it has these parameters, and `self` is of this class.
+/// The body after its first line: it has these parameters, and `self` is of this class.
 pub(crate) fn new_body(
     alloc: Global,
     this: Option<u16>,
@@ -101,7 +101,7 @@ fn has_room(whole: &WholeItems) -> bool
     whole.procedures.len() + whole.operations.len() < MOST_PROCEDURES as usize
 }
 
-/// The parameters of the procedure with an index, by the operands of its first line; none where they are no such.
+/// The parameters of the procedure with an index, by the operands of its first line; `None` if they are no such.
 fn parameters_of_head(
     alloc: Global,
     classes: usize,
@@ -136,7 +136,7 @@ fn begins_operation(index: usize, operands: &[Operand<Referent>]) -> bool
     }
 }
 
-/// Begins a procedure, by its first line with the number of it; none where it has no place.
+/// Begins a procedure, by its first line with the number of it; `None` if it has no place.
 pub(crate) fn begin_procedure(
     alloc: Global,
     space: Space,
@@ -162,7 +162,7 @@ pub(crate) fn begin_procedure(
     }
 }
 
-/// Begins an operation, by its first line with the number of it; none where it has no place.
+/// Begins an operation, by its first line with the number of it; `None` if it has no place.
 pub(crate) fn begin_operation(
     alloc: Global,
     space: Space,

@@ -36,7 +36,7 @@ fn operation(items: &[Declaration], operand: &Operand<Referent>) -> Option<u16>
     }
 }
 
-/// A `pushop` of a pointer, with an operation by its name; none where the operands don't fit.
+/// A `pushop` of a pointer, with an operation by its name; `None` if the operands don't fit.
 #[inline(never)]
 fn push_operation(
     items: &[Declaration],
@@ -75,7 +75,7 @@ fn delete(here: &Scope, operands: &[Operand<Referent>]) -> Option<Statement>
     Some(Statement::Delete(one_pointer(here, operands)?))
 }
 
-/// The statement of a line that begins no block; none where its operands don't fit.
+/// The statement of a line that begins no block; `None` if its operands don't fit.
 pub(crate) fn plain_statement(
     alloc: Global,
     items: &[Declaration],

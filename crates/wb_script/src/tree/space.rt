@@ -1,4 +1,4 @@
-//! What all lines of a script may name, whichever body they stand in.
+//! What all lines of a script may name, whichever body they are in.
 
 ghost use Rattle.std.specs.Prelude.{◌≡◌, ◌≤◌, [], ◌∷◌, ◌++◌, length, nat_le, IsTrue, IfOk, OnOk};
 ghost use Rattle.std.specs.List.{list_all};

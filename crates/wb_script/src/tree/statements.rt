@@ -276,7 +276,7 @@ fn of_number(here: &Scope, line_kind: LineKind, operands: &[Operand<Referent>]) 
     }
 }
 
-/// The statement of a line; none where its operands don't fit.
+/// The statement of a line; `None` if its operands don't fit.
 #[inline(never)]
 pub(crate) fn statement_of(
     here: &Scope,

@@ -1,4 +1,4 @@
-//! The operands of a line, where there are so many.
+//! The operands of a line, by how many there are.
 
 ghost use Rattle.std.specs.Prelude.{◌≡◌, [], ◌∷◌, ℕ, false, MatchOption};
 ghost use Rattle.wb_model.specs.declared.script_lines.OperandPlace as model;

@@ -1,4 +1,4 @@
-//! What the operands of a line spell, in the body where it stands: pointers, numbers, texts and classes.
+//! What the operands of a line spell, in the body where it is: pointers, numbers, texts and classes.
 
 ghost use Rattle.std.specs.Prelude.{◌≡◌, ◌<◌, length, nat_lt, slice_get, false, IfSome, IsSome, IsTrue, MatchOption};
 ghost use Rattle.wb_model.specs.declared.script.Pointer.TheVariants as P;

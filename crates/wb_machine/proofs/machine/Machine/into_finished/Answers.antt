@@ -24,7 +24,7 @@ returns-clause-attempts c =
     sym (ap (λ (x : WholeRun). x.attempts) (run_over c.self.inside s c.self.view_is c.self.invariant c.requires.over c.requires.well))
     ∙ ap (λ (x : Seen). x.attempts) c.self.view_is
 
--- how it ended is what is told
+-- how it ended is what is reported
 tells_ceiling : (ending : Ending) (leaks : List Leak) → (has_met_ceiling ending ≡ true) ↔ (outcome_by ending leaks ≡ outcomes.Cut Ceiling)
 tells_ceiling GoesOn leaks = (λ e. cc, λ e. cc)
 tells_ceiling (Returns p) leaks = (λ e. cc, λ e. cc)
