@@ -2,10 +2,8 @@
 
 use crate::blocks::{role, role_at};
 use crate::lines::Line;
-use crate::words::is_parameter_named;
-use wb_lines::words::parameter_type_of_word;
-use wb_model::script_lines::{ItemKind, LineKind, LocalKind, ParameterType, Role};
-use wb_pages::Word;
+use wb_lines::declares::{item_kind_in, kind_of_parameter, local_kind_in};
+use wb_model::script_lines::{ItemKind, LineKind, LocalKind, Operand, ParameterType, Role};
 
 /// A local: what it holds, and the index of the line that declares it.
 #[derive(Clone, Copy)]
@@ -21,33 +19,18 @@ pub(crate) struct Item {
     pub line: usize,
 }
 
-/// The key of a line's form; `None` if it has none.
-pub(crate) fn line_kind_of(line: &Line) -> Option<LineKind> {
-    line.line_kind
-}
-
-/// The same of the line with an index.
+/// The kind of the line with an index; `None` if there is no such line, or it has none.
 pub(crate) fn line_kind_at(lines: &[Line], index: usize) -> Option<LineKind> {
     match lines.get(index) {
-        Some(line) => line_kind_of(line),
+        Some(line) => line.line_kind(),
         None => None,
-    }
-}
-
-/// Which of a class, a procedure and an operation a line begins; `None` if it begins none of these.
-pub(crate) fn item_kind_of(line: &Line) -> Option<ItemKind> {
-    match line_kind_of(line) {
-        Some(LineKind::Class) => Some(ItemKind::Class),
-        Some(LineKind::Proc) => Some(ItemKind::Procedure),
-        Some(LineKind::Op) => Some(ItemKind::Operation),
-        _ => None,
     }
 }
 
 /// Returns the first class, procedure or operation with a name; `None` if there is none.
 pub(crate) fn find_item(lines: &[Line], name: &[u8]) -> Option<Item> {
     for (index, line) in lines.iter().enumerate() {
-        if let Some(kind) = item_kind_of(line) {
+        if let Some(kind) = item_kind_in(&line.form) {
             if line.text_at(1) == name {
                 return Some(Item { kind, line: index });
             }
@@ -57,7 +40,7 @@ pub(crate) fn find_item(lines: &[Line], name: &[u8]) -> Option<Item> {
 }
 
 /// Returns the index of the line of the class with a name; `None` if the name is not that of a class.
-pub(crate) fn find_class(lines: &[Line], name: &[u8]) -> Option<usize> {
+fn find_class(lines: &[Line], name: &[u8]) -> Option<usize> {
     match find_item(lines, name) {
         Some(
             Item {
@@ -96,44 +79,28 @@ pub(crate) fn has_self(lines: &[Line], index: usize) -> bool {
     )
 }
 
-/// What a parameter holds.
-pub(crate) fn kind_of_parameter<'a>(word: &'a [u8]) -> LocalKind<&'a [u8]> {
-    match parameter_type_of_word(word) {
-        Some(ParameterType::Number) => LocalKind::Number,
-        Some(ParameterType::OfClass(class)) => LocalKind::Pointer(Some(class)),
-        Some(ParameterType::Pointer) | None => LocalKind::Pointer(None),
-    }
-}
-
-/// What the parameter with a name holds, among words; `None` if there is none.
-fn parameter_kind<'a>(words: &[Word<'a>], name: &[u8]) -> Option<LocalKind<&'a [u8]>> {
-    for word in words {
-        if is_parameter_named(word.text, name) {
-            return Some(kind_of_parameter(word.text));
+/// What the parameter with a name takes, among operands; `None` if there is none.
+fn parameter_named<'a>(
+    operands: &[Operand<&'a [u8]>],
+    name: &[u8],
+) -> Option<ParameterType<&'a [u8]>> {
+    for operand in operands {
+        match operand {
+            Operand::Parameter(parameter, parameter_type) if *parameter == name => {
+                return Some(*parameter_type);
+            }
+            _ => {}
         }
     }
     None
 }
 
-/// What the local holds that a line declares; `None` if it declares none.
-pub(crate) fn declared_kind<'a>(line: &Line<'a>) -> Option<LocalKind<&'a [u8]>> {
-    match line_kind_of(line) {
-        Some(LineKind::Ptr) => Some(LocalKind::Pointer(None)),
-        Some(LineKind::ClassPtr) => Some(LocalKind::Pointer(Some(line.text_at(2)))),
-        Some(LineKind::Int) => Some(LocalKind::Number),
-        Some(LineKind::Buf) => Some(LocalKind::Buffer),
-        Some(LineKind::View) => Some(LocalKind::View),
-        _ => None,
-    }
-}
-
-/// What a name holds by one line, a declaration or the first line of a body with its parameters; `None` if the line doesn't declare it.
+/// What a name holds by one line, which declares it or has it as a parameter; `None` if the line doesn't declare it.
 fn kind_by_line<'a>(line: &Line<'a>, name: &[u8]) -> Option<LocalKind<&'a [u8]>> {
-    match line_kind_of(line) {
-        Some(LineKind::Proc) => parameter_kind(&line.words, name),
-        Some(LineKind::Op) if line.text_at(2) == name => Some(LocalKind::Pointer(None)),
-        _ if line.text_at(1) == name => declared_kind(line),
-        _ => None,
+    match parameter_named(line.operands(), name) {
+        Some(parameter_type) => Some(kind_of_parameter(parameter_type)),
+        None if line.text_at(1) == name => local_kind_in(&line.form),
+        None => None,
     }
 }
 
