@@ -48,7 +48,7 @@ impl<'a> ProgressLine<'a> {
         }
     }
 
-    /// The time after so many milliseconds; `None` if the clock fails.
+    /// The time `pause` milliseconds from now; `None` if the clock fails.
     fn after(&self, pause: u64) -> Option<Instant> {
         let now = Instant::now(self.rt).ok()?;
         now.checked_add(Duration::from_millis(pause))
@@ -93,7 +93,7 @@ impl<'a> Progress for ProgressLine<'a> {
     }
 }
 
-/// The line of a failure that is tried, of so many; `None` if it is too long.
+/// The line of a failure that is tried, with the last that will be; `None` if it is too long.
 fn line_of(at: Failing, last: u32) -> Option<ArrayString<WIDEST>> {
     let mut line = ArrayString::new();
     let put = match at {

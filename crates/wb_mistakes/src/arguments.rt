@@ -3,7 +3,7 @@
 use crate::further_lines::mark_declaration;
 use crate::lines::Line;
 use crate::operand_kinds::{description_of, operand_kind_in_body};
-use crate::spaces::{find_item, line_kind_of};
+use crate::spaces::find_item;
 use wb_lines::operand_kinds::{is_number_kind, is_pointer_kind};
 use wb_lines::words::{before_first, parameter_type_of_word};
 use wb_model::script_lines::{LineKind, ParameterType};
@@ -11,7 +11,7 @@ use wb_pages::{Fragment, Page, Spot, Word};
 
 /// The place of the procedure's name among the words of a call.
 fn procedure_place(line: &Line) -> usize {
-    match line_kind_of(line) {
+    match line.line_kind() {
         Some(LineKind::CallTo) => 2,
         _ => 1,
     }

@@ -48,14 +48,9 @@ pub(crate) struct Blocks {
     pub misaligned: Option<ClosedBlock>,
 }
 
-/// Whether a line with this role begins a body.
-pub(crate) fn begins_body(role: Role) -> bool {
-    matches!(role, Role::Procedure | Role::Construct | Role::Destroy)
-}
-
 /// The role of a line in the nesting of blocks, by its form.
 pub(crate) fn role(line: &Line) -> Role {
-    match line.line_kind {
+    match line.line_kind() {
         Some(line_kind) => role_of(line_kind),
         None => Role::Skip,
     }

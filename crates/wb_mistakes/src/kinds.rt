@@ -9,7 +9,7 @@ use crate::misspelled::help_with_operand;
 use crate::operand_kinds::{
     description_of, line_of_declaration, operand_kind_in_body, operand_kind_of,
 };
-use crate::spaces::{body_of, class_of_holder, line_kind_at, line_kind_of, line_of_item};
+use crate::spaces::{body_of, class_of_holder, line_kind_at, line_of_item};
 use crate::words::{is_field, is_parameter};
 use wb_lines::operand_kinds::{is_pointer_kind, takes};
 use wb_lines::words::{after_first_of, before_first};
@@ -148,7 +148,7 @@ fn explain_operand(page: &mut Page, lines: &[Line], index: usize, line: &Line, p
 fn sides_differ(lines: &[Line], index: usize, line: &Line) -> bool {
     let target = operand_kind_in_body(lines, index, line.text_at(1));
     let source = operand_kind_in_body(lines, index, line.text_at(2));
-    matches!(line_kind_of(line), Some(LineKind::Set))
+    matches!(line.line_kind(), Some(LineKind::Set))
         && is_pointer_kind(target) != is_pointer_kind(source)
 }
 
@@ -175,7 +175,7 @@ fn explain_sides(page: &mut Page, lines: &[Line], index: usize, line: &Line) {
 /// Whether a line gives `main` parameters, or makes it a class or an operation.
 fn misuses_main(line: &Line) -> bool {
     let begins_item = matches!(role(line), Role::Class | Role::Procedure);
-    let is_plain = matches!(line_kind_of(line), Some(LineKind::Proc)) && line.words.len() == 2;
+    let is_plain = matches!(line.line_kind(), Some(LineKind::Proc)) && line.words.len() == 2;
     begins_item && line.text_at(1) == b"main".as_slice() && !is_plain
 }
 
@@ -184,7 +184,7 @@ fn explain_main(page: &mut Page, line: &Line) {
         line.whole(),
         "`main` must be a procedure without parameters",
     );
-    page.write_help_text(match line_kind_of(line) {
+    page.write_help_text(match line.line_kind() {
         Some(LineKind::Proc) => "write only `proc main`: it gets no arguments when the run begins",
         _ => "the run begins with `proc main`; give this another name",
     });
@@ -230,7 +230,7 @@ fn help_of_return(body: Role) -> &'static str {
 
 fn ends_body(line: &Line) -> bool {
     matches!(
-        line_kind_of(line),
+        line.line_kind(),
         Some(LineKind::Return | LineKind::ReturnPointer)
     )
 }

@@ -2,8 +2,9 @@
 
 use crate::blocks::{Blocks, role, role_at};
 use crate::lines::Line;
-use crate::spaces::{body_of, class_before, line_kind_of};
+use crate::spaces::{body_of, class_before};
 use crate::words::is_parameter;
+use wb_lines::declares::parameter_type_of;
 use wb_lines::forms::operand_of;
 use wb_lines::words::{after_first_of, before_first, is_name};
 use wb_model::limits::{
@@ -11,7 +12,7 @@ use wb_model::limits::{
     MOST_LOCALS, MOST_PARAMETERS, MOST_PROCEDURES,
 };
 use wb_model::script_lines::{LineKind, Operand, OperandPlace, Role};
-use wb_pages::{Fragment, Page, Span, Word};
+use wb_pages::{Fragment, Page, Span};
 
 /// More than a limit allows: of what, the count, the limit, and the part of the line that exceeds it.
 #[derive(Clone, Copy)]
@@ -53,10 +54,11 @@ fn name_excess(line: &Line) -> Option<Excess> {
     None
 }
 
-fn parameter_count(words: &[Word]) -> usize {
+/// The number of parameters that a line declares, of an operation its pointer.
+fn parameter_count(line: &Line) -> usize {
     let mut count: usize = 0;
-    for word in words {
-        if is_parameter(word.text) {
+    for operand in line.operands() {
+        if parameter_type_of(operand).is_some() {
             count = count.saturating_add(1);
         }
     }
@@ -79,10 +81,7 @@ fn local_count(lines: &[Line], index: usize) -> usize {
     let body = body_of(lines, index);
     let declared = count_between(lines, body, index, Role::Declaration);
     match lines.get(body) {
-        Some(line) if matches!(line_kind_of(line), Some(LineKind::Op)) => declared.saturating_add(
-            1,
-        ),
-        Some(line) => declared.saturating_add(parameter_count(&line.words)),
+        Some(line) => declared.saturating_add(parameter_count(line)),
         None => declared,
     }
 }
@@ -111,7 +110,7 @@ fn size_of(word: &[u8]) -> usize {
 /// The size in a line that is larger than its limit; `None` if there is none.
 fn size_excess(line: &Line) -> Option<Excess> {
     let size = size_of(line.text_at(2));
-    match line_kind_of(line) {
+    match line.line_kind() {
         Some(LineKind::Class) => excess_over(
             "extra bytes in a class",
             size,
@@ -185,7 +184,7 @@ fn block_count(lines: &[Line], blocks: &Blocks) -> usize {
 fn parameter_excess(line: &Line) -> Option<Excess> {
     excess_over(
         "parameters in a procedure",
-        parameter_count(&line.words),
+        parameter_count(line),
         MOST_PARAMETERS,
         line.span_at(MOST_PARAMETERS as usize + 2),
     )

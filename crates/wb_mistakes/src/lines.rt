@@ -1,41 +1,31 @@
 //! The lines of a script and their words, with the columns in which the words begin.
 
-use crate::blocks::begins_body;
 use std::alloc::{AllocError, Global};
+use wb_lines::declares::body_in;
 use wb_lines::forms::{begins_comment, form_of};
-use wb_lines::line_kinds::role_of;
 use wb_lines::segments::{self, add_words};
-use wb_model::script_lines::{Form, LineKind};
+use wb_model::script_lines::{Form, LineKind, Operand};
 use wb_pages::words::{count_blanks, place_words, trim};
 use wb_pages::{Span, Spot, Word};
 
-/// A line: its number, its text without the blanks around it, the number of blanks before it, its words, the key of its form if it has
-/// one, and the index of the line that begins its body, which may be itself.
+/// A line: its number, its text without the blanks around it, the number of blanks before it, its words, its form, and the index of
+/// the line that begins its body, which may be itself.
 #[derive(Drop)]
 pub(crate) struct Line<'a> {
     pub number: usize,
     pub text: &'a [u8],
     pub indent: usize,
     pub words: Vec<Word<'a>>,
-    pub line_kind: Option<LineKind>,
+    pub form: Form<&'a [u8]>,
     pub body: usize,
 }
 
-/// Returns the key of the form that words have; `None` if they are of no form, or begin a comment. The only error is that memory ran
-/// out.
-fn line_kind_of_words(alloc: Global, texts: &[&[u8]]) -> Result<Option<LineKind>, AllocError> {
-    match form_of(alloc, texts)? {
-        Form::Line(line_kind, _) => Ok(Some(line_kind)),
-        Form::Skip | Form::Unknown => Ok(None),
-    }
-}
-
-/// The index of the line that begins the body of a line with this key, after these lines.
-fn body_after(lines: &[Line], line_kind: Option<LineKind>) -> usize {
-    match (line_kind, lines.last()) {
-        (Some(line_kind), _) if begins_body(role_of(line_kind)) => lines.len(),
-        (_, Some(line)) => line.body,
-        (_, None) => 0,
+/// The index of the line that begins the body of a line with this form, after these lines.
+fn body_after(lines: &[Line], form: &Form<&[u8]>) -> usize {
+    match (body_in(form), lines.last()) {
+        (Some(_), _) => lines.len(),
+        (None, Some(line)) => line.body,
+        (None, None) => 0,
     }
 }
 
@@ -47,14 +37,15 @@ fn read_line<'a>(
     let text = trim(bytes);
     let mut texts = Vec::new(alloc);
     add_words(&mut texts, text)?;
-    let line_kind = line_kind_of_words(alloc, &texts)?;
+    let form = form_of(alloc, &texts)?;
+    let body = body_after(lines, &form);
     Ok(Line {
         number: lines.len().saturating_add(1),
         text,
         indent: count_blanks(bytes),
         words: place_words(alloc, text, &texts)?,
-        line_kind,
-        body: body_after(lines, line_kind),
+        form,
+        body,
     })
 }
 
@@ -78,6 +69,22 @@ pub(crate) fn lines_of<'a>(alloc: Global, bytes: &'a [u8]) -> Result<Vec<Line<'a
 }
 
 impl<'a> Line<'a> {
+    /// Which kind of line it is; `None` if it has no form, or is blank or a comment.
+    pub(crate) fn line_kind(&self) -> Option<LineKind> {
+        match &self.form {
+            Form::Line(line_kind, _) => Some(*line_kind),
+            Form::Skip | Form::Unknown => None,
+        }
+    }
+
+    /// Its operands; `None` if it has no form.
+    pub(crate) fn operands(&self) -> &[Operand<&'a [u8]>] {
+        match &self.form {
+            Form::Line(_, operands) => operands.as_slice(),
+            Form::Skip | Form::Unknown => &[],
+        }
+    }
+
     /// The word with an index; `None` if there is none.
     pub(crate) fn word(&self, index: usize) -> Option<Word<'a>> {
         self.words.get(index).copied()

@@ -192,7 +192,7 @@ fn help_with_place(page: &mut Page, line_kind: LineKind, operand_place: OperandP
 
 /// The same of a line, if it has a form.
 pub(crate) fn help_with_operand(page: &mut Page, line: &Line, operand_place: OperandPlace) {
-    if let Some(line_kind) = line.line_kind {
+    if let Some(line_kind) = line.line_kind() {
         help_with_place(page, line_kind, operand_place);
     }
 }

@@ -3,14 +3,12 @@
 use crate::blocks::role;
 use crate::lines::Line;
 use crate::nearest::{Candidate, Search};
-use crate::spaces::{body_of, declared_kind, item_kind_of, line_kind_of};
-use crate::words::is_parameter;
-use wb_lines::words::before_first;
-use wb_model::script_lines::{ItemKind, LineKind, Role};
-use wb_pages::Word;
+use crate::spaces::body_of;
+use wb_lines::declares::{body_in, item_kind_in, local_kind_in};
+use wb_model::script_lines::{BodyKind, ItemKind, Operand, Role};
 
 fn is_item(line: &Line, kind: ItemKind) -> bool {
-    match item_kind_of(line) {
+    match item_kind_in(&line.form) {
         Some(found) => found as u8 == kind as u8,
         None => false,
     }
@@ -32,21 +30,20 @@ pub(crate) fn nearest_item<'a>(
 }
 
 impl<'w, 'a> Search<'w, 'a> {
-    fn consider_parameters(&mut self, words: &[Word<'a>], number: usize) {
-        for word in words {
-            if is_parameter(word.text) {
-                self.consider(before_first(b':', word.text), number);
+    fn consider_parameters(&mut self, operands: &[Operand<&'a [u8]>], number: usize) {
+        for operand in operands {
+            if let Operand::Parameter(name, _) = operand {
+                self.consider(name, number);
             }
         }
     }
 
     /// Considers what one line declares for its body.
     fn consider_declared(&mut self, line: &Line<'a>, number: usize) {
-        match line_kind_of(line) {
-            Some(LineKind::Proc) => self.consider_parameters(&line.words, number),
-            Some(LineKind::Op) => self.consider(line.text_at(2), number),
-            Some(LineKind::Constructor | LineKind::Destructor) => self.consider(b"self", number),
-            _ if declared_kind(line).is_some() => self.consider(line.text_at(1), number),
+        self.consider_parameters(line.operands(), number);
+        match body_in(&line.form) {
+            Some(BodyKind::Constructor | BodyKind::Destructor) => self.consider(b"self", number),
+            _ if local_kind_in(&line.form).is_some() => self.consider(line.text_at(1), number),
             _ => {}
         }
     }

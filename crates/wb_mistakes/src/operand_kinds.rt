@@ -1,100 +1,138 @@
-//! What a word of a line refers to, as far as its place asks: a pointer, an int, a class and so on.
+//! What a word of a line is, as far as its place asks: a pointer, an int, a class and so on. Referents have the indexes of lines.
 
 use crate::lines::Line;
 use crate::spaces::{
-    Local, class_of_holder, find_class, find_field, find_item, find_local, has_self, line_of_item,
+    ItemAt, LocalAt, class_of_holder, find_field, find_item, find_local, has_self, line_of_item,
     line_of_local,
 };
-use crate::words::{is_field, is_literal, is_number};
-use wb_lines::words::{after_first_of, before_first, parameter_type_of_word};
-use wb_model::script_lines::{ItemKind, LocalKind, OperandKind, OperandPlace, ParameterType};
+use wb_lines::forms::operand_of;
+use wb_lines::operand_kinds;
+use wb_lines::words::before_first;
+use wb_model::script_lines::{
+    ItemKind, LocalKind, Operand, OperandKind, OperandPlace, ParameterType, Referent,
+};
 
-fn operand_kind_of_item(kind: ItemKind) -> OperandKind {
-    match kind {
-        ItemKind::Class => OperandKind::Class,
-        ItemKind::Procedure => OperandKind::Procedure,
-        ItemKind::Operation => OperandKind::Operation,
+fn referent_of_item(item: ItemAt) -> Referent {
+    match item.kind {
+        ItemKind::Class => Referent::Class(item.line),
+        ItemKind::Procedure => Referent::Procedure(item.line),
+        ItemKind::Operation => Referent::Operation(item.line),
     }
 }
 
-fn operand_kind_of_local(local: Local) -> OperandKind {
+fn referent_of_local(local: LocalAt) -> Referent {
     match local.kind {
-        LocalKind::Pointer(_) => OperandKind::Pointer,
-        LocalKind::Number => OperandKind::Variable,
-        LocalKind::Buffer => OperandKind::Buffer,
-        LocalKind::View => OperandKind::View,
+        LocalKind::Pointer(_) => Referent::Pointer(local.line),
+        LocalKind::Number => Referent::Number(local.line),
+        LocalKind::Buffer => Referent::Buffer(local.line),
+        LocalKind::View => Referent::View(local.line),
     }
 }
 
-fn operand_kind_in_items(lines: &[Line], name: &[u8]) -> OperandKind {
+fn item_referent(lines: &[Line], name: &[u8]) -> Referent {
     match find_item(lines, name) {
-        Some(item) => operand_kind_of_item(item.kind),
-        None => OperandKind::Nothing,
+        Some(item) => referent_of_item(item),
+        None => Referent::Nothing,
     }
 }
 
-fn operand_kind_of_used_name(lines: &[Line], index: usize, name: &[u8]) -> OperandKind {
+fn local_referent(lines: &[Line], index: usize, name: &[u8]) -> Referent {
     if name == b"self".as_slice() {
         return if has_self(lines, index) {
-            OperandKind::This
+            Referent::This
         } else {
-            OperandKind::Nothing
+            Referent::Nothing
         };
     }
     match find_local(lines, index, name) {
-        Some(local) => operand_kind_of_local(local),
-        None => OperandKind::Nothing,
+        Some(local) => referent_of_local(local),
+        None => Referent::Nothing,
     }
 }
 
-/// What a field is; nothing if the name before its dot has no class.
-fn operand_kind_of_field(lines: &[Line], index: usize, word: &[u8]) -> OperandKind {
-    match class_of_holder(lines, index, before_first(b'.', word)) {
-        Some(class) if find_field(lines, class, after_first_of(b'.', word)).is_some() =>
-            OperandKind::Field,
-        _ => OperandKind::Nothing,
+fn name_referent(
+    lines: &[Line],
+    index: usize,
+    operand_place: OperandPlace,
+    name: &[u8],
+) -> Referent {
+    match operand_place {
+        OperandPlace::Class | OperandPlace::Procedure | OperandPlace::Operation => {
+            item_referent(lines, name)
+        }
+        OperandPlace::Declared => Referent::Declared(index),
+        _ => local_referent(lines, index, name),
     }
 }
 
-/// What a parameter is; nothing if its class is not a class.
-fn operand_kind_of_parameter(lines: &[Line], word: &[u8]) -> OperandKind {
-    match parameter_type_of_word(word) {
-        Some(ParameterType::OfClass(class)) if find_class(lines, class).is_none() =>
-            OperandKind::Nothing,
-        _ => OperandKind::Parameter,
+fn field_of_class(lines: &[Line], class: usize, field: &[u8]) -> Referent {
+    match find_field(lines, class, field) {
+        Some(line) => Referent::Field(class, line),
+        None => Referent::Nothing,
     }
 }
 
-/// What a word of a body refers to.
-pub(crate) fn operand_kind_in_body(lines: &[Line], index: usize, word: &[u8]) -> OperandKind {
-    if is_literal(word) {
-        OperandKind::Literal
-    } else if is_number(word) {
-        OperandKind::Number
-    } else if is_field(word) {
-        operand_kind_of_field(lines, index, word)
-    } else {
-        operand_kind_of_used_name(lines, index, word)
+fn field_referent(lines: &[Line], index: usize, base: &[u8], field: &[u8]) -> Referent {
+    match class_of_holder(lines, index, base) {
+        Some(class) => field_of_class(lines, class, field),
+        None => Referent::Classless,
     }
 }
 
-/// What a word refers to as this operand.
+/// What a parameter takes, with what the name of its class refers to.
+fn resolved_type(lines: &[Line], parameter_type: ParameterType<&[u8]>) -> ParameterType<Referent> {
+    match parameter_type {
+        ParameterType::Pointer => ParameterType::Pointer,
+        ParameterType::Number => ParameterType::Number,
+        ParameterType::OfClass(class) => ParameterType::OfClass(item_referent(lines, class)),
+    }
+}
+
+/// An operand in this place, with what its names refer to.
+fn resolved_operand(
+    lines: &[Line],
+    index: usize,
+    operand_place: OperandPlace,
+    operand: Operand<&[u8]>,
+) -> Operand<Referent> {
+    match operand {
+        Operand::Name(name) => Operand::Name(name_referent(lines, index, operand_place, name)),
+        Operand::Field(base, field) => Operand::Field(
+            local_referent(lines, index, base),
+            field_referent(lines, index, base, field),
+        ),
+        Operand::Number(number) => Operand::Number(number),
+        Operand::Size(size) => Operand::Size(size),
+        Operand::Literal(_) => Operand::Literal(Referent::Literal(index)),
+        Operand::Parameter(_, parameter_type) => Operand::Parameter(
+            Referent::Parameter,
+            resolved_type(lines, parameter_type),
+        ),
+        Operand::Keyword => Operand::Keyword,
+    }
+}
+
+/// What a word is in this place; nothing if it isn't grammatical there.
 pub(crate) fn operand_kind_of(
     lines: &[Line],
     index: usize,
     operand_place: OperandPlace,
     word: &[u8],
 ) -> OperandKind {
-    match operand_place {
-        OperandPlace::Class | OperandPlace::Procedure | OperandPlace::Operation =>
-            operand_kind_in_items(lines, word),
-        OperandPlace::Declared => OperandKind::Declared,
-        OperandPlace::Size => OperandKind::Size,
-        OperandPlace::Keyword(_) => OperandKind::Keyword,
-        OperandPlace::Parameter => operand_kind_of_parameter(lines, word),
-        OperandPlace::ItsPointer => OperandKind::Parameter,
-        _ => operand_kind_in_body(lines, index, word),
+    match operand_of(operand_place, word) {
+        Some(operand) => operand_kinds::operand_kind_of(&resolved_operand(
+            lines,
+            index,
+            operand_place,
+            operand,
+        )),
+        None => OperandKind::Nothing,
     }
+}
+
+/// What a word is that a body uses: `print` takes the most kinds.
+pub(crate) fn operand_kind_in_body(lines: &[Line], index: usize, word: &[u8]) -> OperandKind {
+    operand_kind_of(lines, index, OperandPlace::Printed, word)
 }
 
 /// What a word refers to, in words.

@@ -20,7 +20,7 @@ fn explain_grammar(page: &mut Page, lines: &[Line], index: usize, blocks: &Block
     let number = index.saturating_add(1);
     match lines.get(index) {
         None => explain_early_end(page, lines, blocks, number),
-        Some(line) if line.line_kind.is_some() => explain_misplaced(page, lines, blocks, line),
+        Some(line) if line.line_kind().is_some() => explain_misplaced(page, lines, blocks, line),
         Some(line) => explain_misspelled(page, line),
     }
 }

@@ -2,54 +2,37 @@
 
 use crate::blocks::{role, role_at};
 use crate::lines::Line;
-use crate::words::is_parameter_named;
-use wb_lines::words::parameter_type_of_word;
-use wb_model::script_lines::{ItemKind, LineKind, LocalKind, ParameterType, Role};
-use wb_pages::Word;
+use wb_lines::declares::{item_kind_in, kind_of_parameter, local_kind_in};
+use wb_model::script_lines::{ItemKind, LineKind, LocalKind, Operand, ParameterType, Role};
 
 /// A local: what it holds, and the index of the line that declares it.
 #[derive(Clone, Copy)]
-pub(crate) struct Local<'a> {
+pub(crate) struct LocalAt<'a> {
     pub kind: LocalKind<&'a [u8]>,
     pub line: usize,
 }
 
 /// A class, a procedure or an operation: which of these, and the index of the line that begins it.
 #[derive(Clone, Copy)]
-pub(crate) struct Item {
+pub(crate) struct ItemAt {
     pub kind: ItemKind,
     pub line: usize,
 }
 
-/// The key of a line's form; `None` if it has none.
-pub(crate) fn line_kind_of(line: &Line) -> Option<LineKind> {
-    line.line_kind
-}
-
-/// The same of the line with an index.
+/// The kind of the line with an index; `None` if there is no such line, or it has none.
 pub(crate) fn line_kind_at(lines: &[Line], index: usize) -> Option<LineKind> {
     match lines.get(index) {
-        Some(line) => line_kind_of(line),
+        Some(line) => line.line_kind(),
         None => None,
     }
 }
 
-/// Which of a class, a procedure and an operation a line begins; `None` if it begins none of these.
-pub(crate) fn item_kind_of(line: &Line) -> Option<ItemKind> {
-    match line_kind_of(line) {
-        Some(LineKind::Class) => Some(ItemKind::Class),
-        Some(LineKind::Proc) => Some(ItemKind::Procedure),
-        Some(LineKind::Op) => Some(ItemKind::Operation),
-        _ => None,
-    }
-}
-
 /// Returns the first class, procedure or operation with a name; `None` if there is none.
-pub(crate) fn find_item(lines: &[Line], name: &[u8]) -> Option<Item> {
+pub(crate) fn find_item(lines: &[Line], name: &[u8]) -> Option<ItemAt> {
     for (index, line) in lines.iter().enumerate() {
-        if let Some(kind) = item_kind_of(line) {
+        if let Some(kind) = item_kind_in(&line.form) {
             if line.text_at(1) == name {
-                return Some(Item { kind, line: index });
+                return Some(ItemAt { kind, line: index });
             }
         }
     }
@@ -57,10 +40,10 @@ pub(crate) fn find_item(lines: &[Line], name: &[u8]) -> Option<Item> {
 }
 
 /// Returns the index of the line of the class with a name; `None` if the name is not that of a class.
-pub(crate) fn find_class(lines: &[Line], name: &[u8]) -> Option<usize> {
+fn find_class(lines: &[Line], name: &[u8]) -> Option<usize> {
     match find_item(lines, name) {
         Some(
-            Item {
+            ItemAt {
                 kind: ItemKind::Class,
                 line,
             },
@@ -96,44 +79,28 @@ pub(crate) fn has_self(lines: &[Line], index: usize) -> bool {
     )
 }
 
-/// What a parameter holds.
-pub(crate) fn kind_of_parameter<'a>(word: &'a [u8]) -> LocalKind<&'a [u8]> {
-    match parameter_type_of_word(word) {
-        Some(ParameterType::Number) => LocalKind::Number,
-        Some(ParameterType::OfClass(class)) => LocalKind::Pointer(Some(class)),
-        Some(ParameterType::Pointer) | None => LocalKind::Pointer(None),
-    }
-}
-
-/// What the parameter with a name holds, among words; `None` if there is none.
-fn parameter_kind<'a>(words: &[Word<'a>], name: &[u8]) -> Option<LocalKind<&'a [u8]>> {
-    for word in words {
-        if is_parameter_named(word.text, name) {
-            return Some(kind_of_parameter(word.text));
+/// What the parameter with a name takes, among operands; `None` if there is none.
+fn parameter_named<'a>(
+    operands: &[Operand<&'a [u8]>],
+    name: &[u8],
+) -> Option<ParameterType<&'a [u8]>> {
+    for operand in operands {
+        match operand {
+            Operand::Parameter(parameter, parameter_type) if *parameter == name => {
+                return Some(*parameter_type);
+            }
+            _ => {}
         }
     }
     None
 }
 
-/// What the local holds that a line declares; `None` if it declares none.
-pub(crate) fn declared_kind<'a>(line: &Line<'a>) -> Option<LocalKind<&'a [u8]>> {
-    match line_kind_of(line) {
-        Some(LineKind::Ptr) => Some(LocalKind::Pointer(None)),
-        Some(LineKind::ClassPtr) => Some(LocalKind::Pointer(Some(line.text_at(2)))),
-        Some(LineKind::Int) => Some(LocalKind::Number),
-        Some(LineKind::Buf) => Some(LocalKind::Buffer),
-        Some(LineKind::View) => Some(LocalKind::View),
-        _ => None,
-    }
-}
-
-/// What a name holds by one line, a declaration or the first line of a body with its parameters; `None` if the line doesn't declare it.
+/// What a name holds by one line, which declares it or has it as a parameter; `None` if the line doesn't declare it.
 fn kind_by_line<'a>(line: &Line<'a>, name: &[u8]) -> Option<LocalKind<&'a [u8]>> {
-    match line_kind_of(line) {
-        Some(LineKind::Proc) => parameter_kind(&line.words, name),
-        Some(LineKind::Op) if line.text_at(2) == name => Some(LocalKind::Pointer(None)),
-        _ if line.text_at(1) == name => declared_kind(line),
-        _ => None,
+    match parameter_named(line.operands(), name) {
+        Some(parameter_type) => Some(kind_of_parameter(parameter_type)),
+        None if line.text_at(1) == name => local_kind_in(&line.form),
+        None => None,
     }
 }
 
@@ -143,11 +110,11 @@ pub(crate) fn is_statement(line: &Line) -> bool {
 }
 
 /// Returns the local with a name in the body of a line, declared before that line; `None` if there is none.
-pub(crate) fn find_local<'a>(lines: &[Line<'a>], index: usize, name: &[u8]) -> Option<Local<'a>> {
+pub(crate) fn find_local<'a>(lines: &[Line<'a>], index: usize, name: &[u8]) -> Option<LocalAt<'a>> {
     for at in body_of(lines, index)..index {
         let line = lines.get(at)?;
         if let Some(kind) = kind_by_line(line, name) {
-            return Some(Local { kind, line: at });
+            return Some(LocalAt { kind, line: at });
         }
         if is_statement(line) {
             return None;
@@ -157,10 +124,10 @@ pub(crate) fn find_local<'a>(lines: &[Line<'a>], index: usize, name: &[u8]) -> O
 }
 
 /// Returns the first local with a name in any body; `None` if there is none.
-pub(crate) fn find_local_anywhere<'a>(lines: &[Line<'a>], name: &[u8]) -> Option<Local<'a>> {
+pub(crate) fn find_local_anywhere<'a>(lines: &[Line<'a>], name: &[u8]) -> Option<LocalAt<'a>> {
     for (index, line) in lines.iter().enumerate() {
         if let Some(kind) = kind_by_line(line, name) {
-            return Some(Local { kind, line: index });
+            return Some(LocalAt { kind, line: index });
         }
     }
     None
@@ -177,7 +144,7 @@ pub(crate) fn class_of_holder(lines: &[Line], index: usize, base: &[u8]) -> Opti
     }
     match find_local(lines, index, base) {
         Some(
-            Local {
+            LocalAt {
                 kind: LocalKind::Pointer(Some(class)),
                 line: _,
             },

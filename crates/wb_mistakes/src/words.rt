@@ -1,7 +1,7 @@
 //! What a word is by its bytes: a name, a field, a number, a text, a parameter.
 
 use wb_lines::words::{
-    base_name, field_name, is_digit, literal_of, number_of, parameter_name, parameter_type_of_word,
+    base_name, field_name, is_digit, literal_of, parameter_name, parameter_type_of_word,
 };
 
 /// Whether a word has a byte.
@@ -30,10 +30,6 @@ pub(crate) fn is_numeral(word: &[u8]) -> bool {
         }
     }
     !digits.is_empty()
-}
-
-pub(crate) fn is_number(word: &[u8]) -> bool {
-    number_of(word).is_some()
 }
 
 pub(crate) fn is_literal(word: &[u8]) -> bool {

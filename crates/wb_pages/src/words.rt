@@ -21,7 +21,7 @@ impl<'a> Word<'a> {
     }
 }
 
-/// The bytes from one index up to another; none if there is no such part.
+/// The bytes from one index up to another; `None` if there is no such part.
 fn part<'a>(bytes: &'a [u8], from: usize, to: usize) -> &'a [u8] {
     if from <= to && to <= bytes.len() {
         &bytes[from..to]

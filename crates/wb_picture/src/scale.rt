@@ -60,7 +60,7 @@ impl Area {
         self.left.saturating_add(self.width() / 2)
     }
 
-    /// The same, at least so many pixels wide and high, so that it can be seen.
+    /// The same area, at least `width` pixels wide and `height` high, so that it can be seen.
     pub fn at_least(self, width: u32, height: u32) -> Area {
         let missing = height.saturating_sub(self.height());
         Area {

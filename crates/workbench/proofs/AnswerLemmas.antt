@@ -53,16 +53,16 @@ task_status_le (T.Check failures) script budget shape text values status r =
     check_status_le failures script budget shape text values status r
 
 report_status_le : (command : Command) (bytes text : List ℕ) (values : ReportValues) (status : ℕ) → IsReport command bytes text values status → status ≤ 3
-report_status_le command bytes text values status (inl r) = task_status_le command.task r.script command.budget command.shape text values status r.told
+report_status_le command bytes text values status (inl r) = task_status_le command.task r.script command.budget command.shape text values status r.task_report
 report_status_le command bytes text values status (inr r) = omega (arith, r.status_is)
 
 -- ---- what was read is reported on, and laid out
 
-pub laid_out_is_reported : (command : Command) (told : Option (List ℕ)) (bytes seen lines text : List ℕ) (values : ReportValues) (status own : ℕ)
-    → AreFirst (LONGEST_SCRIPT + 1) told bytes → seen ≡ bytes → IsReport command seen lines values own → text ≡ laid_out command lines values own → status ≡ own
-    → IsReported command told text status
-laid_out_is_reported command told bytes seen lines text values status own first same report laid is =
-    subst (IsReported command told text) (sym is) (record {
+pub laid_out_is_reported : (command : Command) (input : Option (List ℕ)) (bytes seen lines text : List ℕ) (values : ReportValues) (status own : ℕ)
+    → AreFirst (LONGEST_SCRIPT + 1) input bytes → seen ≡ bytes → IsReport command seen lines values own → text ≡ laid_out command lines values own → status ≡ own
+    → IsReported command input text status
+laid_out_is_reported command input bytes seen lines text values status own first same report laid is =
+    subst (IsReported command input text) (sym is) (record {
       bytes = bytes;
       read = first;
       lines = lines;
@@ -73,22 +73,22 @@ laid_out_is_reported command told bytes seen lines text values status own first 
 
 -- ---- the answer, where a read and a write failed or did not
 
-module _ (command : Command) (told held held' : Option (List ℕ)) where
-  by_status : (read write : Bool) (text : List ℕ) (own status : ℕ) → IsMessage command told read text own → IsSaid held held' write text own status
-      → (status ≤ 5) × (status < 4 → IsReportWritten command told held held' status) × (status ≡ 4 → Appends held held' no_memory)
+module _ (command : Command) (input held held' : Option (List ℕ)) where
+  by_status : (read write : Bool) (text : List ℕ) (own status : ℕ) → IsMessage command input read text own → IsSaid held held' write text own status
+      → (status ≤ 5) × (status < 4 → IsReportWritten command input held held' status) × (status ≡ 4 → Appends held held' no_memory)
   by_status read true text own status m s = (omega (arith, s.1), λ low. absurd (omega (arith, s.1, low)), λ four. absurd (omega (arith, s.1, four)))
   by_status true false text own status m s =
       (omega (arith, s.1, m.1), λ low. absurd (omega (arith, s.1, m.1, low)), λ four. absurd (omega (arith, s.1, m.1, four)))
   by_status false false text own status (inl r) s =
       let small = report_status_le command r.bytes r.lines r.values own r.report in (
         omega (arith, s.1, small),
-        λ low. record { text = text; reported = subst (IsReported command told text) (sym s.1) r; written = s.0 },
+        λ low. record { text = text; reported = subst (IsReported command input text) (sym s.1) r; written = s.0 },
         λ four. absurd (omega (arith, s.1, small, four)),
       )
   by_status false false text own status (inr n) s =
       (omega (arith, s.1, n.1), λ low. absurd (omega (arith, s.1, n.1, low)), λ four. subst (Appends held held') n.0 s.0)
 
-  message_is_any : (read : Bool) (text : List ℕ) (status : ℕ) → IsMessage command told read text status → IsAnyMessage command told text
+  message_is_any : (read : Bool) (text : List ℕ) (status : ℕ) → IsMessage command input read text status → IsAnyMessage command input text
   message_is_any true text status m = inl m.0
   message_is_any false text status (inl r) = inr (inr (status, r))
   message_is_any false text status (inr n) = inr (inl n.0)

@@ -282,7 +282,7 @@ module _ (script : Script) (budget : ℕ) (shape : Shape) where
   of_task (T.Check failures) text values status is = of_check_report failures text values status is
 
 pub report-printable : (command : Command) (bytes text : List ℕ) (values : ReportValues) (status : ℕ) → IsReport command bytes text values status → IsPrintableText text
-report-printable command bytes text values status (inl is) = of_task is.script command.budget command.shape command.task text values status is.told
+report-printable command bytes text values status (inl is) = of_task is.script command.budget command.shape command.task text values status is.task_report
 report-printable command bytes text values status (inr is) = subst IsPrintableText (sym is.text_is) (of_fault is.fault)
 
 -- ---- the lines of a text

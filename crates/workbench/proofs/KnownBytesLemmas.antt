@@ -42,7 +42,7 @@ take-spliced at n xs ys post within fits =
     ∙ ap (λ l. take at xs ++ take n l) (drop_at (take at xs) (ys ++ post) at front)
     ∙ ap (λ l. take at xs ++ l) (take-append-le n ys post fits)
 
--- the reader gave the front of a buffer, and then the bytes that were put behind it
+-- the reader gave the front of a buffer, and then the bytes that were put after it
 pub Consumes-more : (a b c : Option (List ℕ)) (xs ys post : List ℕ) (at n : ℕ) → at ≤ length xs → n ≤ length ys → Consumes a b (take at xs) → Consumes b c (take n ys)
     → Consumes a c (take (at + n) (take at xs ++ (ys ++ post)))
 Consumes-more a b c xs ys post at n within fits before now =

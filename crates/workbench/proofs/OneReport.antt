@@ -154,7 +154,7 @@ module _ (command : Command) (bytes text text' : List ℕ) (values figures' : Re
   of_script s t =
       let same : s.script ≡ t.script = script_once bytes s.script t.script s.spelled t.spelled in
       one_task t.script command.budget command.shape command.task text text' values figures' status status'
-      (subst (λ script. IsTaskReport command.task script command.budget command.shape text values status) same s.told) t.told
+      (subst (λ script. IsTaskReport command.task script command.budget command.shape text values status) same s.task_report) t.task_report
 
   of_fault : IsReportOfFault bytes text values status → IsReportOfFault bytes text' figures' status' → Alike text values text' figures' × (status ≡ status')
   of_fault s t =

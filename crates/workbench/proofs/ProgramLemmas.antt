@@ -20,13 +20,13 @@ read_as_fault words had texts told unread fault read is same gave found taken =
 
 -- words that came to a command, which was carried out
 pub done_with : {V E H W M : Type 0} (words : Result V E) (texts : V → List Text) (unread : E → WordsFault)
-    (carries_out : Command → H → H → W → W → ℕ → Type 0) (tells : M → WordsFault → M → Type 0) (command : Command)
+    (carries_out : Command → H → H → W → W → ℕ → Type 0) (reports : M → WordsFault → M → Type 0) (command : Command)
     (host host' : H) (output output' : W) (messages : M) (status : ℕ)
     → MatchResult words (λ v. IsReadAs (texts v) (Ok command)) (λ e. Ok command ≡ Err (unread e))
     → carries_out command host host' output output' status
-    → MatchResult words (λ v. IsDone carries_out tells (texts v) host host' output output' messages messages status)
-    (λ e. IsRefused tells (unread e) host host' output output' messages messages status)
-done_with (Ok had) texts unread carries_out tells command host host' output output' messages status read done =
-    inl (record { command = command; spelled = read.0; in_ranges = read.1; done = done; untold = refl })
-done_with (Err e) texts unread carries_out tells command host host' output output' messages status read done =
+    → MatchResult words (λ v. IsDone carries_out reports (texts v) host host' output output' messages messages status)
+    (λ e. IsRefused reports (unread e) host host' output output' messages messages status)
+done_with (Ok had) texts unread carries_out reports command host host' output output' messages status read done =
+    inl (record { command = command; spelled = read.0; in_ranges = read.1; done = done; unreported = refl })
+done_with (Err e) texts unread carries_out reports command host host' output output' messages status read done =
     absurd (subst (λ r. MatchResult r (λ _. Unit {0}) (λ _. ⊥)) read tt)

@@ -10,15 +10,15 @@ use Rattle.workbench.specs.JsonReport.{laid_out}
 use Rattle.workbench.specs.Report.{IsReport, no_memory, read_fault}
 use Rattle.wb_streams.specs.Streams.{AppendsFirst, Came, Reads, Writes}
 
--- the bytes are the first of those that a reader tells, where it does, and never more than this
-pub record AreFirst (most : ℕ) (told : Option (List ℕ)) (bytes : List ℕ) : Type 0 where
+-- the bytes are the first of those that a reader holds, if its bytes are known, and never more than this
+pub record AreFirst (most : ℕ) (input : Option (List ℕ)) (bytes : List ℕ) : Type 0 where
   pub within : length bytes ≤ most
-  pub first : IfSome told (λ all. bytes ≡ take most all)
+  pub first : IfSome input (λ all. bytes ≡ take most all)
 
--- the report of the command on the first bytes that the reader tells, one more than a script may have, laid out as the command wants it
-pub record IsReported (command : Command) (told : Option (List ℕ)) (text : List ℕ) (status : ℕ) : Type 0 where
+-- the report of the command on the first bytes that the reader holds, one more than a script may have, laid out as the command wants it
+pub record IsReported (command : Command) (input : Option (List ℕ)) (text : List ℕ) (status : ℕ) : Type 0 where
   pub bytes : List ℕ
-  pub read : AreFirst (LONGEST_SCRIPT + 1) told bytes
+  pub read : AreFirst (LONGEST_SCRIPT + 1) input bytes
   pub lines : List ℕ
   pub values : ReportValues
   pub report : IsReport command bytes lines values status
@@ -33,10 +33,10 @@ is_read_fault _ = false
 
 -- what is to be written, and the status that goes with it, where a read failed and where none did
 abbrev pub IsMessage : Command → Option (List ℕ) → Bool → List ℕ → ℕ → Type 0
-IsMessage command told true text status = (text ≡ read_fault) × (status ≡ 5)
-IsMessage command told false text status = IsReported command told text status ⊎ ((text ≡ no_memory) × (status ≡ 4))
+IsMessage command input true text status = (text ≡ read_fault) × (status ≡ 5)
+IsMessage command input false text status = IsReported command input text status ⊎ ((text ≡ no_memory) × (status ≡ 4))
 
--- a write failed, so that only the first of the text went out; or none did, and the text's own status stands
+-- a write failed, so that only the first of the text went out; or none did, and the status is the text's own
 abbrev pub IsSaid : Option (List ℕ) → Option (List ℕ) → Bool → List ℕ → ℕ → ℕ → Type 0
 IsSaid held held' true text own status = AppendsFirst held held' text × (status ≡ 5)
 IsSaid held held' false text own status = Appends held held' text × (status ≡ own)
@@ -62,17 +62,17 @@ pub record IsAnswer {R W : Type 0} (remaining : R → Option (List ℕ)) (reads 
 -- ---- the answer, by its status
 
 -- the whole report went out
-pub record IsReportWritten (command : Command) (told held held' : Option (List ℕ)) (status : ℕ) : Type 0 where
+pub record IsReportWritten (command : Command) (input held held' : Option (List ℕ)) (status : ℕ) : Type 0 where
   pub text : List ℕ
-  pub reported : IsReported command told text status
+  pub reported : IsReported command input text status
   pub written : Appends held held' text
 
 -- a text that the command may be answered with
 abbrev pub IsAnyMessage : Command → Option (List ℕ) → List ℕ → Type 0
-IsAnyMessage command told text = (text ≡ read_fault) ⊎ (text ≡ no_memory) ⊎ ((status : ℕ) × IsReported command told text status)
+IsAnyMessage command input text = (text ≡ read_fault) ⊎ (text ≡ no_memory) ⊎ ((status : ℕ) × IsReported command input text status)
 
 -- the first of such a text went out, or all of it
-pub record IsPartWritten (command : Command) (told held held' : Option (List ℕ)) : Type 0 where
+pub record IsPartWritten (command : Command) (input held held' : Option (List ℕ)) : Type 0 where
   pub text : List ℕ
-  pub message : IsAnyMessage command told text
+  pub message : IsAnyMessage command input text
   pub written : AppendsFirst held held' text

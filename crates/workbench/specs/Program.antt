@@ -58,33 +58,33 @@ IsCarriedOut lends opens from_input from_file says command host host' output out
     IsAnsweredFrom (λ h f. opens h name (Some f)) (from_file command) host host' output output' status
     ⊎ (opens host name None host' × says output output' status))
 
--- the fault is told, and that is all
-pub record IsRefused {H W M : Type 0} (tells : M → WordsFault → M → Type 0) (fault : WordsFault)
+-- the fault is reported, and that is all
+pub record IsRefused {H W M : Type 0} (reports : M → WordsFault → M → Type 0) (fault : WordsFault)
     (host host' : H) (output output' : W) (messages messages' : M) (status : ℕ) : Type 0 where
-  pub told : tells messages fault messages'
+  pub reported : reports messages fault messages'
   pub unopened : host' ≡ host
   pub unwritten : output' ≡ output
   pub status_is : status ≡ words_status fault
 
--- the words spell a command with its numbers in their ranges, which is carried out, and nothing is told
+-- the words spell a command with its numbers in their ranges, which is carried out, and nothing is reported
 pub record IsObeyed {H W M : Type 0} (carries_out : Command → H → H → W → W → ℕ → Type 0) (words : List Text)
     (host host' : H) (output output' : W) (messages messages' : M) (status : ℕ) : Type 0 where
   pub command : Command
   pub spelled : IsSpelledBy words command
   pub in_ranges : IsTrue (is_answerable command)
   pub done : carries_out command host host' output output' status
-  pub untold : messages' ≡ messages
+  pub unreported : messages' ≡ messages
 
--- the words have a fault, which is told
-pub record IsBlamed {H W M : Type 0} (tells : M → WordsFault → M → Type 0) (words : List Text)
+-- the words have a fault, which is reported
+pub record IsBlamed {H W M : Type 0} (reports : M → WordsFault → M → Type 0) (words : List Text)
     (host host' : H) (output output' : W) (messages messages' : M) (status : ℕ) : Type 0 where
   pub fault : WordsFault
   pub found : IsWordsFault words fault
-  pub refused : IsRefused tells fault host host' output output' messages messages' status
+  pub refused : IsRefused reports fault host host' output output' messages messages' status
 
 -- the program has done what its words ask for
 abbrev pub IsDone : {H W M : Type 0} → (Command → H → H → W → W → ℕ → Type 0) → (M → WordsFault → M → Type 0) → List Text
     → H → H → W → W → M → M → ℕ → Type 0
-IsDone carries_out tells words host host' output output' messages messages' status =
+IsDone carries_out reports words host host' output output' messages messages' status =
     IsObeyed carries_out words host host' output output' messages messages' status
-    ⊎ IsBlamed tells words host host' output output' messages messages' status
+    ⊎ IsBlamed reports words host host' output output' messages messages' status

@@ -65,7 +65,7 @@ IsTaskReport (T.Check failures) script budget shape text values status =
 pub record IsReportOfScript (command : Command) (bytes text : List ℕ) (values : ReportValues) (status : ℕ) : Type 0 where
   pub script : Script
   pub spelled : IsScriptOf bytes script
-  pub told : IsTaskReport command.task script command.budget command.shape text values status
+  pub task_report : IsTaskReport command.task script command.budget command.shape text values status
 
 -- the bytes have a fault, and this is its line
 pub record IsReportOfFault (bytes text : List ℕ) (values : ReportValues) (status : ℕ) : Type 0 where

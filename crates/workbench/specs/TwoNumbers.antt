@@ -53,7 +53,7 @@ abbrev pub cut_at_line : Failing → Why → List ℕ
 cut_at_line at Budget = line (codes "cut " ++ failing_text at ++ codes " budget")
 cut_at_line at Ceiling = line (codes "cut " ++ failing_text at ++ codes " ceiling")
 
--- The length is told. It is the least at which the run meets no refusal of the heap, and for each smaller one the line of the
+-- The length is reported. It is the least at which the run meets no refusal of the heap, and for each smaller one the line of the
 -- table whose range holds it names the first attempt that the heap refuses (`IsHeapLength`). The rows of the table are the rises of
 -- the run without a limit, which isn't cut (`AreRises` says in words what rises are).
 pub record IsSized (script : Script) (budget : ℕ) (shape : Shape) (text : List ℕ) (values : ReportValues) : Type 0 where
@@ -65,7 +65,7 @@ pub record IsSized (script : Script) (budget : ℕ) (shape : Shape) (text : List
   pub text_is : text ≡ size_text required rises
   pub values_are : values ≡ size_values required rises
 
--- no length is told: the run without a limit is cut
+-- no length is reported: the run without a limit is cut
 pub record IsUnsized (script : Script) (budget : ℕ) (shape : Shape) (text : List ℕ) (values : ReportValues) : Type 0 where
   pub why : Why
   pub cut : (run script Unlimited budget shape).outcome ≡ Cut why

@@ -1,4 +1,4 @@
-//! The answer to a command: what is read, what is written, and the exit status. What a report says stands in
+//! The answer to a command: what is read, what is written, and the exit status. What a report says is in
 //! `report`.
 
 ghost use Rattle.std.specs.Prelude.{◌≡◌, ◌+◌, ◌<◌, ◌≤◌, length, take, IfOk, IfSome, IsTrue, OnOk, OnErr, is_err};

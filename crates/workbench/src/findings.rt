@@ -1,4 +1,4 @@
-//! What an answer was made of, for whoever explains it. No contract speaks of it, and no report stands on it.
+//! What an answer was made of, for whoever explains it. No contract speaks of it, and no report depends on it.
 
 use wb_model::failures::Failing;
 use wb_size::Rises;

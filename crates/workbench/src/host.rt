@@ -1,4 +1,4 @@
-//! What the program is run in: files, standard input, and where messages go. What is done with them stands in
+//! What the program is run in: files, standard input, and where messages go. What is done with them is in
 //! `program`.
 //!
 //! What each call does is a relation into which no contract looks, as it is with streams (`streams`).
@@ -87,20 +87,20 @@ impl Host for &HostRuntime {
     }
 }
 
-/// Where the user is told why there is no command.
+/// Where the user is informed why there is no command.
 pub trait Messages {
-    /// What telling it does: what stood there before, the fault, and what stands there after.
-    ghost tells: { Self → Fault → Self → Type 0 };
+    /// What reporting a fault does: what was there before, the fault, and what is there after.
+    ghost reports: { Self → Fault → Self → Type 0 };
 
-    fn tell(&mut self, fault: &WordsFault)
-        ensures { tells self.old fault.now self.new };
+    fn report(&mut self, fault: &WordsFault)
+        ensures { reports self.old fault.now self.new };
 }
 
 impl<W: Write> Messages for W {
-    ghost tells = { λ _ _ _. ⊤ };
+    ghost reports = { λ _ _ _. ⊤ };
 
     /// Whether the message went out makes no difference.
-    fn tell(&mut self, fault: &WordsFault) {
+    fn report(&mut self, fault: &WordsFault) {
         let _ = write!(self, "{fault}");
     }
 }

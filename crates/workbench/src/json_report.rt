@@ -1,4 +1,4 @@
-//! The report as one JSON object. Which report it is stands elsewhere.
+//! The report as one JSON object. Which report it is, is decided elsewhere.
 
 ghost use Rattle.std.specs.Prelude.{◌≡◌, ◌≢◌, ◌∷◌, ◌<◌, [], length, IfOk, map};
 ghost use Rattle.serde_json.specs.View.{view};

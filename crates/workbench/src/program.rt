@@ -36,7 +36,7 @@ pub struct Exit {
 /// Carries out the command that the words spell, and returns the exit status, with what an explanation of the answer needs.
 /// `words` are all of the program's words, its name first, or why they could not be had; all of them are handed to `command`.
 ///
-/// Where they are no command, `messages` is told why, and nothing else is touched: the status is
+/// Where they are no command, `messages` is given the reason, and nothing else is touched: the status is
 /// `COMMAND_LINE_FAULT`, or `WANT_OF_MEMORY` where the memory for the command ran out. Else `messages` is not
 /// touched. The script is what the named file holds, which is opened once, or standard input where none is named,
 /// and `output` is given the answer. Where the file can't be opened that is the line `read fault`, with
@@ -59,9 +59,9 @@ pub fn program<S: AsStr + Drop, H: Host, W: Sink, M: Messages, P: Progress>(
         (IsAnswer H.Input.remaining H.Input.reads W.contents W.writes)
         (IsAnswer H.File.remaining H.File.reads W.contents W.writes)
         (λ old new. IsWritten W.contents W.writes old new read_fault 5))
-        M.tells (map S.text had.items)
+        M.reports (map S.text had.items)
         host.old host.new output.old output.new messages.old messages.new result.status)
-        (λ error. IsRefused M.tells (fault_of_words error)
+        (λ error. IsRefused M.reports (fault_of_words error)
         host.old host.new output.old output.new messages.old messages.new result.status) }
     ensures status { result.status ≤ 6 }
 {
@@ -75,7 +75,7 @@ pub fn program<S: AsStr + Drop, H: Host, W: Sink, M: Messages, P: Progress>(
             }
         }
         Err(fault) => {
-            messages.tell(&fault);
+            messages.report(&fault);
             Exit {
                 status: status_of(&fault),
                 command: None,

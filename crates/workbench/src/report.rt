@@ -1,5 +1,5 @@
 //! What a command comes to on the bytes that were read: the whole text, its values, and the exit status. Nothing
-//! is read or written here. What its task comes to on a script stands in `tasks`.
+//! is read or written here. What its task comes to on a script is in `tasks`.
 
 ghost use Rattle.std.specs.Prelude.{◌≡◌, ◌≢◌, ◌++◌, OnOk, IfOk, IsTrue};
 ghost use Rattle.wb_command_line.specs.Command.{is_answerable};
@@ -28,7 +28,7 @@ pub struct Report {
 }
 
 /// The report of a command for the bytes of a script: what its task comes to, or the one line that says why the
-/// bytes are no script. The only error is that memory ran out. `progress` is told of a sweep.
+/// bytes are no script. The only error is that memory ran out. `progress` is notified of a sweep.
 pub fn report_on<P: Progress>(
     alloc: Global,
     command: &Command,

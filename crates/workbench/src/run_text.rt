@@ -1,5 +1,5 @@
 //! The text of a run, line by line. What a line says is said here alone; when a run is reported, and what the
-//! program answers where none is, stand elsewhere.
+//! program answers where none is, are elsewhere.
 
 ghost use Rattle.std.specs.Prelude.{◌≡◌, ◌++◌, OnOk};
 ghost use Rattle.std.specs.List.{flat_map};

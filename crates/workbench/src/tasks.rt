@@ -35,7 +35,7 @@ const FOUND: u8 = 1;
 /// The exit status where a run was cut.
 const CUT: u8 = 3;
 
-/// What the command's task comes to on a script. The only error is that memory ran out. `progress` is told of a sweep.
+/// What the command's task comes to on a script. The only error is that memory ran out. `progress` is notified of a sweep.
 pub fn carry_out<P: Progress>(
     alloc: Global,
     command: &Command,

@@ -24,7 +24,7 @@ pub fn of_item(panic: Panic) -> (&'static str, &'static str) {
     }
 }
 
-/// What the panic means that the release of an object raised behind its destructor, and what to look for.
+/// What the panic means that the release of an object raised after its destructor, and what to look for.
 pub const OF_OBJECT: (&str, &str) = (
     "the object's cell was freed while its destructor ran",
     "`delete` frees the cell itself, after `destroy` has run",

@@ -16,7 +16,7 @@ use wb_model::run::{Leak, Outcome};
 use wb_model::script::Script;
 use wb_pages::Fragment::{Number, Place, Text, Value};
 
-/// The most leaks that are told one by one.
+/// The most leaks that are listed one by one.
 const MOST_LEAKS: usize = 20;
 
 /// Says what a run found: first which attempts failed, if any were to, and then its end.

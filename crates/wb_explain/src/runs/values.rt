@@ -51,7 +51,7 @@ pub struct Meant {
     pub values: Values,
 }
 
-/// The values with which a line raised the panic that ended a run; `None` where nothing is said of any.
+/// The values with which a line raised the panic that ended a run; `None` if nothing is said of any.
 pub fn values_of(machine: &Machine<'_>) -> Option<Meant> {
     let raised = machine.raised_panic()?;
     if raised.raiser != Raiser::Statement {

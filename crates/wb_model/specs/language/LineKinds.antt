@@ -1,5 +1,6 @@
--- The tables of the language: for each line kind the word that begins its lines, what is after it, and what its lines are to
--- the grammar of blocks; and for each operand place the words that are grammatical there, and the operand kinds that are right.
+-- The tables of the language: for each line kind the word that begins its lines, what follows it, what its lines are to the
+-- grammar of blocks, and whether they cannot leave; and for each operand place the words that are grammatical there, and the operand
+-- kinds that are right.
 use Rattle.std.specs.Prelude.{ℕ, ◌-◌, List, [], ◌∷◌, ◌++◌, Bool, true, false, not, ◌||◌, Option, Some, None, codes, length, replicate}
 use Rattle.wb_model.specs.declared.script_lines.LineKind.{LineKind}
 use Rattle.wb_model.specs.declared.script_lines.LineKind.TheVariants.{Class, Field, ClassField, Constructor, Destructor, Proc, Op, Ptr, ClassPtr, Int, Buf, View, Alloc, AllocL, Realloc, ReallocL, Free, AllocLen, Store, Load, New, NewLeave, Construct, Delete, Set, SetField, Null, Add, Push, PushObj, PushOp, Pop, PopDestroy, PopCheck, Leave, LeaveIfError, LeaveIfNull, Call, CallTo, Return, ReturnPointer, Mark, MarkEnd, Check, CheckAll, FailNext, FailEvery, FailNone, HNew, HNewL, HRealloc, Copy, Append, Insert, DelText, SetLength, Left, Right, Mid, GetLen, GetMax, Print, Heap, Available, Compress, IfNull, IfSome, IfEqual, IfLess, Else, Repeat, Trap, End}

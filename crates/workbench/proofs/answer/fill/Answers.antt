@@ -1,4 +1,4 @@
--- Proof: fill. Each read puts its bytes behind those that came before.
+-- Proof: fill. Each read puts its bytes after those that came before.
 use Rattle.std.proofs.Common.{rules}
 use Rattle.workbench.proofs.KnownBytesLemmas.{Consumes-more, Consumes-nothing, taken_before_end, taken_before_fault, taken_front}
 use Rattle.wb_streams.specs.Streams.{none}

@@ -1,4 +1,4 @@
--- Proof: fill. What stands at the front of the buffer is what the reader gave.
+-- Proof: fill. What is at the front of the buffer is what the reader gave.
 use Rattle.std.proofs.Common.{length, ◌-◌, ◌≤◌, take}
 use Rattle.std.specs.Io.KnownBytes.{Consumes}
 use Rattle.wb_streams.specs.Streams.{some_bytes, Tries}
