@@ -67,7 +67,7 @@ pub fn panics_are()
     ensures item { ANOTHER_ITEM_ON_TOP ≡ Workbench 4 }
     ensures left { ITEMS_LEFT ≡ Workbench 5 }
     ensures mark { NO_OPEN_MARK ≡ Workbench 6 }
-    ensures frames { MOST_FRAMES ≡ 128 }
+    ensures frames { TOO_MANY_FRAMES ≡ Workbench 7 }
     ensures shorter { SHORTER_THAN_TEXT ≡ Workbench 8 }
     ensures range { NUMBER_OUT_OF_RANGE ≡ Workbench 9 }
 {}
