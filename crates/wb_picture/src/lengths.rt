@@ -223,7 +223,7 @@ fn put_rise(
     open_line(text, "rise strong", line)?;
     put_rise_title(text, lines, step)?;
     close_line(text)?;
-    put_rise_number(text, x, y, step.last.number, pen)
+    put_rise_number(text, scale, step.column, &step.last, pen)
 }
 
 fn put_rise_title(
@@ -244,21 +244,23 @@ fn put_rise_title(
     lines.put_line(text, step.first.line)
 }
 
-/// Writes the number of a rise to the left of its line's beginning, unless it would be over the last one.
+/// Writes the number of a rise above the beginning of its line, unless it would be over the last one or past the frame.
 fn put_rise_number(
     text: &mut String,
-    x: u32,
-    y: u32,
-    number: u32,
+    scale: &Scale,
+    column: u32,
+    rise: &LocatedAttempt,
     pen: &mut Pen,
 ) -> Result<(), AllocError> {
-    let width = width_of_number(number);
+    let (x, y) = (scale.x(column), scale.y(rise.top()));
+    let width = width_of_number(rise.number);
     let is_clear = y.saturating_add(11) < pen.y
         || x > pen.x.saturating_add(width).saturating_add(4);
-    if !is_clear {
+    let left = x.saturating_add(3);
+    if !is_clear || left.saturating_add(width) > scale.frame.right() {
         return Ok(());
     }
     pen.x = x;
     pen.y = y;
-    put_number(text, "", x.saturating_add(3), y.saturating_sub(3), number)
+    put_number(text, "", left, y.saturating_sub(3), rise.number)
 }
