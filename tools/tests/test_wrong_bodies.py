@@ -189,14 +189,16 @@ class WhatNothingUses(unittest.TestCase):
     """What verdicts leave out of a crate, in this repository: no other file may use it."""
 
     def test_worked_cases(self) -> None:
-        name = ".".join(USED_BY_NOTHING).removesuffix(".antt")
+        names = {".".join(it).removesuffix(".antt") for it in USED_BY_NOTHING}
+        folders = {it[-1].removesuffix(".antt") for it in USED_BY_NOTHING}
         crates = Crates()
         files = [it for crate in crates.lines for it in crates.files(crate)]
-        self.assertTrue(any(it.parts[-2:] == USED_BY_NOTHING for it in files))
-        folder = USED_BY_NOTHING[1].removesuffix(".antt")
-        others = [it for it in files if folder not in it.parts]
+        for place in USED_BY_NOTHING:
+            self.assertTrue(any(it.parts[-2:] == place or it.parts[-3:-1] == place for it in files), place)
+        others = [it for it in files if folders.isdisjoint((*it.parts, it.stem))]
         self.assertLess(len(others), len(files))
-        self.assertEqual([it for it in others if f".{name}" in it.read_text(encoding="utf-8")], [])
+        uses = [it for it in others if any(f".{name}" in it.read_text(encoding="utf-8") for name in names)]
+        self.assertEqual(uses, [])
 
 
 @unittest.skipUnless(shutil.which("rt"), "the toolchain is not on the path")
