@@ -1,5 +1,9 @@
 //! The text of an explanation as it is written, fragment by fragment and line by line. What the messages are isn't said here.
 
+ghost use Rattle.std.specs.Prelude.{◌≡◌, ◌++◌, [], ◌∷◌, codes, false, true, string_bytes, IfOk, IsErr};
+ghost use Rattle.std.specs.Char.{encode_utf8};
+ghost use Rattle.std.specs.Fmt.{decimal};
+
 use crate::fragments::Fragment;
 use crate::spots::{Span, Spot};
 use std::alloc::{AllocError, Global};
@@ -39,7 +43,9 @@ fn visible_char(byte: u8) -> char {
 
 impl<'f> Page<'f> {
     /// An empty page about a file with this name.
-    pub fn new(alloc: Global, file: &'f str) -> Page<'f> {
+    pub fn new(alloc: Global, file: &'f str) -> Page<'f>
+        ensures whole { result.is_cut ≡ false }
+    {
         Page {
             file,
             text: String::new(alloc),
@@ -48,7 +54,10 @@ impl<'f> Page<'f> {
     }
 
     /// Returns what was written. The only error is that memory ran out.
-    pub fn whole_text(self) -> Result<String, AllocError> {
+    pub fn whole_text(self) -> Result<String, AllocError>
+        ensures whole { IfOk result (λ text. text ≡ self.entry.text) }
+        ensures cut { self.entry.is_cut ≡ true → IsErr result }
+    {
         if self.is_cut {
             Err(AllocError)
         } else {
@@ -56,13 +65,23 @@ impl<'f> Page<'f> {
         }
     }
 
-    fn add_text(&mut self, text: &str) {
+    fn add_text(&mut self, text: &str)
+        ensures before { self.new.is_cut ≡ false → self.old.is_cut ≡ false }
+        ensures text { self.new.is_cut ≡ false → string_bytes self.new.text
+            ≡ string_bytes self.old.text ++ text.now }
+        ensures file { self.new.file ≡ self.old.file }
+    {
         if !self.is_cut {
             self.is_cut = self.text.push_str(text).is_err();
         }
     }
 
-    fn add_char(&mut self, char: char) {
+    fn add_char(&mut self, char: char)
+        ensures before { self.new.is_cut ≡ false → self.old.is_cut ≡ false }
+        ensures text { self.new.is_cut ≡ false → string_bytes self.new.text
+            ≡ string_bytes self.old.text ++ encode_utf8 char }
+        ensures file { self.new.file ≡ self.old.file }
+    {
         if !self.is_cut {
             self.is_cut = self.text.push(char).is_err();
         }
@@ -91,7 +110,12 @@ impl<'f> Page<'f> {
         }
     }
 
-    fn add_number(&mut self, number: usize) {
+    fn add_number(&mut self, number: usize)
+        ensures before { self.new.is_cut ≡ false → self.old.is_cut ≡ false }
+        ensures text { self.new.is_cut ≡ false → string_bytes self.new.text
+            ≡ string_bytes self.old.text ++ decimal number }
+        ensures file { self.new.file ≡ self.old.file }
+    {
         if !self.is_cut {
             self.is_cut = write!(self.text, "{number}").is_err();
         }
@@ -145,8 +169,13 @@ impl<'f> Page<'f> {
     }
 
     /// Writes a text of a line that goes on.
-    pub fn write_text(&mut self, text: &str) {
-        self.add_text(text);
+    pub fn write_text(&mut self, part: &str)
+        ensures before { self.new.is_cut ≡ false → self.old.is_cut ≡ false }
+        ensures text { self.new.is_cut ≡ false → string_bytes self.new.text
+            ≡ string_bytes self.old.text ++ part.now }
+        ensures file { self.new.file ≡ self.old.file }
+    {
+        self.add_text(part);
     }
 
     /// Writes a word of a line that goes on, between two texts.
@@ -157,18 +186,34 @@ impl<'f> Page<'f> {
     }
 
     /// Ends a line.
-    pub fn end_line(&mut self) {
+    pub fn end_line(&mut self)
+        ensures before { self.new.is_cut ≡ false → self.old.is_cut ≡ false }
+        ensures text { self.new.is_cut ≡ false → string_bytes self.new.text
+            ≡ string_bytes self.old.text ++ 10 ∷ [] }
+        ensures file { self.new.file ≡ self.old.file }
+    {
         self.add_char('\n');
     }
 
     /// Begins a message about the whole file.
-    pub fn begin_file_message(&mut self) {
-        self.add_text(self.file);
+    pub fn begin_file_message(&mut self)
+        ensures before { self.new.is_cut ≡ false → self.old.is_cut ≡ false }
+        ensures text { self.new.is_cut ≡ false → string_bytes self.new.text
+            ≡ (string_bytes self.old.text ++ self.old.file.now) ++ codes ": " }
+        ensures file { self.new.file ≡ self.old.file }
+    {
+        self.write_text(self.file);
         self.add_text(": ");
     }
 
     /// Begins a message about a line of the file, by its number.
-    pub fn begin_message(&mut self, number: usize) {
+    pub fn begin_message(&mut self, number: usize)
+        ensures before { self.new.is_cut ≡ false → self.old.is_cut ≡ false }
+        ensures text { self.new.is_cut ≡ false → string_bytes self.new.text
+            ≡ (((string_bytes self.old.text ++ self.old.file.now) ++ codes ":")
+            ++ decimal number) ++ codes ": " }
+        ensures file { self.new.file ≡ self.old.file }
+    {
         self.add_text(self.file);
         self.add_text(":");
         self.add_number(number);
@@ -176,14 +221,25 @@ impl<'f> Page<'f> {
     }
 
     /// Begins a line that says what to do.
-    pub fn begin_help(&mut self) {
+    pub fn begin_help(&mut self)
+        ensures before { self.new.is_cut ≡ false → self.old.is_cut ≡ false }
+        ensures text { self.new.is_cut ≡ false → string_bytes self.new.text
+            ≡ string_bytes self.old.text ++ codes "help: " }
+        ensures file { self.new.file ≡ self.old.file }
+    {
         self.add_text("help: ");
     }
 
     /// Writes a message about the whole file, by one text.
-    pub fn write_file_text(&mut self, text: &str) {
+    pub fn write_file_text(&mut self, message: &str)
+        ensures before { self.new.is_cut ≡ false → self.old.is_cut ≡ false }
+        ensures text { self.new.is_cut ≡ false → string_bytes self.new.text
+            ≡ (((string_bytes self.old.text ++ self.old.file.now) ++ codes ": ")
+            ++ message.now) ++ 10 ∷ [] }
+        ensures file { self.new.file ≡ self.old.file }
+    {
         self.begin_file_message();
-        self.add_text(text);
+        self.add_text(message);
         self.end_line();
     }
 
@@ -195,7 +251,13 @@ impl<'f> Page<'f> {
     }
 
     /// Writes a message about a line of the file, by its number, and doesn't show the line.
-    pub fn write_message(&mut self, number: usize, text: &str) {
+    pub fn write_message(&mut self, number: usize, text: &str)
+        ensures before { self.new.is_cut ≡ false → self.old.is_cut ≡ false }
+        ensures text { self.new.is_cut ≡ false → string_bytes self.new.text
+            ≡ (((((string_bytes self.old.text ++ self.old.file.now) ++ codes ":")
+            ++ decimal number) ++ codes ": ") ++ text.now) ++ 10 ∷ [] }
+        ensures file { self.new.file ≡ self.old.file }
+    {
         self.begin_message(number);
         self.add_text(text);
         self.end_line();
@@ -261,9 +323,15 @@ impl<'f> Page<'f> {
     }
 
     /// Writes what to do, by one text.
-    pub fn write_help_text(&mut self, text: &str) {
+    pub fn write_help_text(&mut self, advice: &str)
+        ensures before { self.new.is_cut ≡ false → self.old.is_cut ≡ false }
+        ensures text { self.new.is_cut ≡ false → string_bytes self.new.text
+            ≡ ((string_bytes self.old.text ++ codes "help: ") ++ advice.now)
+            ++ 10 ∷ [] }
+        ensures file { self.new.file ≡ self.old.file }
+    {
         self.begin_help();
-        self.add_text(text);
+        self.add_text(advice);
         self.end_line();
     }
 
@@ -275,7 +343,13 @@ impl<'f> Page<'f> {
     }
 
     /// Writes what else there is to know, by one text.
-    pub fn write_note_text(&mut self, text: &str) {
+    pub fn write_note_text(&mut self, text: &str)
+        ensures before { self.new.is_cut ≡ false → self.old.is_cut ≡ false }
+        ensures text { self.new.is_cut ≡ false → string_bytes self.new.text
+            ≡ ((string_bytes self.old.text ++ codes "note: ") ++ text.now)
+            ++ 10 ∷ [] }
+        ensures file { self.new.file ≡ self.old.file }
+    {
         self.add_text("note: ");
         self.add_text(text);
         self.end_line();

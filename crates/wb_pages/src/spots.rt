@@ -1,5 +1,7 @@
 //! Parts of a script's lines that a message is about.
 
+ghost use Rattle.std.specs.Prelude.{◌≡◌, length, slice_get, MatchOption};
+
 use crate::words::Word;
 
 /// A part of a line: the column in which it begins, counted from 0, and its length in bytes.
@@ -21,7 +23,13 @@ pub struct Spot<'a> {
 
 impl<'a> Spot<'a> {
     /// The whole line, and no word of it.
-    pub fn of_line(number: usize, text: &'a [u8]) -> Spot<'a> {
+    pub fn of_line(number: usize, text: &'a [u8]) -> Spot<'a>
+        ensures number { result.number ≡ number }
+        ensures text { result.text.now ≡ text.now }
+        ensures column { result.span.column ≡ 0 }
+        ensures length { result.span.length ≡ length text.now }
+        ensures word { length result.word.now ≡ 0 }
+    {
         Spot {
             number,
             text,
@@ -34,7 +42,15 @@ impl<'a> Spot<'a> {
     }
 
     /// The word with an index, counted from 0, of the line's words; the whole line if there is no such word.
-    pub fn of_word(number: usize, text: &'a [u8], words: &[Word<'a>], index: usize) -> Spot<'a> {
+    pub fn of_word(number: usize, text: &'a [u8], words: &[Word<'a>], index: usize) -> Spot<'a>
+        ensures number { result.number ≡ number }
+        ensures text { result.text.now ≡ text.now }
+        ensures span { MatchOption (slice_get words.now index) (result.span.column ≡ 0)
+            (λ word. result.span.column ≡ word.column) }
+        ensures length { MatchOption (slice_get words.now index)
+            (result.span.length ≡ length text.now)
+            (λ word. result.span.length ≡ length word.text.now) }
+    {
         match words.get(index) {
             Some(word) => Spot {
                 number,

@@ -1,5 +1,7 @@
 //! The words of a line with the columns in which they begin. Which bytes are words is said in `wb_lines`.
 
+ghost use Rattle.std.specs.Prelude.{◌≡◌, length};
+
 use crate::spots::Span;
 use std::alloc::{AllocError, Global};
 use wb_lines::segments::{add_words, is_blank};
@@ -13,7 +15,10 @@ pub struct Word<'a> {
 
 impl<'a> Word<'a> {
     /// The columns that the word takes up.
-    pub fn span(self) -> Span {
+    pub fn span(self) -> Span
+        ensures column { result.column ≡ self.entry.column }
+        ensures length { result.length ≡ length self.entry.text.now }
+    {
         Span {
             column: self.column,
             length: self.text.len(),
