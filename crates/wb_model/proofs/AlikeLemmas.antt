@@ -11,6 +11,7 @@ use Rattle.wb_model.specs.declared.heap.Kind.{Kind}
 use Rattle.wb_model.specs.declared.heap.Kind.TheVariants as K
 use Rattle.wb_model.specs.declared.heap.Answer.{Answer}
 use Rattle.wb_model.specs.declared.heap.Panic.{Panic}
+use Rattle.wb_model.specs.declared.run.Why.TheVariants.{Budget, Ceiling}
 use Rattle.wb_model.specs.declared.text.Base.{Base}
 use Rattle.wb_model.specs.declared.text.Base.TheVariants as B
 use Rattle.wb_model.specs.declared.script.Script.{Script}
@@ -29,7 +30,7 @@ use Rattle.wb_model.specs.heap.Heap.{Heap, AfterAnswer, alloc_request, after_all
 use Rattle.wb_model.specs.meaning.Printable.{ArePrintable}
 use Rattle.wb_model.specs.runs.Throughout.{IsNoteOf, SuitsKind, HoldsItsKind}
 use Rattle.wb_model.specs.meaning.Texts.{Edited, Part}
-use Rattle.wb_model.specs.meaning.State.{Content, words, fields, units, none, State, Way, goes_on, returns, leaves, Process, ends, stops, asks, notes, and_then, on_plain_end, then_do, require, with_some, unless, set_heap}
+use Rattle.wb_model.specs.meaning.State.{Content, words, fields, units, none, State, Way, goes_on, returns, leaves, Stop, panics, is_cut, no_cleanup, Process, ends, stops, asks, notes, and_then, on_plain_end, then_do, require, with_some, unless, set_heap}
 use Rattle.wb_model.specs.meaning.Operands.{raw_words_of, set_field, with_cell, with_fields, with_pointer, set_pointer, set_row}
 use Rattle.wb_model.specs.meaning.Attempts.{attempt, allocate, resized, reallocate, reallocate_longer, grow_if, push, after_growth}
 use Rattle.wb_model.specs.meaning.Reading.{Source, whole, part, set_units, with_writable, with_readable, with_base, with_units, with_room, with_text_cell, write, write_view}
@@ -63,11 +64,18 @@ pub record Lasting : Type 1 where
   pub mark_ended : (ns : List ℕ) (heap : Heap Content) → Holds ns heap → Holds ns (after_mark_end heap)
   pub set : (ns : List ℕ) (heap : Heap Content) (setting : Setting) → Holds ns heap → Holds ns (record heap { setting = setting })
 
+-- what a script stops with of itself; the ceiling cuts a run only where it answers an attempt
+abbrev pub StopsItself : Stop → Type 0
+StopsItself (panics panic) = Unit {0}
+StopsItself (is_cut Budget) = Unit {0}
+StopsItself (is_cut Ceiling) = ⊥
+StopsItself no_cleanup = Unit {0}
+
 -- a fact about the states that a process shows, beside the numbers that attempts got before; each attempt tells whether the
--- setting at the time refuses it
+-- setting at the time refuses it, and no stop is the ceiling's
 abbrev pub Shows : (List ℕ → State → Type 0) → List ℕ → Process → Type 0
 Shows P ns (ends way st) = P ns st
-Shows P ns (stops stop st) = P ns st
+Shows P ns (stops stop st) = P ns st × StopsItself stop
 Shows P ns (asks t cut go) = P ns cut × (t.due ≡ is_due cut.heap.setting) × ((n : ℕ) (a : Answer) → Shows P (n ∷ ns) (go n a))
 Shows P ns (notes q p) = ((st : State) × P ns st × IsNoteOf st q) × Shows P ns p
 
@@ -152,18 +160,18 @@ module _ (L : Lasting) where
       Alike ns (require b panic st go) (require b panic st go')
   unfolding require
   require-alike true _ _ _ _ f h = h
-  require-alike false _ _ _ _ f h = (refl, f)
+  require-alike false _ _ _ _ f h = (refl, (f, tt))
 
   pub with_some-alike : {ns : List ℕ} {A : Type 0} (o : Option A) (panic : Panic) (st : State) (go go' : A → Process) → Fine ns st →
       ((a : A) → o ≡ Some a → Alike ns (go a) (go' a)) → Alike ns (with_some o panic st go) (with_some o panic st go')
   unfolding with_some
   with_some-alike (Some a) _ _ _ _ f h = h a refl
-  with_some-alike None _ _ _ _ f h = (refl, f)
+  with_some-alike None _ _ _ _ f h = (refl, (f, tt))
 
   pub unless-alike : {ns : List ℕ} (o : Option Panic) (st : State) (go go' : State → Process) → Fine ns st → Alike ns (go st) (go' st) →
       Alike ns (unless o st go) (unless o st go')
   unfolding unless
-  unless-alike (Some panic) _ _ _ f h = (refl, f)
+  unless-alike (Some panic) _ _ _ f h = (refl, (f, tt))
   unless-alike None _ _ _ f h = h
 
   pub with_cell-alike : {ns : List ℕ} (st : State) (p : Ptr) (go go' : Cell Content → Process) → Fine ns st →
@@ -270,8 +278,8 @@ module _ (L : Lasting) where
   unfolding with_room
   with_room-alike _ (B.Local i) _ _ f k = k _ _
   with_room-alike _ (B.Cell p) _ _ f k = with_text_cell-alike _ _ _ _ f (λ c us. k _ us)
-  with_room-alike _ B.Nothing _ _ f k = (refl, f)
-  with_room-alike _ (B.Literal i) _ _ f k = (refl, f)
+  with_room-alike _ B.Nothing _ _ f k = (refl, (f, tt))
+  with_room-alike _ (B.Literal i) _ _ f k = (refl, (f, tt))
 
   pub write-alike : {ns : List ℕ} (e : Edited) (st : State) (b : Base) (max : ℕ) → Fine ns st → Alike ns (write e st b max) (write e st b max)
   unfolding write
@@ -280,16 +288,16 @@ module _ (L : Lasting) where
       (refl, (f.0, L.rewritten ns st.heap p (set_units us) (λ c e is. suits-set_units L.script c.head.kind c.content us is) f.1, f.2))
   write-alike (Ok us) _ B.Nothing _ f = (refl, f)
   write-alike (Ok us) _ (B.Literal i) _ f = (refl, f)
-  write-alike (Err panic) _ _ _ f = (refl, f)
+  write-alike (Err panic) _ _ _ f = (refl, (f, tt))
 
   pub write_view-alike : {ns : List ℕ} (e : Result Part Panic) (st : State) (w : ℕ) (s : Source) → Fine ns st → Alike ns (write_view e st w s) (write_view e st w s)
   unfolding write_view
   write_view-alike (Ok p) _ _ _ f = (refl, f)
-  write_view-alike (Err panic) _ _ _ f = (refl, f)
+  write_view-alike (Err panic) _ _ _ f = (refl, (f, tt))
 
   released-alike : {ns : List ℕ} (o : Option (Cell Content)) (p : Ptr) (st : State) → Fine ns st → Alike ns (released o p st) (released o p st)
   unfolding released
-  released-alike None _ _ f = (refl, f)
+  released-alike None _ _ f = (refl, (f, tt))
   released-alike {ns = ns} (Some c) p st f = (refl, (f.0, L.freed ns st.heap p f.1, f.2))
 
   pub release-alike : {ns : List ℕ} (p : Ptr) (st : State) → Fine ns st → Alike ns (release p st) (release p st)

@@ -21,7 +21,7 @@ between L low budget = record L { Counts = Between low budget }
 module _ (L : Lasting) where
   pub shows_weaker : (ns : List ℕ) (low higher budget : ℕ) → low ≤ higher → (p : Process) → Keeps (between L higher budget) ns p → Keeps (between L low budget) ns p
   shows_weaker ns low higher budget le (ends way st) k = ((omega (arith, le, k.0.0), k.0.1), k.1, k.2)
-  shows_weaker ns low higher budget le (stops stop st) k = ((omega (arith, le, k.0.0), k.0.1), k.1, k.2)
+  shows_weaker ns low higher budget le (stops stop st) k = (((omega (arith, le, k.0.0.0), k.0.0.1), k.0.1, k.0.2), k.1)
   shows_weaker ns low higher budget le (asks t cut go) k =
       (((omega (arith, le, k.0.0.0), k.0.0.1), k.0.1, k.0.2), k.1, λ n a. shows_weaker (n ∷ ns) low higher budget le (go n a) (k.2 n a))
   shows_weaker ns low higher budget le (notes q p) k =
@@ -38,7 +38,7 @@ module _ (L : Lasting) where
           let le = ltb-true _ _ e in
           let is = k (record st { steps = st.steps + 1 }) ((omega arith, omega (arith, le)), h, lines) in
           (is.0, shows_weaker ns st.steps (st.steps + 1) budget (omega arith) (go (record st { steps = st.steps + 1 })) is.1)
-      by false e = (refl, ((omega arith, f), h, lines))
+      by false e = (refl, (((omega arith, f), h, lines), tt))
 
   pub piece-alike : (ns : List ℕ) (budget : ℕ) (rec rec' : Meaning) (at : Context) (p : Todo) (st : State) → st.steps ≤ budget → L.Holds ns st.heap → L.Prints st.lines →
       AlikeAll (between L (st.steps + 1) budget) rec rec' → Alike (between L st.steps budget) ns (piece L.script budget rec at p st) (piece L.script budget rec' at p st)

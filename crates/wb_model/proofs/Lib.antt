@@ -37,6 +37,9 @@ pub mod WordLemmas
 pub mod WritingLemmas
 pub mod TraceLemmas
 pub mod SizeLemmas
+pub mod LengthAnswers
+pub mod LengthLemmas
+pub mod LengthTables
 pub mod RuleLemmas
 pub mod SameRuns
 pub mod SweepLemmas

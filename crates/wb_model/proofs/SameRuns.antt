@@ -44,7 +44,7 @@ same_refusal r s no_limit h n end v w one e f = by (simulates r n) refl (simulat
         let left = open_at_0 b in cc
     by false a b c e f = let none : refusal_past (limit_of r) end ≡ None = ap (λ o. refusal_past o end) no_limit in cc
 
-get_after : {A : Type 0} (xs : List A) (x : A) (ys : List A) → slice_get (xs ++ x ∷ ys) (length xs) ≡ Some x
+pub get_after : {A : Type 0} (xs : List A) (x : A) (ys : List A) → slice_get (xs ++ x ∷ ys) (length xs) ≡ Some x
 get_after [] x ys = refl
 get_after (y ∷ ys) x zs =
     let z : length (y ∷ ys) ≡ suc (length ys) = omega arith in

@@ -192,7 +192,7 @@ refused_at-none script budget shape l =
     (λ e. within_none l ts (sym is ∙ e), λ le. is ∙ none_above l 0 ts le)
 
 -- a granted line ends no higher than the highest does
-end_within : (k : ℕ) (ts : List Attempt) (t : Attempt) → slice_get ts k ≡ Some t → end_of_line t ≤ highest_end ts
+pub end_within : (k : ℕ) (ts : List Attempt) (t : Attempt) → slice_get ts k ≡ Some t → end_of_line t ≤ highest_end ts
 end_within k [] t e = cc
 end_within zero (u ∷ ts) t e = let same : u ≡ t = cc in let le = ap end_of_line same in omega arith
 end_within (suc k) (u ∷ ts) t e = let rest = end_within k ts t e in omega arith

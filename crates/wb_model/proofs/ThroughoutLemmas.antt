@@ -51,7 +51,7 @@ module _ (L : Lasting) (budget : ℕ) where
 
   started-keeps : (ns : List ℕ) (o : Option Ptr) (st : State) → Fine B ns st → Alike B ns (started (meaning_of L.script budget) L.script o st) (started (meaning_of L.script budget) L.script o st)
   unfolding started in_main
-  started-keeps ns None st f = (refl, f)
+  started-keeps ns None st f = (refl, (f, tt))
   started-keeps ns (Some p) st f = and_then-alike B _ _ _ _ _ (meaning-keeps ns _ _ _ f) (λ ns w st f. main_trapped-keeps ns _ w st f)
 
   pub process-keeps : L.Holds [] start.heap → L.Prints [] → Keeps B [] (process L.script budget)
@@ -62,7 +62,7 @@ module _ (L : Lasting) (budget : ℕ) where
 throughout : (L : Lasting) (P : ℕ → State → Type 0) → ((ns : List ℕ) (st : State) → AreCounted ns → Fine L ns st → P (length ns) st) →
     (ns : List ℕ) (p : Process) → Keeps L ns p → AreCounted ns → Throughout P (length ns) p
 throughout L P is ns (ends way st) k counted = is ns st counted k
-throughout L P is ns (stops stop st) k counted = is ns st counted k
+throughout L P is ns (stops stop st) k counted = is ns st counted k.0
 throughout L P is ns (asks t cut go) k counted = (
   is ns cut counted k.0,
   λ a.
@@ -135,7 +135,7 @@ settled-holds P rule space (notes q p) a h = by q (λ q. settled-holds P rule sp
 pub settled-shows : (P : State → Type 0) (rule : Rule) (space : Space) (ns : List ℕ) (p : Process) (a : Account) → Shows (λ _ st. P st) ns p →
     P (settled rule space p a).state
 settled-shows P rule space ns (ends way st) a k = k
-settled-shows P rule space ns (stops stop st) a k = k
+settled-shows P rule space ns (stops stop st) a k = k.0
 settled-shows P rule space ns (asks t cut go) a k =
     told (answer_to rule (next_number a) t) (λ w.
     settled-shows P rule space (next_number a ∷ ns) (go (next_number a) w) (recorded space (next_number a) t w a) (k.2 (next_number a) w))

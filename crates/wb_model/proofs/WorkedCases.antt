@@ -11,9 +11,9 @@ pub mod CleanupT
 pub mod Conditions
 pub mod Descriptors
 pub mod ExamplesAToD
-pub mod ExamplesFToL
-pub mod ExamplesMToS
-pub mod ExamplesT
+pub mod ExamplesFToI
+pub mod ExamplesLToR
+pub mod ExamplesSToT
 pub mod Files
 pub mod FirstPath
 pub mod Guide
@@ -22,6 +22,8 @@ pub mod LanguageCToM
 pub mod LanguageNToU
 pub mod LanguageW
 pub mod Leaves
+pub mod LengthsAToP
+pub mod LengthsRToW
 pub mod Machine
 pub mod Marks
 pub mod Operations

@@ -2,10 +2,12 @@
 pub mod Account
 pub mod Agreement
 pub mod FreeSlots
+pub mod Lengths
 pub mod Pairs
 pub mod Rest
 pub mod Rises
 pub mod Run
+pub mod RunEnds
 pub mod Sizes
 pub mod SweepAnswers
 pub mod Sweeps

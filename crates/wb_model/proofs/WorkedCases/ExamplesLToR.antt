@@ -1,10 +1,11 @@
 -- Worked cases of `examples`, each by computing. Written by tools/cases_to_theorems.py; edit nothing here.
 use Rattle.std.specs.Prelude.{◌≡◌, refl, pos, negsuc, [], ◌∷◌, length, Some, None}
-use Rattle.wb_model.specs.declared.failures.Failures.TheVariants.{Single}
+use Rattle.wb_model.specs.declared.failures.Failures.TheVariants.{Single, Every, Pairs}
 use Rattle.wb_model.specs.declared.heap.Rule.TheVariants as R
 use Rattle.wb_model.specs.declared.heap.Panic.TheVariants as P
 use Rattle.wb_model.specs.declared.script.Holder.TheVariants as H
 use Rattle.wb_model.specs.declared.heap.Answer.TheVariants.{Granted, Simulated, Refused}
+use Rattle.wb_model.specs.declared.run_end.RunEnd.TheVariants as E
 use Rattle.wb_model.specs.declared.run.Note.TheVariants.{Heap, Available, Compress}
 use Rattle.wb_model.specs.declared.run.Outcome.TheVariants.{Ended, Panicked}
 use Rattle.wb_model.specs.declared.script.Script.{Script}
@@ -14,13 +15,179 @@ use Rattle.wb_model.specs.declared.script.Pointer.TheVariants.{Held, Field}
 use Rattle.wb_model.specs.declared.script.Number.TheVariants.{Constant, Variable}
 use Rattle.wb_model.specs.declared.script.Writable.TheVariants.{InCell}
 use Rattle.wb_model.specs.declared.script.Readable.TheVariants.{Of, Quoted}
-use Rattle.wb_model.specs.declared.script.Condition.TheVariants.{IsNull, NotNull, Equal}
+use Rattle.wb_model.specs.declared.script.Condition.TheVariants.{IsNull, NotNull}
 use Rattle.wb_model.specs.declared.script.Argument.TheVariants.{Passed, Given}
 use Rattle.wb_model.specs.declared.script.Refusal.TheVariants.{GivesNull, Leaves}
 use Rattle.wb_model.specs.declared.script.Statement.TheOpen.{Statement-F}
 use Rattle.wb_model.specs.runs.Run.{run, required, rises}
+use Rattle.wb_model.specs.runs.Lengths.{end_in, run_in}
+use Rattle.wb_model.specs.runs.Pairs.{least_bad_or_cut_pair}
 use Rattle.wb_model.specs.runs.Sweeps.{runs_of, least_bad_or_cut}
 use Rattle.wb_model.proofs.WorkedCases.Shorthands.{everything, on, script, class_of, procedure, body, result, leak, shaped, line, rise}
+
+abbrev script_leak_under_failure_check : Script
+script_leak_under_failure_check = script [] ((procedure 4 [] (body ((OfPointer None) ∷ []) ((on 6 (Statement-F.Alloc (Held (H.Local 0))
+    (Constant (pos 16)) GivesNull)) ∷ (on 7 (Statement-F.Realloc (Held (H.Local 0)) (Held (H.Local 0)) (Constant (pos 32)) GivesNull)) ∷ (on
+    9 (Statement-F.Free (Held (H.Local 0)))) ∷ []))) ∷ []) [] [] 0
+
+leak_under_failure_check : (required script_leak_under_failure_check 10000 (shaped 4096 4096) ≡ 192) × (rises
+    script_leak_under_failure_check 10000 (shaped 4096 4096) ≡ (rise 1 144) ∷ (rise 2 176) ∷ (rise 3 192) ∷ []) × (length (runs_of Single
+    script_leak_under_failure_check 10000 (shaped 4096 4096) 0).trace ≡ 3) × (least_bad_or_cut Single script_leak_under_failure_check 10000
+    (shaped 4096 4096) ≡ Some 3) × (runs_of Single script_leak_under_failure_check 10000 (shaped 4096 4096) 3 ≡ result (Ended None ((leak 2
+    32 144) ∷ [])) ((line 1 144 0 Granted) ∷ (line 2 32 144 Granted) ∷ (line 3 48 144 Simulated) ∷ []) [] [] 3)
+unfolding everything
+leak_under_failure_check = (refl, refl, refl, refl, refl)
+
+abbrev script_leak_under_failure_in_a_large_heap_run : Script
+script_leak_under_failure_in_a_large_heap_run = script [] ((procedure 4 [] (body ((OfPointer None) ∷ []) ((on 6 (Statement-F.Alloc (Held
+    (H.Local 0)) (Constant (pos 16)) GivesNull)) ∷ (on 7 (Statement-F.Realloc (Held (H.Local 0)) (Held (H.Local 0)) (Constant (pos 32))
+    GivesNull)) ∷ (on 9 (Statement-F.Free (Held (H.Local 0)))) ∷ []))) ∷ []) [] [] 0
+
+leak_under_failure_in_a_large_heap_run : run script_leak_under_failure_in_a_large_heap_run R.Unlimited 10000 (shaped 4096 4096) ≡ result
+    (Ended None []) ((line 1 144 0 Granted) ∷ (line 2 32 144 Granted) ∷ (line 3 48 144 Granted) ∷ []) [] [] 3
+unfolding everything
+leak_under_failure_in_a_large_heap_run = refl
+
+abbrev script_leak_under_failure_run : Script
+script_leak_under_failure_run = script [] ((procedure 4 [] (body ((OfPointer None) ∷ []) ((on 6 (Statement-F.Alloc (Held (H.Local 0))
+    (Constant (pos 16)) GivesNull)) ∷ (on 7 (Statement-F.Realloc (Held (H.Local 0)) (Held (H.Local 0)) (Constant (pos 32)) GivesNull)) ∷ (on
+    9 (Statement-F.Free (Held (H.Local 0)))) ∷ []))) ∷ []) [] [] 0
+
+leak_under_failure_run : run script_leak_under_failure_run (R.Number 3) 10000 (shaped 4096 4096) ≡ result (Ended None ((leak 2 32 144) ∷
+    [])) ((line 1 144 0 Granted) ∷ (line 2 32 144 Granted) ∷ (line 3 48 144 Simulated) ∷ []) [] [] 3
+unfolding everything
+leak_under_failure_run = refl
+
+abbrev script_loader_leaks_check : Script
+script_loader_leaks_check = script [] ((procedure 4 [] (body ((OfPointer None) ∷ (OfPointer None) ∷ []) ((on 7 (Statement-F.Alloc (Held
+    (H.Local 0)) (Constant (pos 16)) Leaves)) ∷ (on 8 (Statement-F.Alloc (Held (H.Local 1)) (Constant (pos 4000)) GivesNull)) ∷ (on 9
+    (Statement-F.If (IsNull (Held (H.Local 1))) ((on 10 (Statement-F.Alloc (Held (H.Local 1)) (Constant (pos 2000)) GivesNull)) ∷ []))) ∷
+    (on 12 (Statement-F.If (IsNull (Held (H.Local 1))) ((on 14 (Statement-F.Alloc (Held (H.Local 1)) (Constant (pos 1000)) Leaves)) ∷ [])))
+    ∷ (on 16 (Statement-F.Free (Held (H.Local 1)))) ∷ (on 17 (Statement-F.Free (Held (H.Local 0)))) ∷ []))) ∷ []) [] [] 0
+
+loader_leaks_check : (required script_loader_leaks_check 10000 (shaped 4096 4096) ≡ 4192) × (rises script_loader_leaks_check 10000 (shaped
+    4096 4096) ≡ (rise 1 144) ∷ (rise 2 176) ∷ (rise 3 4192) ∷ []) × (length (runs_of Single script_loader_leaks_check 10000 (shaped 4096
+    4096) 0).trace ≡ 3) × (least_bad_or_cut Single script_loader_leaks_check 10000 (shaped 4096 4096) ≡ None)
+unfolding everything
+loader_leaks_check = (refl, refl, refl, refl)
+
+abbrev script_loader_leaks_every_sweep : Script
+script_loader_leaks_every_sweep = script [] ((procedure 4 [] (body ((OfPointer None) ∷ (OfPointer None) ∷ []) ((on 7 (Statement-F.Alloc
+    (Held (H.Local 0)) (Constant (pos 16)) Leaves)) ∷ (on 8 (Statement-F.Alloc (Held (H.Local 1)) (Constant (pos 4000)) GivesNull)) ∷ (on 9
+    (Statement-F.If (IsNull (Held (H.Local 1))) ((on 10 (Statement-F.Alloc (Held (H.Local 1)) (Constant (pos 2000)) GivesNull)) ∷ []))) ∷
+    (on 12 (Statement-F.If (IsNull (Held (H.Local 1))) ((on 14 (Statement-F.Alloc (Held (H.Local 1)) (Constant (pos 1000)) Leaves)) ∷ [])))
+    ∷ (on 16 (Statement-F.Free (Held (H.Local 1)))) ∷ (on 17 (Statement-F.Free (Held (H.Local 0)))) ∷ []))) ∷ []) [] [] 0
+
+loader_leaks_every_sweep : (length (runs_of Every script_loader_leaks_every_sweep 10000 (shaped 4096 4096) 0).trace ≡ 3) × (least_bad_or_cut
+    Every script_loader_leaks_every_sweep 10000 (shaped 4096 4096) ≡ None)
+unfolding everything
+loader_leaks_every_sweep = (refl, refl)
+
+abbrev script_loader_leaks_in_a_short_heap_run : Script
+script_loader_leaks_in_a_short_heap_run = script [] ((procedure 4 [] (body ((OfPointer None) ∷ (OfPointer None) ∷ []) ((on 7
+    (Statement-F.Alloc (Held (H.Local 0)) (Constant (pos 16)) Leaves)) ∷ (on 8 (Statement-F.Alloc (Held (H.Local 1)) (Constant (pos 4000))
+    GivesNull)) ∷ (on 9 (Statement-F.If (IsNull (Held (H.Local 1))) ((on 10 (Statement-F.Alloc (Held (H.Local 1)) (Constant (pos 2000))
+    GivesNull)) ∷ []))) ∷ (on 12 (Statement-F.If (IsNull (Held (H.Local 1))) ((on 14 (Statement-F.Alloc (Held (H.Local 1)) (Constant (pos
+    1000)) Leaves)) ∷ []))) ∷ (on 16 (Statement-F.Free (Held (H.Local 1)))) ∷ (on 17 (Statement-F.Free (Held (H.Local 0)))) ∷ []))) ∷ []) []
+    [] 0
+
+loader_leaks_in_a_short_heap_run : run script_loader_leaks_in_a_short_heap_run (R.Limit 1199) 10000 (shaped 4096 4096) ≡ result (Ended (Some
+    (negsuc 3)) ((leak 2 32 144) ∷ [])) ((line 1 144 0 Granted) ∷ (line 2 32 144 Granted) ∷ (line 3 4016 176 Refused) ∷ (line 4 2016 176
+    Refused) ∷ (line 5 1024 176 Refused) ∷ []) [] [] 6
+unfolding everything
+loader_leaks_in_a_short_heap_run = refl
+
+abbrev script_loader_leaks_json_lengths : Script
+script_loader_leaks_json_lengths = script [] ((procedure 4 [] (body ((OfPointer None) ∷ (OfPointer None) ∷ []) ((on 7 (Statement-F.Alloc
+    (Held (H.Local 0)) (Constant (pos 16)) Leaves)) ∷ (on 8 (Statement-F.Alloc (Held (H.Local 1)) (Constant (pos 4000)) GivesNull)) ∷ (on 9
+    (Statement-F.If (IsNull (Held (H.Local 1))) ((on 10 (Statement-F.Alloc (Held (H.Local 1)) (Constant (pos 2000)) GivesNull)) ∷ []))) ∷
+    (on 12 (Statement-F.If (IsNull (Held (H.Local 1))) ((on 14 (Statement-F.Alloc (Held (H.Local 1)) (Constant (pos 1000)) Leaves)) ∷ [])))
+    ∷ (on 16 (Statement-F.Free (Held (H.Local 1)))) ∷ (on 17 (Statement-F.Free (Held (H.Local 0)))) ∷ []))) ∷ []) [] [] 0
+
+loader_leaks_json_lengths : (end_in script_loader_leaks_json_lengths 10000 (shaped 4096 4096) 0 ≡ E.NoCleanup) × (end_in
+    script_loader_leaks_json_lengths 10000 (shaped 4096 4096) 143 ≡ E.NoCleanup) × (end_in script_loader_leaks_json_lengths 10000 (shaped
+    4096 4096) 144 ≡ E.Left (negsuc 3)) × (end_in script_loader_leaks_json_lengths 10000 (shaped 4096 4096) 175 ≡ E.Left (negsuc 3)) ×
+    (end_in script_loader_leaks_json_lengths 10000 (shaped 4096 4096) 176 ≡ E.Leaked 1) × (end_in script_loader_leaks_json_lengths 10000
+    (shaped 4096 4096) 1199 ≡ E.Leaked 1) × (end_in script_loader_leaks_json_lengths 10000 (shaped 4096 4096) 1200 ≡ E.Plain) × (end_in
+    script_loader_leaks_json_lengths 10000 (shaped 4096 4096) 16777216 ≡ E.Plain) × (run_in script_loader_leaks_json_lengths 10000 (shaped
+    4096 4096) 176 ≡ result (Ended (Some (negsuc 3)) ((leak 2 32 144) ∷ [])) ((line 1 144 0 Granted) ∷ (line 2 32 144 Granted) ∷ (line 3
+    4016 176 Refused) ∷ (line 4 2016 176 Refused) ∷ (line 5 1024 176 Refused) ∷ []) [] [] 6)
+unfolding everything
+loader_leaks_json_lengths = (refl, refl, refl, refl, refl, refl, refl, refl, refl)
+
+abbrev script_loader_leaks_lengths : Script
+script_loader_leaks_lengths = script [] ((procedure 4 [] (body ((OfPointer None) ∷ (OfPointer None) ∷ []) ((on 7 (Statement-F.Alloc (Held
+    (H.Local 0)) (Constant (pos 16)) Leaves)) ∷ (on 8 (Statement-F.Alloc (Held (H.Local 1)) (Constant (pos 4000)) GivesNull)) ∷ (on 9
+    (Statement-F.If (IsNull (Held (H.Local 1))) ((on 10 (Statement-F.Alloc (Held (H.Local 1)) (Constant (pos 2000)) GivesNull)) ∷ []))) ∷
+    (on 12 (Statement-F.If (IsNull (Held (H.Local 1))) ((on 14 (Statement-F.Alloc (Held (H.Local 1)) (Constant (pos 1000)) Leaves)) ∷ [])))
+    ∷ (on 16 (Statement-F.Free (Held (H.Local 1)))) ∷ (on 17 (Statement-F.Free (Held (H.Local 0)))) ∷ []))) ∷ []) [] [] 0
+
+loader_leaks_lengths : (end_in script_loader_leaks_lengths 10000 (shaped 4096 4096) 0 ≡ E.NoCleanup) × (end_in script_loader_leaks_lengths
+    10000 (shaped 4096 4096) 143 ≡ E.NoCleanup) × (end_in script_loader_leaks_lengths 10000 (shaped 4096 4096) 144 ≡ E.Left (negsuc 3)) ×
+    (end_in script_loader_leaks_lengths 10000 (shaped 4096 4096) 175 ≡ E.Left (negsuc 3)) × (end_in script_loader_leaks_lengths 10000
+    (shaped 4096 4096) 176 ≡ E.Leaked 1) × (end_in script_loader_leaks_lengths 10000 (shaped 4096 4096) 1199 ≡ E.Leaked 1) × (end_in
+    script_loader_leaks_lengths 10000 (shaped 4096 4096) 1200 ≡ E.Plain) × (end_in script_loader_leaks_lengths 10000 (shaped 4096 4096)
+    16777216 ≡ E.Plain) × (run_in script_loader_leaks_lengths 10000 (shaped 4096 4096) 176 ≡ result (Ended (Some (negsuc 3)) ((leak 2 32
+    144) ∷ [])) ((line 1 144 0 Granted) ∷ (line 2 32 144 Granted) ∷ (line 3 4016 176 Refused) ∷ (line 4 2016 176 Refused) ∷ (line 5 1024 176
+    Refused) ∷ []) [] [] 6)
+unfolding everything
+loader_leaks_lengths = (refl, refl, refl, refl, refl, refl, refl, refl, refl)
+
+abbrev script_loader_leaks_mended_check : Script
+script_loader_leaks_mended_check = script [] ((procedure 2 [] (body ((OfPointer None) ∷ (OfPointer None) ∷ []) ((on 5 (Statement-F.Alloc
+    (Held (H.Local 0)) (Constant (pos 16)) Leaves)) ∷ (on 6 (Statement-F.Push (Held (H.Local 0)))) ∷ (on 7 (Statement-F.Alloc (Held (H.Local
+    1)) (Constant (pos 4000)) GivesNull)) ∷ (on 8 (Statement-F.If (IsNull (Held (H.Local 1))) ((on 9 (Statement-F.Alloc (Held (H.Local 1))
+    (Constant (pos 2000)) GivesNull)) ∷ []))) ∷ (on 11 (Statement-F.If (IsNull (Held (H.Local 1))) ((on 12 (Statement-F.Alloc (Held (H.Local
+    1)) (Constant (pos 1000)) Leaves)) ∷ []))) ∷ (on 14 (Statement-F.Free (Held (H.Local 1)))) ∷ (on 15 (Statement-F.PopDestroy (Constant
+    (pos 1)))) ∷ []))) ∷ []) [] [] 0
+
+loader_leaks_mended_check : (required script_loader_leaks_mended_check 10000 (shaped 4096 4096) ≡ 4192) × (rises
+    script_loader_leaks_mended_check 10000 (shaped 4096 4096) ≡ (rise 1 144) ∷ (rise 2 176) ∷ (rise 3 4192) ∷ []) × (length (runs_of Single
+    script_loader_leaks_mended_check 10000 (shaped 4096 4096) 0).trace ≡ 3) × (least_bad_or_cut Single script_loader_leaks_mended_check
+    10000 (shaped 4096 4096) ≡ None)
+unfolding everything
+loader_leaks_mended_check = (refl, refl, refl, refl)
+
+abbrev script_loader_leaks_mended_lengths : Script
+script_loader_leaks_mended_lengths = script [] ((procedure 2 [] (body ((OfPointer None) ∷ (OfPointer None) ∷ []) ((on 5 (Statement-F.Alloc
+    (Held (H.Local 0)) (Constant (pos 16)) Leaves)) ∷ (on 6 (Statement-F.Push (Held (H.Local 0)))) ∷ (on 7 (Statement-F.Alloc (Held (H.Local
+    1)) (Constant (pos 4000)) GivesNull)) ∷ (on 8 (Statement-F.If (IsNull (Held (H.Local 1))) ((on 9 (Statement-F.Alloc (Held (H.Local 1))
+    (Constant (pos 2000)) GivesNull)) ∷ []))) ∷ (on 11 (Statement-F.If (IsNull (Held (H.Local 1))) ((on 12 (Statement-F.Alloc (Held (H.Local
+    1)) (Constant (pos 1000)) Leaves)) ∷ []))) ∷ (on 14 (Statement-F.Free (Held (H.Local 1)))) ∷ (on 15 (Statement-F.PopDestroy (Constant
+    (pos 1)))) ∷ []))) ∷ []) [] [] 0
+
+loader_leaks_mended_lengths : (end_in script_loader_leaks_mended_lengths 10000 (shaped 4096 4096) 0 ≡ E.NoCleanup) × (end_in
+    script_loader_leaks_mended_lengths 10000 (shaped 4096 4096) 143 ≡ E.NoCleanup) × (end_in script_loader_leaks_mended_lengths 10000
+    (shaped 4096 4096) 144 ≡ E.Left (negsuc 3)) × (end_in script_loader_leaks_mended_lengths 10000 (shaped 4096 4096) 1199 ≡ E.Left (negsuc
+    3)) × (end_in script_loader_leaks_mended_lengths 10000 (shaped 4096 4096) 1200 ≡ E.Plain) × (end_in script_loader_leaks_mended_lengths
+    10000 (shaped 4096 4096) 16777216 ≡ E.Plain)
+unfolding everything
+loader_leaks_mended_lengths = (refl, refl, refl, refl, refl, refl)
+
+abbrev script_loader_leaks_pairs_sweep : Script
+script_loader_leaks_pairs_sweep = script [] ((procedure 4 [] (body ((OfPointer None) ∷ (OfPointer None) ∷ []) ((on 7 (Statement-F.Alloc
+    (Held (H.Local 0)) (Constant (pos 16)) Leaves)) ∷ (on 8 (Statement-F.Alloc (Held (H.Local 1)) (Constant (pos 4000)) GivesNull)) ∷ (on 9
+    (Statement-F.If (IsNull (Held (H.Local 1))) ((on 10 (Statement-F.Alloc (Held (H.Local 1)) (Constant (pos 2000)) GivesNull)) ∷ []))) ∷
+    (on 12 (Statement-F.If (IsNull (Held (H.Local 1))) ((on 14 (Statement-F.Alloc (Held (H.Local 1)) (Constant (pos 1000)) Leaves)) ∷ [])))
+    ∷ (on 16 (Statement-F.Free (Held (H.Local 1)))) ∷ (on 17 (Statement-F.Free (Held (H.Local 0)))) ∷ []))) ∷ []) [] [] 0
+
+loader_leaks_pairs_sweep : (length (runs_of Pairs script_loader_leaks_pairs_sweep 10000 (shaped 4096 4096) 0).trace ≡ 3) × (least_bad_or_cut
+    Pairs script_loader_leaks_pairs_sweep 10000 (shaped 4096 4096) ≡ None) × (least_bad_or_cut_pair script_loader_leaks_pairs_sweep 10000
+    (shaped 4096 4096) ≡ None)
+unfolding everything
+loader_leaks_pairs_sweep = (refl, refl, refl)
+
+abbrev script_loader_leaks_sweep : Script
+script_loader_leaks_sweep = script [] ((procedure 4 [] (body ((OfPointer None) ∷ (OfPointer None) ∷ []) ((on 7 (Statement-F.Alloc (Held
+    (H.Local 0)) (Constant (pos 16)) Leaves)) ∷ (on 8 (Statement-F.Alloc (Held (H.Local 1)) (Constant (pos 4000)) GivesNull)) ∷ (on 9
+    (Statement-F.If (IsNull (Held (H.Local 1))) ((on 10 (Statement-F.Alloc (Held (H.Local 1)) (Constant (pos 2000)) GivesNull)) ∷ []))) ∷
+    (on 12 (Statement-F.If (IsNull (Held (H.Local 1))) ((on 14 (Statement-F.Alloc (Held (H.Local 1)) (Constant (pos 1000)) Leaves)) ∷ [])))
+    ∷ (on 16 (Statement-F.Free (Held (H.Local 1)))) ∷ (on 17 (Statement-F.Free (Held (H.Local 0)))) ∷ []))) ∷ []) [] [] 0
+
+loader_leaks_sweep : (length (runs_of Single script_loader_leaks_sweep 10000 (shaped 4096 4096) 0).trace ≡ 3) × (least_bad_or_cut Single
+    script_loader_leaks_sweep 10000 (shaped 4096 4096) ≡ None)
+unfolding everything
+loader_leaks_sweep = (refl, refl)
 
 abbrev script_member_not_cleared_check : Script
 script_member_not_cleared_check = script ((class_of 2 4 (None ∷ []) (Some (body [] ((on 5 (Statement-F.NewText (Field H.This 0 0) (Constant
@@ -230,63 +397,3 @@ retry_leaks_mended_check : (required script_retry_leaks_mended_check 10000 (shap
     (shaped 4096 4096) ≡ None)
 unfolding everything
 retry_leaks_mended_check = (refl, refl, refl, refl)
-
-abbrev script_second_phase_leaks_check : Script
-script_second_phase_leaks_check = script ((class_of 3 4 (None ∷ []) (Some (body [] ((on 6 (Statement-F.NewText (Field H.This 0 0) (Constant
-    (pos 16)) Leaves)) ∷ (on 7 (Statement-F.Copy (InCell (Field H.This 0 0)) (Quoted 0))) ∷ []))) (Some (body [] ((on 10 (Statement-F.Free
-    (Field H.This 0 0))) ∷ [])))) ∷ []) ((procedure 14 [] (body ((OfPointer (Some 0)) ∷ []) ((on 16 (Statement-F.New (Held (H.Local 0)) 0
-    Leaves)) ∷ (on 18 (Statement-F.Construct (Held (H.Local 0)))) ∷ (on 19 (Statement-F.PrintText (Of (InCell (Field (H.Local 0) 0 0))))) ∷
-    (on 20 (Statement-F.Delete (Held (H.Local 0)))) ∷ []))) ∷ []) [] ((109 ∷ 105 ∷ 108 ∷ 107 ∷ []) ∷ []) 0
-
-second_phase_leaks_check : (required script_second_phase_leaks_check 10000 (shaped 4096 4096) ≡ 256) × (rises
-    script_second_phase_leaks_check 10000 (shaped 4096 4096) ≡ (rise 1 144) ∷ (rise 2 192) ∷ (rise 3 256) ∷ []) × (length (runs_of Single
-    script_second_phase_leaks_check 10000 (shaped 4096 4096) 0).trace ≡ 3) × (least_bad_or_cut Single script_second_phase_leaks_check 10000
-    (shaped 4096 4096) ≡ Some 3) × (runs_of Single script_second_phase_leaks_check 10000 (shaped 4096 4096) 3 ≡ result (Ended (Some (negsuc
-    3)) ((leak 2 48 144) ∷ [])) ((line 1 144 0 Granted) ∷ (line 2 48 144 Granted) ∷ (line 3 64 192 Simulated) ∷ []) [] [] 3)
-unfolding everything
-second_phase_leaks_check = (refl, refl, refl, refl, refl)
-
-abbrev script_second_phase_leaks_mended_check : Script
-script_second_phase_leaks_mended_check = script ((class_of 2 4 (None ∷ []) (Some (body [] ((on 5 (Statement-F.NewText (Field H.This 0 0)
-    (Constant (pos 16)) Leaves)) ∷ (on 6 (Statement-F.Copy (InCell (Field H.This 0 0)) (Quoted 0))) ∷ []))) (Some (body [] ((on 9
-    (Statement-F.Free (Field H.This 0 0))) ∷ [])))) ∷ []) ((procedure 13 [] (body ((OfPointer (Some 0)) ∷ []) ((on 15 (Statement-F.New (Held
-    (H.Local 0)) 0 Leaves)) ∷ (on 16 (Statement-F.PushObject (Held (H.Local 0)))) ∷ (on 17 (Statement-F.Construct (Held (H.Local 0)))) ∷ (on
-    18 (Statement-F.ReturnPointer (Held (H.Local 0)))) ∷ []))) ∷ (procedure 21 [] (body ((OfPointer (Some 0)) ∷ []) ((on 23
-    (Statement-F.CallTo 0 0 [])) ∷ (on 24 (Statement-F.PrintText (Of (InCell (Field (H.Local 0) 0 0))))) ∷ (on 25 (Statement-F.PopDestroy
-    (Constant (pos 1)))) ∷ []))) ∷ []) [] ((109 ∷ 105 ∷ 108 ∷ 107 ∷ []) ∷ []) 1
-
-second_phase_leaks_mended_check : (required script_second_phase_leaks_mended_check 10000 (shaped 4096 4096) ≡ 256) × (rises
-    script_second_phase_leaks_mended_check 10000 (shaped 4096 4096) ≡ (rise 1 144) ∷ (rise 2 192) ∷ (rise 3 256) ∷ []) × (length (runs_of
-    Single script_second_phase_leaks_mended_check 10000 (shaped 4096 4096) 0).trace ≡ 3) × (least_bad_or_cut Single
-    script_second_phase_leaks_mended_check 10000 (shaped 4096 4096) ≡ None)
-unfolding everything
-second_phase_leaks_mended_check = (refl, refl, refl, refl)
-
-abbrev script_swallowed_leave_check : Script
-script_swallowed_leave_check = script [] ((procedure 2 [] (body ((OfPointer None) ∷ OfNumber ∷ []) ((on 5 (Statement-F.Trap 1 ((on 6
-    (Statement-F.NewText (Held (H.Local 0)) (Constant (pos 8)) Leaves)) ∷ []))) ∷ (on 9 (Statement-F.Append (InCell (Held (H.Local 0)))
-    (Quoted 0))) ∷ (on 10 (Statement-F.PrintText (Of (InCell (Held (H.Local 0)))))) ∷ (on 11 (Statement-F.Free (Held (H.Local 0)))) ∷ [])))
-    ∷ []) [] ((103 ∷ 117 ∷ 101 ∷ 115 ∷ 116 ∷ []) ∷ []) 0
-
-swallowed_leave_check : (required script_swallowed_leave_check 10000 (shaped 4096 4096) ≡ 192) × (rises script_swallowed_leave_check 10000
-    (shaped 4096 4096) ≡ (rise 1 144) ∷ (rise 2 192) ∷ []) × (length (runs_of Single script_swallowed_leave_check 10000 (shaped 4096 4096)
-    0).trace ≡ 2) × (least_bad_or_cut Single script_swallowed_leave_check 10000 (shaped 4096 4096) ≡ Some 2) × (runs_of Single
-    script_swallowed_leave_check 10000 (shaped 4096 4096) 2 ≡ result (Panicked (P.Workbench 1)) ((line 1 144 0 Granted) ∷ (line 2 48 144
-    Simulated) ∷ []) [] [] 3)
-unfolding everything
-swallowed_leave_check = (refl, refl, refl, refl, refl)
-
-abbrev script_swallowed_leave_mended_check : Script
-script_swallowed_leave_mended_check = script [] ((procedure 2 [] (body ((OfPointer None) ∷ OfNumber ∷ []) ((on 5 (Statement-F.Trap 1 ((on 6
-    (Statement-F.NewText (Held (H.Local 0)) (Constant (pos 8)) Leaves)) ∷ []))) ∷ (on 8 (Statement-F.IfElse (Equal (Variable 1) (Constant
-    (pos 0))) ((on 9 (Statement-F.Append (InCell (Held (H.Local 0))) (Quoted 0))) ∷ (on 10 (Statement-F.PrintText (Of (InCell (Held (H.Local
-    0)))))) ∷ (on 11 (Statement-F.Free (Held (H.Local 0)))) ∷ []) ((on 13 (Statement-F.PrintText (Quoted 1))) ∷ []))) ∷ []))) ∷ []) [] ((103
-    ∷ 117 ∷ 101 ∷ 115 ∷ 116 ∷ []) ∷ (110 ∷ 111 ∷ 32 ∷ 114 ∷ 111 ∷ 111 ∷ 109 ∷ 32 ∷ 102 ∷ 111 ∷ 114 ∷ 32 ∷ 97 ∷ 32 ∷ 110 ∷ 97 ∷ 109 ∷ 101 ∷
-    []) ∷ []) 0
-
-swallowed_leave_mended_check : (required script_swallowed_leave_mended_check 10000 (shaped 4096 4096) ≡ 192) × (rises
-    script_swallowed_leave_mended_check 10000 (shaped 4096 4096) ≡ (rise 1 144) ∷ (rise 2 192) ∷ []) × (length (runs_of Single
-    script_swallowed_leave_mended_check 10000 (shaped 4096 4096) 0).trace ≡ 2) × (least_bad_or_cut Single
-    script_swallowed_leave_mended_check 10000 (shaped 4096 4096) ≡ None)
-unfolding everything
-swallowed_leave_mended_check = (refl, refl, refl, refl)

@@ -2,21 +2,82 @@
 use Rattle.std.specs.Prelude.{◌≡◌, refl, pos, negsuc, [], ◌∷◌, length, Some, None}
 use Rattle.wb_model.specs.declared.failures.Failures.TheVariants.{Single, Every}
 use Rattle.wb_model.specs.declared.heap.Rule.TheVariants as R
+use Rattle.wb_model.specs.declared.heap.Panic.TheVariants as P
 use Rattle.wb_model.specs.declared.script.Holder.TheVariants as H
 use Rattle.wb_model.specs.declared.heap.Answer.TheVariants.{Granted, Simulated}
-use Rattle.wb_model.specs.declared.run.Outcome.TheVariants.{Ended}
+use Rattle.wb_model.specs.declared.run.Outcome.TheVariants.{Ended, Panicked}
 use Rattle.wb_model.specs.declared.script.Script.{Script}
 use Rattle.wb_model.specs.declared.script.Local.TheVariants.{OfPointer, OfNumber}
-use Rattle.wb_model.specs.declared.script.Pointer.TheVariants.{Held}
+use Rattle.wb_model.specs.declared.script.Pointer.TheVariants.{Held, Field}
 use Rattle.wb_model.specs.declared.script.Number.TheVariants.{Constant, Variable}
 use Rattle.wb_model.specs.declared.script.Writable.TheVariants.{InCell}
-use Rattle.wb_model.specs.declared.script.Readable.TheVariants.{Quoted}
-use Rattle.wb_model.specs.declared.script.Condition.TheVariants.{Less}
+use Rattle.wb_model.specs.declared.script.Readable.TheVariants.{Of, Quoted}
+use Rattle.wb_model.specs.declared.script.Condition.TheVariants.{Equal, Less}
 use Rattle.wb_model.specs.declared.script.Refusal.TheVariants.{Leaves}
 use Rattle.wb_model.specs.declared.script.Statement.TheOpen.{Statement-F}
 use Rattle.wb_model.specs.runs.Run.{run, required, rises}
 use Rattle.wb_model.specs.runs.Sweeps.{runs_of, least_bad_or_cut}
-use Rattle.wb_model.proofs.WorkedCases.Shorthands.{everything, on, script, procedure, body, result, leak, shaped, line, rise}
+use Rattle.wb_model.proofs.WorkedCases.Shorthands.{everything, on, script, class_of, procedure, body, result, leak, shaped, line, rise}
+
+abbrev script_second_phase_leaks_check : Script
+script_second_phase_leaks_check = script ((class_of 3 4 (None ∷ []) (Some (body [] ((on 6 (Statement-F.NewText (Field H.This 0 0) (Constant
+    (pos 16)) Leaves)) ∷ (on 7 (Statement-F.Copy (InCell (Field H.This 0 0)) (Quoted 0))) ∷ []))) (Some (body [] ((on 10 (Statement-F.Free
+    (Field H.This 0 0))) ∷ [])))) ∷ []) ((procedure 14 [] (body ((OfPointer (Some 0)) ∷ []) ((on 16 (Statement-F.New (Held (H.Local 0)) 0
+    Leaves)) ∷ (on 18 (Statement-F.Construct (Held (H.Local 0)))) ∷ (on 19 (Statement-F.PrintText (Of (InCell (Field (H.Local 0) 0 0))))) ∷
+    (on 20 (Statement-F.Delete (Held (H.Local 0)))) ∷ []))) ∷ []) [] ((109 ∷ 105 ∷ 108 ∷ 107 ∷ []) ∷ []) 0
+
+second_phase_leaks_check : (required script_second_phase_leaks_check 10000 (shaped 4096 4096) ≡ 256) × (rises
+    script_second_phase_leaks_check 10000 (shaped 4096 4096) ≡ (rise 1 144) ∷ (rise 2 192) ∷ (rise 3 256) ∷ []) × (length (runs_of Single
+    script_second_phase_leaks_check 10000 (shaped 4096 4096) 0).trace ≡ 3) × (least_bad_or_cut Single script_second_phase_leaks_check 10000
+    (shaped 4096 4096) ≡ Some 3) × (runs_of Single script_second_phase_leaks_check 10000 (shaped 4096 4096) 3 ≡ result (Ended (Some (negsuc
+    3)) ((leak 2 48 144) ∷ [])) ((line 1 144 0 Granted) ∷ (line 2 48 144 Granted) ∷ (line 3 64 192 Simulated) ∷ []) [] [] 3)
+unfolding everything
+second_phase_leaks_check = (refl, refl, refl, refl, refl)
+
+abbrev script_second_phase_leaks_mended_check : Script
+script_second_phase_leaks_mended_check = script ((class_of 2 4 (None ∷ []) (Some (body [] ((on 5 (Statement-F.NewText (Field H.This 0 0)
+    (Constant (pos 16)) Leaves)) ∷ (on 6 (Statement-F.Copy (InCell (Field H.This 0 0)) (Quoted 0))) ∷ []))) (Some (body [] ((on 9
+    (Statement-F.Free (Field H.This 0 0))) ∷ [])))) ∷ []) ((procedure 13 [] (body ((OfPointer (Some 0)) ∷ []) ((on 15 (Statement-F.New (Held
+    (H.Local 0)) 0 Leaves)) ∷ (on 16 (Statement-F.PushObject (Held (H.Local 0)))) ∷ (on 17 (Statement-F.Construct (Held (H.Local 0)))) ∷ (on
+    18 (Statement-F.ReturnPointer (Held (H.Local 0)))) ∷ []))) ∷ (procedure 21 [] (body ((OfPointer (Some 0)) ∷ []) ((on 23
+    (Statement-F.CallTo 0 0 [])) ∷ (on 24 (Statement-F.PrintText (Of (InCell (Field (H.Local 0) 0 0))))) ∷ (on 25 (Statement-F.PopDestroy
+    (Constant (pos 1)))) ∷ []))) ∷ []) [] ((109 ∷ 105 ∷ 108 ∷ 107 ∷ []) ∷ []) 1
+
+second_phase_leaks_mended_check : (required script_second_phase_leaks_mended_check 10000 (shaped 4096 4096) ≡ 256) × (rises
+    script_second_phase_leaks_mended_check 10000 (shaped 4096 4096) ≡ (rise 1 144) ∷ (rise 2 192) ∷ (rise 3 256) ∷ []) × (length (runs_of
+    Single script_second_phase_leaks_mended_check 10000 (shaped 4096 4096) 0).trace ≡ 3) × (least_bad_or_cut Single
+    script_second_phase_leaks_mended_check 10000 (shaped 4096 4096) ≡ None)
+unfolding everything
+second_phase_leaks_mended_check = (refl, refl, refl, refl)
+
+abbrev script_swallowed_leave_check : Script
+script_swallowed_leave_check = script [] ((procedure 2 [] (body ((OfPointer None) ∷ OfNumber ∷ []) ((on 5 (Statement-F.Trap 1 ((on 6
+    (Statement-F.NewText (Held (H.Local 0)) (Constant (pos 8)) Leaves)) ∷ []))) ∷ (on 9 (Statement-F.Append (InCell (Held (H.Local 0)))
+    (Quoted 0))) ∷ (on 10 (Statement-F.PrintText (Of (InCell (Held (H.Local 0)))))) ∷ (on 11 (Statement-F.Free (Held (H.Local 0)))) ∷ [])))
+    ∷ []) [] ((103 ∷ 117 ∷ 101 ∷ 115 ∷ 116 ∷ []) ∷ []) 0
+
+swallowed_leave_check : (required script_swallowed_leave_check 10000 (shaped 4096 4096) ≡ 192) × (rises script_swallowed_leave_check 10000
+    (shaped 4096 4096) ≡ (rise 1 144) ∷ (rise 2 192) ∷ []) × (length (runs_of Single script_swallowed_leave_check 10000 (shaped 4096 4096)
+    0).trace ≡ 2) × (least_bad_or_cut Single script_swallowed_leave_check 10000 (shaped 4096 4096) ≡ Some 2) × (runs_of Single
+    script_swallowed_leave_check 10000 (shaped 4096 4096) 2 ≡ result (Panicked (P.Workbench 1)) ((line 1 144 0 Granted) ∷ (line 2 48 144
+    Simulated) ∷ []) [] [] 3)
+unfolding everything
+swallowed_leave_check = (refl, refl, refl, refl, refl)
+
+abbrev script_swallowed_leave_mended_check : Script
+script_swallowed_leave_mended_check = script [] ((procedure 2 [] (body ((OfPointer None) ∷ OfNumber ∷ []) ((on 5 (Statement-F.Trap 1 ((on 6
+    (Statement-F.NewText (Held (H.Local 0)) (Constant (pos 8)) Leaves)) ∷ []))) ∷ (on 8 (Statement-F.IfElse (Equal (Variable 1) (Constant
+    (pos 0))) ((on 9 (Statement-F.Append (InCell (Held (H.Local 0))) (Quoted 0))) ∷ (on 10 (Statement-F.PrintText (Of (InCell (Held (H.Local
+    0)))))) ∷ (on 11 (Statement-F.Free (Held (H.Local 0)))) ∷ []) ((on 13 (Statement-F.PrintText (Quoted 1))) ∷ []))) ∷ []))) ∷ []) [] ((103
+    ∷ 117 ∷ 101 ∷ 115 ∷ 116 ∷ []) ∷ (110 ∷ 111 ∷ 32 ∷ 114 ∷ 111 ∷ 111 ∷ 109 ∷ 32 ∷ 102 ∷ 111 ∷ 114 ∷ 32 ∷ 97 ∷ 32 ∷ 110 ∷ 97 ∷ 109 ∷ 101 ∷
+    []) ∷ []) 0
+
+swallowed_leave_mended_check : (required script_swallowed_leave_mended_check 10000 (shaped 4096 4096) ≡ 192) × (rises
+    script_swallowed_leave_mended_check 10000 (shaped 4096 4096) ≡ (rise 1 144) ∷ (rise 2 192) ∷ []) × (length (runs_of Single
+    script_swallowed_leave_mended_check 10000 (shaped 4096 4096) 0).trace ≡ 2) × (least_bad_or_cut Single
+    script_swallowed_leave_mended_check 10000 (shaped 4096 4096) ≡ None)
+unfolding everything
+swallowed_leave_mended_check = (refl, refl, refl, refl)
 
 abbrev script_test_loop_check : Script
 script_test_loop_check = script [] ((procedure 3 [] (body ((OfPointer None) ∷ (OfPointer None) ∷ []) ((on 6 (Statement-F.Alloc (Held

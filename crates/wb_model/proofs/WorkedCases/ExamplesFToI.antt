@@ -362,36 +362,3 @@ item_outlives_its_cell_run : run script_item_outlives_its_cell_run R.Unlimited 1
     144 0 Granted) ∷ (line 2 64 144 Granted) ∷ (line 3 112 144 Granted) ∷ []) ((68 ∷ 101 ∷ 97 ∷ 114 ∷ 32 ∷ 65 ∷ 100 ∷ 97 ∷ []) ∷ []) [] 9
 unfolding everything
 item_outlives_its_cell_run = refl
-
-abbrev script_leak_under_failure_check : Script
-script_leak_under_failure_check = script [] ((procedure 4 [] (body ((OfPointer None) ∷ []) ((on 6 (Statement-F.Alloc (Held (H.Local 0))
-    (Constant (pos 16)) GivesNull)) ∷ (on 7 (Statement-F.Realloc (Held (H.Local 0)) (Held (H.Local 0)) (Constant (pos 32)) GivesNull)) ∷ (on
-    9 (Statement-F.Free (Held (H.Local 0)))) ∷ []))) ∷ []) [] [] 0
-
-leak_under_failure_check : (required script_leak_under_failure_check 10000 (shaped 4096 4096) ≡ 192) × (rises
-    script_leak_under_failure_check 10000 (shaped 4096 4096) ≡ (rise 1 144) ∷ (rise 2 176) ∷ (rise 3 192) ∷ []) × (length (runs_of Single
-    script_leak_under_failure_check 10000 (shaped 4096 4096) 0).trace ≡ 3) × (least_bad_or_cut Single script_leak_under_failure_check 10000
-    (shaped 4096 4096) ≡ Some 3) × (runs_of Single script_leak_under_failure_check 10000 (shaped 4096 4096) 3 ≡ result (Ended None ((leak 2
-    32 144) ∷ [])) ((line 1 144 0 Granted) ∷ (line 2 32 144 Granted) ∷ (line 3 48 144 Simulated) ∷ []) [] [] 3)
-unfolding everything
-leak_under_failure_check = (refl, refl, refl, refl, refl)
-
-abbrev script_leak_under_failure_in_a_large_heap_run : Script
-script_leak_under_failure_in_a_large_heap_run = script [] ((procedure 4 [] (body ((OfPointer None) ∷ []) ((on 6 (Statement-F.Alloc (Held
-    (H.Local 0)) (Constant (pos 16)) GivesNull)) ∷ (on 7 (Statement-F.Realloc (Held (H.Local 0)) (Held (H.Local 0)) (Constant (pos 32))
-    GivesNull)) ∷ (on 9 (Statement-F.Free (Held (H.Local 0)))) ∷ []))) ∷ []) [] [] 0
-
-leak_under_failure_in_a_large_heap_run : run script_leak_under_failure_in_a_large_heap_run R.Unlimited 10000 (shaped 4096 4096) ≡ result
-    (Ended None []) ((line 1 144 0 Granted) ∷ (line 2 32 144 Granted) ∷ (line 3 48 144 Granted) ∷ []) [] [] 3
-unfolding everything
-leak_under_failure_in_a_large_heap_run = refl
-
-abbrev script_leak_under_failure_run : Script
-script_leak_under_failure_run = script [] ((procedure 4 [] (body ((OfPointer None) ∷ []) ((on 6 (Statement-F.Alloc (Held (H.Local 0))
-    (Constant (pos 16)) GivesNull)) ∷ (on 7 (Statement-F.Realloc (Held (H.Local 0)) (Held (H.Local 0)) (Constant (pos 32)) GivesNull)) ∷ (on
-    9 (Statement-F.Free (Held (H.Local 0)))) ∷ []))) ∷ []) [] [] 0
-
-leak_under_failure_run : run script_leak_under_failure_run (R.Number 3) 10000 (shaped 4096 4096) ≡ result (Ended None ((leak 2 32 144) ∷
-    [])) ((line 1 144 0 Granted) ∷ (line 2 32 144 Granted) ∷ (line 3 48 144 Simulated) ∷ []) [] [] 3
-unfolding everything
-leak_under_failure_run = refl

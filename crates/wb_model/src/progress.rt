@@ -1,0 +1,44 @@
+//! What tasks of many runs report while they go on. No contract mentions it, and no answer depends on it.
+
+use crate::failures::Failing;
+
+/// Receives how far a sweep, or the search through all lengths, has come. Its calls return nothing, so what is found doesn't
+/// depend on who receives them.
+pub trait Progress {
+    /// A sweep begins, with the run without failure.
+    fn begin(&mut self);
+
+    /// Nothing was found in the run without failure, and runs under failures follow. `last` is how many attempts the run without
+    /// failure makes: the number of the last attempt that is tried alone, or as the first of two, and the last rate.
+    fn begin_failures(&mut self, last: u32);
+
+    /// The run under this failure begins. Called once for each.
+    fn begin_failure(&mut self, at: Failing);
+
+    /// Runs in heaps of all lengths begin.
+    fn begin_lengths(&mut self);
+
+    /// The run in a heap of this length, in bytes, begins. Each is shorter than the one before.
+    fn begin_length(&mut self, length: u32);
+
+    /// The sweep, or the search through all lengths, is over, whatever came of it.
+    fn end(&mut self);
+}
+
+/// Ignores what is reported.
+#[derive(Clone, Copy, Debug)]
+pub struct Silent;
+
+impl Progress for Silent {
+    fn begin(&mut self) {}
+
+    fn begin_failures(&mut self, _last: u32) {}
+
+    fn begin_failure(&mut self, _at: Failing) {}
+
+    fn begin_lengths(&mut self) {}
+
+    fn begin_length(&mut self, _length: u32) {}
+
+    fn end(&mut self) {}
+}

@@ -1,0 +1,54 @@
+//! How a run ended, in one small value: what a table of many runs has in place of an `Outcome`.
+
+ghost use Rattle.std.specs.Prelude.{◌≡◌};
+ghost use Rattle.wb_model.specs.runs.RunEnds.{end_of, is_bad_end, is_cut_end};
+
+use crate::heap::Panic;
+use crate::run::{Outcome, Why};
+
+/// How a run ended. Of leaks it has only how many they are. Source: this project's profile.
+#[derive(Clone, Copy, Debug, PartialEq, Eq)]
+pub enum RunEnd {
+    /// The cleanup stack's own cell was refused, so that `main` did not begin.
+    NoCleanup,
+    Panicked(Panic),
+    /// `main` ended, plainly or by a leave, and so many cells were still live: at least one.
+    Leaked(usize),
+    /// `main` was left with this code, and nothing leaked.
+    Left(i32),
+    /// `main` ended plainly, and nothing leaked.
+    Plain,
+    Cut(Why),
+}
+
+impl RunEnd {
+    /// How a run with this outcome ended.
+    pub fn of(outcome: &Outcome) -> RunEnd
+        ensures { result ≡ end_of outcome.now }
+    {
+        match outcome {
+            Outcome::Ended { left, leaks } if leaks.len() == 0 => match left {
+                None => RunEnd::Plain,
+                Some(code) => RunEnd::Left(*code),
+            },
+            Outcome::Ended { left: _, leaks } => RunEnd::Leaked(leaks.len()),
+            Outcome::Panicked(panic) => RunEnd::Panicked(*panic),
+            Outcome::NoCleanup => RunEnd::NoCleanup,
+            Outcome::Cut(why) => RunEnd::Cut(*why),
+        }
+    }
+
+    /// Whether the run leaked or panicked: what sweeps and tables of lengths look for.
+    pub fn is_bad(self) -> bool
+        ensures { result ≡ is_bad_end self }
+    {
+        matches!(self, RunEnd::Leaked(_) | RunEnd::Panicked(_))
+    }
+
+    /// Whether the run was cut.
+    pub fn is_cut(self) -> bool
+        ensures { result ≡ is_cut_end self }
+    {
+        matches!(self, RunEnd::Cut(_))
+    }
+}
