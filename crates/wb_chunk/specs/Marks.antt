@@ -1,5 +1,5 @@
 -- Words in blocks, each of which bears a mark where it may hold anything but zeros.
-use Rattle.std.specs.Prelude.{◌≡◌, ℕ, ◌/◌, ◌<◌, ◌≤◌, ◌⊎◌, Bool, false, List, slice_index, slice_index_or}
+use Rattle.std.specs.Prelude.{◌≡◌, ℕ, ◌*◌, ◌/◌, ◌<◌, ◌≤◌, ◌⊎◌, Bool, false, List, slice_index, slice_index_or}
 use Rattle.wb_chunk.specs.declared.marks.TheConstants.{BLOCK}
 
 -- whether the block of a word bears a mark
@@ -13,3 +13,7 @@ AreMarked marks words = (k : ℕ) → is_marked marks k ≡ false → slice_inde
 -- the words from one place up to another are marked too, and no word has lost its mark
 abbrev pub MarksToo : List Bool → List Bool → ℕ → ℕ → Type 0
 MarksToo old new first end = (k : ℕ) → is_marked new k ≡ false → (is_marked old k ≡ false) × ((k < first) ⊎ (end ≤ k))
+
+-- no block that begins at this place, in words, or after it bears a mark
+abbrev pub IsUnmarkedFrom : List Bool → ℕ → Type 0
+IsUnmarkedFrom marks end = (block : ℕ) → end ≤ block * BLOCK → slice_index_or marks block false ≡ false

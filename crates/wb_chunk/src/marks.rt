@@ -3,7 +3,7 @@
 
 ghost use Rattle.std.specs.Prelude.{◌≡◌, ◌+◌, ◌*◌, ◌<◌, ◌≤◌, length, replicate};
 ghost use Rattle.std.specs.List.{replace_range};
-ghost use Rattle.wb_chunk.specs.Marks.{AreMarked, MarksToo};
+ghost use Rattle.wb_chunk.specs.Marks.{AreMarked, IsUnmarkedFrom, MarksToo};
 
 /// How many words a block has.
 pub(crate) const BLOCK: usize = 1024;
@@ -61,6 +61,7 @@ pub(crate) fn overwrite(
     requires source_marked { AreMarked source_marks.now source.now }
     ensures same { words.new ≡ source.now }
     ensures marked { AreMarked marks.new words.new }
+    ensures after { IsUnmarkedFrom marks.new (length source.now) }
 {
     let blocks = source.len().div_ceil(BLOCK);
     for block in 0..blocks {

@@ -1,12 +1,12 @@
 //! The calls on the stack.
 
-ghost use Rattle.std.specs.Prelude.{◌≡◌, ◌+◌, ◌^◌, ◌<◌, nat_eq, nat_le, [], ◌∷◌, ◌++◌, None, Some};
+ghost use Rattle.std.specs.Prelude.{◌≡◌, ◌+◌, ◌^◌, ◌<◌, nat_eq, nat_le, [], ◌∷◌, ◌++◌, true, None, Some};
 ghost use Rattle.std.specs.Prelude.{option_map, IfErr, IfNone, IfOk, IfSome, IsOk, OnErr, OnOk, OnSome};
 ghost use Rattle.wb_cleanup.specs.Pushes.{growth, GrowthLeaves, IsButForWords, IsFree, IsUnchanged};
-ghost use Rattle.wb_cleanup.specs.Pushes.{KeepsItems, PushLeaves, RoomLeaves};
+ghost use Rattle.wb_cleanup.specs.Pushes.{KeepsItems, PushLeaves, RoomLeaves, push_made};
 ghost use Rattle.wb_cleanup.specs.Stacks.{IsPopped, IsStack, cell_of, count_of, expected_refusal, items_of};
 ghost use Rattle.wb_cleanup.specs.Stacks.{newest_above, pop_refusal, slots_of};
-ghost use Rattle.wb_model.specs.heap.Debug.{IsSoundDebug, alloc_made, gave_of};
+ghost use Rattle.wb_model.specs.heap.Debug.{IsSoundDebug, alloc_made, gave_of, keeps_rises};
 
 use crate::slots;
 use wb_debug::DebugHeap;
@@ -98,7 +98,7 @@ impl Cleanup {
     ///
     /// A push that doesn't fill the last slot is fine and takes no memory. `Leave` keeps the item and the slots.
     /// `Ceiling` and `NoMemory` leave the stack and the heap as they were, and `NoMemory` never comes in place of
-    /// `Ceiling`. Source: Symbian OS v9 SDK reference, CleanupStack::PushL, and this project's profile for the slots.
+    /// `Ceiling`, nor, where the rises are kept, of a growth that isn't one. Source: Symbian OS v9 SDK reference, CleanupStack::PushL, and this project's profile for the slots.
     pub fn push(&mut self, heap: &mut DebugHeap, item: Item) -> Result<Pushed, NoMemory>
         requires stands { IsStack self.old heap.old }
         requires room { count_of self.old < slots_of self.old }
@@ -106,6 +106,8 @@ impl Cleanup {
         ensures pushed { IfOk result (λ pushed.
             PushLeaves pushed item self.old self.new heap.old heap.new) }
         ensures free { IsFree self.old heap.old → IsOk result }
+        ensures quiet { keeps_rises heap.old ≡ true →
+            (push_made self.old heap.old).debug.rises ≡ heap.old.rises → IsOk result }
         ensures err { OnErr result (IsUnchanged self.old self.new heap.old heap.new) }
         ensures stands { IsStack self.new heap.new }
         ensures sound { IsSoundDebug heap.new }
@@ -128,6 +130,8 @@ impl Cleanup {
         ensures items { KeepsItems self.old self.new heap.old heap.new }
         ensures room { count_of self.new < slots_of self.new }
         ensures free { IsFree self.old heap.old → IsOk result }
+        ensures quiet { keeps_rises heap.old ≡ true →
+            (push_made self.old heap.old).debug.rises ≡ heap.old.rises → IsOk result }
         ensures err { OnErr result (IsUnchanged self.old self.new heap.old heap.new) }
         ensures cut { IfOk result (λ pushed. pushed ≡ Pushed.Ceiling → IsSoundDebug heap.new) }
         ensures err_sound { OnErr result (IsSoundDebug heap.new) }
@@ -148,6 +152,8 @@ impl Cleanup {
             GrowthLeaves pushed self.old self.new heap.old heap.new) }
         ensures items { KeepsItems self.old self.new heap.old heap.new }
         ensures cut { (growth self.old heap.old).gave ≡ Gave.Ceiling → IsOk result }
+        ensures quiet { keeps_rises heap.old ≡ true →
+            (growth self.old heap.old).debug.rises ≡ heap.old.rises → IsOk result }
         ensures err { OnErr result (IsUnchanged self.old self.new heap.old heap.new) }
         ensures stands { IsStack self.new heap.new }
         ensures sound { IsSoundDebug heap.new }

@@ -39,9 +39,8 @@ All-lowered most level (c ∷ cs) all =
     by false = all 0 c.head (omega arith)
 
 pub lowered-kept : (inside : Inside) (heap : LimitedHeap) (from level : ℕ) (tally : Tally) → heap ≡ record inside.heap { row = lowered from inside.heap.row } →
-    IsSoundHeap heap → ((row : List (Cell (List ℕ))) → IsTally inside.tally (headers row) → IsTally tally (headers (lowered from row))) → IsKept inside →
-    IsKept (record inside { heap = heap; level = level; tally = tally })
-lowered-kept inside heap from level tally is sound lower kept =
+    IsSoundHeap heap → IsTally tally (headers heap.row) → IsKept inside → IsKept (record inside { heap = heap; level = level; tally = tally })
+lowered-kept inside heap from level tally is sound tallied kept =
     set-kept (record inside { heap = heap; tally = tally }) heap level inside.setting inside.log refl refl
     (row-kept inside heap (lowered from inside.heap.row) inside.heap.committed tally is (All-lowered inside.attempts from inside.heap.row kept.numbered)
-    (lower inside.heap.row kept.tallied) sound kept)
+    (subst (λ (h : LimitedHeap). IsTally tally (headers h.row)) is tallied) sound kept)

@@ -1,5 +1,6 @@
 -- What is counted of a level, found by its place among the levels, and what an edit there does.
-use Rattle.std.proofs.Common.{◌≡◌, ℕ, zero, suc, ◌+◌, ◌-◌, ◌<◌, ◌≤◌, ◌≢◌, ◌⊎◌, inl, inr, List, [], ◌∷◌, length, get_or, set, Result, Ok, Err, IfOk, IfErr, refl, sym, ap, subst, arith}
+use Rattle.std.proofs.Common.{◌≡◌, ℕ, zero, suc, ◌+◌, ◌-◌, ◌<◌, ◌≤◌, ◌≢◌, ◌⊎◌, inl, inr, List, [], ◌∷◌, length, get_or, set, Result, Ok, Err, IfOk, IfErr, Bool, true, false, cond, refl, sym, ap, ◌∙◌, subst, arith}
+use Rattle.std.specs.Prelude.{nat_eq}
 use Rattle.std.specs.List.{insert, remove}
 use Rattle.std.specs.List.Sorted.{IsSearchInRange, IsBinarySearchResult, IsNonDecreasingBy}
 use Rattle.std.specs.Ordering.{nat_cmp, ordering_index}
@@ -11,10 +12,14 @@ use Rattle.std.proofs.lemmas.Bool.Decides.{nat_tests}
 use Rattle.std.proofs.lemmas.Grind.{common_steps}
 use Rattle.wb_debug.specs.declared.level_counts.Counted.{Counted}
 use Rattle.wb_debug.specs.declared.level_counts.LevelCount.{LevelCount}
-use Rattle.wb_debug.specs.LevelCounts.{IsAt, IsGapFor, IsRising, SetsOnly, counted_at, level_at, no_cells}
+use Rattle.wb_debug.specs.LevelCounts.{Edits, IsAt, IsGapFor, IsRising, LevelCounts, counted_at, joined, level_at, lowered_at, no_cells, set_at, with_more}
 
 abbrev pub no_count : LevelCount
 no_count = record { level = 0; cells = no_cells }
+
+-- the new table has these cells at the level, and at every other level what the old one has
+abbrev pub SetsOnly : List LevelCount → List LevelCount → ℕ → Counted → Type 0
+SetsOnly old new level cells = (q : ℕ) → counted_at new q ≡ set_at old level cells q
 
 -- no count before the index is of the level
 abbrev pub NoneBefore : List LevelCount → ℕ → ℕ → Type 0
@@ -153,3 +158,55 @@ gap_past cs k rises some lower = record {
     go : (j : ℕ) → j < length cs → (j ≡ length cs - 1) ⊎ (j ≡ length cs - 1 → ⊥) → level_at cs j < k
     go j lt (inl last) = rw last lower
     go j lt (inr before) = omega (arith, rises j (length cs - 1) (omega (arith, lt, before)) (omega (arith, lt)), lower)
+
+-- without the outermost count, the levels past it have what they had
+pub counted-past : (cs : List LevelCount) (q : ℕ) → 1 ≤ length cs → level_at cs 0 < q → counted_at (remove cs 0) q ≡ counted_at cs q
+counted-past [] q some past = absurd (omega (arith, some))
+counted-past (c ∷ cs) q some past = grind (arith, nat_tests)
+
+pub gap-past : (cs : List LevelCount) (k at : ℕ) → 1 ≤ length cs → 1 ≤ at → IsGapFor cs k at → IsGapFor (remove cs 0) k (at - 1)
+gap-past [] k at some after gap = absurd (omega (arith, some))
+gap-past (c ∷ cs) k at some after gap = record {
+  in_range = omega (arith, gap.in_range, after);
+  lower_before = λ j lt. gap.lower_before (suc j) (omega arith);
+  higher_after = λ j le lt. gap.higher_after (suc j) (omega arith) (omega (arith, lt));
+}
+
+-- an edit of the table that leaves known what was known
+pub edits-set : (cs new : List LevelCount) (known k : ℕ) (v : Counted) → SetsOnly cs new k v →
+    Edits (set_at cs k v) (record { counts = cs; known_from = known }) (record { counts = new; known_from = known })
+edits-set cs new known k v sets = record { known = omega arith; counts = λ q from. sets q }
+
+-- one that forgets the outermost count
+pub edits-past : (cs new : List LevelCount) (k at : ℕ) (v : Counted) (known later : ℕ) → 1 ≤ at → IsGapFor cs k at →
+    new ≡ insert (remove cs 0) (at - 1) (record { level = k; cells = v }) → known ≤ later → level_at cs 0 < later →
+    Edits (set_at cs k v) (record { counts = cs; known_from = known }) (record { counts = new; known_from = later })
+edits-past cs new k at v known later after gap is fewer past =
+    let some : 1 ≤ length cs = omega (arith, after, gap.in_range) in
+    record {
+      known = fewer;
+      counts = λ q from. ap (λ t. counted_at t q) is ∙ sets-inserted (remove cs 0) k (at - 1) (gap-past cs k at some after gap) v q
+          ∙ ap (λ (x : Counted). cond (nat_eq k q) v x) (counted-past cs q some (omega (arith, past, from)));
+    }
+
+-- the cells of a level under the level below: of one that isn't known, of one that has none, and of one that has some
+pub lowered-unknown : (old : LevelCounts) (level : ℕ) → level < old.known_from → Edits (lowered_at old.counts level) old old
+lowered-unknown old level unknown = record { known = omega arith; counts = λ q from. grind (arith, nat_tests) }
+
+module _ (old mid : LevelCounts) (level : ℕ) (some : 1 ≤ level) (gone : Edits (set_at old.counts level no_cells) old mid) where
+  pub lowered-none : (counted_at old.counts level).count ≡ 0 → Edits (lowered_at old.counts level) old mid
+  lowered-none none = record { known = gone.known; counts = λ q from. grind (arith, nat_tests, gone.counts q from) }
+
+  pub lowered-some : (new : LevelCounts) (ended : Counted) → ended ≡ counted_at old.counts level → 0 < ended.count →
+      Edits (set_at mid.counts (level - 1) (with_more (counted_at mid.counts (level - 1)) ended.count ended.lowest)) mid new →
+      Edits (lowered_at old.counts level) old new
+  lowered-some new ended is many joins = record {
+    known = omega (arith, gone.known, joins.known);
+    counts = λ q from. by q from (nat_eq level q) (nat_eq (level - 1) q) refl refl;
+  }
+    where
+      by : (q : ℕ) → new.known_from ≤ q → (b c : Bool) → nat_eq level q ≡ b → nat_eq (level - 1) q ≡ c →
+          counted_at new.counts q ≡ cond b no_cells (cond c (joined (counted_at old.counts q) (counted_at old.counts level)) (counted_at old.counts q))
+      by q from true c e e' = grind (arith, nat_tests, gone.counts q (omega (arith, joins.known, from)), joins.counts q from)
+      by q from false true e e' = grind (arith, nat_tests, gone.counts q (omega (arith, joins.known, from)), joins.counts q from)
+      by q from false false e e' = grind (arith, nat_tests, gone.counts q (omega (arith, joins.known, from)), joins.counts q from)

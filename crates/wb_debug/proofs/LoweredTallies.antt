@@ -6,12 +6,11 @@ use Rattle.wb_model.specs.declared.heap.Header.{Header}
 use Rattle.wb_model.specs.heap.Heap.{is_cleanup, lower, lowered}
 use Rattle.wb_model.specs.heap.Row.{Cell, headers}
 use Rattle.wb_debug.specs.declared.level_counts.Counted.{Counted}
-use Rattle.wb_debug.specs.declared.level_counts.LevelCount.{LevelCount}
 use Rattle.wb_debug.specs.declared.marks.Levels.TheVariants.{One, All}
-use Rattle.wb_debug.specs.LevelCounts.{counted_at, joined, lowered_at, no_cells, with_more}
+use Rattle.wb_debug.specs.LevelCounts.{Edits, LevelCounts, counted_at, joined, lowered_at, no_cells, with_more}
 use Rattle.wb_debug.specs.Levels.{is_counted}
-use Rattle.wb_debug.specs.Tally.{Tally, number, is_below, AreRight, Edits, IsTally}
-use Rattle.wb_debug.proofs.Tallies.{IsRight, all-right, below-more, below-within, below-zero, more-below, more-within, number-cons, number-parts, on-levels, ones, right-of, same-level}
+use Rattle.wb_debug.specs.Tally.{Tally, number, is_below, AreRight, IsTally}
+use Rattle.wb_debug.proofs.Tallies.{IsRight, all-right, below-more, below-within, below-zero, more-below, more-within, number-cons, number-parts, ones, right-of, same-level}
 
 -- the cells that pass a test, from those that were there
 number-lowered : (test : Header → Bool) (level : ℕ) (row : List (Cell (List ℕ))) →
@@ -182,33 +181,36 @@ module _ (level : ℕ) (some : 1 ≤ level) where
           ∙ right.lowest;
     }
 
-    lowered-right : (old new : List LevelCount) → ((q : ℕ) → counted_at new q ≡ lowered_at old level q) → AreRight old (headers row) → AreRight new below-row
-    lowered-right old new sets right = all-right new below-row (λ q. subst (λ c. IsRight c below-row q) (sym (sets q)) (here q (nat_eq level q) refl))
+    lowered-right : (old new : LevelCounts) → Edits (lowered_at old.counts level) old new → AreRight old (headers row) → AreRight new below-row
+    lowered-right old new edits right = all-right new below-row (λ q known. subst (λ c. IsRight c below-row q) (sym (edits.counts q known)) (here q known (nat_eq level q) refl))
       where
-        below : (q : ℕ) (b : Bool) → nat_eq level q ≡ false → nat_eq (level - 1) q ≡ b →
-            IsRight (cond b (joined (counted_at old q) (counted_at old level)) (counted_at old q)) below-row q
-        below q true other e =
-            subst (λ x. IsRight (joined (counted_at old x) (counted_at old level)) below-row x) (same-level (level - 1) q e)
-            (joined-right (counted_at old (level - 1)) (counted_at old level) (right-of old (headers row) (level - 1) right) (right-of old (headers row) level right))
-        below q false other e =
-            other-right (counted_at old q) q (λ same. absurd (not-both (eq-eqb level q same) other)) (λ same. absurd (not-both (eq-eqb (level - 1) q same) e))
-            (right-of old (headers row) q right)
+        -- a level that is known was known before
+        was : (q : ℕ) → new.known_from ≤ q → IsRight (counted_at old.counts q) (headers row) q
+        was q known = right-of old (headers row) q (omega (arith, edits.known, known)) right
+
+        below : (q : ℕ) → new.known_from ≤ q → (b : Bool) → nat_eq level q ≡ false → nat_eq (level - 1) q ≡ b →
+            IsRight (cond b (joined (counted_at old.counts q) (counted_at old.counts level)) (counted_at old.counts q)) below-row q
+        below q known true other e =
+            let is = same-level (level - 1) q e in
+            subst (λ x. IsRight (joined (counted_at old.counts x) (counted_at old.counts level)) below-row x) is
+            (joined-right (counted_at old.counts (level - 1)) (counted_at old.counts level) (was (level - 1) (omega (arith, known, is))) (was level (omega (arith, known, is))))
+        below q known false other e =
+            other-right (counted_at old.counts q) q (λ same. absurd (not-both (eq-eqb level q same) other)) (λ same. absurd (not-both (eq-eqb (level - 1) q same) e))
+            (was q known)
           where
             not-both : {b : Bool} → b ≡ true → b ≡ false → ⊥
             not-both t f = cc
 
-        here : (q : ℕ) (b : Bool) → nat_eq level q ≡ b →
-            IsRight (cond b no_cells (cond (nat_eq (level - 1) q) (joined (counted_at old q) (counted_at old level)) (counted_at old q))) below-row q
-        here q true e = subst (λ x. IsRight no_cells below-row x) (same-level level q e) ended-right
-        here q false e = below q (nat_eq (level - 1) q) e refl
+        here : (q : ℕ) → new.known_from ≤ q → (b : Bool) → nat_eq level q ≡ b →
+            IsRight (cond b no_cells (cond (nat_eq (level - 1) q) (joined (counted_at old.counts q) (counted_at old.counts level)) (counted_at old.counts q))) below-row q
+        here q known true e = subst (λ x. IsRight no_cells below-row x) (same-level level q e) ended-right
+        here q known false e = below q known (nat_eq (level - 1) q) e refl
 
 -- the end of a mark
 pub tally-lowered : (old new : Tally) (level : ℕ) (row : List (Cell (List ℕ))) → 1 ≤ level → new.total ≡ old.total →
-    Edits (λ before after. (q : ℕ) → counted_at after q ≡ lowered_at before level q) old.levels new.levels →
-    IsTally old (headers row) → IsTally new (headers (lowered level row))
+    Edits (lowered_at old.levels.counts level) old.levels new.levels → IsTally old (headers row) → IsTally new (headers (lowered level row))
 tally-lowered old new level row some total edits tally = record {
   total = total ∙ tally.total ∙ sym (number-lowered (is_counted All) level row
       ∙ number-same (λ h. is_counted All (lower level h)) (is_counted All) (headers row) (λ h. ap (λ k. not (is_cleanup k)) (lower-kind level h)));
-  levels = on-levels (λ before after. (q : ℕ) → counted_at after q ≡ lowered_at before level q) old.levels new.levels (headers row) (headers (lowered level row)) edits
-      (λ before after sets right. lowered-right level some row before after sets right) tally.levels;
+  levels = lowered-right level some row old.levels new.levels edits tally.levels;
 }

@@ -1,5 +1,5 @@
 -- What the live cells come to stays right over what is done to them.
-use Rattle.std.proofs.Common.{◌≡◌, ◌≢◌, ℕ, suc, ◌+◌, ◌-◌, ◌≤◌, min, Bool, true, false, not, ◌&&◌, cond, List, [], ◌∷◌, length, filter, Option, Some, None, IfSome, option_map, AllPairs, refl, sym, ◌∙◌, ap, subst, arith}
+use Rattle.std.proofs.Common.{◌≡◌, ◌≢◌, ℕ, suc, ◌+◌, ◌-◌, ◌≤◌, min, Bool, true, false, not, ◌&&◌, cond, List, [], ◌∷◌, length, filter, Some, None, AllPairs, refl, sym, ◌∙◌, ap, subst, arith}
 use Rattle.std.specs.Prelude.{nat_eq, nat_lt}
 use Rattle.std.proofs.lemmas.Bool.Decides.{nat_tests}
 use Rattle.wb_model.specs.declared.heap.Header.{Header}
@@ -10,9 +10,9 @@ use Rattle.wb_model.proofs.Reallocations.{without-absent, others-apart}
 use Rattle.wb_debug.specs.declared.level_counts.Counted.{Counted}
 use Rattle.wb_debug.specs.declared.level_counts.LevelCount.{LevelCount}
 use Rattle.wb_debug.specs.declared.marks.Levels.TheVariants.{One, All}
-use Rattle.wb_debug.specs.LevelCounts.{SetsOnly, counted_at, one_less, with_more}
+use Rattle.wb_debug.specs.LevelCounts.{Edits, LevelCounts, counted_at, known_at, one_less, set_at, with_more}
 use Rattle.wb_debug.specs.Levels.{is_counted}
-use Rattle.wb_debug.specs.Tally.{Tally, number, is_below, AreRight, Edits, IsTally, IsMore, IsOther}
+use Rattle.wb_debug.specs.Tally.{Tally, number, is_below, AreRight, IsTally, IsMore, IsOther}
 
 -- how many cells that is
 abbrev pub ones : Bool → ℕ
@@ -157,22 +157,22 @@ pub same-level : (a l : ℕ) → nat_eq a l ≡ true → a ≡ l
 same-level a l e = grind (arith, nat_tests)
 
 -- a level's new cells, and those of another
-sets-here : (old new : List LevelCount) (level l : ℕ) (cells : Counted) → SetsOnly old new level cells → nat_eq level l ≡ true → counted_at new l ≡ cells
-sets-here old new level l cells sets e = sets l ∙ ap (λ b. cond b cells (counted_at old l)) e
+sets-here : (counts : List LevelCount) (level l : ℕ) (cells : Counted) → nat_eq level l ≡ true → set_at counts level cells l ≡ cells
+sets-here counts level l cells e = ap (λ b. cond b cells (counted_at counts l)) e
 
-sets-other : (old new : List LevelCount) (level l : ℕ) (cells : Counted) → SetsOnly old new level cells → nat_eq level l ≡ false → counted_at new l ≡ counted_at old l
-sets-other old new level l cells sets e = sets l ∙ ap (λ b. cond b cells (counted_at old l)) e
+sets-other : (counts : List LevelCount) (level l : ℕ) (cells : Counted) → nat_eq level l ≡ false → set_at counts level cells l ≡ counted_at counts l
+sets-other counts level l cells e = ap (λ b. cond b cells (counted_at counts l)) e
 
 -- what is right of one level
 pub record IsRight (cells : Counted) (row : List Header) (l : ℕ) : Type 0 where
   pub count : cells.count ≡ number (is_counted (One l)) row
   pub lowest : number (is_below (is_counted (One l)) cells.lowest) row ≡ 0
 
-pub right-of : (counts : List LevelCount) (row : List Header) (l : ℕ) → AreRight counts row → IsRight (counted_at counts l) row l
-right-of counts row l right = record { count = right.counts l; lowest = right.lowest l }
+pub right-of : (levels : LevelCounts) (row : List Header) (l : ℕ) → levels.known_from ≤ l → AreRight levels row → IsRight (counted_at levels.counts l) row l
+right-of levels row l known right = record { count = right.counts l known; lowest = right.lowest l known }
 
-pub all-right : (counts : List LevelCount) (row : List Header) → ((l : ℕ) → IsRight (counted_at counts l) row l) → AreRight counts row
-all-right counts row each = record { counts = λ l. (each l).count; lowest = λ l. (each l).lowest }
+pub all-right : (levels : LevelCounts) (row : List Header) → ((l : ℕ) → levels.known_from ≤ l → IsRight (counted_at levels.counts l) row l) → AreRight levels row
+all-right levels row each = record { counts = λ l known. (each l known).count; lowest = λ l known. (each l known).lowest }
 
 -- a cell that isn't of the level changes nothing for it
 right-past : (row more : List Header) (h : Header) (cells : Counted) (l : ℕ) → is_counted (One l) h ≡ false → IsMore row more h → IsRight cells row l → IsRight cells more l
@@ -190,57 +190,57 @@ right-before row less h cells l past is right = record {
 }
 
 -- a grant
-pub granted-right : (old new : List LevelCount) (row more : List Header) (h : Header) → not (is_cleanup h.kind) ≡ true →
-    SetsOnly old new h.level (with_more (counted_at old h.level) 1 h.place) → IsMore row more h → AreRight old row → AreRight new more
-granted-right old new row more h has sets is right = all-right new more (λ l. by l (nat_eq h.level l) refl)
+pub granted-right : (old new : LevelCounts) (row more : List Header) (h : Header) → not (is_cleanup h.kind) ≡ true →
+    Edits (set_at old.counts h.level (with_more (counted_at old.counts h.level) 1 h.place)) old new → IsMore row more h → AreRight old row → AreRight new more
+granted-right old new row more h has edits is right = all-right new more (λ l known. by l known (nat_eq h.level l) refl)
   where
-    by : (l : ℕ) (b : Bool) → nat_eq h.level l ≡ b → IsRight (counted_at new l) more l
-    by l true e =
+    by : (l : ℕ) → new.known_from ≤ l → (b : Bool) → nat_eq h.level l ≡ b → IsRight (counted_at new.counts l) more l
+    by l known true e =
         let same = same-level h.level l e in
-        let was : IsRight (counted_at old h.level) row l = subst (λ q. IsRight (counted_at old q) row l) (sym same) (right-of old row l right) in
-        let low = more-below (is_counted (One l)) row (counted_at old h.level) 1 h.place was.count was.lowest in
-        subst (λ c. IsRight c more l) (sym (sets-here old new h.level l (with_more (counted_at old h.level) 1 h.place) sets e)) (record {
+        let was : IsRight (counted_at old.counts h.level) row l = subst (λ q. IsRight (counted_at old.counts q) row l) (sym same) (right-of old row l (omega (arith, edits.known, known)) right) in
+        let low = more-below (is_counted (One l)) row (counted_at old.counts h.level) 1 h.place was.count was.lowest in
+        subst (λ c. IsRight c more l) (sym (edits.counts l known ∙ sets-here old.counts h.level l (with_more (counted_at old.counts h.level) 1 h.place) e)) (record {
           count = omega (arith, was.count, is.counts (is_counted (One l)), ap (λ b. ones b) (counts-at h l true has e));
-          lowest = more-lowest (is_counted (One l)) row more h (with_more (counted_at old h.level) 1 h.place).lowest is low
-              (more-within (counted_at old h.level) 1 h.place);
+          lowest = more-lowest (is_counted (One l)) row more h (with_more (counted_at old.counts h.level) 1 h.place).lowest is low
+              (more-within (counted_at old.counts h.level) 1 h.place);
         })
-    by l false e =
-        subst (λ c. IsRight c more l) (sym (sets-other old new h.level l (with_more (counted_at old h.level) 1 h.place) sets e))
-        (right-past row more h (counted_at old l) l (counts-at h l false has e) is (right-of old row l right))
+    by l known false e =
+        subst (λ c. IsRight c more l) (sym (edits.counts l known ∙ sets-other old.counts h.level l (with_more (counted_at old.counts h.level) 1 h.place) e))
+        (right-past row more h (counted_at old.counts l) l (counts-at h l false has e) is (right-of old row l (omega (arith, edits.known, known)) right))
 
 -- a release
-pub released-right : (old new : List LevelCount) (row less : List Header) (h : Header) → not (is_cleanup h.kind) ≡ true →
-    SetsOnly old new h.level (one_less (counted_at old h.level)) → IsMore less row h → AreRight old row → AreRight new less
-released-right old new row less h has sets is right = all-right new less (λ l. by l (nat_eq h.level l) refl)
+pub released-right : (old new : LevelCounts) (row less : List Header) (h : Header) → not (is_cleanup h.kind) ≡ true →
+    Edits (set_at old.counts h.level (one_less (counted_at old.counts h.level))) old new → IsMore less row h → AreRight old row → AreRight new less
+released-right old new row less h has edits is right = all-right new less (λ l known. by l known (nat_eq h.level l) refl)
   where
-    by : (l : ℕ) (b : Bool) → nat_eq h.level l ≡ b → IsRight (counted_at new l) less l
-    by l true e =
+    by : (l : ℕ) → new.known_from ≤ l → (b : Bool) → nat_eq h.level l ≡ b → IsRight (counted_at new.counts l) less l
+    by l known true e =
         let same = same-level h.level l e in
-        let was : IsRight (counted_at old h.level) row l = subst (λ q. IsRight (counted_at old q) row l) (sym same) (right-of old row l right) in
-        subst (λ c. IsRight c less l) (sym (sets-here old new h.level l (one_less (counted_at old h.level)) sets e)) (record {
+        let was : IsRight (counted_at old.counts h.level) row l = subst (λ q. IsRight (counted_at old.counts q) row l) (sym same) (right-of old row l (omega (arith, edits.known, known)) right) in
+        subst (λ c. IsRight c less l) (sym (edits.counts l known ∙ sets-here old.counts h.level l (one_less (counted_at old.counts h.level)) e)) (record {
           count = omega (arith, was.count, is.counts (is_counted (One l)), ap (λ b. ones b) (counts-at h l true has e));
-          lowest = omega (arith, was.lowest, is.counts (is_below (is_counted (One l)) (counted_at old h.level).lowest));
+          lowest = omega (arith, was.lowest, is.counts (is_below (is_counted (One l)) (counted_at old.counts h.level).lowest));
         })
-    by l false e =
-        subst (λ c. IsRight c less l) (sym (sets-other old new h.level l (one_less (counted_at old h.level)) sets e))
-        (right-before row less h (counted_at old l) l (counts-at h l false has e) is (right-of old row l right))
+    by l known false e =
+        subst (λ c. IsRight c less l) (sym (edits.counts l known ∙ sets-other old.counts h.level l (one_less (counted_at old.counts h.level)) e))
+        (right-before row less h (counted_at old.counts l) l (counts-at h l false has e) is (right-of old row l (omega (arith, edits.known, known)) right))
 
 -- a cell that has another place
-pub moved-right : (old new : List LevelCount) (row other : List Header) (h g : Header) → not (is_cleanup h.kind) ≡ true → g.kind ≡ h.kind → g.level ≡ h.level →
-    SetsOnly old new h.level (with_more (counted_at old h.level) 0 g.place) → IsOther row other h g → AreRight old row → AreRight new other
-moved-right old new row other h g has kind level sets is right = all-right new other (λ l. by l (nat_eq h.level l) refl)
+pub moved-right : (old new : LevelCounts) (row other : List Header) (h g : Header) → not (is_cleanup h.kind) ≡ true → g.kind ≡ h.kind → g.level ≡ h.level →
+    Edits (set_at old.counts h.level (with_more (counted_at old.counts h.level) 0 g.place)) old new → IsOther row other h g → AreRight old row → AreRight new other
+moved-right old new row other h g has kind level edits is right = all-right new other (λ l known. by l known (nat_eq h.level l) refl)
   where
     has' : not (is_cleanup g.kind) ≡ true
     has' = ap (λ k. not (is_cleanup k)) kind ∙ has
 
-    by : (l : ℕ) (b : Bool) → nat_eq h.level l ≡ b → IsRight (counted_at new l) other l
-    by l true e =
+    by : (l : ℕ) → new.known_from ≤ l → (b : Bool) → nat_eq h.level l ≡ b → IsRight (counted_at new.counts l) other l
+    by l known true e =
         let same = same-level h.level l e in
-        let was : IsRight (counted_at old h.level) row l = subst (λ q. IsRight (counted_at old q) row l) (sym same) (right-of old row l right) in
-        let low = more-below (is_counted (One l)) row (counted_at old h.level) 0 g.place was.count was.lowest in
-        let left : number (is_below (is_counted (One l)) (with_more (counted_at old h.level) 0 g.place).lowest) is.rest ≡ 0 =
-        omega (arith, low, is.less.counts (is_below (is_counted (One l)) (with_more (counted_at old h.level) 0 g.place).lowest)) in
-        subst (λ c. IsRight c other l) (sym (sets-here old new h.level l (with_more (counted_at old h.level) 0 g.place) sets e)) (record {
+        let was : IsRight (counted_at old.counts h.level) row l = subst (λ q. IsRight (counted_at old.counts q) row l) (sym same) (right-of old row l (omega (arith, edits.known, known)) right) in
+        let low = more-below (is_counted (One l)) row (counted_at old.counts h.level) 0 g.place was.count was.lowest in
+        let left : number (is_below (is_counted (One l)) (with_more (counted_at old.counts h.level) 0 g.place).lowest) is.rest ≡ 0 =
+        omega (arith, low, is.less.counts (is_below (is_counted (One l)) (with_more (counted_at old.counts h.level) 0 g.place).lowest)) in
+        subst (λ c. IsRight c other l) (sym (edits.counts l known ∙ sets-here old.counts h.level l (with_more (counted_at old.counts h.level) 0 g.place) e)) (record {
           count = omega (
             arith,
             was.count,
@@ -249,18 +249,18 @@ moved-right old new row other h g has kind level sets is right = all-right new o
             ap (λ b. ones b) (counts-at h l true has e),
             ap (λ b. ones b) (counts-at g l true has' (ap (λ q. nat_eq q l) level ∙ e)),
           );
-          lowest = more-lowest (is_counted (One l)) is.rest other g (with_more (counted_at old h.level) 0 g.place).lowest is.more left
-              (more-within (counted_at old h.level) 0 g.place);
+          lowest = more-lowest (is_counted (One l)) is.rest other g (with_more (counted_at old.counts h.level) 0 g.place).lowest is.more left
+              (more-within (counted_at old.counts h.level) 0 g.place);
         })
-    by l false e =
-        subst (λ c. IsRight c other l) (sym (sets-other old new h.level l (with_more (counted_at old h.level) 0 g.place) sets e))
-        (right-past is.rest other g (counted_at old l) l (counts-at g l false has' (ap (λ q. nat_eq q l) level ∙ e)) is.more
-        (right-before row is.rest h (counted_at old l) l (counts-at h l false has e) is.less (right-of old row l right)))
+    by l known false e =
+        subst (λ c. IsRight c other l) (sym (edits.counts l known ∙ sets-other old.counts h.level l (with_more (counted_at old.counts h.level) 0 g.place) e))
+        (right-past is.rest other g (counted_at old.counts l) l (counts-at g l false has' (ap (λ q. nat_eq q l) level ∙ e)) is.more
+        (right-before row is.rest h (counted_at old.counts l) l (counts-at h l false has e) is.less (right-of old row l (omega (arith, edits.known, known)) right)))
 
 -- or one that is no lower, or of no level
-pub stays-right : (counts : List LevelCount) (row other : List Header) (h g : Header) → g.kind ≡ h.kind → g.level ≡ h.level →
-    (not (is_cleanup h.kind) ≡ true → h.place ≤ g.place) → IsOther row other h g → AreRight counts row → AreRight counts other
-stays-right counts row other h g kind level high is right = all-right counts other (λ l. by l (is_counted (One l) h) refl)
+pub stays-right : (levels : LevelCounts) (row other : List Header) (h g : Header) → g.kind ≡ h.kind → g.level ≡ h.level →
+    (not (is_cleanup h.kind) ≡ true → h.place ≤ g.place) → IsOther row other h g → AreRight levels row → AreRight levels other
+stays-right levels row other h g kind level high is right = all-right levels other (λ l known. by l known (is_counted (One l) h) refl)
   where
     same : (l : ℕ) → is_counted (One l) g ≡ is_counted (One l) h
     same l = ap (λ k. nat_eq g.level l && not (is_cleanup k)) kind ∙ ap (λ q. nat_eq q l && not (is_cleanup h.kind)) level
@@ -269,11 +269,11 @@ stays-right counts row other h g kind level high is right = all-right counts oth
     both true b e = e
     both false b e = cc
 
-    by : (l : ℕ) (b : Bool) → is_counted (One l) h ≡ b → IsRight (counted_at counts l) other l
-    by l true e =
+    by : (l : ℕ) → levels.known_from ≤ l → (b : Bool) → is_counted (One l) h ≡ b → IsRight (counted_at levels.counts l) other l
+    by l known true e =
         let test = is_counted (One l) in
-        let a = (counted_at counts l).lowest in
-        let was = right-of counts row l right in
+        let a = (counted_at levels.counts l).lowest in
+        let was = right-of levels row l known right in
         let here : ones (is_below test a h) ≡ 0 = omega (arith, was.lowest, is.less.counts (is_below test a)) in
         let within : a ≤ h.place = low (nat_lt h.place a) refl (sym (ap (λ b. ones (b && nat_lt h.place a)) e) ∙ here) in
         record {
@@ -282,58 +282,43 @@ stays-right counts row other h g kind level high is right = all-right counts oth
               (omega (arith, within, high (both (nat_eq h.level l) (not (is_cleanup h.kind)) e)));
         }
       where
-        low : (b : Bool) → nat_lt h.place (counted_at counts l).lowest ≡ b → ones b ≡ 0 → (counted_at counts l).lowest ≤ h.place
+        low : (b : Bool) → nat_lt h.place (counted_at levels.counts l).lowest ≡ b → ones b ≡ 0 → (counted_at levels.counts l).lowest ≤ h.place
         low true t none = absurd (omega (arith, none))
         low false t none = grind (arith, nat_tests)
-    by l false e =
-        right-past is.rest other g (counted_at counts l) l (same l ∙ e) is.more (right-before row is.rest h (counted_at counts l) l e is.less (right-of counts row l right))
-
--- the levels that are known
-pub on-levels : (P : List LevelCount → List LevelCount → Type 0) (old new : Option (List LevelCount)) (row other : List Header) → Edits P old new →
-    ((before after : List LevelCount) → P before after → AreRight before row → AreRight after other) → IfSome old (λ levels. AreRight levels row) →
-    IfSome new (λ levels. AreRight levels other)
-on-levels P old None row other edits step right = tt
-on-levels P None (Some after) row other edits step right = absurd edits
-on-levels P (Some before) (Some after) row other edits step right = step before after edits right
+    by l known false e =
+        right-past is.rest other g (counted_at levels.counts l) l (same l ∙ e) is.more (right-before row is.rest h (counted_at levels.counts l) l e is.less (right-of levels row l known right))
 
 -- a grant
 pub tally-granted : (old new : Tally) (row more : List Header) (h : Header) → not (is_cleanup h.kind) ≡ true → new.total ≡ old.total + 1 →
-    Edits (λ before after. SetsOnly before after h.level (with_more (counted_at before h.level) 1 h.place)) old.levels new.levels →
+    Edits (set_at old.levels.counts h.level (with_more (counted_at old.levels.counts h.level) 1 h.place)) old.levels new.levels →
     IsMore row more h → IsTally old row → IsTally new more
 tally-granted old new row more h has total edits is tally = record {
   total = omega (arith, total, tally.total, is.counts (is_counted All), ap ones has);
-  levels = on-levels (λ before after. SetsOnly before after h.level (with_more (counted_at before h.level) 1 h.place)) old.levels new.levels row more edits
-      (λ before after sets right. granted-right before after row more h has sets is right) tally.levels;
+  levels = granted-right old.levels new.levels row more h has edits is tally.levels;
 }
 
 -- a release
 pub tally-released : (old new : Tally) (row less : List Header) (h : Header) → not (is_cleanup h.kind) ≡ true → new.total ≡ old.total - 1 →
-    Edits (λ before after. SetsOnly before after h.level (one_less (counted_at before h.level))) old.levels new.levels →
+    Edits (set_at old.levels.counts h.level (one_less (counted_at old.levels.counts h.level))) old.levels new.levels →
     IsMore less row h → IsTally old row → IsTally new less
 tally-released old new row less h has total edits is tally = record {
   total = omega (arith, total, tally.total, is.counts (is_counted All), ap ones has);
-  levels = on-levels (λ before after. SetsOnly before after h.level (one_less (counted_at before h.level))) old.levels new.levels row less edits
-      (λ before after sets right. released-right before after row less h has sets is right) tally.levels;
+  levels = released-right old.levels new.levels row less h has edits is tally.levels;
 }
-
-some-levels : (levels : Option (List LevelCount)) (row other : List Header) → ((counts : List LevelCount) → AreRight counts row → AreRight counts other) →
-    IfSome levels (λ counts. AreRight counts row) → IfSome levels (λ counts. AreRight counts other)
-some-levels None row other step right = tt
-some-levels (Some counts) row other step right = step counts right
 
 -- a cell of no level
 pub tally-past : (tally : Tally) (row more : List Header) (h : Header) → not (is_cleanup h.kind) ≡ false → IsMore row more h → IsTally tally row → IsTally tally more
 tally-past tally row more h none is right = record {
   total = omega (arith, right.total, is.counts (is_counted All), ap ones none);
-  levels = some-levels tally.levels row more (λ counts was. all-right counts more (λ l. right-past row more h (counted_at counts l) l (no-level h l none) is
-      (right-of counts row l was))) right.levels;
+  levels = all-right tally.levels more (λ l known. right-past row more h (counted_at tally.levels.counts l) l (no-level h l none) is
+      (right-of tally.levels row l known right.levels));
 }
 
 pub tally-before : (tally : Tally) (row less : List Header) (h : Header) → not (is_cleanup h.kind) ≡ false → IsMore less row h → IsTally tally row → IsTally tally less
 tally-before tally row less h none is right = record {
   total = omega (arith, right.total, is.counts (is_counted All), ap ones none);
-  levels = some-levels tally.levels row less (λ counts was. all-right counts less (λ l. right-before row less h (counted_at counts l) l (no-level h l none) is
-      (right-of counts row l was))) right.levels;
+  levels = all-right tally.levels less (λ l known. right-before row less h (counted_at tally.levels.counts l) l (no-level h l none) is
+      (right-of tally.levels row l known right.levels));
 }
 
 -- a cell for another
@@ -342,27 +327,41 @@ same-total row other h g kind is =
     omega (arith, is.less.counts (is_counted All), is.more.counts (is_counted All), ap (λ k. ones (not (is_cleanup k))) kind)
 
 pub tally-moved : (old new : Tally) (row other : List Header) (h g : Header) → not (is_cleanup h.kind) ≡ true → g.kind ≡ h.kind → g.level ≡ h.level →
-    new.total ≡ old.total → Edits (λ before after. SetsOnly before after h.level (with_more (counted_at before h.level) 0 g.place)) old.levels new.levels →
+    new.total ≡ old.total → Edits (set_at old.levels.counts h.level (with_more (counted_at old.levels.counts h.level) 0 g.place)) old.levels new.levels →
     IsOther row other h g → IsTally old row → IsTally new other
 tally-moved old new row other h g has kind level total edits is tally = record {
   total = total ∙ tally.total ∙ sym (same-total row other h g kind is);
-  levels = on-levels (λ before after. SetsOnly before after h.level (with_more (counted_at before h.level) 0 g.place)) old.levels new.levels row other edits
-      (λ before after sets right. moved-right before after row other h g has kind level sets is right) tally.levels;
+  levels = moved-right old.levels new.levels row other h g has kind level edits is tally.levels;
 }
 
 pub tally-stays : (tally : Tally) (row other : List Header) (h g : Header) → g.kind ≡ h.kind → g.level ≡ h.level →
     (not (is_cleanup h.kind) ≡ true → h.place ≤ g.place) → IsOther row other h g → IsTally tally row → IsTally tally other
 tally-stays tally row other h g kind level high is right = record {
   total = right.total ∙ sym (same-total row other h g kind is);
-  levels = some-levels tally.levels row other (λ counts was. stays-right counts row other h g kind level high is was) right.levels;
+  levels = stays-right tally.levels row other h g kind level high is right.levels;
 }
 
 -- what the tally knows of a level
-pub known-right : (tally : Tally) (row : List Header) (l : ℕ) (cells : Counted) → option_map (λ levels. counted_at levels l) tally.levels ≡ Some cells →
-    IsTally tally row → IsRight cells row l
-known-right tally row l cells e is = by tally.levels e is.levels
+pub known-right : (tally : Tally) (row : List Header) (l : ℕ) (cells : Counted) → known_at tally.levels l ≡ Some cells → IsTally tally row → IsRight cells row l
+known-right tally row l cells e is = by (nat_lt l tally.levels.known_from) refl e
   where
-    by : (o : Option (List LevelCount)) → option_map (λ levels. counted_at levels l) o ≡ Some cells → IfSome o (λ levels. AreRight levels row) → IsRight cells row l
-    by None known right = cc
-    by (Some levels) known right =
-        let same : counted_at levels l ≡ cells = cc in subst (λ c. IsRight c row l) same (right-of levels row l right)
+    by : (b : Bool) → nat_lt l tally.levels.known_from ≡ b → cond b None (Some (counted_at tally.levels.counts l)) ≡ Some cells → IsRight cells row l
+    by true low known = cc
+    by false high known =
+        let same : counted_at tally.levels.counts l ≡ cells = cc in
+        let from : tally.levels.known_from ≤ l = grind (arith, nat_tests) in
+        subst (λ c. IsRight c row l) same (right-of tally.levels row l from is.levels)
+
+-- rows of as many cells of each sort come to the same
+pub tally-same : (tally : Tally) (row other : List Header) → ((test : Header → Bool) → number test row ≡ number test other) → IsTally tally row → IsTally tally other
+tally-same tally row other same is = record {
+  total = is.total ∙ same (is_counted All);
+  levels = record {
+    counts = λ l known. is.levels.counts l known ∙ same (is_counted (One l));
+    lowest = λ l known. sym (same (is_below (is_counted (One l)) (counted_at tally.levels.counts l).lowest)) ∙ is.levels.lowest l known;
+  };
+}
+
+-- no cell
+pub tally-none : IsTally (record { total = 0; levels = record { counts = []; known_from = 0 } }) []
+tally-none = record { total = refl; levels = record { counts = λ l known. refl; lowest = λ l known. refl } }

@@ -1,5 +1,5 @@
 -- Counts of levels, as contracts see them: each level once, in order.
-use Rattle.std.specs.Prelude.{◌≡◌, ℕ, ◌+◌, ◌-◌, ◌<◌, ◌≤◌, List, [], ◌∷◌, length, min, if◌then◌else◌, ◌==◌, slice_index_or}
+use Rattle.std.specs.Prelude.{◌≡◌, ℕ, ◌+◌, ◌-◌, ◌<◌, ◌≤◌, List, [], ◌∷◌, Option, Some, None, length, min, if◌then◌else◌, ◌==◌, nat_lt, slice_index_or}
 use Rattle.wb_debug.specs.declared.level_counts.Counted.{Counted}
 use Rattle.wb_debug.specs.declared.level_counts.LevelCount.{LevelCount}
 
@@ -19,9 +19,23 @@ level_at cs i = (slice_index_or cs i (record { level = 0; cells = no_cells })).l
 abbrev pub IsRising : List LevelCount → Type 0
 IsRising cs = (i j : ℕ) → i < j → j < length cs → level_at cs i < level_at cs j
 
--- the new counts have these cells at the level, and at every other level what the old ones have
-abbrev pub SetsOnly : List LevelCount → List LevelCount → ℕ → Counted → Type 0
-SetsOnly old new level cells = (q : ℕ) → counted_at new q ≡ (if level == q then cells else counted_at old q)
+-- a table of levels, and the level from which on it is right
+pub record LevelCounts : Type 0 where
+  pub counts : List LevelCount
+  pub known_from : ℕ
+
+-- what is counted of a level, where that is known
+abbrev pub known_at : LevelCounts → ℕ → Option Counted
+known_at levels level = if nat_lt level levels.known_from then None else Some (counted_at levels.counts level)
+
+-- these cells at the level, and at every other level what there is
+abbrev pub set_at : List LevelCount → ℕ → Counted → ℕ → Counted
+set_at counts level cells q = if level == q then cells else counted_at counts q
+
+-- the new counts have that of each level which they know, and they know no other than the old ones did
+pub record Edits (cells : ℕ → Counted) (old new : LevelCounts) : Type 0 where
+  pub known : old.known_from ≤ new.known_from
+  pub counts : (q : ℕ) → new.known_from ≤ q → counted_at new.counts q ≡ cells q
 
 -- the count at the index is of the level
 pub record IsAt (cs : List LevelCount) (level i : ℕ) : Type 0 where

@@ -1,19 +1,14 @@
 -- What a heap's live cells come to: how many there are of all levels, and of each one, and from which place on.
-use Rattle.std.specs.Prelude.{◌≡◌, ℕ, ◌+◌, List, Bool, ◌&&◌, nat_lt, cond, Option, IfSome, IsSomeAnd, filter, length}
+use Rattle.std.specs.Prelude.{◌≡◌, ℕ, ◌+◌, ◌≤◌, List, Bool, ◌&&◌, nat_lt, cond, filter, length}
 use Rattle.wb_model.specs.declared.heap.Header.{Header}
-use Rattle.wb_debug.specs.declared.level_counts.LevelCount.{LevelCount}
 use Rattle.wb_debug.specs.declared.marks.Levels.TheVariants.{One, All}
-use Rattle.wb_debug.specs.LevelCounts.{counted_at}
+use Rattle.wb_debug.specs.LevelCounts.{LevelCounts, counted_at}
 use Rattle.wb_debug.specs.Levels.{is_counted}
 
 -- the cells of all levels, and those of each, where they are known
 pub record Tally : Type 0 where
   pub total : ℕ
-  pub levels : Option (List LevelCount)
-
--- where the new counts are known, so were the old ones, and they go together
-abbrev pub Edits : (List LevelCount → List LevelCount → Type 0) → Option (List LevelCount) → Option (List LevelCount) → Type 0
-Edits P old new = IfSome new (λ counts. IsSomeAnd old (λ before. P before counts))
+  pub levels : LevelCounts
 
 -- how many cells pass a test
 abbrev pub number : (Header → Bool) → List Header → ℕ
@@ -23,14 +18,14 @@ number test row = length (filter test row)
 abbrev pub is_below : (Header → Bool) → ℕ → Header → Bool
 is_below test place h = test h && nat_lt h.place place
 
--- the counts say how many cells each level has, and none of them is below the place
-pub record AreRight (levels : List LevelCount) (row : List Header) : Type 0 where
-  pub counts : (l : ℕ) → (counted_at levels l).count ≡ number (is_counted (One l)) row
-  pub lowest : (l : ℕ) → number (is_below (is_counted (One l)) (counted_at levels l).lowest) row ≡ 0
+-- the counts say how many cells each level has that is known, and none of them is below the place
+pub record AreRight (levels : LevelCounts) (row : List Header) : Type 0 where
+  pub counts : (l : ℕ) → levels.known_from ≤ l → (counted_at levels.counts l).count ≡ number (is_counted (One l)) row
+  pub lowest : (l : ℕ) → levels.known_from ≤ l → number (is_below (is_counted (One l)) (counted_at levels.counts l).lowest) row ≡ 0
 
 pub record IsTally (tally : Tally) (row : List Header) : Type 0 where
   pub total : tally.total ≡ number (is_counted All) row
-  pub levels : IfSome tally.levels (λ counts. AreRight counts row)
+  pub levels : AreRight tally.levels row
 
 -- the same cells and one more, in whichever order
 pub record IsMore (row more : List Header) (h : Header) : Type 0 where

@@ -39,6 +39,7 @@ impl DebugHeap {
         let from = marks::expect(&self.heap, &self.tally, Levels::One(level), n)?;
         marks::lower(&mut self.heap, level, from, n);
         self.tally.lower(level);
+        marks::count_anew(&self.heap, &mut self.tally, level - 1);
         self.level = level - 1;
         Ok(())
     }

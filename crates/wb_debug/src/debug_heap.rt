@@ -112,7 +112,7 @@ impl DebugHeap {
             setting: self.setting,
             attempts: self.attempts,
             log: self.log.try_copy()?,
-            tally: self.tally.try_copy()?,
+            tally: self.tally.copy(),
         })
     }
 
@@ -206,7 +206,7 @@ fn with_log(alloc: Global, rule: Rule, shape: Shape, log: Log) -> Result<DebugHe
         setting: Setting::Never,
         attempts: 0,
         log,
-        tally: Tally::new(alloc),
+        tally: Tally::new(),
     })
 }
 

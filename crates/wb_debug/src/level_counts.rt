@@ -1,15 +1,14 @@
 //! How many cells there are of each level, and from which place on. Which cells these are is not known here.
 
-ghost use Rattle.std.specs.Prelude.{◌≡◌, ℕ, ◌≤◌, [], IfErr, IfOk, IfSome, OnOk, OnErr};
-ghost use Rattle.wb_debug.specs.LevelCounts.{IsAt, IsGapFor, SetsOnly, counted_at, lowered_at, no_cells, one_less};
-ghost use Rattle.wb_debug.specs.LevelCounts.{with_more};
+ghost use Rattle.std.specs.Prelude.{◌≡◌, ℕ, ◌<◌, ◌≤◌, [], IfErr, IfOk, IfSome, length};
+ghost use Rattle.wb_debug.specs.LevelCounts.{Edits, IsAt, IsGapFor, counted_at, known_at, lowered_at, no_cells};
+ghost use Rattle.wb_debug.specs.LevelCounts.{one_less, set_at, with_more};
 
-use std::alloc::{AllocError, Global};
+use arrayvec::ArrayVec;
 use std::marker::Model;
-use wb_model::memory::NoMemory;
 
 /// Cells that were counted.
-#[derive(Clone, Copy, Debug, PartialEq, Eq)]
+#[derive(Clone, Copy, Debug, Default, PartialEq, Eq)]
 pub struct Counted {
     /// How many they are.
     pub count: u32,
@@ -34,57 +33,85 @@ impl Counted {
             lowest: self.lowest.min(lowest),
         })
     }
+
+    /// The same with a cell less; none where there is none.
+    pub fn one_less(self) -> Counted
+        ensures { result ≡ one_less self }
+    {
+        Counted {
+            count: self.count.saturating_sub(1),
+            lowest: self.lowest,
+        }
+    }
 }
 
 /// The cells of a level.
-#[derive(Clone, Copy, Debug, PartialEq, Eq)]
+#[derive(Clone, Copy, Debug, Default, PartialEq, Eq)]
 pub struct LevelCount {
     pub level: u32,
     pub cells: Counted,
 }
 
-/// The cells of each level that has had any, in order of level. The innermost one is found at once, and another by halving,
-/// so that a million levels take twenty steps. A level whose cells were all released has a count of 0 until its mark ends; one that never had a cell takes
-/// no memory.
+/// The cells of each of the innermost levels that have had any, 64 at most, in order of level, in a table of fixed room: nothing here takes
+/// memory. Where one more needs a place, the outermost level's count is forgotten, and from then on no level up to that one is known.
+///
+/// The innermost level is found at once, and another by halving. A level whose cells were all released has a count of 0 until its mark
+/// ends; one that never had a cell takes no place.
 #[derive(Drop)]
 pub struct LevelCounts {
-    counts: Vec<LevelCount>,
+    counts: ArrayVec<LevelCount, 64>,
+    /// The levels below this one aren't known. A `u64`, since it may be one past the greatest level.
+    known_from: u64,
 }
 
 impl Model for LevelCounts {
-    ghost use Rattle.std.specs.Prelude.{List};
-    ghost use Rattle.wb_debug.specs.LevelCounts.{IsRising};
-    ghost use Rattle.wb_debug.specs.declared.level_counts.LevelCount.{LevelCount};
+    ghost use Rattle.wb_debug.specs.LevelCounts as level_counts;
 
-    ghost Value = { List LevelCount };
+    ghost Value = { level_counts.LevelCounts };
 
-    ghost view = { λ inside. inside.counts.items };
+    ghost view = { λ inside. record { counts = inside.counts.items; known_from = inside.known_from } };
 
-    ghost invariant = { λ inside. IsRising inside.counts.items };
+    ghost invariant = { λ inside. level_counts.IsRising inside.counts.items };
 }
 
 impl LevelCounts {
-    /// No cell of any level. It takes no memory.
-    pub fn new(alloc: Global) -> LevelCounts
-        ensures { result ≡ [] }
+    /// No cell of any level, and each level known.
+    pub fn new() -> LevelCounts
+        ensures { result ≡ record { counts = []; known_from = 0 } }
     {
         LevelCounts {
-            counts: Vec::new(alloc),
+            counts: ArrayVec::new(),
+            known_from: 0,
         }
     }
 
-    /// The same, in memory of its own.
-    pub fn try_copy(&self) -> Result<LevelCounts, AllocError>
-        ensures { IfOk result (λ copy. copy ≡ self.now) }
+    /// The same once more.
+    pub fn copy(&self) -> LevelCounts
+        ensures { result ≡ self.now }
     {
-        let mut counts = Vec::new(*self.counts.allocator());
-        counts.extend_from_slice(self.counts.as_slice())?;
-        Ok(LevelCounts { counts })
+        let mut counts = ArrayVec::new();
+        counts
+            .try_extend_from_slice(self.counts.as_slice())
+            .unwrap();
+        LevelCounts {
+            counts,
+            known_from: self.known_from,
+        }
     }
 
-    /// What is counted of a level.
-    pub fn get(&self, level: u32) -> Counted
-        ensures { result ≡ counted_at self.now level }
+    /// What is counted of a level; `None` where it isn't known.
+    pub fn get(&self, level: u32) -> Option<Counted>
+        ensures { result ≡ known_at self.now level }
+    {
+        if u64::from(level) < self.known_from {
+            return None;
+        }
+        Some(self.counted(level))
+    }
+
+    /// What the table says of a level.
+    fn counted(&self, level: u32) -> Counted
+        ensures { result ≡ counted_at self.now.counts level }
     {
         match self.search(level) {
             Ok(at) => self.counts[at].cells,
@@ -95,75 +122,95 @@ impl LevelCounts {
         }
     }
 
-    /// Puts these cells in the place of what is counted of a level. Where memory is refused, nothing changes.
-    pub fn set(&mut self, level: u32, cells: Counted) -> Result<(), AllocError>
-        ensures ok { OnOk result (SetsOnly self.old self.new level cells) }
-        ensures err { OnErr result (self.new ≡ self.old) }
+    /// Counts some cells more of a level, none of which is below `lowest`. Where they are more than a `u32` says, the level isn't
+    /// known any more.
+    pub fn add(&mut self, level: u32, count: u32, lowest: u32)
+        ensures { Edits (set_at self.old.counts level
+            (with_more (counted_at self.old.counts level) count lowest)) self.old self.new }
     {
-        let count = LevelCount { level, cells };
-        match self.search(level) {
-            Ok(at) => {
-                self.counts[at] = count;
-                Ok(())
-            }
-            Err(at) => Ok(self.counts.insert(at, count)?),
+        let Some(cells) = self.get(level) else {
+            return;
+        };
+        match cells.with_more(count, lowest) {
+            Some(more) => self.set(level, more),
+            None => self.forget(level),
         }
     }
 
-    /// Forgets a level: no cell of it is left.
-    pub fn remove(&mut self, level: u32)
-        ensures { SetsOnly self.old self.new level no_cells }
+    /// Counts a cell less of a level.
+    pub fn take(&mut self, level: u32)
+        ensures { Edits (set_at self.old.counts level (one_less (counted_at self.old.counts level)))
+            self.old self.new }
+    {
+        if let Some(cells) = self.get(level) {
+            self.set(level, cells.one_less());
+        }
+    }
+
+    /// Counts the cells of a level under the level below.
+    pub fn lower(&mut self, level: u32)
+        requires { 1 ≤ level }
+        ensures { Edits (lowered_at self.old.counts level) self.old self.new }
+    {
+        let Some(ended) = self.get(level) else {
+            return;
+        };
+        self.remove(level);
+        if ended.count > 0 {
+            self.add(level - 1, ended.count, ended.lowest);
+        }
+    }
+
+    /// Forgets that a level had cells: none is left.
+    fn remove(&mut self, level: u32)
+        ensures { Edits (set_at self.old.counts level no_cells) self.old self.new }
     {
         if let Ok(at) = self.search(level) {
             self.counts.remove(at);
         }
     }
 
-    /// Counts some cells more of a level, none of which is below `lowest`. Where memory is refused, or they are more than a
-    /// `u32` says, nothing changes.
-    pub fn add(&mut self, level: u32, count: u32, lowest: u32) -> Result<(), NoMemory>
-        ensures ok { OnOk result (SetsOnly self.old self.new level
-            (with_more (counted_at self.old level) count lowest)) }
-        ensures err { OnErr result (self.new ≡ self.old) }
+    /// Puts these cells in the place of what is counted of a level.
+    fn set(&mut self, level: u32, cells: Counted)
+        ensures { Edits (set_at self.old.counts level cells) self.old self.new }
     {
-        let Some(cells) = self.get(level).with_more(count, lowest) else {
-            return Err(NoMemory);
-        };
-        Ok(self.set(level, cells)?)
-    }
-
-    /// Counts a cell less of a level. Where memory is refused, nothing changes; it takes none for a level that has a cell.
-    pub fn take(&mut self, level: u32) -> Result<(), NoMemory>
-        ensures ok { OnOk result
-            (SetsOnly self.old self.new level (one_less (counted_at self.old level))) }
-        ensures err { OnErr result (self.new ≡ self.old) }
-    {
-        let cells = self.get(level);
-        let fewer = Counted {
-            count: cells.count.saturating_sub(1),
-            lowest: cells.lowest,
-        };
-        Ok(self.set(level, fewer)?)
-    }
-
-    /// Counts the cells of a level under the level below. On `Err` the counts are no longer right.
-    pub fn lower(&mut self, level: u32) -> Result<(), NoMemory>
-        requires { 1 ≤ level }
-        ensures { OnOk result ((q : ℕ) → counted_at self.new q ≡ lowered_at self.old level q) }
-    {
-        let ended = self.get(level);
-        self.remove(level);
-        if ended.count == 0 {
-            return Ok(());
+        let count = LevelCount { level, cells };
+        match self.search(level) {
+            Ok(at) => self.counts[at] = count,
+            Err(at) => self.insert(at, count),
         }
-        self.add(level - 1, ended.count, ended.lowest)
+    }
+
+    /// Puts the count of a level into the gap for it. Where the table is full, the outermost level is forgotten.
+    fn insert(&mut self, at: usize, count: LevelCount)
+        requires { IsGapFor self.old.counts count.level at }
+        ensures { Edits (set_at self.old.counts count.level count.cells) self.old self.new }
+    {
+        if !self.counts.is_full() {
+            self.counts.insert(at, count);
+        } else if at == 0 {
+            self.forget(count.level);
+        } else {
+            let outermost = self.counts.remove(0);
+            self.forget(outermost.level);
+            self.counts.insert(at - 1, count);
+        }
+    }
+
+    /// From here on no level up to this one is known.
+    fn forget(&mut self, level: u32)
+        ensures counts { self.new.counts ≡ self.old.counts }
+        ensures known { self.old.known_from ≤ self.new.known_from }
+        ensures forgotten { level < self.new.known_from }
+    {
+        self.known_from = self.known_from.max(u64::from(level) + 1);
     }
 
     /// The index of a level's count, or where it would go. The innermost level's is the last, and is looked at first: most
     /// calls are about that level.
     fn search(&self, level: u32) -> Result<usize, usize>
-        ensures found { IfOk result (IsAt self.now level) }
-        ensures absent { IfErr result (IsGapFor self.now level) }
+        ensures found { IfOk result (IsAt self.now.counts level) }
+        ensures absent { IfErr result (IsGapFor self.now.counts level) }
     {
         let count = self.counts.len();
         if count == 0 {
@@ -181,8 +228,8 @@ impl LevelCounts {
 
     /// The same among all levels.
     fn halve(&self, level: u32) -> Result<usize, usize>
-        ensures found { IfOk result (IsAt self.now level) }
-        ensures absent { IfErr result (IsGapFor self.now level) }
+        ensures found { IfOk result (IsAt self.now.counts level) }
+        ensures absent { IfErr result (IsGapFor self.now.counts level) }
     {
         self.counts
             .binary_search_by_key(&level, |count: &LevelCount| count.level)

@@ -60,6 +60,29 @@ fn count_and_lowest(heap: &Heap, tally: &Tally, levels: Levels) -> (u32, u32)
     }
 }
 
+/// Counts the cells of each level from the cells themselves, where those of this one aren't known.
+pub fn count_anew(heap: &Heap, tally: &mut Tally, level: u32)
+    requires { IsTally tally.old (headers heap.now.row) }
+    ensures { IsTally tally.new (headers heap.now.row) }
+{
+    if tally.of_level(level).is_none() {
+        *tally = tally_of(heap);
+    }
+}
+
+/// What the live cells come to.
+fn tally_of(heap: &Heap) -> Tally
+    ensures { IsTally result (headers heap.now.row) }
+{
+    let mut tally = Tally::new();
+    let mut from = 0;
+    while let Some(cell) = heap.next_live(from) {
+        tally.grant(cell);
+        from = cell.end();
+    }
+    tally
+}
+
 /// How many cells are counted, from the cells themselves.
 fn count(heap: &Heap, levels: Levels) -> u32
     ensures { result ≡ number (is_counted levels) (headers heap.now.row) }

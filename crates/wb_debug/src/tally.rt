@@ -1,28 +1,25 @@
 //! What the live cells come to, kept beside them: how many there are of all levels, and of each one. So a check need not go
 //! over them.
 
-ghost use Rattle.std.specs.Prelude.{◌≡◌, ℕ, ◌+◌, ◌<◌, ◌≤◌, ◌^◌, IfOk, IfSome, List, Some, None, [], option_map};
+ghost use Rattle.std.specs.Prelude.{◌≡◌, ℕ, ◌+◌, ◌<◌, ◌≤◌, ◌^◌, List, []};
 ghost use Rattle.wb_model.specs.declared.heap.Header.{Header};
 ghost use Rattle.wb_model.specs.heap.Heap.{lowered};
 ghost use Rattle.wb_model.specs.heap.Row.{Cell, headers};
-ghost use Rattle.wb_debug.specs.LevelCounts.{SetsOnly, counted_at, lowered_at, one_less, with_more};
-ghost use Rattle.wb_debug.specs.Tally.{Edits, IsMore, IsOther, IsTally};
+ghost use Rattle.wb_debug.specs.LevelCounts.{known_at};
+ghost use Rattle.wb_debug.specs.Tally.{IsMore, IsOther, IsTally};
 
 use crate::level_counts::{Counted, LevelCounts};
 use crate::marks::has_level;
-use std::alloc::Global;
 use std::marker::Model;
 use wb_model::heap::Header;
-use wb_model::memory::NoMemory;
 
 /// How many live cells there are of all levels, and of each, where that is known. The cleanup stack's cells are of none.
 ///
-/// Where memory for a level's count is refused, the levels are given up: no call fails for lack of it, and from then on a
-/// check goes over the cells.
+/// It takes no memory, and so no call fails for lack of it.
 #[derive(Drop)]
 pub struct Tally {
     total: u32,
-    levels: Option<LevelCounts>,
+    levels: LevelCounts,
 }
 
 impl Model for Tally {
@@ -34,28 +31,24 @@ impl Model for Tally {
 }
 
 impl Tally {
-    /// Of no cell. It takes no memory.
-    pub fn new(alloc: Global) -> Tally
-        ensures { result ≡ record { total = 0; levels = Some [] } }
+    /// Of no cell.
+    pub fn new() -> Tally
+        ensures { result ≡ record { total = 0; levels = record { counts = []; known_from = 0 } } }
     {
         Tally {
             total: 0,
-            levels: Some(LevelCounts::new(alloc)),
+            levels: LevelCounts::new(),
         }
     }
 
-    /// The same, in memory of its own.
-    pub fn try_copy(&self) -> Result<Tally, NoMemory>
-        ensures { IfOk result (λ copy. copy ≡ self.now) }
+    /// The same once more.
+    pub fn copy(&self) -> Tally
+        ensures { result ≡ self.now }
     {
-        let levels = match &self.levels {
-            Some(levels) => Some(levels.try_copy()?),
-            None => None,
-        };
-        Ok(Tally {
+        Tally {
             total: self.total,
-            levels,
-        })
+            levels: self.levels.copy(),
+        }
     }
 
     /// How many cells there are of all levels.
@@ -67,12 +60,9 @@ impl Tally {
 
     /// The cells of a level; `None` where they aren't known.
     pub fn of_level(&self, level: u32) -> Option<Counted>
-        ensures { result ≡ option_map (λ counts. counted_at counts level) self.now.levels }
+        ensures { result ≡ known_at self.now.levels level }
     {
-        match &self.levels {
-            Some(levels) => Some(levels.get(level)),
-            None => None,
-        }
+        self.levels.get(level)
     }
 
     /// One cell more.
@@ -83,7 +73,7 @@ impl Tally {
     {
         if has_level(cell.kind) {
             self.total += 1;
-            self.add(cell.level, 1, cell.place);
+            self.levels.add(cell.level, 1, cell.place);
         }
     }
 
@@ -94,7 +84,7 @@ impl Tally {
     {
         if has_level(cell.kind) {
             self.total = self.total.saturating_sub(1);
-            self.take(cell.level);
+            self.levels.take(cell.level);
         }
     }
 
@@ -105,7 +95,7 @@ impl Tally {
             IsTally self.old row → IsTally self.new new }
     {
         if place < cell.place && has_level(cell.kind) {
-            self.add(cell.level, 0, place);
+            self.levels.add(cell.level, 0, place);
         }
     }
 
@@ -115,46 +105,6 @@ impl Tally {
         ensures { (row : List (Cell (List ℕ))) → IsTally self.old (headers row) →
             IsTally self.new (headers (lowered level row)) }
     {
-        self.join(level);
-    }
-
-    /// Counts the cells of a level under the level below.
-    fn join(&mut self, level: u32)
-        requires { 1 ≤ level }
-        ensures total { self.new.total ≡ self.old.total }
-        ensures joined { Edits (λ old new. (q : ℕ) →
-            counted_at new q ≡ lowered_at old level q) self.old.levels self.new.levels }
-    {
-        if let Some(levels) = &mut self.levels {
-            if levels.lower(level).is_err() {
-                self.levels = None;
-            }
-        }
-    }
-
-    /// Counts some cells more of a level, none of which is below `lowest`.
-    fn add(&mut self, level: u32, count: u32, lowest: u32)
-        ensures total { self.new.total ≡ self.old.total }
-        ensures added { Edits (λ old new. SetsOnly old new level
-            (with_more (counted_at old level) count lowest)) self.old.levels self.new.levels }
-    {
-        if let Some(levels) = &mut self.levels {
-            if levels.add(level, count, lowest).is_err() {
-                self.levels = None;
-            }
-        }
-    }
-
-    /// Counts a cell less of a level.
-    fn take(&mut self, level: u32)
-        ensures total { self.new.total ≡ self.old.total }
-        ensures taken { Edits (λ old new. SetsOnly old new level (one_less (counted_at old level)))
-            self.old.levels self.new.levels }
-    {
-        if let Some(levels) = &mut self.levels {
-            if levels.take(level).is_err() {
-                self.levels = None;
-            }
-        }
+        self.levels.lower(level);
     }
 }

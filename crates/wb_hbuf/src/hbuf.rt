@@ -1,11 +1,12 @@
 //! The calls on texts in cells, and the edit of a buffer that may read one.
 
-ghost use Rattle.std.specs.Prelude.{◌≡◌, ◌+◌, ◌*◌, ◌^◌, ◌<◌, ◌≤◌, ◌++◌, [], length, take, None, IfOk, IfSome, IsOk};
+ghost use Rattle.std.specs.Prelude.{◌≡◌, ◌+◌, ◌*◌, ◌^◌, ◌<◌, ◌≤◌, ◌++◌, [], length, take, true, None, IfOk, IfSome, IsOk};
 ghost use Rattle.std.specs.Prelude.{OnErr, OnOk};
 ghost use Rattle.wb_hbuf.specs.Drafts.{IsEdited, IsMeasured};
 ghost use Rattle.wb_hbuf.specs.Sources.{IsApart, IsForeign, IsReadableAlone, IsSource, SuitsEdit, cell_edited};
 ghost use Rattle.wb_hbuf.specs.Sources.{edit_text, source_units};
-ghost use Rattle.wb_model.specs.heap.Debug.{IsSoundDebug, alloc_made, answer_in, realloc_made};
+ghost use Rattle.wb_model.specs.heap.Debug.{IsSoundDebug, alloc_made, answer_in, keeps_rises};
+ghost use Rattle.wb_model.specs.heap.Debug.{realloc_made};
 ghost use Rattle.wb_model.specs.heap.Heap.{alloc_request, realloc_request};
 ghost use Rattle.wb_model.specs.meaning.Reading.{printed, printed_unit};
 ghost use Rattle.wb_model.specs.heap.Row.{cell_at, cell_length};
@@ -26,7 +27,7 @@ use wb_text::Buf;
 /// An attempt to get a cell for an empty text that may have `n` units.
 ///
 /// `Denied` and `Ceiling` are the heap's answers. `NoMemory` leaves the heap as it was, and never comes in place of
-/// `Ceiling`. Source: Symbian OS v9 SDK
+/// `Ceiling`, nor, where the rises are kept, of an attempt that isn't one. Source: Symbian OS v9 SDK
 /// reference, HBufC::New, and this project's profile for the length of the cell.
 pub fn make(heap: &mut DebugHeap, n: u32) -> Result<Gave, NoMemory>
     requires units { n ≤ MOST_UNITS }
@@ -35,6 +36,8 @@ pub fn make(heap: &mut DebugHeap, n: u32) -> Result<Gave, NoMemory>
     ensures made { OnOk result (heap.new ≡ (alloc_made heap.old (4 + 2 * n) Kind.Text).debug) }
     ensures cut { answer_in heap.old (alloc_request heap.old.heap (4 + 2 * n)) ≡ None →
         IsOk result }
+    ensures quiet { keeps_rises heap.old ≡ true →
+        (alloc_made heap.old (4 + 2 * n) Kind.Text).debug.rises ≡ heap.old.rises → IsOk result }
     ensures empty { IfOk result (IsGrantedText heap.new []) }
     ensures err { OnErr result (heap.new ≡ heap.old) }
     ensures sound { IsSoundDebug heap.new }
@@ -45,8 +48,8 @@ pub fn make(heap: &mut DebugHeap, n: u32) -> Result<Gave, NoMemory>
 /// Gives a text another maximum: a reallocation of its cell for `n` units, which keeps the text.
 ///
 /// Its length may not pass them. `Denied` and `Ceiling` are the heap's answers, and leave the cell as it was.
-/// `NoMemory` leaves the heap as it was, and doesn't come where the cell gets no longer or in place of `Ceiling`.
-/// Source: Symbian OS v9 SDK reference, HBufC::ReAlloc, and this project's profile for the length of the cell.
+/// `NoMemory` leaves the heap as it was, and doesn't come where the cell gets no longer or in place of `Ceiling`, nor,
+/// where the rises are kept, of an attempt that isn't one. Source: Symbian OS v9 SDK reference, HBufC::ReAlloc, and this project's profile for the length of the cell.
 pub fn remake(heap: &mut DebugHeap, ptr: Ptr, n: u32) -> Result<Gave, NoMemory>
     requires text { IsTextAt ptr heap.old }
     requires fits { length (text_at ptr heap.old) ≤ n }
@@ -62,6 +65,8 @@ pub fn remake(heap: &mut DebugHeap, ptr: Ptr, n: u32) -> Result<Gave, NoMemory>
     ensures cut { IfSome (cell_at ptr heap.old.heap.row) (λ c.
         answer_in heap.old (realloc_request heap.old.heap c.head (4 + 2 * n)) ≡ None →
         IsOk result) }
+    ensures quiet { keeps_rises heap.old ≡ true → IfSome (cell_at ptr heap.old.heap.row) (λ c.
+        (realloc_made heap.old c (4 + 2 * n)).debug.rises ≡ heap.old.rises → IsOk result) }
     ensures err { OnErr result (heap.new ≡ heap.old) }
     ensures sound { IsSoundDebug heap.new }
 {

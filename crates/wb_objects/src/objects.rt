@@ -1,10 +1,10 @@
 //! The calls on objects. An object is of the class that its cell's header says; the word of the class says the same to who
 //! reads the words alone.
 
-ghost use Rattle.std.specs.Prelude.{◌≡◌, ℕ, ◌+◌, ◌*◌, ◌^◌, ◌<◌, ◌≤◌, length, None, Some, IfOk, IsOk, OnErr, OnOk};
+ghost use Rattle.std.specs.Prelude.{◌≡◌, ℕ, ◌+◌, ◌*◌, ◌^◌, ◌<◌, ◌≤◌, length, true, None, Some, IfOk, IsOk, OnErr, OnOk};
 ghost use Rattle.std.specs.Prelude.{slice_get, slice_set};
 ghost use Rattle.wb_model.specs.cells.CellRow.{payload_of};
-ghost use Rattle.wb_model.specs.heap.Debug.{IsSoundDebug, answer_in};
+ghost use Rattle.wb_model.specs.heap.Debug.{IsSoundDebug, answer_in, keeps_rises};
 ghost use Rattle.wb_model.specs.heap.Heap.{alloc_request};
 ghost use Rattle.wb_model.specs.cells.ObjectCells.{IsObjectAt};
 ghost use Rattle.wb_model.specs.cells.Spelling.{fields_in};
@@ -32,8 +32,8 @@ const WORD_BYTES: u32 = 4;
 /// An attempt to get a cell for an object of the class with this index, all its fields null.
 ///
 /// An object asks for 8 bytes, 8 more for each field of its class, and the class's extra bytes, which are zero. `Denied`
-/// and `Ceiling` are the heap's answers. `NoMemory` leaves the heap as it was, and never comes in place of `Ceiling`.
-/// Source: Symbian OS v9 SDK reference, CBase, for members that are zero when allocated, and this project's profile for
+/// and `Ceiling` are the heap's answers. `NoMemory` leaves the heap as it was, and never comes in place of `Ceiling`,
+/// nor, where the rises are kept, of an attempt that isn't one. Source: Symbian OS v9 SDK reference, CBase, for members that are zero when allocated, and this project's profile for
 /// the length of the cell.
 pub fn make(heap: &mut DebugHeap, script: &Script, class: u16) -> Result<Gave, NoMemory>
     requires class { class < length script.now.classes }
@@ -45,6 +45,9 @@ pub fn make(heap: &mut DebugHeap, script: &Script, class: u16) -> Result<Gave, N
         ≡ (object_made heap.old class (class_at script.now class)).debug) }
     ensures cut { answer_in heap.old (alloc_request heap.old.heap
         (payload_of_object (class_at script.now class))) ≡ None → IsOk result }
+    ensures quiet { keeps_rises heap.old ≡ true →
+        (object_made heap.old class (class_at script.now class)).debug.rises ≡ heap.old.rises →
+        IsOk result }
     ensures object { IfOk result
         (IsNewObject heap.new class (length (class_at script.now class).fields)) }
     ensures err { OnErr result (heap.new ≡ heap.old) }

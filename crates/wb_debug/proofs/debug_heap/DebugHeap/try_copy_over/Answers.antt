@@ -9,6 +9,6 @@ use Rattle.wb_debug.proofs.debug_heap.DebugHeap.try_copy_over.Goals as goal
 pub invariant_of-result : goal.invariant_of-result
 invariant_of-result c =
     let i = c.self.inside in
-    subst (λ (h : LimitedHeap). IsKept (record i { heap = h; log = c.in_ok-try_copy.field-0; tally = c.in_ok-try_copy-2.field-0 })) (sym c.in_ok-try_copy_over.ensures)
-    (subst (λ (l : Log). IsKept (record i { log = l; tally = c.in_ok-try_copy-2.field-0 })) (sym c.in_ok-try_copy.ensures)
-    (subst (λ (t : Tally). IsKept (record i { tally = t })) (sym c.in_ok-try_copy-2.ensures) c.self.invariant))
+    subst (λ (h : LimitedHeap). IsKept (record i { heap = h; log = c.in_ok-try_copy.field-0; tally = c.copy.result })) (sym c.in_ok-try_copy_over.ensures)
+    (subst (λ (l : Log). IsKept (record i { log = l; tally = c.copy.result })) (sym c.in_ok-try_copy.ensures)
+    (subst (λ (t : Tally). IsKept (record i { tally = t })) (sym c.copy.ensures) c.self.invariant))

@@ -1,18 +1,25 @@
-use Rattle.std.proofs.Common.{subst}
-use Rattle.wb_debug.specs.LevelCounts.{IsRising}
-use Rattle.wb_debug.proofs.LevelCounts.{rises-there, sets-there, rises-inserted, sets-inserted}
+use Rattle.std.proofs.Common.{◌≡◌, ◌∙◌, ap, sym, subst, length, set}
+use Rattle.std.proofs.lemmas.List.{length-set}
+use Rattle.std.specs.Prelude.{List}
+use Rattle.std.specs.List.{refill}
+use Rattle.arrayvec.proofs.ArrayVecLemmas.{items-with_items}
+use Rattle.wb_debug.specs.declared.level_counts.LevelCount.{LevelCount}
+use Rattle.wb_debug.specs.LevelCounts.{Edits, IsAt, LevelCounts, set_at}
+use Rattle.wb_debug.proofs.LevelCounts.{edits-set, sets-there}
 use Rattle.wb_debug.proofs.level_counts.LevelCounts.set.Goals as goal
 
 -- the level had a count, and it is written over
-pub invariant_of-self : goal.invariant_of-self
-invariant_of-self c = rises-there _ c.self.invariant _ _ (rw c.self.view_is c.in-Ok.ensures.found) _
-
-pub returns-in-Ok-clause-ok : goal.returns-in-Ok-clause-ok
-returns-in-Ok-clause-ok c = rw c.self.view_is (sets-there _ (subst IsRising c.self.view_is c.self.invariant) _ _ c.in-Ok.ensures.found _)
-
--- the count is added in the gap
-pub invariant_of-self-in-Err : goal.invariant_of-self-in-Err
-invariant_of-self-in-Err c = rw c.in_ok-insert-in-Err.ensures.items (rises-inserted _ _ _ (rw c.self.view_is c.in-Err.ensures.absent) _ c.self.invariant)
-
-pub returns-in_ok-insert-in-Err-clause-ok : goal.returns-in_ok-insert-in-Err-clause-ok
-returns-in_ok-insert-in-Err-clause-ok c = rw (c.in_ok-insert-in-Err.ensures.items, c.self.view_is) (sets-inserted _ _ _ c.in-Err.ensures.absent _)
+pub returns-in-Ok : goal.returns-in-Ok
+returns-in-Ok c =
+    let cs = c.self.inside.counts.items in
+    let level = c.args.level in
+    let cells = c.args.cells in
+    let found = subst (λ (t : LevelCounts). IsAt t.counts level c.in-Ok.at) (sym c.self.view_is) c.in-Ok.ensures.found in
+    let written = λ (xs : List LevelCount). set xs c.in-Ok.at (record { level = level; cells = cells }) in
+    let kept : refill (length cs) cs (written c.deref_mut.result.now) ≡ written cs =
+    ap (λ (xs : List LevelCount). refill (length cs) cs (written xs)) c.deref_mut.ensures.value
+    ∙ items-with_items c.self.inside.counts (written cs) (length-set cs c.in-Ok.at (record { level = level; cells = cells })) in
+    subst (λ (t : LevelCounts). Edits (set_at t.counts level cells) t
+    (record { counts = refill (length cs) cs (written c.deref_mut.result.now); known_from = c.self.inside.known_from })) c.self.view_is
+    (edits-set cs (refill (length cs) cs (written c.deref_mut.result.now)) c.self.inside.known_from level cells
+    (rw kept (sets-there cs c.self.invariant level c.in-Ok.at found cells)))
