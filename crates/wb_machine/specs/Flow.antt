@@ -90,7 +90,7 @@ pub record IsOwn (script : Script) (layer : Layer) : Type 0 where
   pub depth : ℕ
   pub sound : is_nested (declared_in script) scope trapped (are_within (declared_in script) scope depth) layer ≡ true
 
--- a statement leaves steps to be taken, though no other is inside it it
+-- a statement leaves steps to be taken, though no other is inside it
 abbrev pub leaves_steps : Layer → Bool
 leaves_steps (Statement-F.PopDestroy v) = true
 leaves_steps _ = false

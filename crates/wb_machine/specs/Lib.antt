@@ -4,6 +4,7 @@ pub mod Bodies
 pub mod BufferEdits
 pub mod Effects
 pub mod CleanupEffects
+pub mod Depths
 pub mod ObjectEffects
 pub mod TextEffects
 pub mod Fault

@@ -1,5 +1,6 @@
 -- What callers see of a machine.
 use Rattle.std.specs.Prelude.{ℕ, Bool, true, false, ◌&&◌, List, [], Option, None, nat_lt, unwrap_or, if◌then◌else◌}
+use Rattle.wb_model.specs.declared.heap.Attempt.{Attempt}
 use Rattle.wb_model.specs.declared.heap.Header.{Header}
 use Rattle.wb_model.specs.declared.heap.Rule.{Rule}
 use Rattle.wb_model.specs.declared.heap.Shape.{Shape}
@@ -23,6 +24,12 @@ pub record Seen : Type 0 where
   pub committed : ℕ
   -- how many marks are open
   pub level : ℕ
+  -- the line of the attempt made last; `None` before the first, and where the rises are kept in the place of lines
+  pub last : Option Attempt
+  -- how many items are on the cleanup stack
+  pub items : ℕ
+  -- how many TRAPs are open, without `main`'s own
+  pub traps : ℕ
   -- the line of the statement begun last, 0 before the first
   pub line : ℕ
   -- the line of the statement that is to begin next, where one is
@@ -52,6 +59,9 @@ seen_at_start keeps_rises script rule budget shape = record {
   live = [];
   committed = (space_of rule shape).least;
   level = 0;
+  last = None;
+  items = 0;
+  traps = 0;
   line = 0;
   next = None;
   begun = false;

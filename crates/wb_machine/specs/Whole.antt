@@ -1,5 +1,5 @@
 -- A whole machine: what callers see of it, and what it keeps.
-use Rattle.std.specs.Prelude.{◌≡◌, ◌≤◌, Bool, true, false, not, ◌&&◌}
+use Rattle.std.specs.Prelude.{◌≡◌, ◌-◌, ◌≤◌, Bool, true, false, not, ◌&&◌, length, slice_get}
 use Rattle.wb_model.specs.declared.limits.TheConstants.{LARGEST_BUDGET}
 use Rattle.wb_model.specs.declared.heap.Rule.{Rule}
 use Rattle.wb_model.specs.language.Sound.{is_script}
@@ -10,6 +10,7 @@ use Rattle.wb_model.specs.runs.Rest.{Fits, Progress, next_line}
 use Rattle.wb_machine.specs.declared.machine.Machine.TheInside.{Inside}
 use Rattle.wb_machine.specs.RunState.{state_of}
 use Rattle.wb_machine.specs.Asks.{asks_next}
+use Rattle.wb_machine.specs.Depths.{open_traps_in}
 use Rattle.wb_machine.specs.BetweenTurns.{IsBetweenTurns}
 use Rattle.wb_machine.specs.Seen.{Seen}
 use Rattle.wb_machine.specs.Flow.{is_stop, is_over, has_met_ceiling, pending_in, progress_of, rest_at}
@@ -33,6 +34,9 @@ seen m = record {
   live = headers m.state.debug.heap.row;
   committed = m.state.debug.committed;
   level = m.state.debug.heap.level;
+  last = slice_get m.state.debug.trace (length m.state.debug.trace - 1);
+  items = length m.state.items;
+  traps = open_traps_in m.control.pieces.items;
   line = m.control.line;
   next = next_line (progress_in m);
   begun = m.begun;

@@ -1,4 +1,4 @@
-//! What raises a panic, for those who explain a run. No contract speaks of it.
+//! What raises a panic, for those who explain a run. Contracts speak of it where a TRAP, `main` or a call ends, and nowhere else.
 
 use wb_model::heap::Panic;
 

@@ -1,9 +1,14 @@
 //! What a machine shows to those who explain a run: the statement begun last, what its operands hold, and the panic that ended
 //! the run. A statement that panics changes nothing before it does, so that its operands hold what they held when it began.
 
+ghost use Rattle.std.specs.Prelude.{◌≡◌, option_map, Any, IfSome};
+ghost use Rattle.wb_model.specs.heap.Row.{cell_at, usable_of};
+ghost use Rattle.wb_machine.specs.Effects.{pointer_read};
+
 use crate::machine::Machine;
 use crate::raiser::Raised;
-use wb_model::script::{Number, Pointer, Readable, Statement, Writable};
+use crate::state::State;
+use wb_model::script::{Number, Pointer, Readable, Script, Statement, Writable};
 
 impl<'a> Machine<'a> {
     /// The statement begun last; `None` before the first.
@@ -47,10 +52,21 @@ impl<'a> Machine<'a> {
     }
 
     /// How many bytes of a cell can be used; `None` if the pointer names none.
-    pub fn bytes(&self, pointer: Pointer) -> Option<u32> {
-        let ptr = self.state.pointer(self.script, pointer);
-        match self.state.heap.header(ptr) {
-            Some(header) => Some(header.length - 16),
+    pub fn bytes(&self, pointer: Pointer) -> Option<u32>
+        ensures { IfSome result (λ bytes. Any (λ h. usable_of h ≡ bytes) self.now.live) }
+    {
+        self.state.usable(self.script, pointer)
+    }
+}
+
+impl State {
+    /// The same, of the cell that an operand names.
+    fn usable(&self, script: &Script, operand: Pointer) -> Option<u32>
+        ensures { result ≡ option_map (λ c. usable_of c.head)
+            (cell_at (pointer_read script.now self.now operand) self.now.debug.heap.row) }
+    {
+        match self.heap.header(self.pointer(script, operand)) {
+            Some(header) => Some(header.usable()),
             None => None,
         }
     }

@@ -6,17 +6,16 @@ pub mod fault;
 pub mod fork;
 pub mod found;
 mod pairs;
-pub mod progress;
 pub mod sweeping;
 mod walk;
 
 pub use fault::SweepFault;
 pub use fork::result_under;
 pub use found::{Found, Sweep};
-pub use progress::{Progress, Silent};
 pub use sweeping::sweep;
 pub use wb_machine::RunFault;
 pub use wb_model::failures::{Failing, Failures};
 pub use wb_model::heap::Shape;
+pub use wb_model::progress::{Progress, Silent};
 pub use wb_model::run::{RunResult, Why};
 pub use wb_model::script::Script;

@@ -15,7 +15,6 @@ use crate::family::Family;
 use crate::fault::SweepFault;
 use crate::fork::result_under;
 use crate::found::Found;
-use crate::progress::Progress;
 use crate::walk::{attempts_in, find_among};
 use std::alloc::Global;
 use wb_machine::{Heap, Machine};
@@ -23,6 +22,7 @@ use wb_model::failures::Failing;
 use wb_model::heap::{Rule, Shape};
 use wb_model::limits::LARGEST_BUDGET;
 use wb_model::memory::NoMemory;
+use wb_model::progress::Progress;
 use wb_model::script::Script;
 
 /// How many attempts the run makes in which the attempt that the lead makes next, of this number, fails alone.

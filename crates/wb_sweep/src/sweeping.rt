@@ -12,13 +12,13 @@ use crate::family::Family;
 use crate::fault::SweepFault;
 use crate::found::{Found, Sweep};
 use crate::pairs::find_pair;
-use crate::progress::Progress;
 use crate::walk::{attempts_in, find_among, judge_run};
 use std::alloc::Global;
 use wb_machine::{Machine, run};
 use wb_model::failures::{Failing, Failures};
 use wb_model::heap::Shape;
 use wb_model::limits::LARGEST_BUDGET;
+use wb_model::progress::Progress;
 use wb_model::script::Script;
 
 /// The least of the failures that are tried as 0, 1, 2 and so on whose run is bad, of pairs the least single failure; `None` if

@@ -11,10 +11,10 @@ use crate::family::Family;
 use crate::fault::SweepFault;
 use crate::fork::result_under;
 use crate::found::Found;
-use crate::progress::Progress;
 use wb_machine::{Heap, Machine};
 use wb_model::failures::Failing;
 use wb_model::heap::Attempt;
+use wb_model::progress::Progress;
 use wb_model::run::{Outcome, RunResult};
 
 /// What the run under a failure amounts to: found where it is bad, `Cut` where it is cut, and `None` if it is fine. A

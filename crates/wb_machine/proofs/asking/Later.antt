@@ -132,7 +132,7 @@ module _ (script : Script) (budget : ℕ) where
       IsLater low (require b panic st go) × Onward low (require b panic st go)
   unfolding require
   require_onward true panic low st go least most later on = (later, on)
-  require_onward false panic low st go least most later on = (tt, ((least, most), tt, tt))
+  require_onward false panic low st go least most later on = (tt, (((least, most), tt, tt), tt))
 
   after_onward : (after : Afterwards) (p : Ptr) (st : State) → st.steps ≤ budget → IsLater st.steps (after_frame after p st) × Onward st.steps (after_frame after p st)
   after_onward nothing_more p st within = (tt, ((omega arith, within), tt, tt))

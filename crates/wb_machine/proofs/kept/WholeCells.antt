@@ -111,7 +111,7 @@ effect_whole script floor layer h g ending kept whole =
     same = sym (shown script h g ending) ∙ ap (λ s. s.state) (kept h.debug.rule (inl refl) idle at refl ends)
 
     idles : AlikeAll (kinds script) idle idle
-    idles ns at p st f = (refl, f)
+    idles ns at p st f = (refl, (f, tt))
 
     shows : Keeps (kinds script) [] p
     shows = (and_then-alike (kinds script) [] _ _ ends ends (statement-alike (kinds script) {ns = []} idle idle at layer st idles (tt, whole, tt)) (λ ns w st f. (refl, f))).1

@@ -8,6 +8,7 @@ ghost use Rattle.wb_model.specs.declared.heap.Rule.{Rule};
 ghost use Rattle.wb_model.specs.declared.script.Script.{Script};
 ghost use Rattle.wb_machine.specs.declared.pieces.PendingPiece.{PendingPiece};
 ghost use Rattle.wb_machine.specs.declared.pieces.Ending.TheVariants.{GoesOn};
+ghost use Rattle.wb_machine.specs.declared.raiser.Raiser.TheVariants.{MainEnd, Release, TrapEnd};
 ghost use Rattle.wb_machine.specs.RunState.{Values, RunState};
 ghost use Rattle.wb_machine.specs.Flow.{context_of, in_main_frame, frame_with, afterwards, pending_of, callers_under};
 ghost use Rattle.wb_machine.specs.Flow.{pending_in, needs_step, weight, weight_of, is_stop, is_over, IsSoundPiece};
@@ -101,6 +102,8 @@ impl<'a> Control<'a> {
             HasRoomUnder self.old.ending self.old.pieces.items state.old →
             HasRoom self.new.ending self.new.pieces.items state.new) }
         ensures line { self.new.line ≡ self.old.line }
+        ensures raiser { OnOk result (is_stop self.new.ending ≡ true →
+            self.new.raiser ≡ TrapEnd) }
     {
         match self.ending {
             Ending::GoesOn if state.items() == entry => state.set(local, Slot::Number(0)),
@@ -153,6 +156,8 @@ impl<'a> Control<'a> {
         ensures room { OnOk result (HasRoomUnder self.old.ending self.old.pieces.items state.now →
             HasRoom self.new.ending self.new.pieces.items state.now) }
         ensures line { self.new.line ≡ self.old.line }
+        ensures raiser { OnOk result (is_stop self.new.ending ≡ true →
+            self.new.raiser ≡ MainEnd) }
     {
         match self.ending {
             Ending::Leaves(code) => {
@@ -199,6 +204,7 @@ impl<'a> Control<'a> {
         ensures room { HasRoomUnder self.old.ending self.old.pieces.items state.old →
             HasRoom self.new.ending self.old.pieces.items state.new }
         ensures line { self.new.line ≡ self.old.line }
+        ensures raiser { is_stop self.new.ending ≡ true → self.new.raiser ≡ Release }
     {
         state.end_call(this, base);
         let result = match self.ending {

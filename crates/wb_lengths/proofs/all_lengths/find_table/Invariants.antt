@@ -1,0 +1,17 @@
+-- Proof: find_table. The table is right from a length on, and the lengths below are to come.
+use Rattle.std.proofs.Common.{◌≡◌, ◌+◌, ◌≤◌, false, None}
+use Rattle.wb_model.specs.declared.limits.TheConstants.{CEILING}
+use Rattle.wb_model.specs.heap.Space.{is_shape}
+use Rattle.wb_lengths.specs.Walk.{IsRightFrom}
+use Rattle.wb_lengths.proofs.all_lengths.find_table.Given as goal
+
+abbrev pub invariant-loop-next : goal.invariant-loop-next
+invariant-loop-next g l = record {
+  within : l.next ≤ CEILING + 1;
+  right : IsRightFrom l.script l.budget l.shape l.next l.table;
+  shaped : is_shape l.shape ≡ false → l.next ≡ CEILING + 1;
+  unbounded : l.fn.runs.steps_left ≡ None → l.runs.steps_left ≡ None;
+}
+
+abbrev pub decreases-loop-next : goal.decreases-loop-next
+decreases-loop-next g l = l.next

@@ -1,0 +1,220 @@
+//! How the runs of a script end in heaps of every length, by whole runs from the longest heap down.
+
+ghost use Rattle.std.specs.Prelude.{◌≡◌, ◌≢◌, ◌↔◌, ◌+◌, ◌-◌, ◌<◌, ◌≤◌, None, false, IfOk, IfSome, IsTrue};
+ghost use Rattle.wb_model.specs.heap.Space.{is_shape};
+ghost use Rattle.wb_model.specs.language.Sound.{is_script};
+ghost use Rattle.wb_model.specs.runs.Lengths.{run_in, IsLeastBadLength, IsLengthTable, IsNoBadLength};
+ghost use Rattle.wb_model.specs.runs.Rises.{highest_end};
+ghost use Rattle.wb_machine.specs.declared.fault.RunFault.TheVariants.{BadShape};
+ghost use Rattle.wb_lengths.specs.Lengths.{AreLengths, first_bad, has_cut};
+ghost use Rattle.wb_lengths.specs.Walk.{IsRightFrom};
+
+use crate::heap_runs::HeapRuns;
+use crate::highest_end::highest_end;
+use crate::table_so_far::TableSoFar;
+use std::alloc::Global;
+use wb_machine::{RunFault, run};
+use wb_model::heap::{Rule, Shape};
+use wb_model::lengths::LengthTable;
+use wb_model::limits::{CEILING, LARGEST_BUDGET};
+use wb_model::progress::{Progress, Silent};
+use wb_model::run::RunResult;
+use wb_model::run_end::RunEnd;
+use wb_model::script::Script;
+
+/// The least length of heap whose run leaks or panics, in bytes, and that run.
+#[derive(Debug, Drop)]
+pub struct BadLength {
+    pub length: u32,
+    pub result: RunResult,
+}
+
+/// How the runs of a script end in heaps of every length.
+#[derive(Debug, Drop)]
+pub struct LengthFindings {
+    pub table: LengthTable,
+    /// `None` if no length's run leaks or panics.
+    pub bad: Option<BadLength>,
+    /// Whether the run of some length is cut.
+    pub is_cut: bool,
+}
+
+/// How the runs of a script end in heaps of all lengths from 0 to the ceiling, and the least of these lengths whose run leaks or
+/// panics, with that run. Runs that are cut by the budget, which counts steps, are ranges like others. `BadShape` comes exactly where
+/// the shape is none that a heap may have, and before `NoMemory`. `progress` is notified of each run that the table is made of.
+///
+/// One run answers for many lengths: what a heap refuses ends past it, so a run in which no granted cell ends past a shorter
+/// length is the run in a heap of that length too, but for notes. So there is one run for each range of lengths whose runs have the
+/// same trace, and one more for the length that is found, if there is one.
+pub fn lengths<P: Progress>(
+    alloc: Global,
+    script: &Script,
+    budget: u32,
+    shape: Shape,
+    progress: &mut P,
+) -> Result<LengthFindings, RunFault>
+    requires script { IsTrue (is_script script.now) }
+    requires least { 1 ≤ budget }
+    requires greatest { budget ≤ LARGEST_BUDGET }
+    ensures lengths { IfOk result (AreLengths script.now budget shape) }
+    ensures shape { (result ≡ Err RunFault.BadShape) ↔ (is_shape shape ≡ false) }
+{
+    progress.begin_lengths();
+    let found = find_lengths(alloc, script, budget, shape, progress);
+    progress.end();
+    found
+}
+
+/// The table alone, without any report of progress. `steps` bounds the steps of all runs together: `None` comes where they would
+/// take more. That it comes nowhere else is in no clause.
+pub fn lengths_within(
+    alloc: Global,
+    script: &Script,
+    budget: u32,
+    shape: Shape,
+    steps: u32,
+) -> Result<Option<LengthTable>, RunFault>
+    requires script { IsTrue (is_script script.now) }
+    requires least { 1 ≤ budget }
+    requires greatest { budget ≤ LARGEST_BUDGET }
+    ensures table { IfOk result (λ found.
+        IfSome found (IsLengthTable script.now budget shape)) }
+    ensures shape { (result ≡ Err RunFault.BadShape) ↔ (is_shape shape ≡ false) }
+{
+    let mut runs = HeapRuns::new(alloc, Some(steps));
+    find_table(&mut runs, script, budget, shape, &mut Silent)
+}
+
+/// The table, of all lengths, and what it shows.
+fn find_lengths<P: Progress>(
+    alloc: Global,
+    script: &Script,
+    budget: u32,
+    shape: Shape,
+    progress: &mut P,
+) -> Result<LengthFindings, RunFault>
+    requires script { IsTrue (is_script script.now) }
+    requires least { 1 ≤ budget }
+    requires greatest { budget ≤ LARGEST_BUDGET }
+    ensures lengths { IfOk result (AreLengths script.now budget shape) }
+    ensures shape { (result ≡ Err RunFault.BadShape) ↔ (is_shape shape ≡ false) }
+{
+    let mut runs = HeapRuns::new(alloc, None);
+    match find_table(&mut runs, script, budget, shape, progress)? {
+        Some(table) => Ok(LengthFindings {
+            bad: find_bad(alloc, script, budget, shape, &table)?,
+            is_cut: has_cut(&table),
+            table,
+        }),
+        // Only a bound on the steps gives a table up.
+        None => unreachable!(),
+    }
+}
+
+/// The least length whose run leaks or panics by this table, and that run.
+fn find_bad(
+    alloc: Global,
+    script: &Script,
+    budget: u32,
+    shape: Shape,
+    table: &LengthTable,
+) -> Result<Option<BadLength>, RunFault>
+    requires script { IsTrue (is_script script.now) }
+    requires least { 1 ≤ budget }
+    requires greatest { budget ≤ LARGEST_BUDGET }
+    requires table { IsLengthTable script.now budget shape table.now }
+    ensures bad { IfOk result (λ found. IfSome found (λ bad.
+        IsLeastBadLength script.now budget shape bad.length bad.result)) }
+    ensures none { IfOk result (λ found. found ≡ None → IsNoBadLength script.now budget shape) }
+    ensures shape { result ≡ Err RunFault.BadShape → is_shape shape ≡ false }
+{
+    let Some(length) = first_bad(table) else {
+        return Ok(None);
+    };
+    let result = run(alloc, script, Rule::Limit(length), budget, shape)?;
+    Ok(Some(BadLength { length, result }))
+}
+
+/// Where the first range begins whose runs leak or panic, in bytes; `None` if there is no such range.
+fn first_bad(table: &LengthTable) -> Option<u32>
+    ensures { result ≡ first_bad table.now }
+{
+    for range in table.as_slice() {
+        if range.end.is_bad() {
+            return Some(range.from);
+        }
+    }
+    None
+}
+
+/// Whether the runs of a range are cut.
+fn has_cut(table: &LengthTable) -> bool
+    ensures { result ≡ has_cut table.now }
+{
+    for range in table.as_slice() {
+        if range.end.is_cut() {
+            return true;
+        }
+    }
+    false
+}
+
+/// The table of all lengths; `None` if the runs take more steps than are left to them.
+fn find_table<P: Progress>(
+    runs: &mut HeapRuns,
+    script: &Script,
+    budget: u32,
+    shape: Shape,
+    progress: &mut P,
+) -> Result<Option<LengthTable>, RunFault>
+    requires script { IsTrue (is_script script.now) }
+    requires least { 1 ≤ budget }
+    requires greatest { budget ≤ LARGEST_BUDGET }
+    ensures table { IfOk result (λ found.
+        IfSome found (IsLengthTable script.now budget shape)) }
+    ensures whole { runs.old.steps_left ≡ None → IfOk result (λ found. found ≢ None) }
+    ensures shape { (result ≡ Err RunFault.BadShape) ↔ (is_shape shape ≡ false) }
+{
+    let mut table = TableSoFar::new(runs.alloc);
+    let mut next = CEILING + 1;
+    while next > 0 {
+        progress.begin_length(next - 1);
+        let Some(from) = put_lengths_below(runs, &mut table, script, budget, shape, next)? else {
+            return Ok(None);
+        };
+        next = from;
+    }
+    Ok(Some(table.into_table()))
+}
+
+/// Puts the lengths below one, from where the runs end alike, before the others, and returns the least of them, in bytes; `None` if the
+/// run takes more steps than are left.
+fn put_lengths_below(
+    runs: &mut HeapRuns,
+    table: &mut TableSoFar,
+    script: &Script,
+    budget: u32,
+    shape: Shape,
+    next: u32,
+) -> Result<Option<u32>, RunFault>
+    requires script { IsTrue (is_script script.now) }
+    requires some { 1 ≤ budget }
+    requires greatest { budget ≤ LARGEST_BUDGET }
+    requires within { (1 ≤ next) × (next ≤ CEILING + 1) }
+    requires so_far { IsRightFrom script.now budget shape next table.old }
+    ensures least { IfOk result (λ found. IfSome found (λ from. from
+        ≡ highest_end (run_in script.now budget shape (next - 1)).trace)) }
+    ensures shorter { IfOk result (λ found. IfSome found (λ from. from < next)) }
+    ensures right { IfOk result (λ found. IfSome found (λ from.
+        IsRightFrom script.now budget shape from table.new)) }
+    ensures unbounded { runs.old.steps_left ≡ None → runs.new.steps_left ≡ None }
+    ensures whole { runs.old.steps_left ≡ None → IfOk result (λ found. found ≢ None) }
+    ensures shape { (result ≡ Err RunFault.BadShape) ↔ (is_shape shape ≡ false) }
+{
+    let Some(run_result) = runs.run(script, budget, shape, next - 1)? else {
+        return Ok(None);
+    };
+    let from = highest_end(&run_result.trace);
+    table.put_before(from, RunEnd::of(&run_result.outcome))?;
+    Ok(Some(from))
+}

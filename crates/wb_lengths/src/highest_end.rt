@@ -1,0 +1,35 @@
+//! The greatest end of a granted cell in a trace.
+
+ghost use Rattle.std.specs.Prelude.{◌≡◌, ◌≤◌, ℕ, Some, slice_get};
+ghost use Rattle.wb_model.specs.declared.heap.Answer.TheVariants.{Granted};
+ghost use Rattle.wb_model.specs.declared.heap.Attempt.{Attempt};
+ghost use Rattle.wb_model.specs.declared.limits.TheConstants.{CEILING};
+ghost use Rattle.wb_model.specs.runs.Rises.{end_of_line, highest_end};
+ghost use Rattle.wb_model.specs.runs.Traces.{end_of_attempt};
+ghost use Rattle.wb_lengths.specs.Walk.{GrantsWithin};
+
+use wb_model::heap::{Answer, Attempt};
+use wb_model::run::Trace;
+
+/// The greatest end of a granted cell, in bytes from the heap's start; 0 if none is granted.
+pub(crate) fn highest_end(trace: &Trace) -> u32
+    requires { GrantsWithin CEILING trace.now }
+    ensures { result ≡ highest_end trace.now }
+{
+    let mut highest = 0;
+    for attempt in trace.as_slice() {
+        highest = highest.max(granted_end(attempt));
+    }
+    highest
+}
+
+/// Where the cell of an attempt ends, in bytes; 0 if it isn't granted.
+fn granted_end(attempt: &Attempt) -> u32
+    requires { attempt.now.answer ≡ Granted → end_of_attempt attempt.now ≤ CEILING }
+    ensures { result ≡ end_of_line attempt.now }
+{
+    match attempt.answer {
+        Answer::Granted => attempt.place + attempt.length,
+        Answer::Simulated | Answer::Refused => 0,
+    }
+}

@@ -1,0 +1,16 @@
+//! How a script's runs end in heaps of every length, and the least length whose run shows a panic or a leak.
+#![tactic(auto)]
+
+pub mod all_lengths;
+mod heap_runs;
+mod highest_end;
+mod table_so_far;
+
+pub use all_lengths::{BadLength, LengthFindings, lengths, lengths_within};
+pub use wb_machine::RunFault;
+pub use wb_model::heap::Shape;
+pub use wb_model::lengths::{LengthRange, LengthTable};
+pub use wb_model::progress::{Progress, Silent};
+pub use wb_model::run::RunResult;
+pub use wb_model::run_end::RunEnd;
+pub use wb_model::script::Script;

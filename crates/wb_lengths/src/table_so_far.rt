@@ -1,0 +1,77 @@
+//! A table of lengths that is made from its end on.
+
+ghost use Rattle.std.specs.Option.{option_to_list};
+ghost use Rattle.std.specs.Prelude.{◌≡◌, [], ◌∷◌, ◌++◌, None, OnOk};
+ghost use Rattle.wb_lengths.specs.Walk.{IsPutBefore, range};
+
+use std::alloc::Global;
+use std::marker::Model;
+use wb_model::items::Items;
+use wb_model::lengths::{LengthRange, LengthTable};
+use wb_model::memory::NoMemory;
+use wb_model::run_end::RunEnd;
+
+/// The last ranges of a table, of which the first one is at the end of the `Vec`. Contracts see them in their order in the table.
+#[derive(Drop)]
+pub(crate) struct TableSoFar {
+    ranges: Vec<LengthRange>,
+}
+
+impl Model for TableSoFar {
+    ghost use Rattle.std.specs.Prelude.{List, reverse};
+    ghost use Rattle.wb_model.specs.declared.lengths.LengthRange.{LengthRange};
+
+    ghost Value = { List LengthRange };
+
+    ghost view = { λ inside. reverse inside.ranges.items };
+}
+
+impl TableSoFar {
+    /// No range. It takes no memory.
+    pub(crate) fn new(alloc: Global) -> TableSoFar
+        ensures { result ≡ [] }
+    {
+        TableSoFar {
+            ranges: Vec::new(alloc),
+        }
+    }
+
+    /// Puts a range before the others; if the first of these ends alike, both become one. On `Err` memory was refused, and the table
+    /// is no longer right.
+    pub(crate) fn put_before(&mut self, from: u32, end: RunEnd) -> Result<(), NoMemory>
+        ensures { OnOk result (IsPutBefore (range from end) self.old self.new) }
+    {
+        let range = LengthRange { from, end };
+        match self.take_first() {
+            None => self.put_first(range),
+            Some(first) if first.end == end => self.put_first(range),
+            Some(first) => {
+                self.put_first(first)?;
+                self.put_first(range)
+            }
+        }
+    }
+
+    /// Takes the first range off; `None` if there is none.
+    fn take_first(&mut self) -> Option<LengthRange>
+        ensures first { self.old ≡ option_to_list result ++ self.new }
+        ensures none { result ≡ None → self.old ≡ [] }
+    {
+        self.ranges.pop()
+    }
+
+    /// Puts a range before the others as it is.
+    fn put_first(&mut self, range: LengthRange) -> Result<(), NoMemory>
+        ensures { OnOk result (self.new ≡ range ∷ self.old) }
+    {
+        self.ranges.push(range).map_err(|_| NoMemory)
+    }
+
+    /// The ranges in their order.
+    pub(crate) fn into_table(mut self) -> LengthTable
+        ensures { result ≡ self }
+    {
+        self.ranges.reverse();
+        Items::from_vec(self.ranges)
+    }
+}
