@@ -1,7 +1,7 @@
 -- What clap makes of words on this command line.
-use Rattle.std.proofs.Common.{◌≡◌, ◌∙◌, Bool, true, false, refl, sym, ap, List, [], ◌∷◌, Option, Some, None, codes}
+use Rattle.std.proofs.Common.{◌≡◌, ◌∙◌, Bool, true, false, true≢false, refl, sym, ap, List, [], ◌∷◌, Option, Some, None, codes}
 use Rattle.std.specs.Str.{bytes_eq}
-use Rattle.std.specs.Prelude.{find, option_map}
+use Rattle.std.specs.Prelude.{◌≢◌, IsSome, find, option_map}
 use Rattle.std.specs.Option.{option_map_or}
 use Rattle.std.proofs.lemmas.Slice.Eq.{bytes_eq-Decides}
 use Rattle.clap.specs.Lexer.{long_of}
@@ -13,8 +13,9 @@ use Rattle.clap.specs.Takes.{level_passes, takes, turn_passes, walk_passes}
 use Rattle.clap.proofs.WalkLemmas.{walk_stopped}
 use Rattle.clap.proofs.FaultLemmas.{stopped_fault}
 use Rattle.wb_command_line.specs.CommandLine.{command_line, level_of}
-use Rattle.wb_command_line.specs.Subcommands.{Subcommand, check_subcommand, run_subcommand, size_subcommand, subcommand_named, sweep_subcommand}
+use Rattle.wb_command_line.specs.Subcommands.{Subcommand, check_subcommand, lengths_subcommand, run_subcommand, size_subcommand, subcommand_named, sweep_subcommand}
 use Rattle.wb_command_line.specs.Passed.{RowsPass}
+use Rattle.wb_command_line.specs.Spelled.{doubles, gives_both_flags, gives_more_than_one}
 use Rattle.wb_command_line.proofs.LevelLemmas.{level_name, level_once, level_single}
 use Rattle.wb_command_line.proofs.PassedWords.{level_passed}
 use Rattle.wb_command_line.proofs.RefusalLemmas.{Fails, and_true, has_kind, level_fails, stopped_passes, turn_first, turn_second, word_fails}
@@ -40,18 +41,22 @@ pub data Named (word : Text) : Type 0 where
   other : subcommand_named word ≡ None → subcommand_met names idle word ≡ None → Named word
 
 pub named_by : (w : Text) → Named w
-named_by w = go (bytes_eq (codes "run") w) refl (bytes_eq (codes "size") w) refl (bytes_eq (codes "sweep") w) refl (bytes_eq (codes "check") w) refl (bytes_eq (codes "help") w) refl
+named_by w =
+    go (bytes_eq (codes "run") w) refl (bytes_eq (codes "size") w) refl (bytes_eq (codes "lengths") w) refl
+    (bytes_eq (codes "sweep") w) refl (bytes_eq (codes "check") w) refl (bytes_eq (codes "help") w) refl
   where
-    go : (r : Bool) → bytes_eq (codes "run") w ≡ r → (s : Bool) → bytes_eq (codes "size") w ≡ s → (t : Bool) → bytes_eq (codes "sweep") w ≡ t
-        → (c : Bool) → bytes_eq (codes "check") w ≡ c → (h : Bool) → bytes_eq (codes "help") w ≡ h → Named w
-    go true run s size t sweep c check h help = one run_subcommand (record { named = refl; found = refl; is_no_help = refl }) (rw run refl) (rw run refl)
-    go false run true size t sweep c check h help = one size_subcommand (record { named = refl; found = refl; is_no_help = refl }) (rw (run, size) refl) (rw (run, size) refl)
-    go false run false size true sweep c check h help =
-        one sweep_subcommand (record { named = refl; found = refl; is_no_help = refl }) (rw (run, size, sweep) refl) (rw (run, size, sweep) refl)
-    go false run false size false sweep true check h help =
-        one check_subcommand (record { named = refl; found = refl; is_no_help = refl }) (rw (run, size, sweep, check) refl) (rw (run, size, sweep, check) refl)
-    go false run false size false sweep false check true help = help_command (rw (run, size, sweep, check) refl) (rw (run, size, sweep, check, help) refl)
-    go false run false size false sweep false check false help = other (rw (run, size, sweep, check) refl) (rw (run, size, sweep, check, help) refl)
+    go : (r : Bool) → bytes_eq (codes "run") w ≡ r → (s : Bool) → bytes_eq (codes "size") w ≡ s → (l : Bool) → bytes_eq (codes "lengths") w ≡ l
+        → (t : Bool) → bytes_eq (codes "sweep") w ≡ t → (c : Bool) → bytes_eq (codes "check") w ≡ c → (h : Bool) → bytes_eq (codes "help") w ≡ h → Named w
+    go true run s size l lengths t sweep c check h help = one run_subcommand (record { named = refl; found = refl; is_no_help = refl }) (rw run refl) (rw run refl)
+    go false run true size l lengths t sweep c check h help = one size_subcommand (record { named = refl; found = refl; is_no_help = refl }) (rw (run, size) refl) (rw (run, size) refl)
+    go false run false size true lengths t sweep c check h help =
+        one lengths_subcommand (record { named = refl; found = refl; is_no_help = refl }) (rw (run, size, lengths) refl) (rw (run, size, lengths) refl)
+    go false run false size false lengths true sweep c check h help =
+        one sweep_subcommand (record { named = refl; found = refl; is_no_help = refl }) (rw (run, size, lengths, sweep) refl) (rw (run, size, lengths, sweep) refl)
+    go false run false size false lengths false sweep true check h help =
+        one check_subcommand (record { named = refl; found = refl; is_no_help = refl }) (rw (run, size, lengths, sweep, check) refl) (rw (run, size, lengths, sweep, check) refl)
+    go false run false size false lengths false sweep false check true help = help_command (rw (run, size, lengths, sweep, check) refl) (rw (run, size, lengths, sweep, check, help) refl)
+    go false run false size false lengths false sweep false check false help = other (rw (run, size, lengths, sweep, check) refl) (rw (run, size, lengths, sweep, check, help) refl)
 
 abbrev top : Shape
 top = app.top
@@ -141,6 +146,28 @@ other_turn word met no_separator = rw met (word_fails top (λ name. false) (λ n
 
 pub text_is : (a b : Text) → bytes_eq a b ≡ true → a ≡ b
 text_is a b e = (bytes_eq-Decides a b).0 e
+
+-- a name of the list that is none of the others is the last
+last_named : (name : Text) → IsSome (subcommand_named name) → name ≢ codes "run" → name ≢ codes "size" → name ≢ codes "lengths" → name ≢ codes "sweep"
+    → subcommand_named name ≡ Some check_subcommand
+last_named name some no_run no_size no_lengths no_sweep =
+    go (bytes_eq (codes "run") name) refl (bytes_eq (codes "size") name) refl (bytes_eq (codes "lengths") name) refl
+    (bytes_eq (codes "sweep") name) refl (bytes_eq (codes "check") name) refl
+  where
+    go : (r : Bool) → bytes_eq (codes "run") name ≡ r → (s : Bool) → bytes_eq (codes "size") name ≡ s → (l : Bool) → bytes_eq (codes "lengths") name ≡ l
+        → (t : Bool) → bytes_eq (codes "sweep") name ≡ t → (c : Bool) → bytes_eq (codes "check") name ≡ c → subcommand_named name ≡ Some check_subcommand
+    go true run s size l lengths t sweep c check = absurd (no_run (sym (text_is (codes "run") name run)))
+    go false run true size l lengths t sweep c check = absurd (no_size (sym (text_is (codes "size") name size)))
+    go false run false size true lengths t sweep c check = absurd (no_lengths (sym (text_is (codes "lengths") name lengths)))
+    go false run false size false lengths true sweep c check = absurd (no_sweep (sym (text_is (codes "sweep") name sweep)))
+    go false run false size false lengths false sweep true check = rw (run, size, lengths, sweep, check) refl
+    go false run false size false lengths false sweep false check = absurd (true≢false (sym (rw (run, size, lengths, sweep, check) at some)))
+
+-- which takes failures, so that both flags are too many
+pub last_doubled : (name : Text) (rows : List Row) → IsSome (subcommand_named name) → name ≢ codes "run" → name ≢ codes "size" → name ≢ codes "lengths" → name ≢ codes "sweep"
+    → gives_both_flags rows ≡ true → doubles name rows ≡ true
+last_doubled name rows some no_run no_size no_lengths no_sweep both =
+    ap (λ (o : Option Subcommand). option_map_or (λ s. gives_more_than_one s.takes rows) o false) (last_named name some no_run no_size no_lengths no_sweep) ∙ both
 
 -- words that don't name a subcommand first are refused
 pub none_named_fails : (name word : Text) (rest : List Text) → subcommand_named word ≡ None → Fails (fault_of command_line (name ∷ word ∷ rest)) (takes command_line (name ∷ word ∷ rest))

@@ -14,7 +14,7 @@ use Rattle.wb_command_line.specs.CommandLine.{command_line}
 use Rattle.wb_command_line.specs.Spelled.{spell_both, spell_disorder, spelled}
 use Rattle.wb_command_line.specs.declared.command.Command.{Command}
 use Rattle.wb_command_line.specs.declared.command.Task.{Task}
-use Rattle.wb_command_line.specs.declared.command.Task.TheVariants.{Run, Size, Sweep, Check}
+use Rattle.wb_command_line.specs.declared.command.Task.TheVariants.{Run, Size, Lengths, Sweep, Check}
 
 -- the words after the program's name
 abbrev pub all_words : List Text → List Text
@@ -113,6 +113,15 @@ least-budget = record { taken = refl; faultless = refl; one_rule = refl; in_orde
 size-with-all : Spell (codes "size" ∷ codes "--step=32" ∷ codes "a.oom" ∷ codes "--budget=1000000" ∷ codes "--min" ∷ codes "0" ∷ []) (command_with Size 1000000 0 32 (Some (codes "a.oom")))
 unfolding walked walk_passes walk_fault defaults_fault
 size-with-all = record { taken = refl; faultless = refl; one_rule = refl; in_order = refl; meaning = refl }
+
+lengths-alone : Spell (codes "lengths" ∷ []) (command_with Lengths 10000 4096 4096 None)
+unfolding walked walk_passes walk_fault defaults_fault
+lengths-alone = record { taken = refl; faultless = refl; one_rule = refl; in_order = refl; meaning = refl }
+
+lengths-with-all : Spell (codes "lengths" ∷ codes "--step=32" ∷ codes "--json" ∷ codes "a.oom" ∷ codes "--budget=1000000" ∷ codes "--picture" ∷ codes "a.svg" ∷ codes "--min" ∷ codes "0" ∷ [])
+    (record (command_with Lengths 1000000 0 32 (Some (codes "a.oom"))) { json = true; picture = Some (codes "a.svg") })
+unfolding walked walk_passes walk_fault defaults_fault
+lengths-with-all = record { taken = refl; faultless = refl; one_rule = refl; in_order = refl; meaning = refl }
 
 sweep-with-a-budget : Spell (codes "sweep" ∷ codes "--budget" ∷ codes "+0500" ∷ []) (command_with (Sweep Single) 500 4096 4096 None)
 unfolding walked walk_passes walk_fault defaults_fault
@@ -361,3 +370,15 @@ rates-of-a-size = record { refused = refl; fault = refl }
 rate-of-a-size : Fail (codes "size" ∷ codes "--every=3" ∷ []) (UnknownArgument ∷ [])
 unfolding walked walk_passes walk_fault defaults_fault flags_fault flags_pass bundle_met chars
 rate-of-a-size = record { refused = refl; fault = refl }
+
+limit-of-lengths : Fail (codes "lengths" ∷ codes "--limit=5" ∷ []) (UnknownArgument ∷ [])
+unfolding walked walk_passes walk_fault defaults_fault flags_fault flags_pass bundle_met chars
+limit-of-lengths = record { refused = refl; fault = refl }
+
+rates-of-lengths : Fail (codes "lengths" ∷ codes "--every" ∷ []) (UnknownArgument ∷ [])
+unfolding walked walk_passes walk_fault defaults_fault flags_fault flags_pass bundle_met chars
+rates-of-lengths = record { refused = refl; fault = refl }
+
+pairs-of-lengths : Fail (codes "lengths" ∷ codes "--pairs" ∷ []) (UnknownArgument ∷ [])
+unfolding walked walk_passes walk_fault defaults_fault flags_fault flags_pass bundle_met chars
+pairs-of-lengths = record { refused = refl; fault = refl }

@@ -6,7 +6,7 @@ use Rattle.wb_model.specs.declared.heap.Rule.TheVariants.{Every, Limit, Number, 
 use Rattle.wb_model.specs.declared.heap.Shape.{Shape}
 use Rattle.wb_command_line.specs.declared.command.Command.{Command}
 use Rattle.wb_command_line.specs.declared.command.Task.{Task}
-use Rattle.wb_command_line.specs.declared.command.Task.TheVariants.{Run, Size, Sweep, Check}
+use Rattle.wb_command_line.specs.declared.command.Task.TheVariants.{Run, Size, Lengths, Sweep, Check}
 
 -- attempts count from 1, and the second comes after the first
 abbrev pub are_in_order : ℕ → ℕ → Bool
@@ -21,6 +21,7 @@ is_in_range (Run (Number n)) = nat_le n CEILING
 is_in_range (Run (Every n)) = nat_le n CEILING
 is_in_range (Run (Pair i j)) = are_in_order i j && nat_le j CEILING
 is_in_range Size = true
+is_in_range Lengths = true
 is_in_range (Sweep failures) = true
 is_in_range (Check failures) = true
 

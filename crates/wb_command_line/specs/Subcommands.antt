@@ -5,7 +5,7 @@ use Rattle.clap.specs.Words.{Text}
 use Rattle.wb_model.specs.declared.failures.Failures.{Failures}
 use Rattle.wb_model.specs.declared.heap.Rule.{Rule}
 use Rattle.wb_command_line.specs.declared.command.Task.{Task}
-use Rattle.wb_command_line.specs.declared.command.Task.TheVariants.{Run, Size, Sweep, Check}
+use Rattle.wb_command_line.specs.declared.command.Task.TheVariants.{Run, Size, Lengths, Sweep, Check}
 use Rattle.wb_command_line.specs.declared.command_line.parser.Takes.{Takes}
 use Rattle.wb_command_line.specs.declared.command_line.parser.Takes.TheVariants as taking
 
@@ -22,6 +22,9 @@ run_subcommand = record { name = codes "run"; takes = taking.Rule; task = λ rul
 abbrev pub size_subcommand : Subcommand
 size_subcommand = record { name = codes "size"; takes = taking.Neither; task = λ _ _. Size }
 
+abbrev pub lengths_subcommand : Subcommand
+lengths_subcommand = record { name = codes "lengths"; takes = taking.Neither; task = λ _ _. Lengths }
+
 abbrev pub sweep_subcommand : Subcommand
 sweep_subcommand = record {
   name = codes "sweep";
@@ -37,7 +40,8 @@ check_subcommand = record {
 }
 
 abbrev pub subcommands : List Subcommand
-subcommands = run_subcommand ∷ size_subcommand ∷ sweep_subcommand ∷ check_subcommand ∷ []
+subcommands =
+    run_subcommand ∷ size_subcommand ∷ lengths_subcommand ∷ sweep_subcommand ∷ check_subcommand ∷ []
 
 abbrev pub subcommand_named : Text → Option Subcommand
 subcommand_named name = find (λ s. bytes_eq s.name name) subcommands

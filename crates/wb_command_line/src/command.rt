@@ -18,6 +18,8 @@ pub enum Task {
     Run(Rule),
     /// The length of heap that the script needs, and what each shorter one refuses first.
     Size,
+    /// How the run ends in a heap of every length, and the least length whose run leaks or panics.
+    Lengths,
     /// The least of these failures that leaks or panics, and the run in which it does: the number of an attempt that
     /// fails, the rate at which attempts fail, or the numbers of two that do.
     Sweep(Failures),

@@ -1,6 +1,6 @@
 //! How the words of a command line are read: `workbench run [--limit L | --fail N [--also J] | --every N] [--budget B]
 //! [--min M] [--step G] [--json] [--picture FILE] [FILE]`, the same with a flag `--every` or `--pairs` in the place of a rule after `sweep` and
-//! `check`, and with none of them after `size`. Nothing is opened or run here.
+//! `check`, and with none of them after `size` and `lengths`. Nothing is opened or run here.
 ghost use Rattle.std.specs.Prelude.{◌≡◌, ◌≤◌, All, IfErr, IfOk, IsSome, IsTrue, List, Some, OnErr, OnOk, codes, false};
 ghost use Rattle.std.specs.Prelude.{map, true};
 ghost use Rattle.std.specs.Str.{IsUtf8};
@@ -78,6 +78,7 @@ fn command_in(alloc: Global, name: &str, options: &ArgMatches) -> Result<Command
 }
 
 /// What a subcommand asks for, or `Both` or `Also`.
+#[tactic(auto, using(crate::proofs::CommandLineLemmas::last_doubled))]
 fn task_in(name: &str, options: &ArgMatches) -> Result<Task, CommandFault>
     requires named { IsSome (subcommand_named name.now) }
     requires passed { RowsPass joined_level.rules (rows_of (found_of options.now)) }
@@ -91,6 +92,7 @@ fn task_in(name: &str, options: &ArgMatches) -> Result<Task, CommandFault>
     match name {
         "run" => Ok(Task::Run(rule_in(options)?)),
         "size" => Ok(Task::Size),
+        "lengths" => Ok(Task::Lengths),
         "sweep" => Ok(Task::Sweep(failures_in(options)?)),
         // There is no other.
         _ => Ok(Task::Check(failures_in(options)?)),

@@ -1,7 +1,9 @@
-//! What the command says of the script: how its file is called, and how many steps its runs may take.
+//! What the command says of the script, and its answer: how its file is called, how many steps its runs may take, and the heap
+//! whose run the report shows.
 
 ghost use Rattle.std.specs.Prelude.{◌≤◌};
 
+use wb_model::lengths::LengthTable;
 use wb_model::limits::LARGEST_BUDGET;
 use workbench::{Command, FileName};
 
@@ -36,4 +38,14 @@ pub fn budget_of(command: &Command) -> u32
     ensures greatest { result ≤ LARGEST_BUDGET }
 {
     command.budget.max(1).min(LARGEST_BUDGET)
+}
+
+/// Returns the least length of a table whose run leaks or panics, in bytes; `None` if none does.
+pub fn least_bad_length(ranges: &LengthTable) -> Option<u32> {
+    for range in ranges.as_slice() {
+        if range.end.is_bad() {
+            return Some(range.from);
+        }
+    }
+    None
 }

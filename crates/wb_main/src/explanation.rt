@@ -3,13 +3,12 @@
 ghost use Rattle.std.specs.Prelude.{◌≤◌, IsTrue};
 ghost use Rattle.wb_model.specs.language.Sound.{is_script};
 
-use crate::asked::{budget_of, script_name, source_name};
+use crate::asked::{budget_of, least_bad_length, script_name, source_name};
 use crate::recorded::FirstFault;
 use std::alloc::Global;
 use wb_explain::files::{Deed, file_fault};
-use wb_explain::runs::{ScriptFile, Setting, lengths_found, run_found};
+use wb_explain::runs::{ScriptFile, Setting, heaps_found, heaps_warning, lengths_found, run_found};
 use wb_mistakes::refused_script;
-use wb_model::failures::Failing;
 use wb_model::heap::Rule;
 use wb_model::limits::LARGEST_BUDGET;
 use wb_model::memory::NoMemory;
@@ -32,7 +31,7 @@ pub fn explain_answer(alloc: Global, exit: &Exit, first: FirstFault) -> Result<S
         return explain_fault(alloc, command, first);
     }
     match &exit.findings {
-        Some(findings) if !has_nothing_to_say(command.task, findings.at, exit.status) => {
+        Some(findings) if !has_nothing_to_say(command.task, findings, exit.status) => {
             explain_script(alloc, command, findings, exit.status)
         }
         _ => Ok(String::new(alloc)),
@@ -41,11 +40,11 @@ pub fn explain_answer(alloc: Global, exit: &Exit, first: FirstFault) -> Result<S
 
 /// Whether there is nothing to say of a report: nothing was found, no attempt was to fail, and no length is reported. Then the
 /// script isn't read once more.
-fn has_nothing_to_say(task: Task, at: Option<Failing>, status: u8) -> bool {
+fn has_nothing_to_say(task: Task, findings: &Findings, status: u8) -> bool {
     match task {
         Task::Size | Task::Check(_) => false,
-        Task::Run(_) | Task::Sweep(_) => {
-            status == NOTHING_FOUND && rule_to_explain(task, at, status).is_none()
+        Task::Run(_) | Task::Lengths | Task::Sweep(_) => {
+            status == NOTHING_FOUND && rule_to_explain(task, findings, status).is_none()
         }
     }
 }
@@ -94,25 +93,48 @@ fn explain_runs(
     };
     let name = script_name(command);
     let file = ScriptFile { name, text };
-    let mut found = String::new(alloc);
-    if let Some(rises) = &findings.rises {
-        let budget = budget_of(command);
-        found = lengths_found(alloc, file, script, budget, command.shape, rises.as_slice())?;
-    }
-    if let Some(rule) = rule_to_explain(command.task, findings.at, status) {
+    let mut found = explain_lengths(alloc, command, findings, script, file)?;
+    if let Some(rule) = rule_to_explain(command.task, findings, status) {
         let run = run_found(alloc, file, script, setting_of(command, rule))?;
         found.push_str(run.as_str())?;
+    }
+    if let Task::Check(_) = command.task
+        && status == NOTHING_FOUND
+    {
+        let warning = heaps_warning(alloc, file, script, budget_of(command), command.shape)?;
+        found.push_str(warning.as_str())?;
     }
     Ok(found)
 }
 
+/// What shorter heaps refuse first, and what heaps of every length show; empty if the report says neither.
+fn explain_lengths(
+    alloc: Global,
+    command: &Command,
+    findings: &Findings,
+    script: &Script,
+    file: ScriptFile<'_>,
+) -> Result<String, NoMemory>
+    requires { IsTrue (is_script script.now) }
+{
+    let (budget, shape) = (budget_of(command), command.shape);
+    if let Some(rises) = &findings.rises {
+        return lengths_found(alloc, file, script, budget, shape, rises.as_slice());
+    }
+    match &findings.ranges {
+        Some(ranges) => heaps_found(alloc, file, script, budget, shape, ranges.as_slice()),
+        None => Ok(String::new(alloc)),
+    }
+}
+
 /// Returns the rule of the run to explain; `None` if it found nothing and nothing was to fail, and if the report names no
-/// failure.
-fn rule_to_explain(task: Task, at: Option<Failing>, status: u8) -> Option<Rule> {
+/// failure and no length.
+fn rule_to_explain(task: Task, findings: &Findings, status: u8) -> Option<Rule> {
     match task {
         Task::Run(Rule::Unlimited) if status == NOTHING_FOUND => None,
         Task::Run(rule) => Some(rule),
-        Task::Size | Task::Sweep(_) | Task::Check(_) => at.map(|it| it.rule()),
+        Task::Lengths => least_bad_length(findings.ranges.as_ref()?).map(Rule::Limit),
+        Task::Size | Task::Sweep(_) | Task::Check(_) => findings.at.map(|it| it.rule()),
     }
 }
 

@@ -5,17 +5,20 @@
 mod asked;
 mod explanation;
 mod picture;
+mod picture_file;
 mod progress_line;
 mod recorded;
 
 use crate::explanation::explain_answer;
 use crate::picture::put_picture;
+use crate::picture_file::ProcessFiles;
 use crate::progress_line::ProgressLine;
 use crate::recorded::{FirstFault, Recorded, RecordedHost};
 use std::cell::RefCell;
 use std::io::Write;
 use std::process::ExitCode;
 use std::{env, io};
+use workbench::FileName;
 use workbench::program::{Exit, program};
 
 fn main(rt: HostRuntime) -> ExitCode {
@@ -35,7 +38,16 @@ fn main(rt: HostRuntime) -> ExitCode {
         &mut ProgressLine::new(&rt),
     );
     explain(&rt, &first, &exit);
-    ExitCode::from(put_picture(&rt, &exit))
+    let mut files = ProcessFiles::new(&rt, script_file(&exit));
+    ExitCode::from(put_picture(rt.alloc(), &exit, &mut files))
+}
+
+/// Returns the name of the script's file; `None` if that is standard input.
+fn script_file(exit: &Exit) -> Option<&FileName> {
+    match &exit.command {
+        Some(command) => command.file.as_ref(),
+        None => None,
+    }
 }
 
 /// Says what there is to say of the answer. Where memory runs out, or a write fails, it is left out.

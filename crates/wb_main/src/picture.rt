@@ -1,73 +1,77 @@
-//! The picture that the command asks for: it is drawn when the answer has gone out, and written to its file.
+//! The picture that the command asks for: it is drawn when the answer has gone out, and put into its file. How it comes there is
+//! in `picture_file`.
 
-ghost use Rattle.std.specs.Prelude.{◌≡◌, ◌⊎◌, IsTrue};
+ghost use Rattle.std.specs.Prelude.{◌≡◌, ◌≢◌, ℕ, List, Bool, IsTrue, IsSome, IfOk, IfSome};
+ghost use Rattle.wb_main.specs.Picture.{IsPictured, IsWanted};
 ghost use Rattle.wb_model.specs.language.Sound.{is_script};
 
-use crate::asked::{budget_of, script_name, shown_name};
+use crate::asked::{budget_of, least_bad_length, script_name};
 use std::alloc::Global;
-use std::fs;
-use std::io::{ErrorKind, Write};
-use wb_explain::files::{Deed, file_fault};
 use wb_model::memory::NoMemory;
 use wb_model::script::Script;
 use wb_picture::{
-    ScriptFile, Setting, picture_of_check, picture_of_run, picture_of_size, picture_of_sweep,
+    ScriptFile, Setting, picture_of_check, picture_of_lengths, picture_of_run, picture_of_size,
+    picture_of_sweep,
 };
 use workbench::answer::READ_OR_WRITE_FAULT;
 use workbench::findings::Findings;
 use workbench::program::Exit;
 use workbench::{Command, FileName, Task};
 
-/// Draws and writes the picture that the command asks for, if it asks for one and there is a report. Returns the exit status:
-/// that of the answer, or `READ_OR_WRITE_FAULT` if the picture can't be written, which standard error then says. If memory
-/// runs out, the picture is left out.
-pub fn put_picture(rt: &HostRuntime, exit: &Exit) -> u8
-    ensures { (result ≡ exit.now.status) ⊎ (result ≡ 5) }
+/// Where pictures go.
+pub trait PictureFiles {
+    /// What putting a picture into a file does: what was there before, the file's name, whether the picture is left out or is in
+    /// that file now, and what is there after.
+    ghost puts: { Self → List ℕ → Bool → Self → Type 0 };
+
+    /// Puts a picture into the file with this name. Returns `false` if that failed.
+    fn put(&mut self, name: &FileName, picture: &str) -> bool
+        ensures { puts self.old name.now result self.new };
+}
+
+/// Draws the picture that the command asks for, if it asks for one and there is a report, and puts it into the file that the
+/// command names for it, and into no other. Returns the exit status: that of the answer, or `READ_OR_WRITE_FAULT` if the
+/// picture can't be put there. If memory runs out, the picture is left out.
+pub fn put_picture<P: PictureFiles>(alloc: Global, exit: &Exit, files: &mut P) -> u8
+    ensures { IsPictured P.puts exit.now files.old files.new result }
 {
     let Some(name) = file_for_picture(exit) else {
         return exit.status;
     };
-    match draw_answer(rt.alloc(), exit) {
-        Ok(Some(picture)) => write_picture(rt, name, picture.as_str(), exit.status),
+    match draw_answer(alloc, exit) {
+        Ok(Some(picture)) => {
+            if files.put(name, picture.as_str()) {
+                exit.status
+            } else {
+                READ_OR_WRITE_FAULT
+            }
+        }
         Ok(None) | Err(NoMemory) => exit.status,
     }
 }
 
-/// Returns the file that a picture is to be written to; `None` if none is wanted, or if reading the script or writing the
+/// Returns the file that a picture is to be put into; `None` if none is wanted, or if reading the script or writing the
 /// report failed.
-fn file_for_picture(exit: &Exit) -> Option<&FileName> {
+fn file_for_picture(exit: &Exit) -> Option<&FileName>
+    ensures { IfSome result (λ name. IsWanted exit.now name.now) }
+{
     if exit.status == READ_OR_WRITE_FAULT {
         return None;
     }
     match &exit.command {
-        Some(command) => command.picture.as_ref(),
+        Some(command) => match &command.picture {
+            Some(name) => Some(name),
+            None => None,
+        },
         None => None,
-    }
-}
-
-/// Writes the picture. Returns the exit status, which is this one if it was written.
-fn write_picture(rt: &HostRuntime, name: &FileName, picture: &str, status: u8) -> u8
-    ensures { (result ≡ status) ⊎ (result ≡ 5) }
-{
-    match fs::write(rt, name.as_str(), picture) {
-        Ok(()) => status,
-        Err(error) => {
-            say_fault(rt, name, error.kind());
-            READ_OR_WRITE_FAULT
-        }
-    }
-}
-
-/// Says why the picture can't be written. If memory runs out, or this can't be written either, it is left out.
-fn say_fault(rt: &HostRuntime, name: &FileName, kind: ErrorKind) {
-    if let Ok(text) = file_fault(rt.alloc(), shown_name(name), Deed::Writing, kind) {
-        let _ = rt.stderr().write_all(text.as_bytes());
     }
 }
 
 /// Returns the picture of an answer; `None` if there is no report, and if the script is refused. The only error is that memory
 /// ran out.
-fn draw_answer(alloc: Global, exit: &Exit) -> Result<Option<String>, NoMemory> {
+fn draw_answer(alloc: Global, exit: &Exit) -> Result<Option<String>, NoMemory>
+    ensures { IfOk result (λ drawn. IfSome drawn (λ _. IsSome exit.now.findings)) }
+{
     let (Some(command), Some(findings)) = (&exit.command, &exit.findings) else {
         return Ok(None);
     };
@@ -104,6 +108,13 @@ fn draw_runs(
             picture_of_run(alloc, file, script, setting)
         }
         Task::Size => picture_of_size(alloc, file, script, budget, shape),
+        Task::Lengths => match &findings.ranges {
+            Some(ranges) => {
+                let found = least_bad_length(ranges);
+                picture_of_lengths(alloc, file, script, budget, shape, ranges.as_slice(), found)
+            }
+            None => Ok(String::new(alloc)),
+        },
         Task::Sweep(_) => picture_of_sweep(alloc, file, script, budget, shape, at),
         Task::Check(_) => picture_of_check(alloc, file, script, budget, shape, at),
     }

@@ -1,4 +1,5 @@
-//! The line on a terminal that says which failure a sweep tries. Where standard error is no terminal, nothing is said.
+//! The line on a terminal that says which failure a sweep tries, or which length of heap. Where standard error is no terminal,
+//! nothing is said.
 
 use arrayvec::ArrayString;
 use std::fmt::Write as _;
@@ -7,7 +8,7 @@ use std::time::{Duration, Instant};
 use wb_model::failures::Failing;
 use workbench::Progress;
 
-/// How many milliseconds a sweep goes on before anything is said of it.
+/// How many milliseconds runs go on before anything is said of them.
 const QUIET: u64 = 2_000;
 
 /// How many milliseconds a line is left as it is.
@@ -16,7 +17,7 @@ const PAUSE: u64 = 100;
 /// The most bytes that are written at once: a line's words, with three numbers, and what leads to its beginning.
 const WIDEST: usize = 80;
 
-/// A line on standard error that is rewritten in place while a sweep goes on, and wiped at its end. Whether it could be written,
+/// A line on standard error that is rewritten in place while runs go on, and wiped at their end. Whether it could be written,
 /// and what time it is, makes no difference to anything.
 #[derive(Drop)]
 pub struct ProgressLine<'a> {
@@ -54,6 +55,21 @@ impl<'a> ProgressLine<'a> {
         now.checked_add(Duration::from_millis(pause))
     }
 
+    /// Begins to wait, where standard error is a terminal.
+    fn begin_quietly(&mut self) {
+        if self.rt.stderr().is_terminal() {
+            self.due = self.after(QUIET);
+        }
+    }
+
+    /// Shows a text, if there is one, and leaves it for a while.
+    fn show(&mut self, text: Option<ArrayString<WIDEST>>) {
+        if let Some(text) = text {
+            self.rewrite(text.as_str());
+        }
+        self.due = self.after(PAUSE);
+    }
+
     /// Writes a text in the place of the line that is shown.
     fn rewrite(&mut self, text: &str) {
         let mut line = ArrayString::<WIDEST>::new();
@@ -66,9 +82,7 @@ impl<'a> ProgressLine<'a> {
 
 impl<'a> Progress for ProgressLine<'a> {
     fn begin(&mut self) {
-        if self.rt.stderr().is_terminal() {
-            self.due = self.after(QUIET);
-        }
+        self.begin_quietly();
     }
 
     fn begin_failures(&mut self, last: u32) {
@@ -77,10 +91,17 @@ impl<'a> Progress for ProgressLine<'a> {
 
     fn begin_failure(&mut self, at: Failing) {
         if self.is_due() {
-            if let Some(text) = line_of(at, self.last) {
-                self.rewrite(text.as_str());
-            }
-            self.due = self.after(PAUSE);
+            self.show(line_of(at, self.last));
+        }
+    }
+
+    fn begin_lengths(&mut self) {
+        self.begin_quietly();
+    }
+
+    fn begin_length(&mut self, length: u32) {
+        if self.is_due() {
+            self.show(line_of_length(length));
         }
     }
 
@@ -106,5 +127,12 @@ fn line_of(at: Failing, last: u32) -> Option<ArrayString<WIDEST>> {
             )
         }
     };
+    put.ok().map(|()| line)
+}
+
+/// The line of a length of heap that is tried, in bytes.
+fn line_of_length(length: u32) -> Option<ArrayString<WIDEST>> {
+    let mut line = ArrayString::new();
+    let put = write!(line, "trying a heap of {length} bytes");
     put.ok().map(|()| line)
 }

@@ -308,9 +308,19 @@ impl<'f> Page<'f> {
         self.end_line();
     }
 
+    /// Begins a row of a table, below a message.
+    pub fn begin_row(&mut self)
+        ensures before { self.new.is_cut ≡ false → self.old.is_cut ≡ false }
+        ensures text { self.new.is_cut ≡ false → string_bytes self.new.text
+            ≡ string_bytes self.old.text ++ codes "    " }
+        ensures file { self.new.file ≡ self.old.file }
+    {
+        self.write_text(INDENT);
+    }
+
     /// Writes a row of a table, below a message.
     pub fn write_row(&mut self, fragments: &[Fragment]) {
-        self.add_text(INDENT);
+        self.begin_row();
         self.write(fragments);
         self.end_line();
     }

@@ -146,15 +146,19 @@ impl Write for FailingOnce<Taker> {
 fn run_command() -> Command
     ensures { IsTrue (is_answerable result) }
 {
-    run_command_in(false)
+    command_in(false, false)
 }
 
-/// A plain run of the script, reported as lines or as JSON.
-fn run_command_in(json: bool) -> Command
+/// A plain run of the script, or the search through all lengths, reported as lines or as JSON.
+fn command_in(of_lengths: bool, json: bool) -> Command
     ensures { IsTrue (is_answerable result) }
 {
     Command {
-        task: Task::Run(Rule::Unlimited),
+        task: if of_lengths {
+            Task::Lengths
+        } else {
+            Task::Run(Rule::Unlimited)
+        },
         file: None,
         budget: 10_000,
         shape: Shape {
@@ -307,6 +311,7 @@ fn stops(alloc: Global, reader: &mut Giver<'_>, writer: &mut impl Write) -> bool
 /// Whether the report, which is this text, goes out up to its `at`-th write, of five bytes each, where that fails.
 fn ends_at_write(
     alloc: Global,
+    of_lengths: bool,
     json: bool,
     text: &[u8],
     at: usize,
@@ -315,7 +320,7 @@ fn ends_at_write(
     let mut writer = FailingOnce::new(taking(alloc, 1000, None), at, kind);
     let answered = answer(
         alloc,
-        &run_command_in(json),
+        &command_in(of_lengths, json),
         &mut giving(LEAKING, None),
         &mut writer,
         &mut Silent,
@@ -326,14 +331,14 @@ fn ends_at_write(
         && writer.calls == at.wrapping_add(1)
 }
 
-/// Each write in turn, of the report in both forms, fails in each way.
+/// Each write in turn, of two reports in both forms, fails in each way.
 #[test]
 fn writes_no_more_where_a_write_failed(rt: HostRuntime) {
-    for json in [false, true] {
+    for (of_lengths, json) in [(false, false), (false, true), (true, false), (true, true)] {
         let mut whole = taking(rt.alloc(), 1000, None);
         let answered = answer(
             rt.alloc(),
-            &run_command_in(json),
+            &command_in(of_lengths, json),
             &mut giving(LEAKING, None),
             &mut whole,
             &mut Silent,
@@ -344,8 +349,8 @@ fn writes_no_more_where_a_write_failed(rt: HostRuntime) {
         for at in 0..whole.writes {
             for kind in FAILURES {
                 assert!(rt;
-                    ends_at_write(rt.alloc(), json, text, at, kind),
-                    "json {json}, write {at}"
+                    ends_at_write(rt.alloc(), of_lengths, json, text, at, kind),
+                    "lengths {of_lengths}, json {json}, write {at}"
                 );
             }
         }

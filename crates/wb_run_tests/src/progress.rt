@@ -1,4 +1,4 @@
-//! What is reported of a sweep while it goes on, and that all of it is reported before anything is written.
+//! What is reported of a sweep, or of the search through all lengths, while it goes on, and that all of it is reported before anything is written.
 
 ghost use Rattle.std.specs.Prelude.{⊤};
 
@@ -18,6 +18,8 @@ use workbench::program::program;
 struct Listener<'a> {
     /// The failures that are still to be reported.
     to_come: &'static [Failing],
+    /// The lengths that are still to be reported, in bytes.
+    lengths_to_come: &'static [u32],
     is_as_wanted: bool,
     begun: u32,
     last: Option<u32>,
@@ -41,6 +43,20 @@ impl Progress for Listener<'_> {
             Some((next, rest)) => {
                 self.is_as_wanted &= *next == at;
                 self.to_come = rest;
+            }
+            None => self.is_as_wanted = false,
+        }
+    }
+
+    fn begin_lengths(&mut self) {
+        self.begin();
+    }
+
+    fn begin_length(&mut self, length: u32) {
+        match self.lengths_to_come.split_first() {
+            Some((next, rest)) => {
+                self.is_as_wanted &= *next == length;
+                self.lengths_to_come = rest;
             }
             None => self.is_as_wanted = false,
         }
@@ -100,8 +116,9 @@ impl Host for Desk {
 struct Wanted {
     words: &'static [&'static str],
     script: &'static [u8],
-    /// How often a sweep begins and ends.
+    /// How often a sweep begins and ends, or the search through all lengths.
     sweeps: u32,
+    lengths: &'static [u32],
     /// How many attempts the run without failure makes, if nothing is found in it.
     last: Option<u32>,
     failures: &'static [Failing],
@@ -110,11 +127,12 @@ struct Wanted {
 /// A cell that nobody frees.
 const LEAKING: &[u8] = b"proc main\nptr a\nalloc a 16\nend\n";
 
-static TOLD: [Wanted; 10] = [
+static TOLD: [Wanted; 12] = [
     Wanted {
         words: &["workbench", "sweep"],
         script: FALLBACK,
         sweeps: 1,
+        lengths: &[],
         last: Some(3),
         failures: &[Failing::Number(1), Failing::Number(2), Failing::Number(3)],
     },
@@ -122,6 +140,7 @@ static TOLD: [Wanted; 10] = [
         words: &["workbench", "check", "--json"],
         script: FALLBACK,
         sweeps: 1,
+        lengths: &[],
         last: Some(3),
         failures: &[Failing::Number(1), Failing::Number(2), Failing::Number(3)],
     },
@@ -130,6 +149,7 @@ static TOLD: [Wanted; 10] = [
         words: &["workbench", "check", "--every"],
         script: FALLBACK,
         sweeps: 1,
+        lengths: &[],
         last: Some(3),
         failures: &[Failing::Every(1), Failing::Every(2)],
     },
@@ -138,6 +158,7 @@ static TOLD: [Wanted; 10] = [
         words: &["workbench", "sweep", "--pairs"],
         script: FALLBACK,
         sweeps: 1,
+        lengths: &[],
         last: Some(3),
         failures: &[
             Failing::Number(1),
@@ -152,6 +173,7 @@ static TOLD: [Wanted; 10] = [
         words: &["workbench", "sweep"],
         script: LEAKING,
         sweeps: 1,
+        lengths: &[],
         last: None,
         failures: &[],
     },
@@ -160,14 +182,34 @@ static TOLD: [Wanted; 10] = [
         words: &["workbench", "sweep", "--budget", "2"],
         script: FALLBACK,
         sweeps: 1,
+        lengths: &[],
         last: None,
         failures: &[],
+    },
+    // A heap of 175 bytes refuses the script's cell, and one of 143 the cleanup stack's.
+    Wanted {
+        words: &["workbench", "lengths"],
+        script: LEAKING,
+        sweeps: 1,
+        lengths: &[16_777_216, 175, 143],
+        last: None,
+        failures: &[],
+    },
+    // The run in which attempt 2 fails takes a step more, and is cut.
+    Wanted {
+        words: &["workbench", "sweep", "--budget", "5"],
+        script: FALLBACK,
+        sweeps: 1,
+        lengths: &[],
+        last: Some(3),
+        failures: &[Failing::Number(1), Failing::Number(2)],
     },
     // There is nothing to sweep.
     Wanted {
         words: &["workbench", "sweep"],
         script: b"",
         sweeps: 0,
+        lengths: &[],
         last: None,
         failures: &[],
     },
@@ -175,6 +217,7 @@ static TOLD: [Wanted; 10] = [
         words: &["workbench", "sweep", "a.oom"],
         script: FALLBACK,
         sweeps: 0,
+        lengths: &[],
         last: None,
         failures: &[],
     },
@@ -182,6 +225,7 @@ static TOLD: [Wanted; 10] = [
         words: &["workbench", "run", "--fail", "2"],
         script: FALLBACK,
         sweeps: 0,
+        lengths: &[],
         last: None,
         failures: &[],
     },
@@ -189,6 +233,7 @@ static TOLD: [Wanted; 10] = [
         words: &["workbench", "size"],
         script: FALLBACK,
         sweeps: 0,
+        lengths: &[],
         last: None,
         failures: &[],
     },
@@ -203,6 +248,7 @@ fn is_reported<'a>(
 ) -> bool {
     let mut listener: Listener<'a> = Listener {
         to_come: wanted.failures,
+        lengths_to_come: wanted.lengths,
         is_as_wanted: true,
         begun: 0,
         last: None,
@@ -228,6 +274,7 @@ fn is_reported<'a>(
     );
     listener.is_as_wanted
         && listener.to_come.is_empty()
+        && listener.lengths_to_come.is_empty()
         && listener.begun == wanted.sweeps
         && listener.last == wanted.last
         && listener.ended == wanted.sweeps

@@ -1,14 +1,15 @@
 //! A shape that no heap has, as no words of a command line spell it.
 
 use std::test::Fail;
+use wb_lengths::{lengths, lengths_within};
 use wb_machine::{RunFault, run};
 use wb_model::failures::Failures;
 use wb_model::heap::{Rule, Shape};
+use wb_model::progress::Silent;
 use wb_script::read;
 use wb_size::fault::SizeFault;
 use wb_size::measure::size;
 use wb_sweep::fault::SweepFault;
-use wb_sweep::progress::Silent;
 use wb_sweep::sweeping::sweep;
 
 const ODD: Shape = Shape { min: 8, step: 4096 };
@@ -29,6 +30,16 @@ fn no_size_has_it(rt: HostRuntime) -> Result<(), Fail> {
     let script = read(rt.alloc(), EMPTY)?;
     let told = size(rt.alloc(), &script, 5, ODD);
     assert_eq!(rt; told.err(), Some(SizeFault::BadShape));
+    Ok(())
+}
+
+#[test]
+fn no_table_of_lengths_has_it(rt: HostRuntime) -> Result<(), Fail> {
+    let script = read(rt.alloc(), EMPTY)?;
+    let told = lengths(rt.alloc(), &script, 5, ODD, &mut Silent);
+    assert_eq!(rt; told.err(), Some(RunFault::BadShape));
+    let told = lengths_within(rt.alloc(), &script, 5, ODD, 100);
+    assert_eq!(rt; told.err(), Some(RunFault::BadShape));
     Ok(())
 }
 

@@ -12,9 +12,10 @@ const DEFAULT_SHAPE: Shape = Shape {
 };
 
 /// The subcommands, and what each asks for where no option is given.
-static SUBCOMMANDS: [(&str, Task); 4] = [
+static SUBCOMMANDS: [(&str, Task); 5] = [
     ("run", Task::Run(Rule::Unlimited)),
     ("size", Task::Size),
+    ("lengths", Task::Lengths),
     ("sweep", Task::Sweep(Failures::Single)),
     ("check", Task::Check(Failures::Single)),
 ];

@@ -20,6 +20,8 @@ use Rattle.wb_model.specs.declared.heap.Panic.{Panic}
 use Rattle.wb_model.specs.declared.heap.Panic.TheVariants.{User, Alloc, Workbench}
 use Rattle.wb_model.specs.declared.heap.Rule.{Rule}
 use Rattle.wb_model.specs.declared.heap.Shape.{Shape}
+use Rattle.wb_model.specs.declared.heap.Rule.TheVariants.{Limit}
+use Rattle.wb_model.specs.declared.lengths.LengthRange.{LengthRange}
 use Rattle.wb_model.specs.declared.run.Leak.{Leak}
 use Rattle.wb_model.specs.declared.run.Note.{Note}
 use Rattle.wb_model.specs.declared.run.Note.TheVariants.{Heap, Available, Compress}
@@ -28,6 +30,8 @@ use Rattle.wb_model.specs.declared.run.Outcome.TheVariants.{Ended, Panicked, NoC
 use Rattle.wb_model.specs.declared.run.RunResult.{RunResult}
 use Rattle.wb_model.specs.declared.run.Why.{Why}
 use Rattle.wb_model.specs.declared.run.Why.TheVariants.{Budget, Ceiling}
+use Rattle.wb_model.specs.declared.run_end.RunEnd.{RunEnd}
+use Rattle.wb_model.specs.declared.run_end.RunEnd.TheVariants as ends
 use Rattle.wb_model.specs.declared.script.Script.{Script}
 use Rattle.wb_model.specs.declared.size.Rise.{Rise}
 use Rattle.wb_model.specs.language.Lines.{ends_line, onto_first, pieces_from, quoted_after}
@@ -43,7 +47,9 @@ use Rattle.wb_command_line.specs.declared.command.Task.TheVariants as T
 use Rattle.workbench.specs.declared.report_values.ReportValues.{ReportValues}
 use Rattle.workbench.specs.Ascii.{HasPrintableLines, IsPrintableText, IsTextByte}
 use Rattle.workbench.specs.Report.{IsReport, IsTaskReport, fault_line, no_memory, read_fault, refused, refused_at}
-use Rattle.workbench.specs.RunText.{answer_word, attempt_line, cut_line, eight_digits, end_line, leak_line, leaks_text, line, note_line, outcome_text, panic_line, print_line, run_text}
+use Rattle.workbench.specs.EndWords.{cut_words, eight_digits, end_words, panic_words}
+use Rattle.workbench.specs.LengthsReport.{IsLengthsReport, bad_length_text, range_line, table_lines}
+use Rattle.workbench.specs.RunText.{answer_word, attempt_line, end_line, leak_line, leaks_text, line, note_line, outcome_text, print_line, run_text}
 use Rattle.workbench.specs.TwoNumbers.{IsCheckReport, IsFailing, IsSized, IsSizeReport, IsSweepReport, attempts_line, cut_at_line, failing_line, failing_text, found_text, none_line, refuses_line, size_text, table_text}
 
 -- ---- words and numbers
@@ -131,33 +137,41 @@ of_leak leak =
 of_leaks : (leaks : List Leak) → IsPrintableText (leaks_text leaks)
 of_leaks leaks = both (line (codes "leaks " ++ decimal (length leaks))) (flat_map leak_line leaks) (of_number (codes "leaks ") (length leaks) refl) (of_each leak_line of_leak leaks)
 
+left-printable : (code : ℤ) → ArePrintable (codes "left " ++ signed_decimal code)
+left-printable code = All-append IsPrintable (codes "left ") (signed_decimal code) (printable_by_test (codes "left ") refl) (signed_decimal-printable code)
+
 of_end : (left : Option ℤ) → IsPrintableText (end_line left)
 of_end None = of_word (codes "ended") refl
-of_end (Some code) =
-    of_line (codes "left " ++ signed_decimal code)
-    (All-append IsPrintable (codes "left ") (signed_decimal code) (printable_by_test (codes "left ") refl) (signed_decimal-printable code))
+of_end (Some code) = of_line (codes "left " ++ signed_decimal code) (left-printable code)
 
 eight_digits-printable : (n : ℕ) → ArePrintable (eight_digits n)
 eight_digits-printable n =
     let zeros = 8 - length (digits 16 false n) in
     All-append IsPrintable (replicate zeros 48) (digits 16 false n) (All-replicate IsPrintable zeros 48 (omega arith, omega arith)) (hexadecimal-printable n)
 
-of_panic : (panic : Panic) → IsPrintableText (panic_line panic)
-of_panic (User n) = of_number (codes "panic USER ") n refl
-of_panic (Alloc place) =
-    of_line (codes "panic ALLOC " ++ eight_digits place)
-    (All-append IsPrintable (codes "panic ALLOC ") (eight_digits place) (printable_by_test (codes "panic ALLOC ") refl) (eight_digits-printable place))
-of_panic (Workbench n) = of_number (codes "panic WORKBENCH ") n refl
+panic_words-printable : (panic : Panic) → ArePrintable (panic_words panic)
+panic_words-printable (User n) = one_number (codes "panic USER ") n refl
+panic_words-printable (Alloc place) =
+    All-append IsPrintable (codes "panic ALLOC ") (eight_digits place) (printable_by_test (codes "panic ALLOC ") refl) (eight_digits-printable place)
+panic_words-printable (Workbench n) = one_number (codes "panic WORKBENCH ") n refl
 
-of_cut : (why : Why) → IsPrintableText (cut_line why)
-of_cut Budget = of_word (codes "cut budget") refl
-of_cut Ceiling = of_word (codes "cut ceiling") refl
+cut_words-printable : (why : Why) → ArePrintable (cut_words why)
+cut_words-printable Budget = printable_by_test (codes "cut budget") refl
+cut_words-printable Ceiling = printable_by_test (codes "cut ceiling") refl
+
+pub printable_end_words : (end : RunEnd) → ArePrintable (end_words end)
+printable_end_words ends.NoCleanup = printable_by_test (codes "nocleanup") refl
+printable_end_words (ends.Panicked panic) = panic_words-printable panic
+printable_end_words (ends.Leaked count) = one_number (codes "leaks ") count refl
+printable_end_words (ends.Left code) = left-printable code
+printable_end_words ends.Plain = printable_by_test (codes "ended") refl
+printable_end_words (ends.Cut why) = cut_words-printable why
 
 of_outcome : (outcome : Outcome) → IsPrintableText (outcome_text outcome)
 of_outcome (Ended left leaks) = both (end_line left) (leaks_text leaks) (of_end left) (of_leaks leaks)
-of_outcome (Panicked panic) = of_panic panic
+of_outcome (Panicked panic) = of_line (panic_words panic) (panic_words-printable panic)
 of_outcome NoCleanup = of_word (codes "nocleanup") refl
-of_outcome (Cut why) = of_cut why
+of_outcome (Cut why) = of_line (cut_words why) (cut_words-printable why)
 
 of_run : (r : RunResult) → All ArePrintable r.lines → IsPrintableText (run_text r)
 of_run r are =
@@ -212,6 +226,18 @@ of_none : (failures : Failures) → IsPrintableText (none_line failures)
 of_none Single = of_word (codes "number none") refl
 of_none Every = of_word (codes "every none") refl
 of_none Pairs = of_word (codes "pair none") refl
+
+-- ---- all lengths
+
+of_range : (range : LengthRange) → IsPrintableText (range_line range)
+unfolding range_line
+of_range range =
+    let before = codes "from " ++ decimal range.from in
+    of_line (before ++ codes " " ++ end_words range.end) (All-append IsPrintable (before ++ codes " ") (end_words range.end)
+    (and_word before (codes " ") (one_number (codes "from ") range.from refl) refl) (printable_end_words range.end))
+
+of_table_lines : (table : List LengthRange) → IsPrintableText (table_lines table)
+of_table_lines table = of_each range_line of_range table
 
 -- ---- the lines of a fault, and those that come in a report's place
 
@@ -275,9 +301,20 @@ module _ (script : Script) (budget : ℕ) (shape : Shape) where
       (both is.first is.second (of_sized is.first is.size is.sized) (of_sweep_report failures is.second is.sweep status is.swept))
   of_check_report failures text values status (inr is) = subst IsPrintableText (sym is.0.text_is) (of_cut_at (Number 0) is.0.why)
 
+  of_lengths_report : (text : List ℕ) (values : ReportValues) (status : ℕ) → IsLengthsReport script budget shape text values status → IsPrintableText text
+  of_lengths_report text values status (inl is) =
+      let lines : All ArePrintable is.0.result.lines =
+      subst (λ (r : RunResult). All ArePrintable r.lines) (sym is.0.least.run_is) (run_lines (Limit is.0.length)) in
+      subst IsPrintableText (sym is.0.text_is)
+      (both (table_lines is.0.table) (bad_length_text is.0.length is.0.result) (of_table_lines is.0.table)
+      (both (line (codes "length " ++ decimal is.0.length)) (run_text is.0.result) (of_number (codes "length ") is.0.length refl) (of_run is.0.result lines)))
+  of_lengths_report text values status (inr is) =
+      subst IsPrintableText (sym is.text_is) (both (table_lines is.table) (line (codes "length none")) (of_table_lines is.table) (of_word (codes "length none") refl))
+
   of_task : (task : Task) (text : List ℕ) (values : ReportValues) (status : ℕ) → IsTaskReport task script budget shape text values status → IsPrintableText text
   of_task (T.Run rule) text values status is = subst IsPrintableText (sym is.text_is) (of_run (run script rule budget shape) (run_lines rule))
   of_task T.Size text values status is = of_size_report text values status is
+  of_task T.Lengths text values status is = of_lengths_report text values status is
   of_task (T.Sweep failures) text values status is = of_sweep_report failures text values status is
   of_task (T.Check failures) text values status is = of_check_report failures text values status is
 

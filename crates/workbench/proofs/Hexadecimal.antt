@@ -4,7 +4,7 @@ use Rattle.std.proofs.lemmas.List.{append-nil}
 use Rattle.std.proofs.Math.Nat.{sub-zero}
 use Rattle.std.specs.Option.{option_map}
 use Rattle.std.specs.Fmt.{padded_integral, before_digits, char_count, format_spec, digits, digits_output, styled_digits_output, shown_prefix, radix_prefix}
-use Rattle.workbench.specs.RunText.{eight_digits}
+use Rattle.workbench.specs.EndWords.{eight_digits}
 
 pub eight_digits_padded : (n : ℕ) → padded_integral (format_spec 32 0 4 8 (2 ^ 64 - 1)) false [] (digits 16 false n) ≡ eight_digits n
 unfolding padded_integral char_count

@@ -10,12 +10,13 @@ use Rattle.wb_model.specs.declared.failures.Failing.TheVariants.{Number, Pair}
 use Rattle.wb_model.specs.declared.failures.Failing.TheVariants as failings
 use Rattle.wb_model.specs.declared.failures.Failures.{Failures}
 use Rattle.wb_model.specs.declared.failures.Failures.TheVariants.{Single, Every, Pairs}
+use Rattle.wb_model.specs.declared.lengths.LengthRange.{LengthRange}
 use Rattle.wb_model.specs.declared.size.Rise.{Rise}
 use Rattle.wb_model.specs.language.Lines.{ends_line, lines_of, onto_first, pieces_from, quoted_after}
 use Rattle.workbench.specs.declared.report_values.FailingNumber.{FailingNumber}
-use Rattle.workbench.specs.declared.report_values.FailingNumber.TheVariants.{At, Never}
+use Rattle.workbench.specs.declared.report_values.FailingNumber.TheVariants.{At, Length, Never}
 use Rattle.workbench.specs.declared.report_values.ReportValues.{ReportValues}
-use Rattle.workbench.specs.JsonReport.{count_or_null, failing_number, failures_kind, kind_of, line_string, line_strings, report_object, rise_pair, rise_pairs}
+use Rattle.workbench.specs.JsonReport.{count_or_null, failing_number, failures_kind, line_string, line_strings, common_members, range_pair, range_pairs, report_object, rise_pair, rise_pairs}
 
 -- ---- no fractions
 
@@ -32,18 +33,13 @@ failures_have_none Single = refl
 failures_have_none Every = refl
 failures_have_none Pairs = refl
 
-kind_has_none : (task : Task) → has_float (kind_of task) ≡ false
-kind_has_none (T.Run rule) = refl
-kind_has_none T.Size = refl
-kind_has_none (T.Sweep failures) = failures_have_none failures
-kind_has_none (T.Check failures) = failures_have_none failures
-
 number_has_none : (number : Option FailingNumber) → has_float (failing_number number) ≡ false
 number_has_none None = refl
 number_has_none (Some Never) = refl
 number_has_none (Some (At (Number n))) = refl
 number_has_none (Some (At (failings.Every n))) = refl
 number_has_none (Some (At (Pair i j))) = refl
+number_has_none (Some (Length length)) = refl
 
 lines_have_none : (text : List ℕ) → has_float (line_strings text) ≡ false
 lines_have_none text = each_has_none line_string (λ line. refl) (lines_of text)
@@ -52,13 +48,39 @@ rises_have_none : (rises : Option (List Rise)) → has_float (rise_pairs rises) 
 rises_have_none None = refl
 rises_have_none (Some rises) = each_has_none rise_pair (λ rise. refl) rises
 
+ranges_have_none : (ranges : Option (List LengthRange)) → has_float (range_pairs ranges) ≡ false
+ranges_have_none None = refl
+ranges_have_none (Some table) = each_has_none range_pair (λ range. refl) table
+
 pub report_has_none : (task : Task) (text : List ℕ) (values : ReportValues) (status : ℕ)
     → has_float (report_object task text values status) ≡ false
-unfolding report_object
-report_has_none task text values status =
+unfolding report_object common_members
+report_has_none T.Lengths text values status =
     rw (
       count_has_none values.attempts,
-      kind_has_none task,
+      lines_have_none text,
+      number_has_none values.number,
+      ranges_have_none values.ranges,
+      count_has_none values.required,
+      rises_have_none values.rises,
+    ) refl
+report_has_none (T.Run rule) text values status =
+    rw (count_has_none values.attempts, lines_have_none text, number_has_none values.number, count_has_none values.required, rises_have_none values.rises) refl
+report_has_none T.Size text values status =
+    rw (count_has_none values.attempts, lines_have_none text, number_has_none values.number, count_has_none values.required, rises_have_none values.rises) refl
+report_has_none (T.Sweep failures) text values status =
+    rw (
+      count_has_none values.attempts,
+      failures_have_none failures,
+      lines_have_none text,
+      number_has_none values.number,
+      count_has_none values.required,
+      rises_have_none values.rises,
+    ) refl
+report_has_none (T.Check failures) text values status =
+    rw (
+      count_has_none values.attempts,
+      failures_have_none failures,
       lines_have_none text,
       number_has_none values.number,
       count_has_none values.required,

@@ -1,5 +1,5 @@
 -- The report of a command on bytes is one: any two say the same.
-use Rattle.std.proofs.Common.{◌≡◌, ◌⊎◌, inl, inr, ℕ, ◌<◌, List, ◌++◌, refl, sym, ◌∙◌, ap, subst, Bool, true, false, le_refl}
+use Rattle.std.proofs.Common.{◌≡◌, ◌⊎◌, inl, inr, ℕ, ◌<◌, List, ◌++◌, refl, sym, ◌∙◌, ap, subst, Bool, true, false, None, le_refl}
 use Rattle.std.specs.Prelude.{IsSome}
 use Rattle.std.proofs.lemmas.Bool.{cases_order, false≢true}
 use Rattle.wb_model.specs.declared.failures.Failing.TheVariants.{Number}
@@ -12,6 +12,11 @@ use Rattle.wb_model.specs.declared.script.Script.{Script}
 use Rattle.wb_model.specs.declared.size.Rise.{Rise}
 use Rattle.wb_model.specs.runs.Sizes.{IsHeapLength}
 use Rattle.wb_model.specs.runs.SweepAnswers.{IsNoneFound}
+use Rattle.wb_model.specs.declared.lengths.LengthRange.{LengthRange}
+use Rattle.wb_model.specs.declared.limits.TheConstants.{CEILING}
+use Rattle.wb_model.specs.runs.Lengths.{end_in, IsLengthTable}
+use Rattle.wb_model.proofs.LengthAnswers.{bad-length-some, once-bad-length}
+use Rattle.wb_model.proofs.LengthTables.{one-table}
 use Rattle.wb_model.proofs.OnceFound.{cut-some, found-some, found-uncut, once-cut, once-found}
 use Rattle.wb_command_line.specs.declared.command.Command.{Command}
 use Rattle.wb_command_line.specs.declared.command.Task.{Task}
@@ -19,8 +24,9 @@ use Rattle.wb_command_line.specs.declared.command.Task.TheVariants as T
 use Rattle.wb_script.proofs.one_script.FaultLaws.{fault_once, no_fault}
 use Rattle.wb_script.proofs.one_script.ScriptLaws.{script_once}
 use Rattle.workbench.specs.declared.report_values.ReportValues.{ReportValues}
-use Rattle.workbench.specs.declared.report_values.FailingNumber.TheVariants.{At}
-use Rattle.workbench.specs.ReportValues.{both_values, size_values, sweep_values}
+use Rattle.workbench.specs.declared.report_values.FailingNumber.TheVariants.{At, Length, Never}
+use Rattle.workbench.specs.LengthsReport.{IsBadLengthFound, IsFineStatus, IsLengthsReport, IsNoBadLengthFound, bad_length_text, found_length_text, table_lines}
+use Rattle.workbench.specs.ReportValues.{both_values, cut_values, lengths_values, size_values, sweep_values}
 use Rattle.workbench.specs.Report.{IsReport, IsReportOfFault, IsReportOfScript, IsTaskReport, fault_line}
 use Rattle.workbench.specs.TwoNumbers.{IsBoth, IsCheckReport, IsFailing, IsSized, IsSizeReport, IsSweepReport, IsUnsized, IsUnswept, attempts_line, attempts_of, cut_at_line, found_text, size_text}
 
@@ -87,7 +93,7 @@ module _ (failures : Failures) (script : Script) (budget : ℕ) (shape : Shape) 
       → Alike text values text' figures'
   one_unswept text text' values figures' s t =
       let (same, why) = once-cut script budget shape failures s.at t.at s.why t.why s.cut t.cut in
-      (s.text_is ∙ ap (λ f. cut_at_line f s.why) same ∙ ap (cut_at_line t.at) why ∙ sym t.text_is, s.values_are ∙ sym t.values_are)
+      (s.text_is ∙ ap (λ f. cut_at_line f s.why) same ∙ ap (cut_at_line t.at) why ∙ sym t.text_is, s.values_are ∙ ap cut_values same ∙ sym t.values_are)
 
   failing_or_cut : (text text' : List ℕ) (values figures' : ReportValues) → IsFailing failures script budget shape text values → IsUnswept failures script budget shape text' figures' → ⊥
   failing_or_cut text text' values figures' s t = found-uncut script budget shape failures s.at t.at s.result t.why s.found t.cut
@@ -132,6 +138,47 @@ module _ (failures : Failures) (script : Script) (budget : ℕ) (shape : Shape) 
   one_check text text' values figures' status status' (inr (s, e)) (inl t) = absurd (never_both script budget shape t.first text t.size values t.sized s)
   one_check text text' values figures' status status' (inr (s, e)) (inr (t, f)) = (one_cut script budget shape text text' values figures' s t, e ∙ sym f)
 
+-- ---- all lengths
+
+module _ (script : Script) (budget : ℕ) (shape : Shape) where
+  one_lengths_table : (table other : List LengthRange) → IsLengthTable script budget shape table → IsLengthTable script budget shape other → table ≡ other
+  one_lengths_table table other is too = one-table (end_in script budget shape) CEILING 0 table other is too
+
+  one_bad_length : (text text' : List ℕ) (values figures' : ReportValues) → IsBadLengthFound script budget shape text values → IsBadLengthFound script budget shape text' figures'
+      → Alike text values text' figures'
+  one_bad_length text text' values figures' s t =
+      let rows = one_lengths_table s.table t.table s.right t.right in
+      let (same, results) = once-bad-length script budget shape s.length t.length s.result t.result s.least t.least in (
+        s.text_is ∙ ap (λ table. table_lines table ++ bad_length_text s.length s.result) rows ∙ ap (λ l. table_lines t.table ++ bad_length_text l s.result) same
+            ∙ ap (λ r. table_lines t.table ++ bad_length_text t.length r) results ∙ sym t.text_is,
+        s.values_are ∙ ap (λ table. lengths_values table (Length s.length)) rows ∙ ap (λ l. lengths_values t.table (Length l)) same ∙ sym t.values_are,
+      )
+
+  -- some length's run is cut, or none's is
+  one_fine_status : (status status' : ℕ) → IsFineStatus script budget shape status → IsFineStatus script budget shape status' → status ≡ status'
+  one_fine_status status status' (inl (s, cut)) (inl (t, too)) = s ∙ sym t
+  one_fine_status status status' (inl (s, cut)) (inr (t, uncut)) = absurd (false≢true (sym (uncut cut.0 cut.1) ∙ cut.2))
+  one_fine_status status status' (inr (s, uncut)) (inl (t, cut)) = absurd (false≢true (sym (uncut cut.0 cut.1) ∙ cut.2))
+  one_fine_status status status' (inr (s, uncut)) (inr (t, too)) = s ∙ sym t
+
+  one_fine_table : (text text' : List ℕ) (values figures' : ReportValues) (status status' : ℕ) → IsNoBadLengthFound script budget shape text values status
+      → IsNoBadLengthFound script budget shape text' figures' status' → Alike text values text' figures' × (status ≡ status')
+  one_fine_table text text' values figures' status status' s t =
+      let rows = one_lengths_table s.table t.table s.right t.right in (
+        (
+          s.text_is ∙ ap (λ table. table_lines table ++ found_length_text None) rows ∙ sym t.text_is,
+          s.values_are ∙ ap (λ table. lengths_values table Never) rows ∙ sym t.values_are,
+        ),
+        one_fine_status status status' s.status_is t.status_is,
+      )
+
+  one_lengths : (text text' : List ℕ) (values figures' : ReportValues) (status status' : ℕ) → IsLengthsReport script budget shape text values status
+      → IsLengthsReport script budget shape text' figures' status' → Alike text values text' figures' × (status ≡ status')
+  one_lengths text text' values figures' status status' (inl (s, e)) (inl (t, f)) = (one_bad_length text text' values figures' s t, e ∙ sym f)
+  one_lengths text text' values figures' status status' (inl (s, e)) (inr t) = absurd (bad-length-some script budget shape s.length s.result s.least t.none)
+  one_lengths text text' values figures' status status' (inr s) (inl (t, f)) = absurd (bad-length-some script budget shape t.length t.result t.least s.none)
+  one_lengths text text' values figures' status status' (inr s) (inr t) = one_fine_table text text' values figures' status status' s t
+
 -- ---- by the task
 
 module _ (script : Script) (budget : ℕ) (shape : Shape) where
@@ -141,6 +188,8 @@ module _ (script : Script) (budget : ℕ) (shape : Shape) where
       ((s.text_is ∙ sym t.text_is, s.values_are ∙ sym t.values_are), s.status_is ∙ sym t.status_is)
   one_task T.Size text text' values figures' status status' s t =
       one_sizing script budget shape text text' values figures' status status' s t
+  one_task T.Lengths text text' values figures' status status' s t =
+      one_lengths script budget shape text text' values figures' status status' s t
   one_task (T.Sweep failures) text text' values figures' status status' s t =
       one_sweep failures script budget shape text text' values figures' status status' s t
   one_task (T.Check failures) text text' values figures' status status' s t =

@@ -17,8 +17,8 @@ use Rattle.wb_model.specs.declared.run.Outcome.TheVariants.{Ended, Panicked, NoC
 use Rattle.wb_model.specs.declared.run.RunResult.{RunResult}
 use Rattle.wb_model.specs.declared.run.Why.TheVariants.{Budget, Ceiling}
 use Rattle.workbench.specs.declared.report_values.FailingNumber.TheVariants.{At, Never}
-use Rattle.workbench.specs.ReportValues.{both_values, no_values, size_values, sweep_values}
-use Rattle.workbench.specs.JsonReport.{json_text, line_string, line_strings, report_object}
+use Rattle.workbench.specs.ReportValues.{both_values, cut_values, no_values, size_values, sweep_values}
+use Rattle.workbench.specs.JsonReport.{json_text, line_string, line_strings, common_members, report_object}
 use Rattle.workbench.specs.Report.{fault_line}
 use Rattle.workbench.specs.RunText.{run_text, run_status, outcome_text, outcome_status, note_line, attempt_line, leak_line}
 use Rattle.workbench.specs.TwoNumbers.{cut_at_line, failing_line, sweep_text}
@@ -176,32 +176,32 @@ text-lines = refl
 -- the values of a check whose sweep found nothing, beside no lines
 check-json : json_text (T.Check Single) [] (both_values (size_values 176 (record { number = 1; top = 144 } ∷ record { number = 2; top = 176 } ∷ [])) (sweep_values 2 Never)) 0
     ≡ codes "{\"attempts\":2,\"kind\":\"single\",\"lines\":[],\"number\":\"none\",\"required\":176,\"rises\":[[1,144],[2,176]],\"status\":0,\"version\":2}\n"
-unfolding serde_json_on_literals digits report_object
+unfolding serde_json_on_literals digits report_object common_members
 check-json = refl
 
 -- those of sweeps that found a number and a rate
 sweep-json : json_text (T.Sweep Single) [] (sweep_values 3 (At (failings.Number 0))) 1
     ≡ codes "{\"attempts\":3,\"kind\":\"single\",\"lines\":[],\"number\":0,\"required\":null,\"rises\":null,\"status\":1,\"version\":2}\n"
-unfolding serde_json_on_literals digits report_object
+unfolding serde_json_on_literals digits report_object common_members
 sweep-json = refl
 
 rate-json : json_text (T.Sweep Every) [] (sweep_values 4 (At (failings.Every 2))) 1
     ≡ codes "{\"attempts\":4,\"kind\":\"every\",\"lines\":[],\"number\":2,\"required\":null,\"rises\":null,\"status\":1,\"version\":2}\n"
-unfolding serde_json_on_literals digits report_object
+unfolding serde_json_on_literals digits report_object common_members
 rate-json = refl
 
 pair-json : json_text (T.Sweep Pairs) [] (sweep_values 4 (At (failings.Pair 2 4))) 1
     ≡ codes "{\"attempts\":4,\"kind\":\"pairs\",\"lines\":[],\"number\":[2,4],\"required\":null,\"rises\":null,\"status\":1,\"version\":2}\n"
-unfolding serde_json_on_literals digits report_object
+unfolding serde_json_on_literals digits report_object common_members
 pair-json = refl
 
 -- those of a refused script or a cut, by what was asked for
 plain-json : json_text (T.Run Unlimited) [] no_values 2
     ≡ codes "{\"attempts\":null,\"kind\":null,\"lines\":[],\"number\":null,\"required\":null,\"rises\":null,\"status\":2,\"version\":2}\n"
-unfolding serde_json_on_literals digits report_object
+unfolding serde_json_on_literals digits report_object common_members
 plain-json = refl
 
-cut-json : json_text (T.Check Every) [] no_values 3
+cut-json : json_text (T.Check Every) [] (cut_values (failings.Every 2)) 3
     ≡ codes "{\"attempts\":null,\"kind\":\"every\",\"lines\":[],\"number\":null,\"required\":null,\"rises\":null,\"status\":3,\"version\":2}\n"
-unfolding serde_json_on_literals digits report_object
+unfolding serde_json_on_literals digits report_object common_members
 cut-json = refl

@@ -1,10 +1,12 @@
 -- What is read, what is written, and the exit status, whatever the reader and the writer do.
-use Rattle.std.specs.Prelude.{◌≡◌, ◌+◌, ◌≤◌, ◌⊎◌, ℕ, List, Bool, true, false, Option, Result, Err, length, take, IfSome}
+use Rattle.std.specs.Prelude.{◌≡◌, ◌+◌, ◌≤◌, ◌⊎◌, ℕ, List, Bool, true, false, Option, None, Result, Err, MatchOption, length, take, IfSome}
 use Rattle.std.specs.Io.KnownBytes.{Appends}
+use Rattle.workbench.specs.declared.answer.Answered.{Answered}
 use Rattle.workbench.specs.declared.answer.ReportFault.{ReportFault}
 use Rattle.workbench.specs.declared.answer.ReportFault.TheVariants.{Read}
 use Rattle.wb_model.specs.declared.limits.TheConstants.{LONGEST_SCRIPT}
 use Rattle.wb_command_line.specs.declared.command.Command.{Command}
+use Rattle.workbench.specs.declared.findings.Findings.{Findings}
 use Rattle.workbench.specs.declared.report_values.ReportValues.{ReportValues}
 use Rattle.workbench.specs.JsonReport.{laid_out}
 use Rattle.workbench.specs.Report.{IsReport, no_memory, read_fault}
@@ -24,6 +26,18 @@ pub record IsReported (command : Command) (input : Option (List ℕ)) (text : Li
   pub report : IsReport command bytes lines values status
   pub text_is : text ≡ laid_out command lines values status
 
+-- what a report is made of: the bytes that were read, and of its values the failure that it names, the rises, and the ranges of lengths
+pub record AreFindings (bytes : List ℕ) (values : ReportValues) (findings : Findings) : Type 0 where
+  pub bytes_are : findings.bytes.items ≡ bytes
+  pub at_is : findings.at ≡ values.named
+  pub rises_are : findings.rises ≡ values.rises
+  pub ranges_are : findings.ranges ≡ values.ranges
+
+-- the report, and what it is made of
+pub record IsReportOf (command : Command) (input : Option (List ℕ)) (text : List ℕ) (status : ℕ) (findings : Findings) : Type 0 where
+  pub reported : IsReported command input text status
+  pub found : AreFindings reported.bytes reported.values findings
+
 -- a read failed; the workbench's memory may have run out in its place
 abbrev pub is_read_fault : {A : Type 0} → Result A ReportFault → Bool
 is_read_fault (Err Read) = true
@@ -31,10 +45,11 @@ is_read_fault _ = false
 
 -- ---- the answer, by what failed
 
--- what is to be written, and the status that goes with it, where a read failed and where none did
-abbrev pub IsMessage : Command → Option (List ℕ) → Bool → List ℕ → ℕ → Type 0
-IsMessage command input true text status = (text ≡ read_fault) × (status ≡ 5)
-IsMessage command input false text status = IsReported command input text status ⊎ ((text ≡ no_memory) × (status ≡ 4))
+-- what is to be written, the status that goes with it, and what it is made of, where a read failed and where none did
+abbrev pub IsMessage : Command → Option (List ℕ) → Bool → List ℕ → ℕ → Option Findings → Type 0
+IsMessage command input true text status found = (text ≡ read_fault) × (status ≡ 5) × (found ≡ None)
+IsMessage command input false text status found =
+    MatchOption found ((text ≡ no_memory) × (status ≡ 4)) (IsReportOf command input text status)
 
 -- a write failed, so that only the first of the text went out; or none did, and the status is the text's own
 abbrev pub IsSaid : Option (List ℕ) → Option (List ℕ) → Bool → List ℕ → ℕ → ℕ → Type 0
@@ -51,13 +66,19 @@ pub record IsWritten {W : Type 0} (contents : W → Option (List ℕ)) (writes :
 -- the answer to a command, by what the reads and the writes came to
 pub record IsAnswer {R W : Type 0} (remaining : R → Option (List ℕ)) (reads : R → Came → R → Type 0)
     (contents : W → Option (List ℕ)) (writes : W → Bool → W → Type 0)
-    (command : Command) (reader reader' : R) (writer writer' : W) (status : ℕ) : Type 0 where
+    (command : Command) (reader reader' : R) (writer writer' : W) (answered : Answered) : Type 0 where
   pub failed : Bool
   pub read : Reads reads reader failed reader'
   pub text : List ℕ
   pub own : ℕ
-  pub message : IsMessage command (remaining reader) failed text own
-  pub written : IsWritten contents writes writer writer' text own status
+  pub message : IsMessage command (remaining reader) failed text own answered.findings
+  pub written : IsWritten contents writes writer writer' text own answered.status
+
+-- the line of a file that can't be opened is written, and there are no findings
+pub record IsUnopened {W : Type 0} (contents : W → Option (List ℕ)) (writes : W → Bool → W → Type 0)
+    (writer writer' : W) (answered : Answered) : Type 0 where
+  pub written : IsWritten contents writes writer writer' read_fault 5 answered.status
+  pub unfound : answered.findings ≡ None
 
 -- ---- the answer, by its status
 

@@ -1,7 +1,7 @@
 -- The report as one JSON object: its lines and its values, and which failures were tried, under
--- the keys that version 2 of this form has.
+-- the keys that version 2 of this form has, or version 3 of the report of all lengths.
 use Rattle.std.specs.Prelude.{ℕ, List, Option, Some, None, codes, if◌then◌else◌, map}
-use Rattle.serde_json.specs.Data.{Data, null, number, string, array, object, item, no_items, member, no_members, unsigned}
+use Rattle.serde_json.specs.Data.{Data, Members, null, number, string, array, object, item, no_items, member, no_members, put, unsigned}
 use Rattle.serde_json.specs.View.{items_of}
 use Rattle.serde_json.specs.Written.{compact_text}
 use Rattle.wb_command_line.specs.declared.command.Command.{Command}
@@ -12,11 +12,13 @@ use Rattle.wb_model.specs.declared.failures.Failing.TheVariants.{Number, Pair}
 use Rattle.wb_model.specs.declared.failures.Failing.TheVariants as failings
 use Rattle.wb_model.specs.declared.failures.Failures.{Failures}
 use Rattle.wb_model.specs.declared.failures.Failures.TheVariants.{Single, Every, Pairs}
+use Rattle.wb_model.specs.declared.lengths.LengthRange.{LengthRange}
 use Rattle.wb_model.specs.declared.size.Rise.{Rise}
 use Rattle.wb_model.specs.language.Lines.{lines_of}
 use Rattle.workbench.specs.declared.report_values.FailingNumber.{FailingNumber}
-use Rattle.workbench.specs.declared.report_values.FailingNumber.TheVariants.{At, Never}
+use Rattle.workbench.specs.declared.report_values.FailingNumber.TheVariants.{At, Length, Never}
 use Rattle.workbench.specs.declared.report_values.ReportValues.{ReportValues}
+use Rattle.workbench.specs.EndWords.{end_words}
 use Rattle.workbench.specs.RunText.{line}
 
 abbrev pub count : ℕ → Data
@@ -36,10 +38,11 @@ failures_kind Single = string (codes "single")
 failures_kind Every = string (codes "every")
 failures_kind Pairs = string (codes "pairs")
 
--- which failures a task tries, whatever its report says; `null` where it tries none
+-- which failures a task tries, or that it tries all lengths, whatever its report says; `null` where it tries none
 abbrev pub kind_of : Task → Data
 kind_of (T.Run rule) = null
 kind_of T.Size = null
+kind_of T.Lengths = string (codes "lengths")
 kind_of (T.Sweep failures) = failures_kind failures
 kind_of (T.Check failures) = failures_kind failures
 
@@ -60,6 +63,7 @@ abbrev pub failing_number : Option FailingNumber → Data
 failing_number None = null
 failing_number (Some Never) = string (codes "none")
 failing_number (Some (At failing)) = failing_value failing
+failing_number (Some (Length length)) = count length
 
 -- `[number, top]`
 abbrev pub rise_pair : Rise → Data
@@ -69,9 +73,26 @@ abbrev pub rise_pairs : Option (List Rise) → Data
 rise_pairs None = null
 rise_pairs (Some rises) = array (items_of (map rise_pair rises))
 
--- the object, by the task, the text report, its values and its status
-unfoldable pub report_object : Task → List ℕ → ReportValues → ℕ → Data
-report_object task text values status = object (
+-- `[from, words]`
+abbrev pub range_pair : LengthRange → Data
+range_pair range = array (item (count range.from) (item (line_string (end_words range.end)) no_items))
+
+abbrev pub range_pairs : Option (List LengthRange) → Data
+range_pairs None = null
+range_pairs (Some table) = array (items_of (map range_pair table))
+
+-- the report of all lengths alone has them; `put` keeps the keys in the order of their letters, so that they come before `required`
+abbrev pub with_ranges : Task → Option (List LengthRange) → Members → Members
+with_ranges T.Lengths ranges members = put (codes "ranges") (range_pairs ranges) members
+with_ranges _ ranges members = members
+
+abbrev pub version_of : Task → ℕ
+version_of T.Lengths = 3
+version_of _ = 2
+
+-- what each object has, by the task, the text report, its values and its status
+unfoldable pub common_members : Task → List ℕ → ReportValues → ℕ → Members
+common_members task text values status =
     member (codes "attempts") (count_or_null values.attempts) (
     member (codes "kind") (kind_of task) (
     member (codes "lines") (line_strings text) (
@@ -79,7 +100,11 @@ report_object task text values status = object (
     member (codes "required") (count_or_null values.required) (
     member (codes "rises") (rise_pairs values.rises) (
     member (codes "status") (count status) (
-    member (codes "version") (count 2) no_members))))))))
+    member (codes "version") (count (version_of task)) no_members)))))))
+
+-- the object
+unfoldable pub report_object : Task → List ℕ → ReportValues → ℕ → Data
+report_object task text values status = object (with_ranges task values.ranges (common_members task text values status))
 
 -- the object as `serde_json` writes it, without blanks, and a line feed
 abbrev pub json_text : Task → List ℕ → ReportValues → ℕ → List ℕ

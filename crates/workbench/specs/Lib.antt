@@ -1,7 +1,9 @@
 pub mod Answer
 pub mod Ascii
+pub mod EndWords
 pub mod ReportValues
 pub mod JsonReport
+pub mod LengthsReport
 pub mod Program
 pub mod Report
 pub mod Rises

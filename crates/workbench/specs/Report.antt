@@ -13,6 +13,7 @@ use Rattle.wb_command_line.specs.declared.command.Command.{Command}
 use Rattle.wb_command_line.specs.declared.command.Task.{Task}
 use Rattle.wb_command_line.specs.declared.command.Task.TheVariants as T
 use Rattle.workbench.specs.declared.report_values.ReportValues.{ReportValues}
+use Rattle.workbench.specs.LengthsReport.{IsLengthsReport}
 use Rattle.workbench.specs.ReportValues.{no_values, run_values}
 use Rattle.workbench.specs.RunText.{line, run_text, run_status}
 use Rattle.workbench.specs.TwoNumbers.{IsSizeReport, IsSweepReport, IsCheckReport}
@@ -56,6 +57,8 @@ IsTaskReport (T.Run rule) script budget shape text values status =
     IsRunReport (run script rule budget shape) text values status
 IsTaskReport T.Size script budget shape text values status =
     IsSizeReport script budget shape text values status
+IsTaskReport T.Lengths script budget shape text values status =
+    IsLengthsReport script budget shape text values status
 IsTaskReport (T.Sweep failures) script budget shape text values status =
     IsSweepReport failures script budget shape text values status
 IsTaskReport (T.Check failures) script budget shape text values status =

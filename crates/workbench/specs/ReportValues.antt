@@ -1,13 +1,20 @@
--- What a report says as values, beside its lines: of a run, of a size, of a sweep.
-use Rattle.std.specs.Prelude.{ℕ, List, Some, None, length}
+-- What a report says as values, beside its lines: of a run, of a size, of a sweep, of the search through all lengths.
+use Rattle.std.specs.Prelude.{ℕ, List, Option, Some, None, length}
+use Rattle.wb_model.specs.declared.failures.Failing.{Failing}
+use Rattle.wb_model.specs.declared.lengths.LengthRange.{LengthRange}
 use Rattle.wb_model.specs.declared.run.RunResult.{RunResult}
 use Rattle.wb_model.specs.declared.size.Rise.{Rise}
 use Rattle.workbench.specs.declared.report_values.FailingNumber.{FailingNumber}
+use Rattle.workbench.specs.declared.report_values.FailingNumber.TheVariants.{At, Length, Never}
 use Rattle.workbench.specs.declared.report_values.ReportValues.{ReportValues}
 
--- of a refused script, and of a cut
+-- of a refused script
 abbrev pub no_values : ReportValues
-no_values = record { attempts = None; number = None; required = None; rises = None }
+no_values = record { attempts = None; number = None; required = None; rises = None; ranges = None; named = None }
+
+-- of a run that was cut under this failure
+abbrev pub cut_values : Failing → ReportValues
+cut_values at = record no_values { named = Some at }
 
 -- of one run, a cut one too: the length of its trace
 abbrev pub run_values : RunResult → ReportValues
@@ -16,11 +23,17 @@ run_values r = record no_values { attempts = Some (length r.trace) }
 abbrev pub size_values : ℕ → List Rise → ReportValues
 size_values required rises = record no_values { required = Some required; rises = Some rises }
 
+-- the failure that was found; a length of heap is none
+abbrev pub found_failing : FailingNumber → Option Failing
+found_failing Never = None
+found_failing (Length _) = None
+found_failing (At failing) = Some failing
+
 -- of a sweep that was finished: the attempts of the run without failure, and the failure that was found,
 -- or that there is none
 abbrev pub sweep_values : ℕ → FailingNumber → ReportValues
 sweep_values attempts number =
-    record no_values { attempts = Some attempts; number = Some number }
+    record no_values { attempts = Some attempts; number = Some number; named = found_failing number }
 
 -- of a size, and of the sweep after it
 abbrev pub both_values : ReportValues → ReportValues → ReportValues
@@ -29,4 +42,10 @@ both_values first second = record {
   number = second.number;
   required = first.required;
   rises = first.rises;
+  ranges = None;
+  named = second.named;
 }
+
+-- of the search through all lengths: its table, and what it found
+abbrev pub lengths_values : List LengthRange → FailingNumber → ReportValues
+lengths_values table number = record no_values { number = Some number; ranges = Some table }

@@ -1,28 +1,21 @@
 -- The text of a run, line by line, and the exit status of one that is reported alone.
-use Rattle.std.specs.Prelude.{ℕ, ℤ, ◌-◌, List, [], ◌∷◌, ◌++◌, false, Option, Some, None, length, replicate, codes}
+use Rattle.std.specs.Prelude.{ℕ, ℤ, List, [], ◌∷◌, ◌++◌, Option, Some, None, length, codes}
 use Rattle.std.specs.List.{flat_map}
-use Rattle.std.specs.Fmt.{digits, decimal, signed_decimal}
+use Rattle.std.specs.Fmt.{decimal, signed_decimal}
 use Rattle.wb_model.specs.declared.heap.Answer.{Answer}
 use Rattle.wb_model.specs.declared.heap.Answer.TheVariants.{Granted, Simulated, Refused}
 use Rattle.wb_model.specs.declared.heap.Attempt.{Attempt}
-use Rattle.wb_model.specs.declared.heap.Panic.{Panic}
-use Rattle.wb_model.specs.declared.heap.Panic.TheVariants.{User, Alloc, Workbench}
 use Rattle.wb_model.specs.declared.run.Leak.{Leak}
 use Rattle.wb_model.specs.declared.run.Note.{Note}
 use Rattle.wb_model.specs.declared.run.Note.TheVariants.{Heap, Available, Compress}
 use Rattle.wb_model.specs.declared.run.Outcome.{Outcome}
 use Rattle.wb_model.specs.declared.run.Outcome.TheVariants.{Ended, Panicked, NoCleanup, Cut}
 use Rattle.wb_model.specs.declared.run.RunResult.{RunResult}
-use Rattle.wb_model.specs.declared.run.Why.{Why}
-use Rattle.wb_model.specs.declared.run.Why.TheVariants.{Budget, Ceiling}
+use Rattle.workbench.specs.EndWords.{cut_words, panic_words}
 
 -- a line with the line feed that ends it
 abbrev pub line : List ℕ → List ℕ
 line text = text ++ 10 ∷ []
-
--- eight lower-case hexadecimal digits, of a number below 2 ^ 32
-abbrev pub eight_digits : ℕ → List ℕ
-eight_digits n = replicate (8 - length (digits 16 false n)) 48 ++ digits 16 false n
 
 -- a printed line
 abbrev pub print_line : List ℕ → List ℕ
@@ -51,21 +44,12 @@ abbrev pub end_line : Option ℤ → List ℕ
 end_line None = line (codes "ended")
 end_line (Some code) = line (codes "left " ++ signed_decimal code)
 
-abbrev pub panic_line : Panic → List ℕ
-panic_line (User n) = line (codes "panic USER " ++ decimal n)
-panic_line (Alloc place) = line (codes "panic ALLOC " ++ eight_digits place)
-panic_line (Workbench n) = line (codes "panic WORKBENCH " ++ decimal n)
-
-abbrev pub cut_line : Why → List ℕ
-cut_line Budget = line (codes "cut budget")
-cut_line Ceiling = line (codes "cut ceiling")
-
 -- how the run ended, and the leaks of one that was not stopped
 abbrev pub outcome_text : Outcome → List ℕ
 outcome_text (Ended left leaks) = end_line left ++ leaks_text leaks
-outcome_text (Panicked panic) = panic_line panic
+outcome_text (Panicked panic) = line (panic_words panic)
 outcome_text NoCleanup = line (codes "nocleanup")
-outcome_text (Cut why) = cut_line why
+outcome_text (Cut why) = line (cut_words why)
 
 -- the text of a run
 abbrev pub run_text : RunResult → List ℕ

@@ -25,7 +25,7 @@ use Rattle.wb_model.specs.runs.Sweeps.{runs_of}
 use Rattle.wb_sweep.specs.declared.found.Sweep.{Sweep}
 use Rattle.workbench.specs.declared.report_values.FailingNumber.TheVariants.{At, Never}
 use Rattle.workbench.specs.declared.report_values.ReportValues.{ReportValues}
-use Rattle.workbench.specs.ReportValues.{both_values, no_values, size_values, sweep_values}
+use Rattle.workbench.specs.ReportValues.{both_values, cut_values, size_values, sweep_values}
 use Rattle.workbench.specs.RunText.{line, run_text}
 
 -- ---- how long the heap must be
@@ -70,7 +70,7 @@ pub record IsUnsized (script : Script) (budget : ℕ) (shape : Shape) (text : Li
   pub why : Why
   pub cut : (run script Unlimited budget shape).outcome ≡ Cut why
   pub text_is : text ≡ cut_at_line (Number 0) why
-  pub values_are : values ≡ no_values
+  pub values_are : values ≡ cut_values (Number 0)
 
 -- the report of `size`
 abbrev pub IsSizeReport : Script → ℕ → Shape → List ℕ → ReportValues → ℕ → Type 0
@@ -133,7 +133,7 @@ pub record IsUnswept (failures : Failures) (script : Script) (budget : ℕ) (sha
   pub why : Why
   pub cut : IsCutShort failures script budget shape at why
   pub text_is : text ≡ cut_at_line at why
-  pub values_are : values ≡ no_values
+  pub values_are : values ≡ cut_values at
 
 -- the report of `sweep`
 abbrev pub IsSweepReport : Failures → Script → ℕ → Shape → List ℕ → ReportValues → ℕ → Type 0

@@ -5,18 +5,20 @@ ghost use Rattle.std.specs.Prelude.{◌≡◌, ◌+◌, ◌<◌, ◌≤◌, leng
 ghost use Rattle.std.specs.Io.{ReadsAtMost};
 ghost use Rattle.std.specs.Io.KnownBytes.{Appends};
 ghost use Rattle.workbench.specs.declared.answer.ReportFault.TheVariants.{Read, NoMemory};
-ghost use Rattle.workbench.specs.Answer.{AreFirst, IsAnswer, IsPartWritten, IsReported, IsReportWritten, IsWritten};
+ghost use Rattle.workbench.specs.Answer.{AreFindings, AreFirst, IsAnswer, IsPartWritten, IsReportOf};
+ghost use Rattle.workbench.specs.Answer.{IsReportWritten, IsUnopened, IsWritten};
 ghost use Rattle.workbench.specs.Answer.{is_read_fault};
 ghost use Rattle.wb_command_line.specs.Command.{is_answerable};
 ghost use Rattle.workbench.specs.Ascii.{HasPrintableLines};
 ghost use Rattle.workbench.specs.JsonReport.{laid_out};
 ghost use Rattle.wb_model.specs.declared.limits.TheConstants.{LONGEST_SCRIPT};
-ghost use Rattle.workbench.specs.Report.{no_memory, read_fault};
+ghost use Rattle.workbench.specs.Report.{no_memory};
 ghost use Rattle.wb_streams.specs.Streams.{AppendsFirst, Reads, TakesAtMost, Writes};
 
 use crate::findings::Findings;
 use crate::json_report::json_text;
 use crate::report::{Report, report_on};
+use crate::report_values::ReportValues;
 use std::alloc::{AllocError, Global};
 use wb_command_line::command::Command;
 use wb_model::memory::NoMemory;
@@ -70,7 +72,7 @@ impl From<NoMemory> for ReportFault {
 pub struct Answered {
     /// The exit status.
     pub status: u8,
-    /// What the report was made of; `None` if there is no report. No contract speaks of it.
+    /// What the report was made of; `None` if there is no report.
     pub findings: Option<Findings>,
 }
 
@@ -86,6 +88,9 @@ pub struct Answered {
 /// exactly where one of them failed. After one that failed no other is made of that kind, and no read after one
 /// that brought no byte.
 ///
+/// The findings are those of the report: the bytes that were read, the failure that it names, and the rises. There are none
+/// without a report.
+///
 /// `progress` receives what a sweep reports, all of it before anything is written. What it does makes no difference to
 /// anything.
 pub fn answer<R: Source, W: Sink, P: Progress>(
@@ -97,7 +102,7 @@ pub fn answer<R: Source, W: Sink, P: Progress>(
 ) -> Answered
     requires { IsTrue (is_answerable command.now) }
     ensures answer { IsAnswer R.remaining R.reads W.contents W.writes
-        command.now reader.old reader.new writer.old writer.new result.status }
+        command.now reader.old reader.new writer.old writer.new result }
     ensures status { result.status ≤ 5 }
     ensures report { result.status < 4 → IsReportWritten command.now (R.remaining reader.old)
         (W.contents writer.old) (W.contents writer.new) result.status }
@@ -121,7 +126,7 @@ fn read_and_say<R: Source, W: Sink, P: Progress>(
 ) -> Answered
     requires { IsTrue (is_answerable command.now) }
     ensures answer { IsAnswer R.remaining R.reads W.contents W.writes
-        command.now reader.old reader.new writer.old writer.new result.status }
+        command.now reader.old reader.new writer.old writer.new result }
     ensures taken { TakesAtMost (LONGEST_SCRIPT + 1)
         (R.remaining reader.old) (R.remaining reader.new) }
 {
@@ -138,9 +143,9 @@ fn read_and_say<R: Source, W: Sink, P: Progress>(
     }
 }
 
-/// Writes the line of a read that failed, and returns its status.
+/// Writes the line of a read that failed, and returns its status. There are no findings.
 pub fn say_read_fault<W: Sink>(writer: &mut W) -> Answered
-    ensures { IsWritten W.contents W.writes writer.old writer.new read_fault 5 result.status }
+    ensures { IsUnopened W.contents W.writes writer.old writer.new result }
 {
     Answered {
         status: say(writer, b"read fault\n", READ_OR_WRITE_FAULT),
@@ -175,8 +180,8 @@ fn read_and_report<R: Source, P: Progress>(
     progress: &mut P,
 ) -> Result<Message, ReportFault>
     requires { IsTrue (is_answerable command.now) }
-    ensures report { IfOk result (λ r.
-        IsReported command.now (R.remaining reader.old) r.text.items r.status) }
+    ensures report { IfOk result (λ r. IsReportOf command.now (R.remaining reader.old)
+        r.text.items r.status r.findings) }
     ensures taken { TakesAtMost (LONGEST_SCRIPT + 1)
         (R.remaining reader.old) (R.remaining reader.new) }
     ensures read { Reads R.reads reader.old (is_read_fault result) reader.new }
@@ -197,6 +202,7 @@ fn lay_out(
     ensures text { IfOk result (λ m. m.text.items
         ≡ laid_out command.now report.text.items report.values report.status) }
     ensures status { IfOk result (λ m. m.status ≡ report.status) }
+    ensures findings { IfOk result (λ m. AreFindings bytes.items report.values m.findings) }
 {
     let json = if command.json {
         Some(json_text(alloc, command.task, &report)?)
@@ -207,13 +213,16 @@ fn lay_out(
         text,
         values,
         status,
-        at,
     } = report;
-    let rises = values.rises;
     Ok(Message {
         text: json.unwrap_or(text),
         status,
-        findings: Findings { bytes, at, rises },
+        findings: Findings {
+            bytes,
+            at: values.named,
+            rises: values.rises,
+            ranges: values.ranges,
+        },
     })
 }
 

@@ -1,6 +1,7 @@
-//! What an answer was made of, for whoever explains it. No contract speaks of it, and no report depends on it.
+//! What an answer was made of, for whoever explains it. No report depends on it.
 
 use wb_model::failures::Failing;
+use wb_model::lengths::LengthTable;
 use wb_size::Rises;
 
 /// What a report was made of.
@@ -12,4 +13,6 @@ pub struct Findings {
     pub at: Option<Failing>,
     /// The attempt that each shorter heap refuses first; `None` if the script wasn't sized.
     pub rises: Option<Rises>,
+    /// How the run ends in heaps of every length; `None` if that wasn't asked for, or the script is refused.
+    pub ranges: Option<LengthTable>,
 }

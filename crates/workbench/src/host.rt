@@ -8,9 +8,8 @@ ghost use Rattle.workbench.specs.Program.{fault_of_words};
 ghost use Rattle.workbench.specs.declared.host.WordsFault.{WordsFault as Fault};
 ghost use Rattle.workbench.specs.declared.host.WordsFault.TheVariants.{Refused};
 
-use std::fs::File;
 use std::io;
-use std::io::{ErrorKind, StdinLock, Write};
+use std::io::{ErrorKind, Write};
 use thiserror::Error;
 use wb_command_line::command::CommandFault;
 use wb_streams::streams::Source;
@@ -66,25 +65,6 @@ pub trait Host {
 
     fn standard_input(&mut self) -> Self::Input
         ensures { lends self.old result self.new };
-}
-
-/// The process's own.
-impl Host for &HostRuntime {
-    type File = File;
-
-    type Input = StdinLock<'static>;
-
-    ghost opens = { λ _ _ _ _. ⊤ };
-
-    ghost lends = { λ _ _ _. ⊤ };
-
-    fn open(&mut self, name: &str) -> Option<File> {
-        File::open(*self, name).ok()
-    }
-
-    fn standard_input(&mut self) -> StdinLock<'static> {
-        self.reader()
-    }
 }
 
 /// Where the user is informed why there is no command.

@@ -1,19 +1,23 @@
 //! The report as one JSON object. Which report it is, is decided elsewhere.
 
-ghost use Rattle.std.specs.Prelude.{◌≡◌, ◌≢◌, ◌∷◌, ◌<◌, [], length, IfOk, map};
-ghost use Rattle.serde_json.specs.View.{view};
+ghost use Rattle.std.specs.Prelude.{◌≡◌, ◌≢◌, ◌∷◌, ◌<◌, [], length, IfOk, OnOk, map};
+ghost use Rattle.serde_json.specs.View.{members_view, view};
 ghost use Rattle.wb_model.specs.language.Lines.{lines_of};
 ghost use Rattle.wb_model.specs.meaning.Printable.{ArePrintable};
 ghost use Rattle.workbench.specs.Ascii.{HasPrintableLines};
-ghost use Rattle.workbench.specs.JsonReport.{count_or_null, count_pair, failing_number, failing_value, failures_kind};
-ghost use Rattle.workbench.specs.JsonReport.{json_text, kind_of, line_string, line_strings, report_object, rise_pair};
-ghost use Rattle.workbench.specs.JsonReport.{rise_pairs};
+ghost use Rattle.workbench.specs.JsonReport.{common_members, count_or_null, count_pair, failing_number};
+ghost use Rattle.workbench.specs.JsonReport.{failing_value, failures_kind};
+ghost use Rattle.workbench.specs.JsonReport.{json_text, kind_of, line_string, line_strings, range_pair, range_pairs};
+ghost use Rattle.workbench.specs.JsonReport.{report_object, rise_pair, rise_pairs, version_of};
+ghost use Rattle.workbench.specs.JsonReport.{with_ranges};
 
+use crate::end_text::put_end_words;
 use crate::report::Report;
 use crate::report_values::FailingNumber;
 use serde_json::{Map, Value, put};
 use std::alloc::{AllocError, Global};
 use wb_command_line::command::Task;
+use wb_lengths::{LengthRange, LengthTable};
 use wb_model::failures::{Failing, Failures};
 use wb_model::memory::NoMemory;
 use wb_model::size::Rise;
@@ -21,6 +25,9 @@ use wb_size::Rises;
 
 /// The version of the form that a JSON report has.
 const VERSION: u32 = 2;
+
+/// That of the report of all lengths, which has a key more.
+const VERSION_OF_LENGTHS: u32 = 3;
 
 /// The report of a task as a JSON object without blanks, and a line feed. The only error is that memory ran out.
 #[tactic(auto, using(crate::proofs::JsonLemmas::report_has_none))]
@@ -41,6 +48,22 @@ fn report_object(alloc: Global, task: Task, report: &Report) -> Result<Value, Al
     ensures { IfOk result (λ object. view object
         ≡ report_object task report.now.text.items report.now.values report.now.status) }
 {
+    let mut members = common_members(alloc, task, report)?;
+    put_ranges(&mut members, alloc, task, &report.values.ranges)?;
+    Ok(Value::Object(members))
+}
+
+/// What each object has.
+#[tactic(auto, unfolding(crate::specs::JsonReport::common_members))]
+fn common_members(
+    alloc: Global,
+    task: Task,
+    report: &Report,
+) -> Result<Map<String, Value>, AllocError>
+    requires { HasPrintableLines report.now.text.items }
+    ensures { IfOk result (λ members. members_view members.entries
+        ≡ common_members task report.now.text.items report.now.values report.now.status) }
+{
     let values = &report.values;
     let mut members = Map::new(alloc);
     let attempts = count_or_null(values.attempts);
@@ -56,16 +79,51 @@ fn report_object(alloc: Global, task: Task, report: &Report) -> Result<Value, Al
     let rises = rise_pairs(alloc, &values.rises)?;
     put(&mut members, alloc, "rises", rises)?;
     put(&mut members, alloc, "status", Value::from(report.status))?;
-    put(&mut members, alloc, "version", Value::from(VERSION))?;
-    Ok(Value::Object(members))
+    put(
+        &mut members,
+        alloc,
+        "version",
+        Value::from(version_of(task)),
+    )?;
+    Ok(members)
 }
 
-/// Which failures a task tries, or `null` where it tries none. The report makes no difference.
+/// Puts the table of lengths in its place, where the task's report has one.
+fn put_ranges(
+    members: &mut Map<String, Value>,
+    alloc: Global,
+    task: Task,
+    ranges: &Option<LengthTable>,
+) -> Result<(), AllocError>
+    ensures { OnOk result (members_view members.new.entries
+        ≡ with_ranges task ranges.now (members_view members.old.entries)) }
+{
+    match task {
+        Task::Lengths => {
+            let pairs = range_pairs(alloc, ranges)?;
+            put(members, alloc, "ranges", pairs)
+        }
+        Task::Run(_) | Task::Size | Task::Sweep(_) | Task::Check(_) => Ok(()),
+    }
+}
+
+/// The version of the form that a task's report has.
+fn version_of(task: Task) -> u32
+    ensures { result ≡ version_of task }
+{
+    match task {
+        Task::Lengths => VERSION_OF_LENGTHS,
+        Task::Run(_) | Task::Size | Task::Sweep(_) | Task::Check(_) => VERSION,
+    }
+}
+
+/// Which failures a task tries, or that it tries all lengths; `null` where it tries none. The report makes no difference.
 fn kind_of(alloc: Global, task: Task) -> Result<Value, AllocError>
     ensures { IfOk result (λ value. view value ≡ kind_of task) }
 {
     match task {
         Task::Sweep(failures) | Task::Check(failures) => failures_kind(alloc, failures),
+        Task::Lengths => Value::try_from_str(alloc, "lengths"),
         Task::Run(_) | Task::Size => Ok(Value::Null),
     }
 }
@@ -127,12 +185,13 @@ fn first_line<'a>(bytes: &'a [u8]) -> (&'a [u8], &'a [u8])
     (bytes, &bytes[bytes.len()..])
 }
 
-/// The failure that a sweep found, or `null` where none was finished.
+/// The failure that a sweep found, or the length of heap, in bytes; `null` where none was finished.
 fn failing_number(alloc: Global, number: Option<FailingNumber>) -> Result<Value, AllocError>
     ensures { IfOk result (λ value. view value ≡ failing_number number) }
 {
     match number {
         Some(FailingNumber::At(failing)) => failing_value(alloc, failing),
+        Some(FailingNumber::Length(length)) => Ok(Value::from(length)),
         Some(FailingNumber::Never) => Value::try_from_str(alloc, "none"),
         None => Ok(Value::Null),
     }
@@ -175,4 +234,39 @@ fn all_pairs(alloc: Global, rises: &[Rise]) -> Result<Vec<Value>, AllocError>
         pairs.push(count_pair(alloc, rise.number, rise.top)?)?;
     }
     Ok(pairs)
+}
+
+/// The table of lengths, or `null` where there is none.
+fn range_pairs(alloc: Global, ranges: &Option<LengthTable>) -> Result<Value, AllocError>
+    ensures { IfOk result (λ pairs. view pairs ≡ range_pairs ranges.now) }
+{
+    match ranges {
+        Some(ranges) => Ok(Value::Array(all_ranges(alloc, ranges.as_slice())?)),
+        None => Ok(Value::Null),
+    }
+}
+
+fn all_ranges(alloc: Global, ranges: &[LengthRange]) -> Result<Vec<Value>, AllocError>
+    ensures { IfOk result (λ pairs. map view pairs.items ≡ map range_pair ranges.now) }
+{
+    let mut pairs = Vec::new(alloc);
+    for range in ranges {
+        pairs.push(range_pair(alloc, *range)?)?;
+    }
+    Ok(pairs)
+}
+
+/// Where a range begins, and how the run ends there, as a list.
+fn range_pair(alloc: Global, range: LengthRange) -> Result<Value, AllocError>
+    ensures { IfOk result (λ pair. view pair ≡ range_pair range) }
+{
+    let mut words = Vec::new(alloc);
+    match put_end_words(&mut words, range.end) {
+        Ok(()) => {
+            let words = line_string(alloc, words.as_slice())?;
+            let pair = vec![in alloc; Value::from(range.from), words]?;
+            Ok(Value::Array(pair))
+        }
+        Err(NoMemory) => Err(AllocError),
+    }
 }

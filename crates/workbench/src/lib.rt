@@ -5,10 +5,12 @@
 
 pub mod answer;
 mod appending;
+mod end_text;
 pub mod findings;
 pub mod host;
 mod json_report;
 pub mod laws;
+mod lengths_text;
 mod line;
 mod numbers_text;
 pub mod program;

@@ -1,12 +1,12 @@
 //! The whole program, over the words, the files and the streams that it is handed. `main` hands over the
 //! process's own.
 
-ghost use Rattle.std.specs.Prelude.{◌≡◌, ◌≤◌, IfErr, IfOk, IsTrue, MatchResult, map, true};
+ghost use Rattle.std.specs.Prelude.{◌≡◌, ◌≤◌, IfErr, IfOk, IsTrue, MatchResult, Some, map, true};
 ghost use Rattle.clap.specs.Words.{takes};
-ghost use Rattle.workbench.specs.Answer.{IsAnswer, IsWritten};
+ghost use Rattle.workbench.specs.Answer.{IsAnswer, IsUnopened};
 ghost use Rattle.wb_command_line.specs.Command.{is_answerable};
-ghost use Rattle.workbench.specs.Program.{IsCarriedOut, IsDone, IsReadAs, IsRefused, fault_of_words, words_status};
-ghost use Rattle.workbench.specs.Report.{read_fault};
+ghost use Rattle.workbench.specs.Program.{IsCarriedOut, IsDone, IsReadAs, IsRefused, answered_of};
+ghost use Rattle.workbench.specs.Program.{fault_of_words, words_status};
 
 use crate::answer::{Answered, WANT_OF_MEMORY, answer, say_read_fault};
 use crate::findings::Findings;
@@ -27,13 +27,14 @@ pub const COMMAND_LINE_FAULT: u8 = 6;
 pub struct Exit {
     /// The exit status.
     pub status: u8,
-    /// The command that the words spell; `None` if they spell none. No contract speaks of it.
+    /// The command that the words spell; `None` if they spell none.
     pub command: Option<Command>,
-    /// What the report was made of; `None` if there is no report. No contract speaks of it.
+    /// What the report was made of; `None` if there is no report.
     pub findings: Option<Findings>,
 }
 
-/// Carries out the command that the words spell, and returns the exit status, with what an explanation of the answer needs.
+/// Carries out the command that the words spell, and returns the exit status, with what an explanation and a picture of the
+/// answer need: that command, unchanged, and the findings of the answer.
 /// `words` are all of the program's words, its name first, or why they could not be had; all of them are handed to `command`.
 ///
 /// Where they are no command, `messages` is given the reason, and nothing else is touched: the status is
@@ -58,21 +59,17 @@ pub fn program<S: AsStr + Drop, H: Host, W: Sink, M: Messages, P: Progress>(
         (IsCarriedOut H.lends H.opens
         (IsAnswer H.Input.remaining H.Input.reads W.contents W.writes)
         (IsAnswer H.File.remaining H.File.reads W.contents W.writes)
-        (λ old new. IsWritten W.contents W.writes old new read_fault 5))
+        (IsUnopened W.contents W.writes))
         M.reports (map S.text had.items)
-        host.old host.new output.old output.new messages.old messages.new result.status)
+        host.old host.new output.old output.new messages.old messages.new result)
         (λ error. IsRefused M.reports (fault_of_words error)
-        host.old host.new output.old output.new messages.old messages.new result.status) }
+        host.old host.new output.old output.new messages.old messages.new result) }
     ensures status { result.status ≤ 6 }
 {
     match read_words(alloc, words) {
         Ok(command) => {
             let answered = carry_out(alloc, &command, host, output, progress);
-            Exit {
-                status: answered.status,
-                command: Some(command),
-                findings: answered.findings,
-            }
+            exit_of(command, answered)
         }
         Err(fault) => {
             messages.report(&fault);
@@ -82,6 +79,18 @@ pub fn program<S: AsStr + Drop, H: Host, W: Sink, M: Messages, P: Progress>(
                 findings: None,
             }
         }
+    }
+}
+
+/// The exit of a command that was obeyed, with its answer.
+fn exit_of(command: Command, answered: Answered) -> Exit
+    ensures command { result.command ≡ Some command }
+    ensures answered { answered_of result ≡ answered }
+{
+    Exit {
+        status: answered.status,
+        command: Some(command),
+        findings: answered.findings,
     }
 }
 
@@ -111,8 +120,8 @@ fn carry_out<H: Host, W: Sink, P: Progress>(
     ensures done { IsCarriedOut H.lends H.opens
         (IsAnswer H.Input.remaining H.Input.reads W.contents W.writes)
         (IsAnswer H.File.remaining H.File.reads W.contents W.writes)
-        (λ old new. IsWritten W.contents W.writes old new read_fault 5)
-        command.now host.old host.new output.old output.new result.status }
+        (IsUnopened W.contents W.writes)
+        command.now host.old host.new output.old output.new result }
     ensures status { result.status ≤ 5 }
 {
     let Some(name) = &command.file else {

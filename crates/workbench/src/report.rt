@@ -12,7 +12,6 @@ use crate::tasks::carry_out;
 use std::alloc::Global;
 use std::io::Write;
 use wb_command_line::command::Command;
-use wb_model::failures::Failing;
 use wb_model::fault::ScriptFault;
 use wb_model::memory::NoMemory;
 use wb_sweep::Progress;
@@ -23,12 +22,11 @@ pub struct Report {
     pub text: Vec<u8>,
     pub values: ReportValues,
     pub status: u8,
-    /// The failure whose run it shows, or under which a run was cut. No contract speaks of it.
-    pub at: Option<Failing>,
 }
 
 /// The report of a command for the bytes of a script: what its task comes to, or the one line that says why the
-/// bytes are no script. The only error is that memory ran out. `progress` is notified of a sweep.
+/// bytes are no script. The only error is that memory ran out. `progress` is notified of a sweep,
+/// and of the runs in heaps of all lengths.
 pub fn report_on<P: Progress>(
     alloc: Global,
     command: &Command,
@@ -58,7 +56,6 @@ fn refusal(alloc: Global, fault: ScriptFault) -> Result<Report, NoMemory>
         text,
         values: ReportValues::none(),
         status: 2,
-        at: None,
     })
 }
 

@@ -1,19 +1,36 @@
-//! What a report says as values, beside its lines. A JSON report has them under keys of their own.
+//! What a report says as values, beside its lines. A JSON report has them under keys of their own, but for the failure that it
+//! names.
 
 ghost use Rattle.std.specs.Prelude.{◌≡◌};
-ghost use Rattle.workbench.specs.ReportValues.{both_values, no_values, run_values, size_values, sweep_values};
+ghost use Rattle.workbench.specs.ReportValues.{both_values, cut_values, found_failing, lengths_values};
+ghost use Rattle.workbench.specs.ReportValues.{no_values, run_values, size_values, sweep_values};
 
 use wb_model::failures::Failing;
+use wb_model::lengths::LengthTable;
 use wb_model::run::RunResult;
 use wb_size::{Rises, Sizing};
 
-/// Which failure a sweep that was finished found.
+/// The least failure, or the least length of heap, whose run leaks or panics, of those that were tried.
 #[derive(Clone, Copy, Debug, PartialEq, Eq)]
 pub enum FailingNumber {
-    /// No failure's run leaks or panics.
+    /// No failure's run leaks or panics, or no length's.
     Never,
     /// The least failure whose run does.
     At(Failing),
+    /// The least length whose run does, in bytes.
+    Length(u32),
+}
+
+impl FailingNumber {
+    /// The failure that was found; a length of heap is none.
+    fn failing(self) -> Option<Failing>
+        ensures { result ≡ found_failing self }
+    {
+        match self {
+            FailingNumber::Never | FailingNumber::Length(_) => None,
+            FailingNumber::At(failing) => Some(failing),
+        }
+    }
 }
 
 /// The values of a report; `None` if its task has no such value.
@@ -21,16 +38,20 @@ pub enum FailingNumber {
 pub struct ReportValues {
     /// How many attempts the run made; for a sweep that was finished, the run without failure.
     pub attempts: Option<u64>,
-    /// What the sweep found.
+    /// What the sweep found, or the search through all lengths.
     pub number: Option<FailingNumber>,
     /// The length that the heap must have, in bytes.
     pub required: Option<u64>,
     /// The attempt that each shorter heap refuses first.
     pub rises: Option<Rises>,
+    /// How the run ends in heaps of every length.
+    pub ranges: Option<LengthTable>,
+    /// The failure that its lines name: whose run they show, or under which a run was cut. `None` if they name none.
+    pub named: Option<Failing>,
 }
 
 impl ReportValues {
-    /// Those of a refused script, and of a cut.
+    /// Those of a refused script.
     pub fn none() -> ReportValues
         ensures { result ≡ no_values }
     {
@@ -39,6 +60,18 @@ impl ReportValues {
             number: None,
             required: None,
             rises: None,
+            ranges: None,
+            named: None,
+        }
+    }
+
+    /// Those of a run that was cut under this failure.
+    pub fn of_cut(at: Failing) -> ReportValues
+        ensures { result ≡ cut_values at }
+    {
+        ReportValues {
+            named: Some(at),
+            ..ReportValues::none()
         }
     }
 
@@ -57,10 +90,9 @@ impl ReportValues {
         ensures { result ≡ size_values sizing.required sizing.rises }
     {
         ReportValues {
-            attempts: None,
-            number: None,
             required: Some(u64::from(sizing.required)),
             rises: Some(sizing.rises),
+            ..ReportValues::none()
         }
     }
 
@@ -71,6 +103,7 @@ impl ReportValues {
         ReportValues {
             attempts: Some(u64::from(attempts)),
             number: Some(number),
+            named: number.failing(),
             ..ReportValues::none()
         }
     }
@@ -84,6 +117,19 @@ impl ReportValues {
             number: sweep.number,
             required: size.required,
             rises: size.rises,
+            ranges: None,
+            named: sweep.named,
+        }
+    }
+
+    /// Those of the search through all lengths.
+    pub fn of_lengths(table: LengthTable, number: FailingNumber) -> ReportValues
+        ensures { result ≡ lengths_values table number }
+    {
+        ReportValues {
+            number: Some(number),
+            ranges: Some(table),
+            ..ReportValues::none()
         }
     }
 }

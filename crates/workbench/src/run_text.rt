@@ -3,10 +3,12 @@
 
 ghost use Rattle.std.specs.Prelude.{◌≡◌, ◌++◌, OnOk};
 ghost use Rattle.std.specs.List.{flat_map};
+ghost use Rattle.workbench.specs.EndWords.{cut_words, panic_words};
 ghost use Rattle.workbench.specs.RunText.{answer_word, print_line, note_line, attempt_line, leak_line, leaks_text};
-ghost use Rattle.workbench.specs.RunText.{end_line, panic_line, cut_line, outcome_text, run_text};
+ghost use Rattle.workbench.specs.RunText.{end_line, line, outcome_text, run_text};
 
 use crate::appending::or_no_memory;
+use crate::end_text::{put_cut_words, put_panic_words};
 use crate::line::Line;
 use std::io::Write;
 use wb_model::heap::{Answer, Attempt, Panic};
@@ -165,27 +167,15 @@ fn put_leak(text: &mut Vec<u8>, leak: Leak) -> Result<(), NoMemory>
 }
 
 fn put_panic(text: &mut Vec<u8>, panic: Panic) -> Result<(), NoMemory>
-    ensures { OnOk result (text.new.items ≡ text.old.items ++ panic_line panic) }
+    ensures { OnOk result (text.new.items ≡ text.old.items ++ line (panic_words panic)) }
 {
-    match panic {
-        Panic::User(number) => or_no_memory(writeln!(text, "panic USER {number}")),
-        Panic::Alloc(place) => put_failed_check(text, place),
-        Panic::Workbench(number) => { or_no_memory(writeln!(text, "panic WORKBENCH {number}")) }
-    }
-}
-
-fn put_failed_check(text: &mut Vec<u8>, place: u32) -> Result<(), NoMemory>
-    ensures { OnOk result (text.new.items ≡ text.old.items ++ panic_line (Panic.Alloc place)) }
-{
-    or_no_memory(writeln!(text, "panic ALLOC {place:08x}"))
+    put_panic_words(text, panic)?;
+    or_no_memory(writeln!(text))
 }
 
 fn put_cut(text: &mut Vec<u8>, why: Why) -> Result<(), NoMemory>
-    ensures { OnOk result (text.new.items ≡ text.old.items ++ cut_line why) }
+    ensures { OnOk result (text.new.items ≡ text.old.items ++ line (cut_words why)) }
 {
-    let put = match why {
-        Why::Budget => writeln!(text, "cut budget"),
-        Why::Ceiling => writeln!(text, "cut ceiling"),
-    };
-    or_no_memory(put)
+    put_cut_words(text, why)?;
+    or_no_memory(writeln!(text))
 }

@@ -1,21 +1,24 @@
 //! What each task comes to on a script: the text, its values, and the exit status. Nothing is read or written here.
 
-ghost use Rattle.std.specs.Prelude.{◌≡◌, ◌≤◌, IfOk, IsTrue};
+ghost use Rattle.std.specs.Prelude.{◌≡◌, ◌≤◌, IfOk, IsTrue, if◌then◌else◌};
 ghost use Rattle.wb_model.specs.runs.Run.{run};
 ghost use Rattle.wb_model.specs.language.Sound.{is_script};
 ghost use Rattle.wb_model.specs.heap.Space.{is_shape};
 ghost use Rattle.wb_command_line.specs.Command.{is_answerable};
-ghost use Rattle.workbench.specs.ReportValues.{no_values};
+ghost use Rattle.workbench.specs.LengthsReport.{IsLengthsReport};
+ghost use Rattle.workbench.specs.ReportValues.{cut_values};
 ghost use Rattle.workbench.specs.Report.{IsRunReport, IsTaskReport};
 ghost use Rattle.workbench.specs.RunText.{outcome_status};
 ghost use Rattle.workbench.specs.TwoNumbers.{IsSizeReport, IsSweepReport, IsCheckReport};
 
+use crate::lengths_text::put_lengths;
 use crate::numbers_text::{put_cut_at, put_sizing, put_sweep};
 use crate::report::Report;
 use crate::report_values::{FailingNumber, ReportValues};
 use crate::run_text::put_run;
 use std::alloc::Global;
 use wb_command_line::command::{Command, Task};
+use wb_lengths::lengths;
 use wb_machine::RunFault;
 use wb_model::failures::{Failing, Failures};
 use wb_model::heap::{Rule, Shape};
@@ -35,7 +38,8 @@ const FOUND: u8 = 1;
 /// The exit status where a run was cut.
 const CUT: u8 = 3;
 
-/// What the command's task comes to on a script. The only error is that memory ran out. `progress` is notified of a sweep.
+/// What the command's task comes to on a script. The only error is that memory ran out. `progress` is notified of a sweep, and of the
+/// runs in heaps of all lengths.
 pub fn carry_out<P: Progress>(
     alloc: Global,
     command: &Command,
@@ -51,6 +55,7 @@ pub fn carry_out<P: Progress>(
     match command.task {
         Task::Run(rule) => run_report(alloc, script, rule, budget, shape),
         Task::Size => size_report(alloc, script, budget, shape),
+        Task::Lengths => lengths_report(alloc, script, budget, shape, progress),
         Task::Sweep(failures) => sweep_report(alloc, script, failures, budget, shape, progress),
         Task::Check(failures) => check_report(alloc, script, failures, budget, shape, progress),
     }
@@ -79,7 +84,6 @@ fn run_report(
                 text,
                 values: ReportValues::of_run(&run),
                 status: status_of(&run.outcome),
-                at: None,
             })
         }
         // The command's shape is one that a heap may have.
@@ -122,7 +126,6 @@ fn size_report(
                 text,
                 values: ReportValues::of_size(sizing),
                 status: NOTHING_FOUND,
-                at: None,
             })
         }
         Err(SizeFault::Cut { number, why }) => {
@@ -133,6 +136,48 @@ fn size_report(
         Err(SizeFault::BadShape) => unreachable!(),
         Err(SizeFault::NoMemory) => Err(NoMemory),
     }
+}
+
+/// How the runs end in heaps of every length, and the least length whose run leaks or panics.
+fn lengths_report<P: Progress>(
+    alloc: Global,
+    script: &Script,
+    budget: u32,
+    shape: Shape,
+    progress: &mut P,
+) -> Result<Report, NoMemory>
+    requires script { IsTrue (is_script script.now) }
+    requires least { 1 ≤ budget }
+    requires greatest { budget ≤ LARGEST_BUDGET }
+    requires shape { IsTrue (is_shape shape) }
+    ensures { IfOk result (λ r. IsLengthsReport script.now budget shape
+        r.text.items r.values r.status) }
+{
+    match lengths(alloc, script, budget, shape, progress) {
+        Ok(found) => {
+            let mut text = Vec::new(alloc);
+            put_lengths(&mut text, &found)?;
+            let (number, status) = match &found.bad {
+                Some(bad) => (FailingNumber::Length(bad.length), FOUND),
+                None => (FailingNumber::Never, fine_status(found.is_cut)),
+            };
+            Ok(Report {
+                text,
+                values: ReportValues::of_lengths(found.table, number),
+                status,
+            })
+        }
+        // The command's shape is one that a heap may have.
+        Err(RunFault::BadShape) => unreachable!(),
+        Err(RunFault::NoMemory) => Err(NoMemory),
+    }
+}
+
+/// The status where no length's run leaks or panics: 3 if that of one is cut.
+fn fine_status(is_cut: bool) -> u8
+    ensures { result ≡ if is_cut then 3 else 0 }
+{
+    if is_cut { CUT } else { NOTHING_FOUND }
 }
 
 /// Which of these failures leaks or panics, or the line of a run that was cut.
@@ -163,7 +208,6 @@ fn sweep_report<P: Progress>(
                 text,
                 values: ReportValues::of_sweep(sweep.attempts, number),
                 status,
-                at: sweep.found.map(|found| found.at),
             })
         }
         Err(SweepFault::Cut { at, why }) => {
@@ -179,14 +223,13 @@ fn sweep_report<P: Progress>(
 /// The report of a run that was cut under a failure, whose line is the text.
 fn cut_report(text: Vec<u8>, at: Failing) -> Report
     ensures text { result.text ≡ text }
-    ensures values { result.values ≡ no_values }
+    ensures values { result.values ≡ cut_values at }
     ensures status { result.status ≡ 3 }
 {
     Report {
         text,
-        values: ReportValues::none(),
+        values: ReportValues::of_cut(at),
         status: CUT,
-        at: Some(at),
     }
 }
 
@@ -214,6 +257,5 @@ fn check_report<P: Progress>(
     report.text.extend_from_slice(sweep.text.as_slice())?;
     report.values = ReportValues::of_both(report.values, sweep.values);
     report.status = sweep.status;
-    report.at = sweep.at;
     Ok(report)
 }

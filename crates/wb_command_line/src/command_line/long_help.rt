@@ -11,15 +11,17 @@ Begin with a script, a text file with one statement per line:
     end
 
 `workbench run FILE` runs it and reports its leaks; `workbench check FILE` finds how long the heap must be, and
-which failed allocation leaks or panics; `workbench sweep --every FILE` makes every n-th allocation fail, and
-`workbench sweep --pairs FILE` any two. `workbench help run` lists the options, docs/LANGUAGE.md explains each
-line of a script, and examples/ has scripts to learn from.";
+which failed allocation leaks or panics; `workbench lengths FILE` finds the lengths of heap in which it leaks
+or panics; `workbench sweep --every FILE` makes every n-th allocation fail, and `workbench sweep --pairs FILE`
+any two. `workbench help run` lists the options, docs/LANGUAGE.md explains each line of a script, and examples/
+has scripts to learn from.";
 
 /// What the help of a subcommand says at its top, by its name.
 pub(crate) fn long_about(name: &str) -> &'static str {
     match name {
         "run" => RUN,
         "size" => SIZE,
+        "lengths" => LENGTHS,
         "sweep" => SWEEP,
         _ => CHECK,
     }
@@ -37,6 +39,16 @@ const SIZE: &str = "Finds how long the heap must be, and what shorter heaps refu
 Example: workbench size examples/holes.oom
 
 Exit status: 0 the length is reported, 2 the script is refused, 3 the run was cut,
+4 no memory, 5 reading or writing failed, 6 command line";
+
+const LENGTHS: &str = "Finds how the run ends in a heap of every length
+
+Lengths go from 0 to 16,777,216 bytes. If the script leaks or panics at one of them, the run at the least of
+these comes last
+
+Example: workbench lengths examples/second-phase-leaks.oom
+
+Exit status: 0 no length leaks or panics, 1 one does, 2 the script is refused, 3 a run was cut,
 4 no memory, 5 reading or writing failed, 6 command line";
 
 const SWEEP: &str = "Finds the first attempt whose failure leaks or panics

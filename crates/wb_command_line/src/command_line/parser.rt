@@ -82,6 +82,11 @@ pub(super) fn parser<'a>(
                 takes: Takes::Neither,
             },
             Level {
+                name: "lengths",
+                about: "Finds how the run ends in a heap of every length",
+                takes: Takes::Neither,
+            },
+            Level {
                 name: "sweep",
                 about: "Finds the first attempt whose failure leaks or panics",
                 takes: Takes::Failures,

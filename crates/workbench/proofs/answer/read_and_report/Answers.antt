@@ -7,5 +7,5 @@ returns-clause-report g c =
     let report = c.in_ok-report.report in
     let message = c.in_ok-lay_out.field-0 in
     laid_out_is_reported c.args.command.now (g.R.Source.remaining c.args.reader.now) c.in_ok-bytes.bytes.items c.as_slice.result.now report.text.items
-    message.text.items report.values message.status report.status c.in_ok-bytes.ensures.bytes c.as_slice.ensures.value c.in_ok-report.ensures
-    c.in_ok-lay_out.ensures.text c.in_ok-lay_out.ensures.status
+    message.text.items report.values message.status report.status message.findings c.in_ok-bytes.ensures.bytes c.as_slice.ensures.value c.in_ok-report.ensures
+    c.in_ok-lay_out.ensures.text c.in_ok-lay_out.ensures.status c.in_ok-lay_out.ensures.findings

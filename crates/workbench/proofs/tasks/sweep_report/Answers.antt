@@ -1,5 +1,6 @@
 -- Proof: sweep_report. What the sweep found, or where it was cut, is what the report says.
 use Rattle.std.proofs.Common.{rules, ◌≡◌, inr}
+use Rattle.workbench.specs.ReportValues.{cut_values}
 use Rattle.workbench.specs.TwoNumbers.{cut_at_line, IsUnswept}
 use Rattle.workbench.proofs.tasks.sweep_report.Goals as goal
 
@@ -8,11 +9,12 @@ returns-in_ok-put_cut_at-in-Err-Cut g c =
     let cut = c.in-Err-Cut in
     let report = c.cut_report.result in
     let text : report.text.items ≡ cut_at_line cut.at cut.why = search rules in
+    let values : report.values ≡ cut_values cut.at = search rules in
     let unswept : IsUnswept c.args.failures c.args.script.now c.args.budget c.args.shape report.text.items report.values = record {
       at = cut.at;
       why = cut.why;
       cut = c.sweep.ensures.cut cut.at cut.why (search rules);
       text_is = text;
-      values_are = c.cut_report.ensures.values;
+      values_are = values;
     } in
     inr (inr (unswept, c.cut_report.ensures.status))
