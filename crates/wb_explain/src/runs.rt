@@ -1,4 +1,5 @@
-//! What runs found: panics, leaks, what a failed attempt led to, which attempts a shorter heap refuses, and cuts.
+//! What runs found: panics, leaks, what a failed attempt led to, which attempts a shorter heap refuses, what heaps of every length
+//! show, and cuts.
 //!
 //! The script is run once more for this, and watched turn by turn, so that lines can be named.
 
@@ -8,28 +9,35 @@ ghost use Rattle.wb_model.specs.language.Sound.{is_script};
 mod attempts;
 mod blame;
 mod bodies;
+mod checks;
 mod counts;
 mod cuts;
 mod destroyed;
 mod ends;
 mod failures;
+mod heaps;
 mod lengths;
 mod makers;
 mod pairs;
 mod panics;
 mod rates;
+mod refusals;
 mod script_page;
 mod sentences;
+mod spread;
+mod stories;
 mod values;
 mod watch;
 
 use crate::runs::ends::put_findings;
+use crate::runs::heaps::{put_heaps, put_warning};
 use crate::runs::lengths::put_lengths;
 use crate::runs::script_page::ScriptPage;
 use crate::runs::watch::watch_run;
 pub use script_page::ScriptFile;
 use std::alloc::Global;
 use wb_model::heap::{Rule, Shape};
+use wb_model::lengths::LengthRange;
 use wb_model::limits::LARGEST_BUDGET;
 use wb_model::memory::NoMemory;
 use wb_model::script::Script;
@@ -77,5 +85,42 @@ pub fn lengths_found(
 {
     let mut page = ScriptPage::new(alloc, file);
     put_lengths(&mut page, alloc, script, budget, shape, rises)?;
+    Ok(page.whole_text()?)
+}
+
+/// Returns which line's attempt is refused first in heaps of these lengths whose runs leak or panic, and in which heaps runs are cut.
+/// `ranges` are all lengths; empty where none shows anything. The only error is that memory ran out.
+pub fn heaps_found(
+    alloc: Global,
+    file: ScriptFile<'_>,
+    script: &Script,
+    budget: u32,
+    shape: Shape,
+    ranges: &[LengthRange],
+) -> Result<String, NoMemory>
+    requires script { IsTrue (is_script script.now) }
+    requires least { 1 ≤ budget }
+    requires greatest { budget ≤ LARGEST_BUDGET }
+{
+    let mut page = ScriptPage::new(alloc, file);
+    put_heaps(&mut page, alloc, script, budget, shape, ranges)?;
+    Ok(page.whole_text()?)
+}
+
+/// Returns in which heaps a script leaks or panics in which a sweep found nothing; empty where it does so in none. All lengths are
+/// tried, unless that takes more than a million steps, which it says. The only error is that memory ran out.
+pub fn heaps_warning(
+    alloc: Global,
+    file: ScriptFile<'_>,
+    script: &Script,
+    budget: u32,
+    shape: Shape,
+) -> Result<String, NoMemory>
+    requires script { IsTrue (is_script script.now) }
+    requires least { 1 ≤ budget }
+    requires greatest { budget ≤ LARGEST_BUDGET }
+{
+    let mut page = ScriptPage::new(alloc, file);
+    put_warning(&mut page, alloc, script, budget, shape)?;
     Ok(page.whole_text()?)
 }

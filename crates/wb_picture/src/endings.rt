@@ -1,4 +1,4 @@
-//! How a run ended: in words, and as a line in its panel.
+//! How a run ended: in words, and as a line in its panel, and how runs of a table end.
 
 use crate::labels::{close_line, close_text, open_line, open_text};
 use crate::lines::ScriptLines;
@@ -7,6 +7,7 @@ use crate::watch::WatchedRun;
 use std::alloc::AllocError;
 use wb_model::heap::Panic;
 use wb_model::run::{Outcome, Why};
+use wb_model::run_end::RunEnd;
 
 /// How far above the frame the words are, in pixels.
 const ABOVE: u32 = 24;
@@ -67,12 +68,37 @@ fn put_label(text: &mut String, scale: &Scale, run: &WatchedRun, x: u32) -> Resu
 pub fn put_outcome(text: &mut String, outcome: &Outcome) -> Result<(), AllocError> {
     match outcome {
         Outcome::Ended { left, leaks } => put_ended(text, *left, leaks.len()),
-        Outcome::Panicked(Panic::User(number)) => write!(text, "panic USER {number}"),
-        Outcome::Panicked(Panic::Alloc(place)) => write!(text, "panic ALLOC {place:08x}"),
-        Outcome::Panicked(Panic::Workbench(number)) => write!(text, "panic WORKBENCH {number}"),
+        Outcome::Panicked(panic) => put_panic(text, *panic),
         Outcome::NoCleanup => text.push_str("no cleanup stack"),
-        Outcome::Cut(Why::Budget) => text.push_str("cut at the budget"),
-        Outcome::Cut(Why::Ceiling) => text.push_str("cut at the ceiling"),
+        Outcome::Cut(why) => put_cut(text, *why),
+    }
+}
+
+fn put_panic(text: &mut String, panic: Panic) -> Result<(), AllocError> {
+    match panic {
+        Panic::User(number) => write!(text, "panic USER {number}"),
+        Panic::Alloc(place) => write!(text, "panic ALLOC {place:08x}"),
+        Panic::Workbench(number) => write!(text, "panic WORKBENCH {number}"),
+    }
+}
+
+fn put_cut(text: &mut String, why: Why) -> Result<(), AllocError> {
+    text.push_str(match why {
+        Why::Budget => "cut at the budget",
+        Why::Ceiling => "cut at the ceiling",
+    })
+}
+
+/// Says how runs end, in the words of `put_outcome` as far as a table has room for them.
+pub fn put_run_end(text: &mut String, end: RunEnd) -> Result<(), AllocError> {
+    match end {
+        RunEnd::NoCleanup => text.push_str("no cleanup stack"),
+        RunEnd::Panicked(panic) => put_panic(text, panic),
+        RunEnd::Leaked(1) => text.push_str("1 leak"),
+        RunEnd::Leaked(leaks) => write!(text, "{leaks} leaks"),
+        RunEnd::Left(code) => write!(text, "left with {code}"),
+        RunEnd::Plain => text.push_str("ended"),
+        RunEnd::Cut(why) => put_cut(text, why),
     }
 }
 

@@ -18,6 +18,7 @@ mod marks;
 mod page;
 mod panel;
 mod pictures;
+mod ranges;
 mod refusals;
 mod scale;
 mod series;
@@ -25,5 +26,7 @@ mod titles;
 mod watch;
 
 pub use lines::ScriptFile;
-pub use pictures::{picture_of_check, picture_of_run, picture_of_size, picture_of_sweep};
+pub use pictures::{
+    picture_of_check, picture_of_lengths, picture_of_run, picture_of_size, picture_of_sweep,
+};
 pub use watch::Setting;

@@ -8,12 +8,14 @@ use crate::labels::{close_line, close_rect, close_text, open_line, open_text, pu
 use crate::lengths::{put_lengths, put_rises, rises_of};
 use crate::lines::ScriptLines;
 use crate::marks::{put_failed, put_ticks};
+use crate::ranges::put_ranges;
 use crate::refusals::put_refusals;
 use crate::scale::{Area, Frame, Scale};
 use crate::titles::{put_group_title, put_part_title};
 use crate::watch::{LocatedAttempt, WatchedRun};
 use std::alloc::AllocError;
 use wb_model::heap::Answer;
+use wb_model::lengths::LengthRange;
 
 /// From the top of a panel to its frame, and from the frame's lower edge to the first band, in pixels.
 pub const ABOVE: u32 = 54;
@@ -26,14 +28,24 @@ const BAND_STEP: u32 = BAND + 5;
 /// From a frame's lower edge to the end of its panel, in pixels.
 pub const UNDER: u32 = BELOW + 3 * BAND_STEP + 14;
 
+/// What is at the side of a panel.
+#[derive(Clone, Copy)]
+pub enum Table<'a> {
+    Nothing,
+    /// What shorter heaps refuse first.
+    Refusals,
+    /// How runs end in heaps of every length.
+    Lengths(&'a [LengthRange]),
+}
+
 /// A run, and where it is drawn.
 #[derive(Clone, Copy)]
 pub struct Panel<'a, 'b> {
     pub run: &'a WatchedRun,
     pub lines: &'a ScriptLines<'b>,
     pub scale: Scale,
-    /// Whether the table of what shorter heaps refuse is at the side.
-    pub has_table: bool,
+    /// What is at the side.
+    pub table: Table<'a>,
     /// The most rectangles of cells.
     pub most_cells: usize,
     /// The attempt with which the lower run of two begins to fail.
@@ -57,8 +69,10 @@ fn put_lines(text: &mut String, panel: &Panel<'_, '_>) -> Result<(), AllocError>
     put_lengths(text, &panel.scale, panel.run)?;
     let rises = rises_of(*text.allocator(), attempts)?;
     put_rises(text, panel.lines, &panel.scale, rises.as_slice())?;
-    if panel.has_table {
-        put_refusals(text, panel.lines, &panel.scale, rises.as_slice())?;
+    match panel.table {
+        Table::Nothing => {}
+        Table::Refusals => put_refusals(text, panel.lines, &panel.scale, rises.as_slice())?,
+        Table::Lengths(ranges) => put_ranges(text, &panel.scale, ranges)?,
     }
     put_attempts(text, panel)?;
     put_ending(text, panel.lines, &panel.scale, panel.run)?;

@@ -1,4 +1,4 @@
-//! The pictures of the four commands: which runs each shows, and how they are put on a page.
+//! The pictures of the commands: which runs each shows, and how they are put on a page.
 
 ghost use Rattle.std.specs.Prelude.{◌≤◌, IsTrue};
 ghost use Rattle.wb_model.specs.language.Sound.{is_script};
@@ -8,12 +8,13 @@ use crate::labels::{close_text, open_text};
 use crate::lengths::longest_end;
 use crate::lines::{ScriptFile, ScriptLines};
 use crate::page::{close_page, legend_height, open_page, put_heading_text, put_legend};
-use crate::panel::{ABOVE, Panel, UNDER, put_panel};
+use crate::panel::{ABOVE, Panel, Table, UNDER, put_panel};
 use crate::scale::{Frame, Scale};
 use crate::watch::{LocatedAttempt, Setting, WatchedRun, watch_run};
 use std::alloc::{AllocError, Global};
 use wb_model::failures::Failing;
-use wb_model::heap::{Rule, Shape};
+use wb_model::heap::{Answer, Rule, Shape};
+use wb_model::lengths::LengthRange;
 use wb_model::limits::LARGEST_BUDGET;
 use wb_model::memory::NoMemory;
 use wb_model::script::Script;
@@ -52,7 +53,7 @@ pub fn picture_of_run(
     requires greatest { setting.budget ≤ LARGEST_BUDGET }
 {
     match watch_run(alloc, script, setting)? {
-        Some(run) => Ok(draw(alloc, file, &[&run], false)?),
+        Some(run) => Ok(draw(alloc, file, &[&run], Table::Nothing)?),
         None => Ok(String::new(alloc)),
     }
 }
@@ -70,7 +71,7 @@ pub fn picture_of_size(
     requires least { 1 ≤ budget }
     requires greatest { budget ≤ LARGEST_BUDGET }
 {
-    picture_of_failure(alloc, file, script, budget, shape, None, true)
+    picture_of_two(alloc, file, script, budget, shape, None, Table::Refusals)
 }
 
 /// Returns the picture of the run without failure, and below it of the run under the failure that was found, if one was. Empty
@@ -87,7 +88,15 @@ pub fn picture_of_sweep(
     requires least { 1 ≤ budget }
     requires greatest { budget ≤ LARGEST_BUDGET }
 {
-    picture_of_failure(alloc, file, script, budget, shape, found, false)
+    picture_of_two(
+        alloc,
+        file,
+        script,
+        budget,
+        shape,
+        failing_rule(found),
+        Table::Nothing,
+    )
 }
 
 /// The same, with the table of what shorter heaps refuse first.
@@ -103,17 +112,53 @@ pub fn picture_of_check(
     requires least { 1 ≤ budget }
     requires greatest { budget ≤ LARGEST_BUDGET }
 {
-    picture_of_failure(alloc, file, script, budget, shape, found, true)
+    picture_of_two(
+        alloc,
+        file,
+        script,
+        budget,
+        shape,
+        failing_rule(found),
+        Table::Refusals,
+    )
 }
 
-fn picture_of_failure(
+/// Returns the picture of the run without a limit, beside how runs end in heaps of every length, and below it of the run in the heap of
+/// the length that was found, in bytes, if one was. Empty and error as in `picture_of_run`.
+pub fn picture_of_lengths(
     alloc: Global,
     file: ScriptFile<'_>,
     script: &Script,
     budget: u32,
     shape: Shape,
-    found: Option<Failing>,
-    has_table: bool,
+    ranges: &[LengthRange],
+    found: Option<u32>,
+) -> Result<String, NoMemory>
+    requires script { IsTrue (is_script script.now) }
+    requires least { 1 ≤ budget }
+    requires greatest { budget ≤ LARGEST_BUDGET }
+{
+    let rule = found.map(Rule::Limit);
+    picture_of_two(
+        alloc,
+        file,
+        script,
+        budget,
+        shape,
+        rule,
+        Table::Lengths(ranges),
+    )
+}
+
+/// The run without failure, and below it the run under a rule, if there is one.
+fn picture_of_two(
+    alloc: Global,
+    file: ScriptFile<'_>,
+    script: &Script,
+    budget: u32,
+    shape: Shape,
+    below: Option<Rule>,
+    table: Table<'_>,
 ) -> Result<String, NoMemory>
     requires script { IsTrue (is_script script.now) }
     requires least { 1 ≤ budget }
@@ -128,11 +173,11 @@ fn picture_of_failure(
     let Some(plain) = watch_run(alloc, script, setting)? else {
         return Ok(String::new(alloc));
     };
-    let Some(rule) = failing_rule(found) else {
-        return Ok(draw(alloc, file, &[&plain], has_table)?);
+    let Some(rule) = below else {
+        return Ok(draw(alloc, file, &[&plain], table)?);
     };
     match watch_run(alloc, script, Setting { rule, ..setting })? {
-        Some(failing) => Ok(draw(alloc, file, &[&plain, &failing], has_table)?),
+        Some(failing) => Ok(draw(alloc, file, &[&plain, &failing], table)?),
         None => Ok(String::new(alloc)),
     }
 }
@@ -160,12 +205,12 @@ fn draw(
     alloc: Global,
     file: ScriptFile<'_>,
     runs: &[&WatchedRun],
-    has_table: bool,
+    table: Table<'_>,
 ) -> Result<String, AllocError> {
     let lines = ScriptLines::of(alloc, file)?;
     let mut text = String::new(alloc);
     let sheet = sheet_for(&lines, runs);
-    put_page(&mut text, &sheet, runs, has_table)?;
+    put_page(&mut text, &sheet, runs, table)?;
     Ok(text)
 }
 
@@ -173,26 +218,34 @@ fn put_page(
     text: &mut String,
     sheet: &Sheet<'_, '_>,
     runs: &[&WatchedRun],
-    has_table: bool,
+    table: Table<'_>,
 ) -> Result<(), AllocError> {
     let lines = sheet.lines;
     let right = LEFT.saturating_add(sheet.width).saturating_add(RIGHT);
-    let width = right.saturating_add(if has_table { TABLE } else { 0 });
+    let width = right.saturating_add(width_of(table));
     let bottom = panel_top(sheet, u32::try_from(runs.len()).unwrap_or(2));
     let legend = legend_height(lines, width.saturating_sub(LEFT));
     let height = bottom.saturating_add(legend).saturating_add(24);
     open_page(text, width, height, lines, runs)?;
-    put_panels(text, sheet, runs, has_table)?;
+    put_panels(text, sheet, runs, table)?;
     put_legend(text, lines, LEFT, width, bottom.saturating_add(14))?;
     put_note(text, sheet, height.saturating_sub(12))?;
     close_page(text)
+}
+
+/// How wide a table is, in pixels.
+fn width_of(table: Table<'_>) -> u32 {
+    match table {
+        Table::Nothing => 0,
+        Table::Refusals | Table::Lengths(_) => TABLE,
+    }
 }
 
 fn put_panels(
     text: &mut String,
     sheet: &Sheet<'_, '_>,
     runs: &[&WatchedRun],
-    has_table: bool,
+    table: Table<'_>,
 ) -> Result<(), AllocError> {
     let mut index = 0u32;
     for run in runs {
@@ -201,7 +254,7 @@ fn put_panels(
             run,
             lines: sheet.lines,
             scale: scale_at(sheet, top, run),
-            has_table: has_table && index == 0,
+            table: if index == 0 { table } else { Table::Nothing },
             most_cells: sheet.most_cells,
             failing: failing_attempt(runs),
         };
@@ -222,12 +275,24 @@ fn failing_attempt(runs: &[&WatchedRun]) -> Option<LocatedAttempt> {
 
 /// The first attempt that the run's own rule made fail.
 fn first_failing(run: &WatchedRun) -> Option<LocatedAttempt> {
+    let attempts = run.course.attempts.as_slice();
     let number = match run.rule {
         Rule::Number(number) | Rule::Every(number) | Rule::Pair(number, _) => number,
-        Rule::Unlimited | Rule::Limit(_) => return None,
+        Rule::Limit(_) => return first_refused(attempts),
+        Rule::Unlimited => return None,
     };
     let at = number.checked_sub(1)? as usize;
-    run.course.attempts.get(at).copied()
+    attempts.get(at).copied()
+}
+
+/// The first attempt that the limit refused.
+fn first_refused(attempts: &[LocatedAttempt]) -> Option<LocatedAttempt> {
+    for it in attempts {
+        if it.answer == Answer::Refused {
+            return Some(*it);
+        }
+    }
+    None
 }
 
 /// What the panels of these runs share: their columns, their scale of places, and their size.

@@ -7,14 +7,14 @@ use crate::watch::LocatedAttempt;
 use std::alloc::AllocError;
 
 /// How far the table is from the frame, and how wide its bar is, in pixels.
-const BESIDE: u32 = 150;
+pub const BESIDE: u32 = 150;
 
-const BAR: u32 = 12;
+pub const BAR: u32 = 12;
 
 /// The least height of a range that is drawn by itself, and of one that has a text.
-const LEAST: u32 = 2;
+pub const LEAST: u32 = 2;
 
-const LEAST_WITH_TEXT: u32 = 12;
+pub const LEAST_WITH_TEXT: u32 = 12;
 
 /// Lengths from one up to before another, and the attempts that a heap of these refuses first.
 #[derive(Clone, Copy)]

@@ -118,7 +118,8 @@ impl Course {
         let step = self.steps;
         self.committed.note(step, machine.committed())?;
         self.levels.note(step, machine.level())?;
-        self.traps.note(step, machine.open_traps())?;
+        let traps = u32::try_from(machine.open_traps()).unwrap_or(u32::MAX);
+        self.traps.note(step, traps)?;
         self.items.note(step, machine.cleanup_depth())
     }
 

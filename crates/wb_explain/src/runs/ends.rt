@@ -5,7 +5,7 @@ use crate::runs::attempts::put_refused;
 use crate::runs::blame::{class_of, line_of};
 use crate::runs::cuts::put_cut;
 use crate::runs::destroyed::{OF_MAIN, OF_OBJECT, of_item};
-use crate::runs::panics::{meaning_of, symbian_of};
+use crate::runs::panics::{meaning_of, meaning_of_check, symbian_of};
 use crate::runs::script_page::{ScriptPage, number};
 use crate::runs::sentences::put_values;
 use crate::runs::watch::Seen;
@@ -101,10 +101,10 @@ fn put_panic(
 ) -> Result<(), AllocError> {
     let line = line_of(raised, seen);
     let word = page.first_word(line);
-    let (says, help) = said_of(raised, word);
+    let (says, help) = said_of(raised, word, seen.lowest);
     page.page.begin_message(line as usize);
-    put_name(page, raised.panic);
-    page.page.write(&[Text(word), Text(": ")]);
+    put_panic_name(page, raised.panic);
+    page.page.write(&[Text(": "), Text(word), Text(": ")]);
     let meant = put_meaning(page, says, seen);
     page.page.end_line();
     let spot = page.spot(line, meant)?;
@@ -113,8 +113,8 @@ fn put_panic(
     if let Some(class) = class_of(raised, script, seen) {
         page.mark_word(class, 1, &[Text("this is the class of the object")])?;
     }
-    put_lowest(page, raised.panic, seen)?;
-    put_remarks(page, symbian_of(raised.panic), help);
+    put_lowest(page, seen)?;
+    put_remarks(page, symbian_of(raised.panic, seen.lowest), help);
     Ok(())
 }
 
@@ -132,8 +132,12 @@ fn put_meaning(page: &mut ScriptPage<'_>, says: &str, seen: &Seen) -> usize {
     }
 }
 
-/// What a panic means and what to look for, by what raised it, and by the first word of the line that is named for it.
-fn said_of(raised: Raised, word: &str) -> (&'static str, &'static str) {
+/// What a panic means and what to look for, by what raised it, by the first word of the line that is named for it, and by the
+/// lowest cell that a failed check counted.
+fn said_of(raised: Raised, word: &str, lowest: Option<u32>) -> (&'static str, &'static str) {
+    if let Panic::Alloc(_) = raised.panic {
+        return meaning_of_check(lowest);
+    }
     match raised.raiser {
         Raiser::Statement | Raiser::TrapEnd => meaning_of(raised.panic, word),
         Raiser::Holder => meaning_of(raised.panic, ""),
@@ -143,16 +147,9 @@ fn said_of(raised: Raised, word: &str) -> (&'static str, &'static str) {
     }
 }
 
-/// Says which line made the lowest cell that a heap check counted.
-fn put_lowest(page: &mut ScriptPage<'_>, panic: Panic, seen: &Seen) -> Result<(), AllocError> {
-    let Panic::Alloc(place) = panic else {
-        return Ok(());
-    };
-    // at place 0 is the cell of the cleanup stack, which is never counted: no cell was
-    if place == 0 {
-        return Ok(());
-    }
-    let Some(maker) = seen.maker_at(place) else {
+/// Says which line made the lowest cell that a failed check counted, if it counted any.
+fn put_lowest(page: &mut ScriptPage<'_>, seen: &Seen) -> Result<(), AllocError> {
+    let Some(maker) = seen.lowest.and_then(|place| seen.maker_at(place)) else {
         return Ok(());
     };
     let said = if maker.deed.reallocates {
@@ -174,7 +171,7 @@ fn put_remarks(page: &mut ScriptPage<'_>, note: &str, help: &str) {
 }
 
 /// The panic as the report names it.
-fn put_name(page: &mut ScriptPage<'_>, panic: Panic) {
+pub fn put_panic_name(page: &mut ScriptPage<'_>, panic: Panic) {
     match panic {
         Panic::User(code) => page
             .page
@@ -184,7 +181,6 @@ fn put_name(page: &mut ScriptPage<'_>, panic: Panic) {
             .page
             .write(&[Text("panic WORKBENCH "), number(u32::from(code))]),
     }
-    page.page.write_text(": ");
 }
 
 /// Says of each leak which line made the cell, up to as many as anybody reads.

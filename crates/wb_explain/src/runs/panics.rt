@@ -13,13 +13,17 @@ struct Meaning {
     help: &'static str,
 }
 
-/// What a panic means, and what to look for, by the first word of its line.
-pub fn meaning_of(panic: Panic, word: &str) -> (&'static str, &'static str) {
-    match panic {
-        Panic::Alloc(0) => return NO_CELL,
-        Panic::Alloc(_) => return CELLS,
-        _ => {}
+/// What a check of the heap means that found another number of cells, and what to look for, by the place of the lowest that it
+/// counted; `None` if it counted none.
+pub fn meaning_of_check(lowest: Option<u32>) -> (&'static str, &'static str) {
+    match lowest {
+        Some(_) => CELLS,
+        None => NO_CELL,
     }
+}
+
+/// What another panic means, and what to look for, by the first word of its line.
+pub fn meaning_of(panic: Panic, word: &str) -> (&'static str, &'static str) {
     for meaning in &MEANINGS {
         if meaning.panic == panic && fits(meaning.words, word) {
             return (meaning.says, meaning.help);
@@ -28,8 +32,9 @@ pub fn meaning_of(panic: Panic, word: &str) -> (&'static str, &'static str) {
     ("", "")
 }
 
-/// Where Symbian raises a panic of this category and number; empty for this project's own.
-pub fn symbian_of(panic: Panic) -> &'static str {
+/// Where Symbian raises a panic of this category and number; empty for this project's own. `lowest` is the place of the lowest
+/// cell that a failed check counted; `None` if it counted none.
+pub fn symbian_of(panic: Panic, lowest: Option<u32>) -> &'static str {
     match panic {
         Panic::POSITION_OUT_OF_BOUNDS => {
             "USER 10 in Symbian: a position passed to a 16-bit descriptor is out of bounds"
@@ -40,7 +45,7 @@ pub fn symbian_of(panic: Panic) -> &'static str {
         Panic::BAD_CELL => {
             "USER 42 in Symbian: a pointer passed to RHeap::Free, AllocLen or ReAlloc is not that of a valid cell"
         }
-        Panic::Alloc(0) => {
+        Panic::Alloc(_) if lowest.is_none() => {
             "ALLOC in Symbian: __UHEAP_MARKEND or a heap check found a different number of cells than expected"
         }
         Panic::Alloc(_) => {

@@ -5,6 +5,7 @@ ghost use Rattle.wb_model.specs.language.Sound.{is_script};
 
 use crate::runs::Setting;
 use crate::runs::bodies::Bodies;
+use crate::runs::checks::lowest_counted;
 use crate::runs::makers::Maker;
 use crate::runs::values::{Meant, values_of};
 use std::alloc::{AllocError, Global};
@@ -35,6 +36,8 @@ pub struct Seen {
     /// The panic that ended it, and the values with which its line raised it; `None` if nothing is to be said of any.
     pub raised: Option<Raised>,
     pub values: Option<Meant>,
+    /// The place of the lowest cell that a check counted whose panic ended it; `None` if it counted none.
+    pub lowest: Option<u32>,
 }
 
 impl Seen {
@@ -154,10 +157,12 @@ fn take_turn(machine: &mut Machine<'_>, lines: &mut Lines) -> Result<Turn, NoMem
 fn finish(machine: Machine<'_>, lines: Lines) -> Result<Seen, NoMemory> {
     let raised = machine.raised_panic();
     let values = values_of(&machine);
+    let lowest = lowest_counted(&machine);
     Ok(Seen {
         result: machine.run_to_end()?,
         lines,
         raised,
         values,
+        lowest,
     })
 }

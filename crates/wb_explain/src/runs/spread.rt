@@ -1,0 +1,47 @@
+//! Lengths of heap of which the same is said, as their least, their greatest, and how many they are.
+
+use wb_model::lengths::LengthRange;
+use wb_model::limits::CEILING;
+
+/// Lengths, in bytes, of which there is at least one.
+#[derive(Clone, Copy, Debug, PartialEq, Eq)]
+pub struct Spread {
+    pub least: u32,
+    pub greatest: u32,
+    pub count: u32,
+}
+
+impl Spread {
+    /// The lengths from one up to before another.
+    pub fn of(from: u32, until: u32) -> Spread {
+        Spread {
+            least: from,
+            greatest: until.saturating_sub(1),
+            count: until.saturating_sub(from),
+        }
+    }
+
+    /// These lengths and further ones, all greater.
+    pub fn with(self, longer: Spread) -> Spread {
+        Spread {
+            least: self.least,
+            greatest: longer.greatest,
+            count: self.count.saturating_add(longer.count),
+        }
+    }
+
+    /// Whether all lengths between the least and the greatest are among them.
+    pub fn is_whole(self) -> bool {
+        self.count == Spread::of(self.least, self.greatest.saturating_add(1)).count
+    }
+}
+
+/// The lengths of a table's range, by its index.
+pub fn lengths_of(ranges: &[LengthRange], index: usize) -> Option<Spread> {
+    let range = ranges.get(index)?;
+    let until = match ranges.get(index.saturating_add(1)) {
+        Some(next) => next.from,
+        None => CEILING + 1,
+    };
+    Some(Spread::of(range.from, until))
+}

@@ -1,0 +1,110 @@
+//! What heaps show whose runs leak or panic, as stories: which line's attempt is refused first, and how the run ends. What has the
+//! same story is told once.
+
+use crate::runs::refusals::{Refusals, Refused};
+use crate::runs::spread::{Spread, lengths_of};
+use std::alloc::{AllocError, Global};
+use wb_model::lengths::LengthRange;
+use wb_model::memory::NoMemory;
+use wb_model::run_end::RunEnd;
+
+/// The most stories that are told.
+const MOST_STORIES: usize = 20;
+
+/// Lengths of heap whose runs end alike, and in which an attempt of the same line is refused first.
+#[derive(Clone, Copy, Debug, PartialEq, Eq)]
+pub struct Story {
+    pub spread: Spread,
+    pub end: RunEnd,
+    /// The attempt that the shortest of these heaps refuses first; `None` if they refuse nothing.
+    pub refused: Option<Refused>,
+    /// Whether all of them refuse that attempt first.
+    pub refuses_one: bool,
+}
+
+impl Story {
+    /// Whether another one is the same, but for its lengths and the attempt's number.
+    fn is_told_as(&self, other: &Story) -> bool {
+        self.end == other.end && line_of(self.refused) == line_of(other.refused)
+    }
+
+    /// Takes in the lengths of a story that is the same.
+    fn take_in(&mut self, other: &Story) {
+        self.spread = self.spread.with(other.spread);
+        self.refuses_one = self.refuses_one && self.refused == other.refused;
+    }
+}
+
+fn line_of(refused: Option<Refused>) -> Option<u32> {
+    refused.map(|it| it.line)
+}
+
+/// The stories of a table, by the least length of each.
+#[derive(Drop)]
+pub struct Stories {
+    pub told: Vec<Story>,
+    /// How many ranges have none of those that are told.
+    pub more: usize,
+}
+
+impl Stories {
+    fn add(&mut self, story: Story) -> Result<(), AllocError> {
+        for told in self.told.as_mut_slice() {
+            if told.is_told_as(&story) {
+                told.take_in(&story);
+                return Ok(());
+            }
+        }
+        if self.told.len() < MOST_STORIES {
+            self.told.push(story)?;
+        } else {
+            self.more = self.more.saturating_add(1);
+        }
+        Ok(())
+    }
+}
+
+/// The stories of a table of all lengths. `refusals` are at their beginning.
+pub fn stories_of(
+    alloc: Global,
+    refusals: &mut Refusals<'_>,
+    ranges: &[LengthRange],
+) -> Result<Stories, NoMemory> {
+    let mut stories = Stories {
+        told: Vec::new(alloc),
+        more: 0,
+    };
+    for index in 0..ranges.len() {
+        if let (Some(range), Some(spread)) = (ranges.get(index), lengths_of(ranges, index))
+            && range.end.is_bad()
+        {
+            add_range(&mut stories, refusals, spread, range.end)?;
+        }
+    }
+    Ok(stories)
+}
+
+/// Adds the stories of a range, part by part: each part refuses the same attempt first.
+fn add_range(
+    stories: &mut Stories,
+    refusals: &mut Refusals<'_>,
+    spread: Spread,
+    end: RunEnd,
+) -> Result<(), NoMemory> {
+    let mut from = spread.least;
+    for _ in 0..spread.count {
+        if from > spread.greatest {
+            break;
+        }
+        refusals.go_past(from)?;
+        let until = refusals.until.min(spread.greatest.saturating_add(1));
+        stories.add(Story {
+            spread: Spread::of(from, until),
+            end,
+            refused: refusals.first,
+            refuses_one: true,
+        })?;
+        from = until;
+    }
+    Ok(())
+}
