@@ -231,6 +231,30 @@ end
 
 SWEPT_LOOPS = "proc main\nptr a\nint x\n" + 20 * "repeat 50\nadd x 1\nalloc a 40\nfree a\nadd x 1\nend\n" + "end\n"
 
+# seventeen cells, each twice as long as the one after it: a heap grants those that its length is made of, so that every 16 bytes more are
+# another run, up to 2 MiB
+GREEDY = "proc main\nptr cell\n" + "".join(f"alloc cell {(16 << power) - 16}\n" for power in reversed(range(17))) + "end\n"
+# the lengths at which the cells granted change: below the cleanup stack's cell, and then by every set of the others
+GREEDY_RUNS = 1 + (1 << 17)
+
+# a loader that tries less and less, and forgets its header where the last try is refused
+LOADER = """
+proc main
+ptr header
+ptr data
+allocl header 16
+alloc data 4000
+if null data
+alloc data 2000
+end
+if null data
+allocl data 1000
+end
+free data
+free header
+end
+"""
+
 # no single failure and no two show anything; each attempt but the first is made whichever others fail
 SWEPT_BY_PAIRS = """
 proc main
@@ -343,6 +367,9 @@ WORKLOADS = [
     Workload("sweep of 1,001 attempts", "sweep", SWEPT, "attempt", attempts_swept),
     Workload("sweep of 20 loops", "sweep", SWEPT_LOOPS, "attempt", attempts_swept),
     Workload("sweep by pairs of 200 attempts", "sweep --pairs", SWEPT_BY_PAIRS, "pair", pairs_swept),
+    Workload("lengths of 1,001 attempts", "lengths", SWEPT, "search", lambda _: 1),
+    Workload("lengths of a loader", "lengths", LOADER, "search", lambda _: 1),
+    Workload("lengths of a greedy fill", "lengths", GREEDY, "run", lambda _: GREEDY_RUNS, by_time=True),
     Workload("5,000 holes", "run", among_holes(5_000, 300_000, "alloc cell 1000\nfree cell"), "step", steps, by_time=True),
     Workload("10,001 live cells under marks", "run", among_cells(5_000, 30_000, MARKS), "step", steps, by_time=True),
     Workload("cells of 1 MB", "run", LARGE_CELLS, "step", steps, by_time=True),

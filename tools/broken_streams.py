@@ -4,7 +4,7 @@
     tools/broken_streams.py PROGRAM
 
 Input is a directory, closed, empty, a pipe that comes in pieces or ends early, a FIFO, a file of 4 GiB or one that isn't there; output
-is closed, full, or a pipe that nobody reads; words are very many, very long, or no UTF-8. A pipe that nobody reads is a write that fails
+is closed, full, or a pipe that nobody reads, also where the input is broken too; words are very many, very long, or no UTF-8. A pipe that nobody reads is a write that fails
 like any other: the program isn't killed by SIGPIPE, whatever that signal was set to. The last line is `N passed, M failed`.
 """
 
@@ -20,6 +20,8 @@ from typing import Any
 
 SCRIPT = b"proc main\nptr a\nalloc a 16\nend\n"
 REPORT = b"attempt 1 length 144 place 0 granted\nattempt 2 length 32 place 144 granted\nended\nleaks 1\nleak 2 length 32 place 144\nsteps 1\n"
+# the lengths, and then the same run
+LENGTHS = b"from 0 nocleanup\nfrom 144 ended\nfrom 176 leaks 1\nlength 176\n" + REPORT
 READ_FAULT = b"read fault\n"
 # how long a run may take, in seconds
 LIMIT = 5
@@ -40,6 +42,12 @@ class Runs:
         streams = {"stdout": subprocess.PIPE, "stderr": subprocess.PIPE} | streams
         ran = subprocess.run([os.fsencode(self.program), *(os.fsencode(it) for it in words)], timeout=LIMIT, **streams)
         return ran.stdout, ran.returncode
+
+    def messages(self, *words: str, output: str) -> Answer:
+        """What a run says on standard error, and its status, where its output goes to a file."""
+        with open(output, "wb") as given:
+            ran = subprocess.run([self.program, *words], input=SCRIPT, stdout=given, stderr=subprocess.PIPE, timeout=LIMIT)
+        return ran.stderr, ran.returncode
 
     def file(self, name: str) -> str:
         """The path of a file in the room."""
@@ -71,12 +79,12 @@ def fed(path: str | int, pieces: list[bytes]) -> threading.Thread:
     return writer
 
 
-def from_pipe(runs: Runs, pieces: list[bytes]) -> Answer:
+def from_pipe(runs: Runs, pieces: list[bytes], command: str = "run") -> Answer:
     """What a script that comes in pieces is answered with."""
     reader, writer = os.pipe()
     thread = fed(writer, pieces)
     with open(reader, "rb") as given:
-        answer = runs.run("run", stdin=given)
+        answer = runs.run(command, stdin=given)
     thread.join()
     return answer
 
@@ -95,13 +103,13 @@ def to_nobody(runs: Runs, *words: str, restore: bool) -> Answer:
     reader, writer = os.pipe()
     os.close(reader)
     with open(writer, "wb") as output:
-        return runs.run("run", *words, input=SCRIPT, stdout=output, restore_signals=restore)
+        return runs.run(*words, input=SCRIPT, stdout=output, restore_signals=restore)
 
 
 def to_full_device(runs: Runs, *words: str) -> Answer:
     """What comes of a report for which there is no room."""
     with open("/dev/full", "wb") as output:
-        return runs.run("run", *words, input=SCRIPT, stdout=output)
+        return runs.run(*words, input=SCRIPT, stdout=output)
 
 
 def inputs(runs: Runs) -> None:
@@ -115,6 +123,11 @@ def inputs(runs: Runs) -> None:
     runs.check("nothing", (b"refused 8\n", 2), lambda: runs.run("run", stdin=subprocess.DEVNULL))
     runs.check("a pipe that comes in pieces", (REPORT, 1), lambda: from_pipe(runs, [SCRIPT[:3], SCRIPT[3:20], SCRIPT[20:]]))
     runs.check("a pipe that ends early", (b"refused 3 line 3\n", 2), lambda: from_pipe(runs, [SCRIPT[:3], SCRIPT[3:18]]))
+    runs.check("lengths of a pipe that comes in pieces", (LENGTHS, 1), lambda: from_pipe(runs, [SCRIPT[:3], SCRIPT[3:]], "lengths"))
+    runs.check("lengths of a pipe that ends early", (b"refused 3 line 3\n", 2), lambda: from_pipe(runs, [SCRIPT[:18]], "lengths"))
+    runs.check("lengths of a directory", (READ_FAULT, 5), lambda: runs.run("lengths", str(runs.room)))
+    runs.check("lengths of closed standard input", (READ_FAULT, 5), lambda: runs.run("lengths", preexec_fn=lambda: os.close(0)))
+    runs.check("lengths of nothing", (b"refused 8\n", 2), lambda: runs.run("lengths", stdin=subprocess.DEVNULL))
     runs.check("a FIFO", (REPORT, 1), lambda: from_fifo(runs))
     runs.check("a file of 4 GiB", (b"refused 1\n", 2), lambda: runs.run("run", runs.file("big")))
     runs.check("no such file", (READ_FAULT, 5), lambda: runs.run("run", runs.file("none")))
@@ -123,13 +136,24 @@ def inputs(runs: Runs) -> None:
 
 
 def outputs(runs: Runs) -> None:
-    """Output that is broken, of a report in both forms."""
-    for words in ((), ("--json",)):
+    """Output that is broken, of two reports, each in both forms."""
+    for words in (("run",), ("run", "--json"), ("lengths",), ("lengths", "--json")):
         closed = {"input": SCRIPT, "stdout": None, "preexec_fn": lambda: os.close(1)}
-        runs.check(f"closed standard output {words}", (None, 5), lambda: runs.run("run", *words, **closed))
+        runs.check(f"closed standard output {words}", (None, 5), lambda: runs.run(*words, **closed))
         runs.check(f"a full device {words}", (None, 5), lambda: to_full_device(runs, *words))
         runs.check(f"a pipe without a reader {words}", (None, 5), lambda: to_nobody(runs, *words, restore=True))
         runs.check(f"the same with SIGPIPE ignored {words}", (None, 5), lambda: to_nobody(runs, *words, restore=False))
+
+
+def faults(runs: Runs) -> None:
+    """Which fault is named: the first of what was read and written."""
+    missing, full = runs.file("none"), "/dev/full"
+    of_missing = f"workbench: {missing}: no such file\n".encode()
+    of_full = b"workbench: standard output: no space is left on the device\n"
+    runs.check("no such file, named", (of_missing, 5), lambda: runs.messages("run", missing, output=os.devnull))
+    runs.check("a full device, named", (of_full, 5), lambda: runs.messages("run", output=full))
+    for json in ((), ("--json",)):
+        runs.check(f"no such file and a full device {json}", (of_missing, 5), lambda: runs.messages("run", *json, missing, output=full))
 
 
 def words(runs: Runs) -> None:
@@ -138,6 +162,7 @@ def words(runs: Runs) -> None:
     runs.check("an option 50,000 times", (b"", 6), lambda: runs.run("run", *["--budget", "5"] * 50_000))
     runs.check("a word that is no UTF-8", (b"", 6), lambda: runs.run("run", b"\xff"))
     runs.check("an option that is no UTF-8", (b"", 6), lambda: runs.run("run", b"--budget=\xff"))
+    runs.check("an option of another command 50,000 times", (b"", 6), lambda: runs.run("lengths", *["--limit", "5"] * 50_000))
 
 
 def main() -> int:
@@ -148,6 +173,7 @@ def main() -> int:
         runs = Runs(Path(sys.argv[1]).resolve(), Path(folder))
         inputs(runs)
         outputs(runs)
+        faults(runs)
         words(runs)
     print(f"{runs.passed} passed, {runs.failed} failed")
     return 1 if runs.failed else 0

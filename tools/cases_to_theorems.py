@@ -21,12 +21,18 @@ from pathlib import Path
 
 # what starts this leaves its folder out of Python's path
 sys.path.insert(0, str(Path(__file__).resolve().parent))
-from report_terms import cut_term, rises_term, run_term  # noqa: E402
+from report_terms import cut_term, end_term, rises_term, run_term  # noqa: E402
 from script_terms import Reader  # noqa: E402
 from terms import UnknownWord, among, apply  # noqa: E402
 from theorem_files import difference, files_of, write  # noqa: E402
 
 TOP = Path(__file__).resolve().parent.parent
+
+# the greatest length of a heap, in bytes
+CEILING = 16_777_216
+
+# a longer table of lengths is left out, since each of its ranges is two runs to compute
+MOST_RANGES = 10
 
 
 def arguments_of(words: list[str]) -> tuple[argparse.Namespace, list[str]]:
@@ -45,7 +51,7 @@ def arguments_of(words: list[str]) -> tuple[argparse.Namespace, list[str]]:
         known, files = parser.parse_known_args(words)
     except argparse.ArgumentError as error:
         raise UnknownWord(" ".join(words), "arguments", f"{error}; read them in `arguments_of`") from error
-    among(("run", "size", *CLAIMS), known.task, "a task", "give it a function in CLAIMS")
+    among(TASKS, known.task, "a task", "give it a function in CLAIMS")
     for word in [*(it for it in files if it.startswith("-")), *files[1:]]:
         raise UnknownWord(word, "an option", "add it to `arguments_of`, and what it changes to `theorem`")
     return known, files
@@ -71,17 +77,17 @@ class Case:
     report: list[str]
 
 
-def lines_of_object(text: str) -> list[str]:
-    """The lines that a JSON report holds."""
+def lines_of_object(text: str, version: str) -> list[str]:
+    """The lines that a JSON report of this version holds."""
     report = json.loads(text)
-    among(("2",), str(report["version"]), "the version of a JSON report", "read its form in `lines_of_object`")
+    among((version,), str(report["version"]), "the version of a JSON report", "read its form in `lines_of_object`")
     return report["lines"]
 
 
 def case_at(path: Path, most_steps: int) -> Case | str:
     """The case of a script's file, or why it is left out."""
     given, told, status = (path.with_suffix(ending) for ending in (".args", ".stdout", ".status"))
-    if path.stem.split(".")[-1] not in ("run", "size", "sweep", "check"):
+    if path.stem.split(".")[-1] not in TASKS:
         return "no report"
     if not told.exists():
         return "its whole output isn't given"
@@ -89,9 +95,12 @@ def case_at(path: Path, most_steps: int) -> Case | str:
         return "not accepted"
     a, files = arguments_of(given.read_text().split())
     script = TOP / files[0] if files else path
-    report = lines_of_object(told.read_text()) if a.json else told.read_text().removesuffix("\n").split("\n")
+    version = "3" if a.task == "lengths" else "2"
+    report = lines_of_object(told.read_text(), version) if a.json else told.read_text().removesuffix("\n").split("\n")
     if a.task == "run" and int(report[-1].removeprefix("steps ")) > most_steps:
         return f"more than {most_steps} steps"
+    if a.task == "lengths" and sum(line.startswith("from ") for line in report) > MOST_RANGES:
+        return f"more than {MOST_RANGES} ranges of lengths"
     return Case(script.read_bytes().decode(), a, report)
 
 
@@ -106,6 +115,19 @@ def size_claims(script: str, given: str, report: list[str]) -> list[str]:
     first, _, required = report[0].partition(" ")
     among(("required",), first, "the first word of a size text", "read it in `size_claims`")
     return [f"required {script} {given} ≡ {required}", f"rises {script} {given} ≡ {rises_term(report)}"]
+
+
+def lengths_claims(script: str, given: str, report: list[str]) -> list[str]:
+    """What a text of lengths says of a script under a budget and a shape: how the runs at the first and the last length of each
+    range end, and which run is that at the least bad length."""
+    count = next((at for at, line in enumerate(report) if not line.startswith("from ")), len(report))
+    ranges = [line.split(" ") for line in report[:count]]
+    first, _, least = "".join(report[count : count + 1]).partition(" ")
+    among(("length",), first, "the first word of a text of lengths", "read it in `lengths_claims`")
+    lasts = [int(it[1]) - 1 for it in ranges[1:]] + [CEILING]
+    ends = [(length, end_term(it[2:])) for it, last in zip(ranges, lasts) for length in sorted({int(it[1]), last})]
+    claims = [f"end_in {script} {given} {length} ≡ {end}" for length, end in ends]
+    return claims if least == "none" else [*claims, f"run_in {script} {given} {least} ≡ {run_term(report[count + 1 :])}"]
 
 
 def sweep_claims(script: str, given: str, report: list[str], tried: str) -> list[str]:
@@ -164,6 +186,8 @@ def run_claims(script: str, rule: str, given: str, report: list[str]) -> list[st
 # What the texts of the tasks that try failures say.
 CLAIMS = {"sweep": sweep_claims, "check": check_claims}
 
+TASKS = ("run", "size", "lengths", *CLAIMS)
+
 # Folders of cases that are left out. Tables of small cases are no `.oom` files, and so are left out too.
 LEFT_OUT = {
     "explained",  # what stands on standard error, of which no theorem speaks
@@ -179,6 +203,8 @@ def theorem(name: str, case: Case) -> str:
         claims = run_claims(script, rule_of(a), given, case.report)
     elif a.task == "size":
         claims = size_claims(script, given, case.report)
+    elif a.task == "lengths":
+        claims = lengths_claims(script, given, case.report)
     else:
         claims = CLAIMS[a.task](script, given, case.report, "every" if a.every else "pair" if a.pairs else "number")
     claim, proof = claims[0], "refl"

@@ -14,8 +14,11 @@ BLOCK = re.compile(r"^```\n(.*?)^```$", re.MULTILINE | re.DOTALL)
 
 
 def quoted(page: Path) -> list[str]:
-    """The lines of a page's fenced blocks, blank ones left out."""
-    return [line.strip() for block in BLOCK.findall(page.read_text()) for line in block.splitlines() if line.strip()]
+    """The lines of a page's fenced blocks, blank ones left out. A fence that begins or ends none of them, as one that names a language, is
+    itself such a line, so that no block is passed over."""
+    text = page.read_text()
+    lines = [line.strip() for block in BLOCK.findall(text) for line in block.splitlines() if line.strip()]
+    return lines + [line for line in BLOCK.sub("", text).splitlines() if line.lstrip().startswith("```")]
 
 
 def main() -> int:

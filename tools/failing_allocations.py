@@ -22,6 +22,7 @@ It needs a C compiler (`cc`), which builds tools/failing_allocation.c. The last 
 import argparse
 import os
 import re
+import shutil
 import subprocess
 import sys
 import tempfile
@@ -180,6 +181,8 @@ def main() -> None:
     given = parser.parse_args()
     if given.same == bool(given.scripts):
         parser.error("either scripts or --same")
+    if not shutil.which("cc"):
+        sys.exit("failing allocations can't be tried: there is no C compiler `cc` on the path")
     program = given.program.resolve()
     with tempfile.TemporaryDirectory() as folder, ThreadPoolExecutor(processors()) as pool:
         room = Path(folder)

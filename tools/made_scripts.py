@@ -5,8 +5,8 @@
 
 Each script is a `main` that calls some parts, each within a TRAP: cells, cells that grow, texts, objects, the cleanup stack, loops,
 requests with a fallback. Most scripts have one part with a mistake, which some failure or other shows: of a single attempt, or only of two. Around
-the parts there may be `failnext`, `failevery`, `failnone` and heap marks. The same numbers give the same scripts. `tools/rates.py` and
-`tools/pairs.py` try the program on them, and `test` the program that compares forks.
+the parts there may be `failnext`, `failevery`, `failnone` and heap marks. The same numbers give the same scripts. `tools/rates.py`,
+`tools/pairs.py` and `tools/lengths.py` try the program on them, and `test` the program that compares forks.
 """
 
 import argparse

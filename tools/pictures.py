@@ -4,19 +4,24 @@
     tools/pictures.py PROGRAM [--write]
 
 Each example has its picture in docs/pictures, which must be the one that the program draws; --write writes them anew. A table of scripts
-says which shapes their pictures must have. Each picture must be well-formed XML of a few elements, and the report, the messages and the
-status beside it those without a picture. Where it can't be written, the status must be 5 and the last message must say so. Pictures of
+says which shapes their pictures must have, and another how many steps their columns are. Each picture must be well-formed XML of a few elements, and the report, the messages and the
+status beside it those without a picture. Where it can't be written, the status must be 5, the last message must say why, and no file may
+be another than before: neither the script, nor a file that is no picture, nor what the report went to. Pictures of
 long runs must be no longer than 5 MiB; how long they are, and how many seconds they took, is printed.
 The last line is `N passed, M failed`.
 """
 
 import argparse
+import os
+import re
+import resource
+import signal
 import subprocess
 import sys
 import tempfile
 import time
 import xml.etree.ElementTree as ET
-from collections.abc import Iterator
+from collections.abc import Callable, Iterator
 from pathlib import Path
 from typing import NamedTuple
 
@@ -27,12 +32,14 @@ ELEMENTS = {f"{SVG}{it}" for it in ("svg", "title", "style", "rect", "path", "te
 NOT_WRITTEN = 5
 MOST_BYTES = 5 << 20
 
-# the examples that show nothing where a single attempt fails are checked in another way
+# the examples that show nothing where a single attempt fails are drawn in another way
 OTHERWISE = {
-    "clean-up-fails": "--pairs",
-    "clean-up-fails-mended": "--pairs",
-    "fallback-leaks": "--every",
-    "fallback-leaks-mended": "--every",
+    "clean-up-fails": ["check", "--pairs"],
+    "clean-up-fails-mended": ["check", "--pairs"],
+    "fallback-leaks": ["check", "--every"],
+    "fallback-leaks-mended": ["check", "--every"],
+    "loader-leaks": ["lengths"],
+    "loader-leaks-mended": ["lengths"],
 }
 
 
@@ -45,6 +52,15 @@ class Row(NamedTuple):
     cells: int
     rectangles: dict[str, int]
     lines: dict[str, int] = {}
+
+
+def of_steps(last: int, is_leaking: bool) -> str:
+    """A script whose run takes so many steps. If it is to, it leaks where its second request fails, and takes no more steps then."""
+    leak = ["alloc a 16", "alloc b 16", "if some b", "free a", "end", "free b"] if is_leaking else []
+    # all of these lines but the end of the block are steps
+    turns, rest = divmod(last - 1 - max(0, len(leak) - 1), 2)
+    lines = ["ptr a", "ptr b", "int n", f"repeat {turns}", "add n 1", "end", *["add n 1"] * rest, *leak]
+    return "\n".join(["proc main", *lines, "end\n"])
 
 
 def example(name: str) -> str:
@@ -108,6 +124,15 @@ TABLE = [
     ),
     Row("a cut", "run --budget 50", "proc main\nint n\nrepeat 100\nadd n 1\nend\nend\n", 1, {}, {"cut at the budget": 1}),
     Row("a table", "size", LEAK, 2, {"from 0 refuses 1": 1, "from 144 refuses 2; line 3": 1}),
+    Row(
+        "heaps of every length",
+        "lengths",
+        "proc main\nptr a\nptr b\nalloc a 16\nalloc b 100\nif some b\nfree a\nfree b\nend\nend\n",
+        5,
+        {"from 0 no cleanup stack": 1, "from 144 ended": 1, "from 176 1 leak": 1, "from 304 ended": 1, "leak: cell 2": 1, "attempt 3, refused by the limit": 1},
+        {"attempt 3, in step": 2, "required 304": 1, "limit 176": 1, "longest 176": 1},
+    ),
+    Row("heaps that show nothing", "lengths", "proc main\nend\n", 1, {"from 0 no cleanup stack": 1, "from 144 ended": 1}, {"required 144": 1, "limit": 0}),
     Row("text of a user", "run", MARKUP, 2, {"leak": 0}, {"panic USER 11; line 7: append t \"</title></svg><script>&' ]]>\"": 1}),
 ]
 
@@ -118,7 +143,28 @@ LONG = {
     "the ceiling of the heap": "proc main\nptr a\nrepeat 17\nalloc a 1048576\nend\nend\n",
 }
 
-UNWRITABLE = {"none/heap.svg": "no such directory", ".": "it is a directory", "/dev/full": "no space is left on the device", "": "no such directory"}
+# how many steps a column is, by the number of the last step: a picture has at most 2,000 columns, from step 0 on, or 1,000 of two runs
+COLUMNS = {False: {1_999: 1, 2_000: 2, 3_999: 2, 4_000: 3, 5_999: 3, 6_000: 4}, True: {999: 1, 1_000: 2, 1_999: 2, 2_000: 3}}
+
+UNWRITABLE = {
+    "none/heap.svg": "no such directory",
+    "README.md/heap.svg": "a part of its path is not a directory",
+    ".": "it is a directory",
+    "/dev/full": "it is not a regular file",
+    "": "no such directory",
+    "-": "a picture is not written to standard output",
+}
+SCRIPT_ITSELF = "it is the script, which a picture does not replace"
+NO_PICTURE = "it exists and is not an SVG, so it is left as it is"
+REPORT_ITSELF = "the report or the messages go there"
+
+# what a picture doesn't replace, by what the file holds
+NO_PICTURES = {"text": "a report\n", "nothing": "", "too little": "<svg", "another element": "<svgs>", "XML": '<?xml version="1.0"?><svg/>'}
+
+# a picture of before, which is replaced
+OLD = "<svg>old</svg>\n"
+
+BOTH = {"stdout": subprocess.PIPE, "stderr": subprocess.PIPE}
 
 
 class Answer(NamedTuple):
@@ -168,9 +214,9 @@ class Pictures:
         if not is_fine:
             print(f"FAILED: {what}")
 
-    def run(self, words: list[str], script: str = "") -> Answer:
-        """What the program answers, where file names start at the top of the repository."""
-        ran = subprocess.run([self.program, *words], input=script.encode(), capture_output=True, cwd=ROOT, check=False)
+    def run(self, words: list[str], script: str = "", before: Callable[[], None] | None = None) -> Answer:
+        """What the program answers, where file names start at the top of the repository. `before` is called in the process that becomes the program."""
+        ran = subprocess.run([self.program, *words], input=script.encode(), capture_output=True, cwd=ROOT, preexec_fn=before, check=False)
         return Answer(ran.stdout, ran.stderr, ran.returncode)
 
     def draw(self, what: str, words: list[str], script: str = "") -> Picture | None:
@@ -191,7 +237,7 @@ class Pictures:
     def check_example(self, file: Path, is_writing: bool) -> None:
         """The picture of an example must be the one that is kept."""
         name = file.relative_to(ROOT)
-        words = ["check", *filter(None, [OTHERWISE.get(file.stem)]), str(name)]
+        words = [*OTHERWISE.get(file.stem, ["check"]), str(name)]
         picture = self.draw(str(name), words)
         kept = KEPT / f"{file.stem}.svg"
         if picture and is_writing:
@@ -227,12 +273,109 @@ class Pictures:
             wanted = Answer(plain.output, plain.messages + message, NOT_WRITTEN)
             self.check(answer == wanted, f"a picture in {name!r}: {answer}")
 
+    def files(self) -> dict[str, bytes]:
+        """What each regular file of the folder holds."""
+        return {it.name: it.read_bytes() for it in self.room.iterdir() if it.is_file()}
+
+    def check_left(self, what: str, file: Path, why: str, before: Callable[[], None] | None = None) -> None:
+        """A picture that is not put into a file leaves all files as they are, and the report beside it is the same."""
+        script = str(self.room / "script.oom")
+        plain, held = self.run(["run", script]), self.files()
+        answer = self.run(["run", "--picture", str(file), script], before=before)
+        wanted = Answer(plain.output, plain.messages + f"workbench: {file}: {why}\n".encode(), NOT_WRITTEN)
+        self.check(answer == wanted, f"{what}: {answer}")
+        self.check(self.files() == held, f"{what}: other files than before")
+
+    def check_kept_files(self) -> None:
+        """Neither the script nor a file that is no picture is replaced, by whatever name it is called."""
+        script, file, pipe = self.room / "script.oom", self.room / "kept", self.room / "pipe"
+        script.write_text(LEAK, encoding="utf-8")
+        self.check_left("the script", script, SCRIPT_ITSELF)
+        for name, make in (("another name", os.link), ("a link", os.symlink)):
+            other = self.room / f"{name}.oom"
+            make(script, other)
+            self.check_left(f"{name} of the script", other, SCRIPT_ITSELF)
+        for what, held in NO_PICTURES.items():
+            file.write_text(held, encoding="utf-8")
+            self.check_left(what, file, NO_PICTURE)
+        os.mkfifo(pipe)
+        self.check_left("a pipe", pipe, "it is not a regular file")
+        self.check_left("a directory", self.room, "it is a directory")
+        (self.room / "loop").symlink_to("loop")
+        self.check_left("a link to itself", self.room / "loop", "its symbolic links form a loop")
+
+    def check_no_half_picture(self) -> None:
+        """If the disk has no room for a picture, the one of before stays, and no other file."""
+
+        def bounded() -> None:
+            signal.signal(signal.SIGXFSZ, signal.SIG_IGN)
+            resource.setrlimit(resource.RLIMIT_FSIZE, (1000, 1000))
+
+        old = self.room / "old.svg"
+        old.write_text(OLD, encoding="utf-8")
+        self.check_left("a picture that is too long", old, "it would be too large", bounded)
+        self.check_left("a new picture that is too long", self.room / "never.svg", "it would be too large", bounded)
+
+    def check_streams(self) -> None:
+        """Neither the report, nor a script on standard input, nor the messages are replaced."""
+        script, report, old = self.room / "script.oom", self.room / "report.txt", self.room / "old.svg"
+        plain = self.run(["run", str(script)])
+        with report.open("wb") as output:
+            ran = subprocess.run([self.program, "run", "--picture", report, script], stdout=output, stderr=subprocess.PIPE, check=False)
+        said = plain.messages + f"workbench: {report}: {REPORT_ITSELF}\n".encode()
+        self.check((report.read_bytes(), ran.stderr, ran.returncode) == (plain.output, said, NOT_WRITTEN), f"a picture in the report: {ran}")
+        with script.open("rb") as given:
+            ran = subprocess.run([self.program, "run", "--picture", script], stdin=given, capture_output=True, check=False)
+        self.check(ran.returncode == NOT_WRITTEN and SCRIPT_ITSELF.encode() in ran.stderr, f"a picture in standard input: {ran}")
+        self.check(script.read_text(encoding="utf-8") == LEAK, "standard input was replaced")
+        for stream, written in (("stdout", plain.output), ("stderr", plain.messages)):
+            old.write_text(OLD, encoding="utf-8")
+            with old.open("ab") as output:
+                ran = subprocess.run([self.program, "run", "--picture", old, script], **{**BOTH, stream: output}, check=False)
+            held = old.read_bytes()
+            self.check(ran.returncode == NOT_WRITTEN and held.startswith(OLD.encode() + written), f"a picture in {stream}: {ran}")
+
+    def check_replaced(self) -> None:
+        """A picture is replaced whole, with its permissions, and through links, which stay links."""
+        script, folder, file = self.room / "script.oom", self.room / "far", self.room / "drawn.svg"
+        folder.mkdir()
+        (folder / "far.svg").symlink_to("../near.svg")
+        (self.room / "near.svg").symlink_to("drawn.svg")
+        (self.room / "workbench-picture-0.tmp").write_text("taken", encoding="utf-8")
+        drawn: set[bytes] = set()
+        for what, name, held in (
+            ("a new file", file, None),
+            ("a picture", file, OLD),
+            ("a picture by links", folder / "far.svg", OLD),
+            ("links to no file", folder / "far.svg", None),
+        ):
+            file.unlink(missing_ok=True)
+            if held is not None:
+                file.write_text(held, encoding="utf-8")
+                file.chmod(0o640)
+            answer = self.run(["run", "--picture", str(name), str(script)])
+            self.check(answer == self.run(["run", str(script)]), f"{what}: {answer}")
+            drawn.add(file.read_bytes() if file.is_file() else b"")
+            self.check((folder / "far.svg").is_symlink() and (self.room / "near.svg").is_symlink(), f"{what}: a link was replaced")
+            self.check(held is None or file.stat().st_mode & 0o777 == 0o640, f"{what}: other permissions")
+        self.check(len(drawn) == 1 and drawn.pop().endswith(b"</svg>\n"), "one picture isn't another")
+        left = {it.name for it in self.room.glob("*.tmp")}
+        self.check(left == {"workbench-picture-0.tmp"}, f"files that are left: {left}")
+
     def check_refused(self) -> None:
         """A script that is refused has no picture."""
         file = self.room / "none.svg"
         answer = self.run(["check", f"--picture={file}"], "proc main\n")
         self.check(answer == self.run(["check"], "proc main\n"), "a refused script: another answer beside the picture")
         self.check(not file.exists(), "a refused script: a picture")
+
+    def check_columns(self, last: int, of_two: bool, steps: int) -> None:
+        """A column must be so many steps where the run, or the longer of two, takes so many."""
+        picture = self.draw(f"{last} steps", ["sweep" if of_two else "run"], of_steps(last, of_two))
+        if picture is None:
+            return
+        said = re.findall(r"Each column is (\d+) steps", picture.text)
+        self.check(said == [str(steps)] * (steps > 1), f"{last} steps: columns of {said}, not {steps}")
 
     def check_long(self, name: str, script: str) -> None:
         """The picture of a long run must not be too long."""
@@ -257,7 +400,14 @@ def main() -> None:
             pictures.check_row(row)
         pictures.check_names()
         pictures.check_unwritable()
+        pictures.check_kept_files()
+        pictures.check_no_half_picture()
+        pictures.check_streams()
+        pictures.check_replaced()
         pictures.check_refused()
+        for of_two, columns in COLUMNS.items():
+            for last, steps in columns.items():
+                pictures.check_columns(last, of_two, steps)
         for name, script in LONG.items():
             pictures.check_long(name, script)
     print(f"{pictures.passed} passed, {pictures.failed} failed")

@@ -1,9 +1,9 @@
 #!/usr/bin/env python3
-"""Runs long sweeps of the built program, and looks at what they say of their progress on standard error.
+"""Runs long sweeps and searches through all lengths of the built program, and looks at what they say of their progress on standard error.
 
     tools/progress.py PROGRAM
 
-On a terminal one line says which failure is being tried. It appears once a sweep has taken two seconds, is rewritten in place,
+On a terminal one line says which failure or length is being tried. It appears once a sweep has taken two seconds, is rewritten in place,
 and is wiped before the report. Elsewhere nothing is said, nor of a sweep that is shorter. The scripts are made longer and longer
 until their sweeps take long enough on this machine. The last line is `N passed, M failed`.
 """
@@ -27,10 +27,11 @@ QUIET, PAUSE, LONGER = 2.0, 0.1, 0.4
 LIMIT = 60
 
 LINE = re.compile(r"trying (attempt|rate) (\d+) of (\d+)(?: with attempt (\d+))?")
+LENGTH_LINE = re.compile(r"trying a heap of (\d+) bytes")
 
 
 class Kind(NamedTuple):
-    """A kind of sweep."""
+    """A kind of sweep, or of a search through all lengths."""
 
     words: list[str]
     # the script, of which so many attempts fail one by one
@@ -38,7 +39,7 @@ class Kind(NamedTuple):
     # how many attempts are begun with, and by which power of them the time grows
     attempts: int
     power: int
-    # what a line calls the failure, and whether the last of them fail in pairs
+    # what a line calls what is tried, and whether the last of them fail in pairs
     calls: str
     in_pairs: bool
 
@@ -74,10 +75,16 @@ def leaking(attempts: int) -> str:
     return f"proc main\nptr a\nptr b\nrepeat {attempts}\nalloc a 16\nfree a\nend\nalloc b 16\nalloc a 16\nif some a\nfree b\nend\nfree a\nend\n"
 
 
+def growing(attempts: int) -> str:
+    """A script that no other heap serves from one attempt to the next: a cell grows at its place."""
+    return f"proc main\nptr a\nint n\nalloc a 16\nset n 16\nrepeat {attempts}\nadd n 16\nrealloc a a n\nend\nfree a\nend\n"
+
+
 KINDS = [
     Kind(["sweep"], leaking, 100, 2, "attempt", False),
     Kind(["check", "--every"], fine, 100, 2, "rate", False),
     Kind(["sweep", "--pairs", "--json"], fine, 20, 3, "attempt", True),
+    Kind(["lengths"], growing, 200, 2, "heap", False),
 ]
 
 
@@ -175,10 +182,14 @@ def tried(line: re.Match[str]) -> tuple[int, int, int]:
 def look_at_lines(checks: Checks, kind: Kind, name: str, attempts: int, shown: Shown) -> None:
     """What is said while a sweep goes on."""
     written = shown.bytes().decode("ascii")
-    lines = list(LINE.finditer(written))
+    lines = list((LENGTH_LINE if kind.calls == "heap" else LINE).finditer(written))
     checks.check(f"{name}: a line", len(lines) > 0, written[:200])
     checks.check(f"{name}: none before two seconds", all(at >= QUIET - PAUSE for at, piece in shown.pieces if b"trying" in piece))
     checks.check(f"{name}: no more than ten a second", len(lines) <= 1 + (shown.seconds - QUIET + PAUSE) / PAUSE, len(lines))
+    if kind.calls == "heap":
+        lengths = [int(it[1]) for it in lines]
+        checks.check(f"{name}: each shorter", lengths == sorted(set(lengths), reverse=True), lengths)
+        return
     checks.check(f"{name}: of how many", all(int(it[3]) == attempts >= int(it[2]) >= 1 for it in lines), [it[0] for it in lines])
     checks.check(f"{name}: one after another", all(tried(one) < tried(two) for one, two in zip(lines, lines[1:])), [it[0] for it in lines])
     checks.check(f"{name}: its kind", all(it[1] == kind.calls for it in lines) and kind.in_pairs == any(it[4] for it in lines))
@@ -213,13 +224,39 @@ def look_at(program: Path, kind: Kind) -> Checks:
     return checks
 
 
+def slow_failures(turns: int) -> str:
+    """A script of which only the runs take long in which attempt 4 or 5 fails: each copies a long text so many times."""
+    makes = "hnewl s 500000\npush s\nhnewl t 500000\npush t\nsetlength s 500000\n"
+    falls_back = f"alloc a 16\nif null a\nrepeat {turns}\ncopy t s\nend\nend\nfree a\n"
+    return f"proc main\nptr a\nptr s\nptr t\n{makes}{falls_back}{falls_back}popdestroy 2\nend\n"
+
+
+SLOW = Kind(["sweep"], slow_failures, 20, 1, "attempt", False)
+
+
+def look_at_slow_failures(program: Path) -> Checks:
+    """A failure is named before its run and not after it: where the last two runs take two seconds each, the last one alone is
+    named, since the one before it begins too early."""
+    checks, turns = Checks(), SLOW.attempts
+    while True:
+        shown = show(program, SLOW, SLOW.script(turns).encode())
+        # half of it is the last run
+        if shown.seconds >= 2 * (QUIET + LONGER):
+            break
+        turns = int(turns * min(8.0, max(1.2, 1.15 * 2 * (QUIET + LONGER) / shown.seconds)))
+    named = [(it[2], it[3]) for it in LINE.finditer(shown.bytes().decode("ascii"))]
+    checks.check("a failure is named before its run", named == [("5", "5")], named)
+    return checks
+
+
 def main() -> int:
     """Looks at all kinds side by side, and prints the totals."""
     if len(sys.argv) != 2:
         sys.exit(__doc__)
     program = Path(sys.argv[1]).resolve()
     with ThreadPoolExecutor() as beside:
-        looked = list(beside.map(lambda kind: look_at(program, kind), KINDS))
+        slow = beside.submit(look_at_slow_failures, program)
+        looked = [*beside.map(lambda kind: look_at(program, kind), KINDS), slow.result()]
     passed, failed = sum(it.passed for it in looked), sum(it.failed for it in looked)
     print(f"{passed} passed, {failed} failed")
     return 1 if failed else 0

@@ -14,6 +14,7 @@ PANICS = ("USER", "ALLOC", "WORKBENCH")
 NOTES = ("heap", "available", "compress")
 ANSWERS = ("granted", "simulated", "refused")
 CUTS = ("budget", "ceiling")
+ENDS = ("nocleanup", "panic", "leaks", "left", "ended", "cut")
 
 
 def value_term(words: tuple[str, ...], word: str, read_as: str, table: str) -> str:
@@ -26,6 +27,13 @@ def cut_term(word: str) -> str:
     return apply("Cut", value_term(CUTS, word, "why a run is cut", "CUTS"))
 
 
+def panic_term(words: list[str]) -> str:
+    """A panic, by its category and its number."""
+    name, value = words
+    panic = value_term(PANICS, name, "a panic's category", "PANICS")
+    return apply("P." + panic, str(int(value, 16 if name == "ALLOC" else 10)))
+
+
 def attempt_term(words: list[str]) -> str:
     """A line of the trace."""
     return apply("line", words[0], words[2], words[4], value_term(ANSWERS, words[5], "the answer of an attempt", "ANSWERS"))
@@ -34,9 +42,7 @@ def attempt_term(words: list[str]) -> str:
 def outcome_term(told: dict[str, list[str]]) -> str:
     """The outcome, from the report's lines by their first words."""
     if "panic" in told:
-        name, value = told["panic"][0].split(" ")
-        panic = value_term(PANICS, name, "a panic's category", "PANICS")
-        return apply("Panicked", apply("P." + panic, str(int(value, 16 if name == "ALLOC" else 10))))
+        return apply("Panicked", panic_term(told["panic"][0].split(" ")))
     if "cut" in told:
         return cut_term(told["cut"][0])
     if "nocleanup" in told:
@@ -68,3 +74,19 @@ def rises_term(lines: list[str]) -> str:
         among(("from", "enough"), row[0], "the first word of a row of lengths", "read it in `rises_term`")
     tops = [row[1] for row in rows[1:-1]] + [rows[-1][2]]
     return listed([apply("rise", row[3], top) for row, top in zip(rows, tops)])
+
+
+def end_term(words: list[str]) -> str:
+    """How a run ends, by the words of a range of lengths."""
+    among(ENDS, words[0], "how a run ends", "read it in `end_term`, and add it to ENDS")
+    match words:
+        case ["panic", *panic]:
+            return apply("E.Panicked", panic_term(panic))
+        case ["leaks", count]:
+            return apply("E.Leaked", count)
+        case ["left", code]:
+            return apply("E.Left", integer(int(code)))
+        case ["cut", why]:
+            return apply("E.Cut", value_term(CUTS, why, "why a run is cut", "CUTS"))
+        case _:
+            return "E.NoCleanup" if words[0] == "nocleanup" else "E.Plain"

@@ -2,7 +2,7 @@
 """Runs a program on worked cases and compares standard output and exit status with what they say, and standard error
 where a case says that too.
 
-`cases/README.md` says what a case is, and what a table of cases is. A folder called `later` is left out.
+`cases/README.md` says what a case is, and what a table of cases is.
 """
 
 import argparse
@@ -194,11 +194,6 @@ def file_left_alone(cases: Path) -> Path | None:
     return None
 
 
-def files_of(cases: Path, pattern: str) -> list[Path]:
-    """The files of cases with such a name, but for those in a folder called `later`."""
-    return [file for file in sorted(cases.rglob(pattern)) if "later" not in file.relative_to(cases).parts]
-
-
 def main() -> int:
     """Runs each case and each row, names those that fail, and prints the totals."""
     parser = argparse.ArgumentParser(description=__doc__.splitlines()[0])
@@ -207,8 +202,8 @@ def main() -> int:
     chosen = parser.parse_args()
     if (alone := file_left_alone(chosen.cases)) is not None:
         sys.exit(f"{alone} belongs to no whole case")
-    cases = files_of(chosen.cases, "*.oom")
-    rows = [row for table in files_of(chosen.cases, "*.table") for row in rows_of(table)]
+    cases = sorted(chosen.cases.rglob("*.oom"))
+    rows = [row for table in sorted(chosen.cases.rglob("*.table")) for row in rows_of(table)]
     program, folder = chosen.program.resolve(), chosen.cases.resolve().parent
     told = [(str(it.relative_to(chosen.cases).with_suffix("")), fault_of(program, it, folder)) for it in cases]
     told += [(row.place, row_fault(program, row, folder)) for row in rows]

@@ -1,4 +1,4 @@
-"""What `rates.py` and `pairs.py` share: what the program answers of a script, and how all scripts are compared."""
+"""What `rates.py`, `pairs.py` and `lengths.py` share: what the program answers of a script, and how all scripts are compared."""
 
 import argparse
 import json
@@ -42,12 +42,17 @@ def must(holds: bool, otherwise: str) -> None:
 
 
 class Script:
-    """A script, and what the program answers of it; `KIND` is that of the sweeps that are compared, in the JSON and as their flag."""
+    """A script, and what the program answers of it; `KIND` is that in the JSON of what is compared, of a sweep its flag too."""
 
     KIND: str
 
     def __init__(self, program: Path, text: bytes) -> None:
         self.program, self.text = program, text
+
+    @classmethod
+    def command(cls) -> str:
+        """The command that is compared."""
+        return f"sweep --{cls.KIND}"
 
     def answer(self, *words: str) -> Answer:
         """What a command answers."""
@@ -80,7 +85,7 @@ class Script:
             must(found == values and written.status == plain.status, f"`{command} --{self.KIND} --json` gives {found}")
 
     def outcome(self) -> str:
-        """What comes of the sweep, by its name in WANTED, once all of the program's answers agree."""
+        """What comes of the script, by its name in WANTED, once all of the program's answers agree."""
         raise NotImplementedError
 
 
@@ -119,7 +124,7 @@ def shown(answer: Answer) -> str:
 
 
 def compared(script: type[Script], program: Path, name: str, text: bytes) -> tuple[str | None, str | None]:
-    """What comes of a script's sweep, or what is wrong."""
+    """What comes of a script, or what is wrong."""
     try:
         return script(program, text).outcome(), None
     except (Difference, subprocess.TimeoutExpired, ValueError, LookupError) as fault:
@@ -150,7 +155,7 @@ def keep_scripts(folder: Path | None, differing: Iterable[tuple[str, bytes]]) ->
 
 
 def compare_scripts(script: type[Script], wanted: Wanted, about: str) -> int:
-    """Compares the sweeps of examples and made scripts, prints what comes how often, and the totals, and gives the exit status."""
+    """Compares the answers for examples and made scripts, prints what comes how often, and the totals, and gives the exit status."""
     given = arguments(about)
     program = given.program.resolve()
     examples = [(it.name, it.read_bytes()) for it in sorted((ROOT / "examples").glob("*.oom"))]
@@ -164,6 +169,6 @@ def compare_scripts(script: type[Script], wanted: Wanted, about: str) -> int:
     outcomes = Counter(outcome for outcome, _ in told[len(examples) :] if outcome)
     rare = too_few(wanted, outcomes, given.scripts)
     print("".join(f"too few scripts with {it}\n" for it in rare), end="")
-    print(f"sweep --{script.KIND} of made scripts: " + ", ".join(f"{outcomes[it]} with {it}" for it in wanted))
+    print(f"{script.command()} of made scripts: " + ", ".join(f"{outcomes[it]} with {it}" for it in wanted))
     print(f"{len(told) - len(faults)} passed, {len(faults) + len(rare)} failed")
     return 1 if faults or rare or not told else 0

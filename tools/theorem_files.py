@@ -18,7 +18,7 @@ LINES = 380
 DECLARED = """
 failures.Failures.TheVariants.{Single, Every, Pairs}; heap.Rule.TheVariants as R; heap.Panic.TheVariants as P; script.Holder.TheVariants as H;
 heap.Shape.{Shape}; heap.Answer.{Answer}; heap.Answer.TheVariants.{Granted, Simulated, Refused}; heap.Attempt.{Attempt};
-run.Leak.{Leak}; run.Note.{Note}; run.Note.TheVariants.{Heap, Available, Compress}; run.Outcome.{Outcome}; run.RunResult.{RunResult}; run.Why.TheVariants.{Budget, Ceiling};
+run_end.RunEnd.TheVariants as E; run.Leak.{Leak}; run.Note.{Note}; run.Note.TheVariants.{Heap, Available, Compress}; run.Outcome.{Outcome}; run.RunResult.{RunResult}; run.Why.TheVariants.{Budget, Ceiling};
 run.Outcome.TheVariants.{Ended, Panicked, NoCleanup, Cut}; script.Script.{Script};
 script.Body.{Body}; script.Class.{Class}; script.Operation.{Operation}; script.Procedure.{Procedure}; script.Local.{Local};
 script.Parameter.{Parameter}; size.Rise.{Rise}; script.Parameter.TheVariants as Par; script.Local.TheVariants.{OfPointer, OfNumber, OfBuffer, OfView};
@@ -80,6 +80,7 @@ def uses_of(crate: Path) -> list[str]:
         "Rattle.std.specs.Fmt.{digits}",
         *(f"{specs}.declared.{use.strip()}" for use in DECLARED.split(";")),
         f"{specs}.runs.Run.{{run, required, rises}}",
+        f"{specs}.runs.Lengths.{{end_in, run_in}}",
         f"{specs}.runs.Pairs.{{pair_run, least_bad_or_cut_pair}}",
         f"{specs}.runs.Sweeps.{{runs_of, least_bad_or_cut}}",
     ]

@@ -21,7 +21,7 @@ NAME = "workbench"
 PICTURE = "--picture"
 
 # the commands that read a script, and the options that take a further word; those of the second set do so of `run` alone
-COMMANDS = {"run", "size", "sweep", "check"}
+COMMANDS = {"run", "size", "lengths", "sweep", "check"}
 WITH_VALUE = {"--min", "--step", "--budget", "--limit", "--fail", PICTURE}
 OF_RUN = {"--also", "--every"}
 
@@ -86,8 +86,8 @@ def with_whole_picture(words: list[str]) -> list[str]:
 
 
 def whole_path(file: str) -> str:
-    """The whole path of a file; an empty name stays empty."""
-    return file and os.path.join(os.getcwd(), file)
+    """The whole path of a file. The names of no file, an empty one and `-`, stay as they are."""
+    return file if file in ("", "-") else os.path.join(os.getcwd(), file)
 
 
 def handed_on(words: list[str]) -> tuple[list[str], list[str]]:

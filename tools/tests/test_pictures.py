@@ -10,7 +10,7 @@ from pathlib import Path
 # what starts this leaves the tools' folder out of Python's path
 sys.path.insert(0, str(Path(__file__).resolve().parent.parent))
 from pictures import Picture  # noqa: E402
-from workbench import script_in, with_whole_picture  # noqa: E402
+from workbench import reads_standard_input, script_in, with_whole_picture  # noqa: E402
 
 HEAD = '<svg xmlns="http://www.w3.org/2000/svg" role="img" aria-label="a heap"><title>a heap</title>'
 CELLS = (
@@ -46,11 +46,18 @@ class OfWords(unittest.TestCase):
         self.assertEqual(with_whole_picture(["run", "--picture", "a.svg", "x.oom"]), ["run", "--picture", here, "x.oom"])
         self.assertEqual(with_whole_picture(["run", "--picture=a.svg"]), ["run", f"--picture={here}"])
         self.assertEqual(with_whole_picture(["run", "--picture", ""]), ["run", "--picture", ""])
+        self.assertEqual(with_whole_picture(["run", "--picture", "-"]), ["run", "--picture", "-"])
+        self.assertEqual(with_whole_picture(["run", "--picture=-"]), ["run", "--picture=-"])
         self.assertEqual(with_whole_picture(["run", "--", "--picture", "a.svg"]), ["run", "--", "--picture", "a.svg"])
 
     def test_script(self) -> None:
         self.assertEqual(script_in(["check", "--picture", "a.svg", "x.oom"]), "x.oom")
         self.assertIsNone(script_in(["check", "--picture", "a.svg"]))
+
+    def test_standard_input(self) -> None:
+        for command in ("run", "size", "lengths", "sweep", "check"):
+            self.assertTrue(reads_standard_input([command, "--budget", "5"]))
+            self.assertFalse(reads_standard_input([command, "x.oom"]))
 
 
 if __name__ == "__main__":

@@ -11,7 +11,7 @@ from pathlib import Path
 sys.path.insert(0, str(Path(__file__).resolve().parent.parent))
 from progress import KINDS, Checks, Shown, look_at_lines, screen  # noqa: E402
 
-SINGLE, RATES, PAIRS = KINDS
+SINGLE, RATES, PAIRS, LENGTHS = KINDS
 
 
 def shown(*pieces: tuple[float, str], seconds: float = 3.0) -> Shown:
@@ -33,6 +33,12 @@ class Lines(unittest.TestCase):
         self.assertEqual(self.failed(RATES, (2.5, "\rtrying rate 40 of 40")), 0)
         lines = (2.0, "\rtrying attempt 40 of 40"), (2.1, "\rtrying attempt 2 of 40 with attempt 3"), (2.2, "\rtrying attempt 2 of 40 with attempt 41")
         self.assertEqual(self.failed(PAIRS, *lines), 0)
+
+    def test_lengths_that_grow_shorter(self) -> None:
+        lines = (2.0, "\rtrying a heap of 4111 bytes"), (2.1, "\rtrying a heap of 4095 bytes")
+        self.assertEqual(self.failed(LENGTHS, *lines), 0)
+        self.assertGreater(self.failed(LENGTHS, lines[0], (2.1, "\rtrying a heap of 4127 bytes")), 0)
+        self.assertGreater(self.failed(LENGTHS, (2.0, "\rtrying attempt 9 of 40")), 0)
 
     def test_no_line(self) -> None:
         self.assertGreater(self.failed(SINGLE, (2.5, "attempts 40\r\n")), 0)

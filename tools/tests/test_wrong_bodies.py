@@ -201,9 +201,8 @@ class WhatNothingUses(unittest.TestCase):
         self.assertEqual(uses, [])
 
 
-@unittest.skipUnless(shutil.which("rt"), "the toolchain is not on the path")
 class WhatIsTried(TinyRepository):
-    """What the tool tries, by checks of the two crates."""
+    """What the tool tries, by checks of the two crates. It needs the toolchain, and fails without it."""
 
     def try_bodies(self, *words: str) -> tuple[list[str], int]:
         """What the tool prints, and its status."""
