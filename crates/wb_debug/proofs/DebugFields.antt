@@ -27,7 +27,7 @@ use Rattle.wb_debug.proofs.Room.{HasRoom, held-stepped, inserted-has, same-room}
 use Rattle.wb_debug.proofs.Counting.{row-within}
 use Rattle.wb_debug.proofs.Tallies.{inserted-more, number-within, without-less}
 use Rattle.wb_debug.specs.Levels.{is_counted}
-use Rattle.wb_debug.specs.declared.marks.Levels.TheVariants as levels
+use Rattle.wb_debug.specs.declared.checks.Levels.TheVariants as levels
 
 -- each cell of a row
 record IsSpaced (h : Header) : Type 0 where

@@ -6,7 +6,7 @@ use Rattle.wb_model.specs.declared.heap.Header.{Header}
 use Rattle.wb_model.specs.heap.Heap.{is_cleanup, lower, lowered}
 use Rattle.wb_model.specs.heap.Row.{Cell, headers}
 use Rattle.wb_debug.specs.declared.level_counts.Counted.{Counted}
-use Rattle.wb_debug.specs.declared.marks.Levels.TheVariants.{One, All}
+use Rattle.wb_debug.specs.declared.checks.Levels.TheVariants.{One, All}
 use Rattle.wb_debug.specs.LevelCounts.{Edits, LevelCounts, counted_at, joined, lowered_at, no_cells, with_more}
 use Rattle.wb_debug.specs.Levels.{is_counted}
 use Rattle.wb_debug.specs.Tally.{Tally, number, is_below, AreRight, IsTally}

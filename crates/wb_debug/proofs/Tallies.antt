@@ -9,7 +9,7 @@ use Rattle.wb_model.specs.heap.Row.{Cell, headers, is_at, cell_at, inserted, wit
 use Rattle.wb_model.proofs.Reallocations.{without-absent, others-apart}
 use Rattle.wb_debug.specs.declared.level_counts.Counted.{Counted}
 use Rattle.wb_debug.specs.declared.level_counts.LevelCount.{LevelCount}
-use Rattle.wb_debug.specs.declared.marks.Levels.TheVariants.{One, All}
+use Rattle.wb_debug.specs.declared.checks.Levels.TheVariants.{One, All}
 use Rattle.wb_debug.specs.LevelCounts.{Edits, LevelCounts, counted_at, known_at, one_less, set_at, with_more}
 use Rattle.wb_debug.specs.Levels.{is_counted}
 use Rattle.wb_debug.specs.Tally.{Tally, number, is_below, AreRight, IsTally, IsMore, IsOther}

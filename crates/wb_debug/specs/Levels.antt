@@ -2,8 +2,8 @@
 use Rattle.std.specs.Prelude.{Bool, ◌&&◌, not, nat_eq}
 use Rattle.wb_model.specs.declared.heap.Header.{Header}
 use Rattle.wb_model.specs.heap.Heap.{is_cleanup}
-use Rattle.wb_debug.specs.declared.marks.Levels.{Levels}
-use Rattle.wb_debug.specs.declared.marks.Levels.TheVariants.{One, All}
+use Rattle.wb_debug.specs.declared.checks.Levels.{Levels}
+use Rattle.wb_debug.specs.declared.checks.Levels.TheVariants.{One, All}
 
 -- the cleanup stack's cell is of no level
 abbrev pub is_counted : Levels → Header → Bool

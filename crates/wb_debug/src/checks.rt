@@ -1,68 +1,178 @@
-//! Nested marks, and the checks that the cells of a level are as many as expected.
+//! What checks and the end of a mark count, and the leaks of a run. Counts are the tally's; the cells are gone over, by place,
+//! where one is to be named, where levels change, and for the leaks.
 
-ghost use Rattle.std.specs.Prelude.{◌≡◌, ◌+◌, ◌<◌, ◌^◌, None, Some, IfErr, OnOk, OnErr};
-ghost use Rattle.wb_model.specs.heap.Debug.{IsSoundDebug, check_all_refusal, check_refusal};
-ghost use Rattle.wb_model.specs.heap.Heap.{after_mark, after_mark_end, mark_end_refusal};
+ghost use Rattle.std.specs.Prelude.{◌≡◌, ◌≤◌, None, Some, filter, length, map, not, IfOk, IfErr, OnOk};
+ghost use Rattle.wb_debug.specs.Levels.{is_counted};
+ghost use Rattle.wb_debug.specs.Tally.{IsTally, is_below, number};
+ghost use Rattle.wb_model.specs.heap.Heap.{cells_of_all_levels, checked, is_cleanup, lowered, lowest};
+ghost use Rattle.wb_model.specs.heap.LimitedHeap.{IsSoundHeap};
+ghost use Rattle.wb_model.specs.heap.Row.{headers};
+ghost use Rattle.wb_model.specs.runs.Run.{leak_of};
 
-use crate::debug_heap::DebugHeap;
-use crate::marks;
-use crate::marks::Levels;
-use wb_model::heap::Panic;
+use crate::tally::Tally;
+use std::alloc::Global;
+use wb_model::heap::{Header, Kind, Panic};
+use wb_model::items::Items;
+use wb_model::memory::NoMemory;
+use wb_model::run::{Leak, Leaks};
+use wb_rheap::Heap;
 
-impl DebugHeap {
-    /// Opens a mark: new cells are of a level one deeper. Source: Symbian OS v9 SDK reference, `__UHEAP_MARK`.
-    pub fn mark(&mut self)
-        requires { self.old.heap.level + 1 < 2 ^ 32 }
-        ensures marked { self.new ≡ record self.old { heap = after_mark self.old.heap } }
-        ensures sound { IsSoundDebug self.new }
-    {
-        self.level += 1;
+/// The levels whose cells are counted.
+#[derive(Clone, Copy, Debug, PartialEq, Eq)]
+pub enum Levels {
+    One(u32),
+    All,
+}
+
+/// Whether a cell is of a level at all: the cleanup stack's is of none.
+pub fn has_level(kind: Kind) -> bool
+    ensures { result ≡ not (is_cleanup kind) }
+{
+    match kind {
+        Kind::Cleanup => false,
+        Kind::Raw | Kind::Object(_) | Kind::Text => true,
     }
+}
 
-    /// Closes the innermost mark, where `n` live cells are of its level: they take the level below.
-    ///
-    /// `Panic::NO_OPEN_MARK` where no mark is open, and else what `check` refuses; the heap is then as it was. Source:
-    /// Symbian OS v9 SDK reference, `__UHEAP_MARKEND` and `__UHEAP_MARKENDC`, and this project's profile for the
-    /// levels.
-    pub fn mark_end(&mut self, n: u32) -> Result<(), Panic>
-        ensures refused { IfErr result (λ panic. mark_end_refusal self.old.heap n ≡ Some panic) }
-        ensures fine { OnOk result (mark_end_refusal self.old.heap n ≡ None) }
-        ensures closed { OnOk result (self.new
-            ≡ record self.old { heap = after_mark_end self.old.heap }) }
-        ensures err { OnErr result (self.new ≡ self.old) }
-        ensures sound { IsSoundDebug self.new }
-    {
-        let level = self.level;
-        if level == 0 {
-            return Err(Panic::NO_OPEN_MARK);
+/// Whether a cell is counted.
+fn is_counted(levels: Levels, cell: Header) -> bool
+    ensures { result ≡ is_counted levels cell }
+{
+    match levels {
+        Levels::One(level) => cell.level == level && has_level(cell.kind),
+        Levels::All => has_level(cell.kind),
+    }
+}
+
+/// How many cells are counted, and a place that none of them is below. It goes over the cells only where the tally doesn't know
+/// the level.
+fn count_and_lowest(heap: &Heap, tally: &Tally, levels: Levels) -> (u32, u32)
+    requires { IsTally tally.now (headers heap.now.row) }
+    ensures number { result.0 ≡ number (is_counted levels) (headers heap.now.row) }
+    ensures lowest { number (is_below (is_counted levels) result.1) (headers heap.now.row) ≡ 0 }
+{
+    match levels {
+        Levels::All => (tally.total(), 0),
+        Levels::One(level) => match tally.of_level(level) {
+            Some(cells) => (cells.count, cells.lowest),
+            None => (count(heap, levels), 0),
+        },
+    }
+}
+
+/// Counts the cells of each level from the cells themselves, where those of this one aren't known.
+pub fn count_anew(heap: &Heap, tally: &mut Tally, level: u32)
+    requires { IsTally tally.old (headers heap.now.row) }
+    ensures { IsTally tally.new (headers heap.now.row) }
+{
+    if tally.of_level(level).is_none() {
+        *tally = tally_of(heap);
+    }
+}
+
+/// What the live cells come to.
+fn tally_of(heap: &Heap) -> Tally
+    ensures { IsTally result (headers heap.now.row) }
+{
+    let mut tally = Tally::new();
+    let mut from = 0;
+    while let Some(cell) = heap.next_live(from) {
+        tally.grant(cell);
+        from = cell.end();
+    }
+    tally
+}
+
+/// How many cells are counted, from the cells themselves.
+fn count(heap: &Heap, levels: Levels) -> u32
+    ensures { result ≡ number (is_counted levels) (headers heap.now.row) }
+{
+    let mut found = 0;
+    let mut from = 0;
+    while let Some(cell) = heap.next_live(from) {
+        if is_counted(levels, cell) {
+            found += 1;
         }
-        let from = marks::expect(&self.heap, &self.tally, Levels::One(level), n)?;
-        marks::lower(&mut self.heap, level, from, n);
-        self.tally.lower(level);
-        marks::count_anew(&self.heap, &mut self.tally, level - 1);
-        self.level = level - 1;
-        Ok(())
+        from = cell.end();
     }
+    found
+}
 
-    /// Expects `n` live cells of the current level.
-    ///
-    /// Where they are fewer or more, `Alloc` names the place of the lowest, or 0 where there is none. Source: Symbian OS
-    /// v9 SDK reference, `__UHEAP_CHECK`, and this project's profile for the cell that is named.
-    pub fn check(&self, n: u32) -> Result<(), Panic>
-        ensures refused { IfErr result (λ panic. check_refusal self.now n ≡ Some panic) }
-        ensures fine { OnOk result (check_refusal self.now n ≡ None) }
-    {
-        marks::expect(&self.heap, &self.tally, Levels::One(self.level), n)?;
-        Ok(())
+/// The place of the lowest cell that is counted, or 0 where there is none; none of them is below `from`.
+fn lowest(heap: &Heap, levels: Levels, from: u32) -> u32
+    requires { number (is_below (is_counted levels) from) (headers heap.now.row) ≡ 0 }
+    ensures { result ≡ lowest (filter (is_counted levels) (headers heap.now.row)) }
+{
+    let mut at = from;
+    while let Some(cell) = heap.next_live(at) {
+        if is_counted(levels, cell) {
+            return cell.place;
+        }
+        at = cell.end();
     }
+    0
+}
 
-    /// Expects `n` live cells of all levels. It refuses as `check` does. Source: Symbian OS v9 SDK reference,
-    /// `__UHEAP_CHECKALL`, and this project's profile for the cell that is named.
-    pub fn check_all(&self, n: u32) -> Result<(), Panic>
-        ensures refused { IfErr result (λ panic. check_all_refusal self.now n ≡ Some panic) }
-        ensures fine { OnOk result (check_all_refusal self.now n ≡ None) }
-    {
-        marks::expect(&self.heap, &self.tally, Levels::All, n)?;
-        Ok(())
+/// Expects `n` cells to be counted, and returns a place that none of them is below. It goes over the cells only to name the
+/// lowest, where they are fewer or more.
+pub fn expect(heap: &Heap, tally: &Tally, levels: Levels, n: u32) -> Result<u32, Panic>
+    requires { IsTally tally.now (headers heap.now.row) }
+    ensures refused { IfErr result (λ panic.
+        checked (filter (is_counted levels) (headers heap.now.row)) n ≡ Some panic) }
+    ensures fine { OnOk result (checked (filter (is_counted levels) (headers heap.now.row)) n
+        ≡ None) }
+    ensures number { OnOk result (n ≡ number (is_counted levels) (headers heap.now.row)) }
+    ensures lowest { IfOk result (λ place.
+        number (is_below (is_counted levels) place) (headers heap.now.row) ≡ 0) }
+{
+    let (found, from) = count_and_lowest(heap, tally, levels);
+    if found == n {
+        return Ok(from);
     }
+    Err(Panic::Alloc(lowest(heap, levels, from)))
+}
+
+/// Puts each cell of a level one level lower. They are `n`, and none of them is below `from`, so that no cell below `from`, and
+/// none above the last of them, is looked at.
+pub fn lower(heap: &mut Heap, level: u32, from: u32, n: u32)
+    requires sound { IsSoundHeap heap.old }
+    requires some { 1 ≤ level }
+    requires number { n ≡ number (is_counted (Levels.One level)) (headers heap.old.row) }
+    requires lowest { number (is_below (is_counted (Levels.One level)) from) (headers heap.old.row)
+        ≡ 0 }
+    ensures lowered { heap.new ≡ record heap.old { row = lowered level heap.old.row } }
+    ensures sound { IsSoundHeap heap.new }
+{
+    let mut at = from;
+    let mut left = n;
+    while left > 0 {
+        let Some(cell) = heap.next_live(at) else {
+            return;
+        };
+        if is_counted(Levels::One(level), cell) {
+            heap.set_level(cell.pointer(), level - 1);
+            left -= 1;
+        }
+        at = cell.end();
+    }
+}
+
+/// The live cells but the cleanup stack's, by place.
+pub fn leaks(alloc: Global, heap: &Heap) -> Result<Leaks, NoMemory>
+    ensures { IfOk result (λ leaks.
+        leaks ≡ map leak_of (cells_of_all_levels (headers heap.now.row))) }
+{
+    let mut leaks = Items::new(alloc);
+    let mut from = 0;
+    while let Some(cell) = heap.next_live(from) {
+        if has_level(cell.kind) {
+            leaks.push(Leak {
+                number: cell.number,
+                length: cell.length,
+                place: cell.place,
+            })?;
+        }
+        from = cell.end();
+    }
+    Ok(leaks)
 }

@@ -16,7 +16,7 @@ ghost use Rattle.wb_model.specs.declared.heap.Rule.TheVariants.{Unlimited};
 
 use crate::fault::DebugFault;
 use crate::log::Log;
-use crate::marks;
+use crate::checks;
 use crate::rules::{answer, cell_length, limit_under};
 use crate::setting::Setting;
 use crate::tally::Tally;
@@ -122,7 +122,7 @@ impl DebugHeap {
     pub fn leaks(&self) -> Result<Leaks, NoMemory>
         ensures { IfOk result (λ leaks. leaks ≡ leaks_of_heap self.now) }
     {
-        marks::leaks(self.alloc, &self.heap)
+        checks::leaks(self.alloc, &self.heap)
     }
 
     /// How many attempts were made.

@@ -2,7 +2,7 @@
 //! nested marks.
 //!
 //! What an attempt asks is in `setting` (the script's own) and `rules` (the run's), what is kept of it in `log`, what the
-//! live cells come to in `tally`, and what a check counts in `marks`.
+//! live cells come to in `tally`, and what a check counts in `checks`.
 #![tactic(auto)]
 
 pub use debug_heap::DebugHeap;

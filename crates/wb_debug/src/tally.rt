@@ -9,7 +9,7 @@ ghost use Rattle.wb_debug.specs.LevelCounts.{known_at};
 ghost use Rattle.wb_debug.specs.Tally.{IsMore, IsOther, IsTally};
 
 use crate::level_counts::{Counted, LevelCounts};
-use crate::marks::has_level;
+use crate::checks::has_level;
 use std::marker::Model;
 use wb_model::heap::Header;
 

@@ -1,5 +1,5 @@
 //! The heap, its grants and releases, and what its readers return. Reallocation is in `realloc`, the words of payloads in
-//! `payloads`, the cells in the crate below, and the committed length in `space`.
+//! `payloads`, the cells in the crate below, and the committed length and the longest free run in `space`.
 
 ghost use Rattle.std.specs.Prelude.{◌≡◌, ◌≢◌, ◌+◌, ◌*◌, ◌<◌, ◌≤◌, ◌↔◌, false, length, take, sum, All, IfOk, IfErr};
 ghost use Rattle.std.specs.Prelude.{IfSome, OnOk, OnErr, Some, None, option_map};
@@ -12,7 +12,7 @@ ghost use Rattle.wb_model.specs.heap.Space.{is_shape, longest};
 ghost use Rattle.wb_rheap.specs.Refusals.{RefusesOnly};
 
 use crate::fault::HeapFault;
-use crate::{room, runs, space};
+use crate::{room, space};
 use std::alloc::Global;
 use std::marker::Model;
 use wb_cells::Cells;
@@ -275,7 +275,7 @@ impl Heap {
     {
         (
             self.committed - self.total,
-            runs::longest_run(&self.cells, self.committed),
+            space::longest_run(&self.cells, self.committed),
         )
     }
 

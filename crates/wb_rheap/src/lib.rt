@@ -14,5 +14,4 @@ mod moves;
 mod payloads;
 mod realloc;
 mod room;
-mod runs;
 mod space;

@@ -1,8 +1,11 @@
-//! The committed length of the chunk, in bytes.
+//! The committed length of the chunk, in bytes, and the longest run below it that no cell meets.
 
 ghost use Rattle.std.specs.Prelude.{◌≡◌, ◌≤◌, true, min};
+ghost use Rattle.wb_model.specs.heap.Row.{headers, top_of};
 ghost use Rattle.wb_model.specs.heap.Space.{is_shape, space_below, bound_below, round_up, committed_by, compressed_to};
+ghost use Rattle.wb_model.specs.heap.Space.{free_runs, longest};
 
+use wb_cells::Cells;
 use wb_model::heap::Shape;
 use wb_model::limits::{CEILING, LARGEST_MINIMUM, LARGEST_STEP, SMALLEST_STEP};
 
@@ -61,4 +64,12 @@ pub fn compressed_for(limit: u32, shape: Shape, committed: u32, top: u32) -> u32
 {
     let kept = grown_to(limit, shape, top).max(least_for(limit, shape));
     kept.min(committed)
+}
+
+/// The length of the longest run below the committed length that no cell meets.
+pub fn longest_run(cells: &Cells, committed: u32) -> u32
+    requires { top_of (headers cells.now.row) ≤ committed }
+    ensures { result ≡ longest (free_runs 0 (headers cells.now.row) committed) }
+{
+    cells.longest_gap().max(committed - cells.top())
 }

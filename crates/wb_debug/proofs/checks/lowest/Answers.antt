@@ -4,7 +4,7 @@ use Rattle.wb_model.specs.heap.Row.{headers}
 use Rattle.wb_model.proofs.Onward.{onward_next, onward_fewer}
 use Rattle.wb_debug.specs.Levels.{is_counted}
 use Rattle.wb_debug.proofs.Counting.{onward-counted, onward-end, onward-one}
-use Rattle.wb_debug.proofs.marks.lowest.Goals as goal
+use Rattle.wb_debug.proofs.checks.lowest.Goals as goal
 
 pub loop-cell-init : goal.loop-cell-init
 loop-cell-init c = onward-counted (is_counted c.args.levels) c.args.from (headers c.args.heap.now.row) c.requires

@@ -3,7 +3,7 @@ use Rattle.wb_model.specs.heap.Row.{headers}
 use Rattle.wb_model.proofs.Onward.{onward}
 use Rattle.wb_debug.specs.Levels.{is_counted}
 use Rattle.wb_debug.specs.Tally.{number}
-use Rattle.wb_debug.proofs.marks.count.Given as goal
+use Rattle.wb_debug.proofs.checks.count.Given as goal
 
 abbrev pub invariant-loop-cell : goal.invariant-loop-cell
 invariant-loop-cell l = l.found + number (is_counted l.levels) (onward l.from (headers l.heap.row)) ≡ number (is_counted l.levels) (headers l.heap.row)

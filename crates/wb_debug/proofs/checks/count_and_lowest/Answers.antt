@@ -1,7 +1,7 @@
 use Rattle.wb_model.specs.heap.Row.{headers}
 use Rattle.wb_debug.specs.Levels.{is_counted}
 use Rattle.wb_debug.proofs.Tallies.{below-zero}
-use Rattle.wb_debug.proofs.marks.count_and_lowest.Goals as goal
+use Rattle.wb_debug.proofs.checks.count_and_lowest.Goals as goal
 
 pub returns-in-All-clause-lowest : goal.returns-in-All-clause-lowest
 returns-in-All-clause-lowest c = below-zero (is_counted c.args.levels) (headers c.args.heap.now.row)

@@ -6,8 +6,8 @@ use Rattle.wb_debug.specs.Levels.{is_counted}
 use Rattle.wb_debug.specs.Tally.{number}
 use Rattle.wb_debug.proofs.Counting.{onward-end, onward-number, row-within}
 use Rattle.wb_debug.proofs.Tallies.{number-within, ones}
-use Rattle.wb_debug.proofs.marks.count.Goals.{then-is_counted, else-is_counted}
-use Rattle.wb_debug.proofs.marks.count.Goals as goal
+use Rattle.wb_debug.proofs.checks.count.Goals.{then-is_counted, else-is_counted}
+use Rattle.wb_debug.proofs.checks.count.Goals as goal
 
 pub loop-cell-init : goal.loop-cell-init
 loop-cell-init c = omega (arith, ap (number (is_counted c.args.levels)) (onward_zero (headers c.args.heap.now.row)))

@@ -3,7 +3,7 @@ use Rattle.wb_model.specs.heap.Row.{headers}
 use Rattle.wb_model.proofs.LimitedHeaps.{top_of-committed}
 use Rattle.wb_model.proofs.Onward.{onward_next, onward_fewer}
 use Rattle.wb_debug.proofs.Counting.{counted-all, counted-first, counted-more, counted-within, row-within}
-use Rattle.wb_debug.proofs.marks.tally_of.Goals as goal
+use Rattle.wb_debug.proofs.checks.tally_of.Goals as goal
 
 pub loop-cell-init : goal.loop-cell-init
 loop-cell-init c = counted-first _ (headers c.args.heap.now.row) c.new-tally.ensures

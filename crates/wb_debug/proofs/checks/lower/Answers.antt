@@ -4,11 +4,11 @@ use Rattle.wb_model.specs.heap.LimitedHeap.{LimitedHeap, IsSoundHeap}
 use Rattle.wb_model.proofs.Onward.{onward, onward_next, onward_fewer}
 use Rattle.wb_debug.specs.Levels.{is_counted}
 use Rattle.wb_debug.specs.Tally.{number}
-use Rattle.wb_debug.specs.declared.marks.Levels.TheVariants.{One}
+use Rattle.wb_debug.specs.declared.checks.Levels.TheVariants.{One}
 use Rattle.wb_debug.proofs.Counting.{onward-counted}
 use Rattle.wb_debug.proofs.Lowering.{IsLowered, next-named, lower-begin, lower-counts, lower-end, lower-next, lower-past, lower-whole, lower-fewer, past-counts}
-use Rattle.wb_debug.proofs.marks.lower.Goals.{then-is_counted, else-is_counted}
-use Rattle.wb_debug.proofs.marks.lower.Goals as goal
+use Rattle.wb_debug.proofs.checks.lower.Goals.{then-is_counted, else-is_counted}
+use Rattle.wb_debug.proofs.checks.lower.Goals as goal
 
 pub loop-left-init : goal.loop-left-init
 loop-left-init c = record {

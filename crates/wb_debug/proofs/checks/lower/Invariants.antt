@@ -2,11 +2,11 @@ use Rattle.std.proofs.Common.{◌≡◌, length}
 use Rattle.wb_model.specs.heap.LimitedHeap.{IsSoundHeap}
 use Rattle.wb_model.specs.heap.Row.{headers}
 use Rattle.wb_model.proofs.Onward.{onward}
-use Rattle.wb_debug.specs.declared.marks.Levels.TheVariants.{One}
+use Rattle.wb_debug.specs.declared.checks.Levels.TheVariants.{One}
 use Rattle.wb_debug.specs.Levels.{is_counted}
 use Rattle.wb_debug.specs.Tally.{number}
 use Rattle.wb_debug.proofs.Lowering.{IsLowered}
-use Rattle.wb_debug.proofs.marks.lower.Given as goal
+use Rattle.wb_debug.proofs.checks.lower.Given as goal
 
 abbrev pub invariant-loop-left : goal.invariant-loop-left
 invariant-loop-left l = record {

@@ -1,7 +1,7 @@
 use Rattle.std.proofs.Common.{arith}
 use Rattle.wb_model.specs.heap.Row.{headers}
 use Rattle.wb_rheap.proofs.LongestRuns.{longest_above}
-use Rattle.wb_rheap.proofs.runs.longest_run.Goals as goal
+use Rattle.wb_rheap.proofs.space.longest_run.Goals as goal
 
 pub returns : goal.returns
 returns c =

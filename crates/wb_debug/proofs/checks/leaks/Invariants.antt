@@ -1,11 +1,11 @@
-use Rattle.std.proofs.Common.{length}
+use Rattle.std.proofs.Common.{◌≡◌, ◌++◌, length}
 use Rattle.wb_model.specs.heap.Row.{headers}
 use Rattle.wb_model.proofs.Onward.{onward}
-use Rattle.wb_debug.proofs.Counting.{IsCounted}
-use Rattle.wb_debug.proofs.marks.tally_of.Given as goal
+use Rattle.wb_debug.proofs.Leaks.{leaks_of}
+use Rattle.wb_debug.proofs.checks.leaks.Given as goal
 
 abbrev pub invariant-loop-cell : goal.invariant-loop-cell
-invariant-loop-cell l = IsCounted l.tally l.from (headers l.heap.row)
+invariant-loop-cell l = l.leaks ++ leaks_of (onward l.from (headers l.heap.row)) ≡ leaks_of (headers l.heap.row)
 
 abbrev pub decreases-loop-cell : goal.decreases-loop-cell
 decreases-loop-cell l = length (onward l.from (headers l.heap.row))
