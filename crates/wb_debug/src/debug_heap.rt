@@ -14,9 +14,9 @@ ghost use Rattle.wb_model.specs.heap.Space.{is_shape};
 ghost use Rattle.wb_model.specs.declared.heap.Attempt.{Attempt};
 ghost use Rattle.wb_model.specs.declared.heap.Rule.TheVariants.{Unlimited};
 
+use crate::checks;
 use crate::fault::DebugFault;
 use crate::log::Log;
-use crate::checks;
 use crate::rules::{answer, cell_length, limit_under};
 use crate::setting::Setting;
 use crate::tally::Tally;

@@ -8,8 +8,8 @@ ghost use Rattle.wb_model.specs.heap.Row.{Cell, headers};
 ghost use Rattle.wb_debug.specs.LevelCounts.{known_at};
 ghost use Rattle.wb_debug.specs.Tally.{IsMore, IsOther, IsTally};
 
-use crate::level_counts::{Counted, LevelCounts};
 use crate::checks::has_level;
+use crate::level_counts::{Counted, LevelCounts};
 use std::marker::Model;
 use wb_model::heap::Header;
 
