@@ -1,8 +1,9 @@
-"""Which crates' wrong bodies were all refused, by a committed file that has a line for each.
+"""Which crates' wrong bodies were all disproved, by a committed file that has a line for each.
 
 What the prover says of a wrong body follows from what its check reads: the toolchain, the crate and its wrong bodies, and
 what is seen of the crates below it. A line holds the checksum of these, so it stands only while all of them are the same. Of
-the toolchain its logic counts: kits of one logic prove the same statements, so a line stands in each of them."""
+the toolchain its logic counts: kits of one logic prove the same statements, so a line stands in each of them. Of the wrong
+bodies their names and texts count, and not in which file each stands: so one can be moved."""
 
 import hashlib
 import re
@@ -13,12 +14,12 @@ from functools import cache
 from pathlib import Path
 
 from crates import Crates, without_comments
+from wrong_body_files import WRONG_BODIES, written_edits
 
-WRONG_BODIES = "wrong-bodies"
 FILE = "wrong-bodies.txt"
 HEAD = """\
-# Written by tools/wrong_bodies.py alone: the crates whose wrong bodies were all refused, how many there are, when that was,
-# and the checksum of what it followed from. A line whose checksum is another's is no verdict any more.
+# Written by tools/wrong_bodies.py alone: the crates whose wrong bodies were all disproved, how many there are, when that
+# was, and the checksum of what it followed from. A line whose checksum is another's is no verdict any more.
 """
 LINE = re.compile(r"(\w+) (\d+) (\d{4}-\d\d-\d\d) ([0-9a-f]{64})")
 # theorems that no other file may use: worked cases, which are written anew where a case is new, and have further files in a folder
@@ -40,7 +41,7 @@ def logic_of_toolchain() -> str:
 
 @dataclass(frozen=True)
 class Verdict:
-    """That so many wrong bodies were refused on a day, by what has this checksum."""
+    """That so many wrong bodies were disproved on a day, by what has this checksum."""
 
     count: int
     day: str
@@ -67,7 +68,7 @@ class Verdicts:
         return verdict is not None and verdict.checksum == self.checksum(crate)
 
     def write(self, crate: str, count: int, checksum: str) -> None:
-        """Adds the verdict that all wrong bodies of the crate are refused, in the place of an older one."""
+        """Adds the verdict that all wrong bodies of the crate are disproved, in the place of an older one."""
         verdicts = {name: it for name, it in self.read().items() if name in self.crates.lines}
         verdicts[crate] = Verdict(count, date.today().isoformat(), checksum)
         lines = (f"{name} {it.count} {it.day} {it.checksum}\n" for name, it in sorted(verdicts.items()))
@@ -75,10 +76,11 @@ class Verdicts:
 
     def checksum(self, crate: str) -> str:
         """The checksum of all that a check of the crate's wrong bodies reads."""
-        folder = self.crates.folder(crate)
         whole = hashlib.sha256(f"{self.logic}\n{self.crates.lines[crate]}\n".encode())
-        for file in [*self.crates.files(crate), *sorted((folder / WRONG_BODIES).glob("*"))]:
+        for file in self.crates.files(crate):
             add(whole, file.relative_to(self.crates.root), text_of(file))
+        for it in written_edits(self.crates.folder(crate), [WRONG_BODIES]):
+            whole.update(repr((it.name, it.functions, it.changes, it.fault)).encode())
         for lower in self.crates.below(crate):
             whole.update(self.seen(lower).encode())
         return whole.hexdigest()

@@ -1,18 +1,22 @@
 #!/usr/bin/env python3
-"""Tries the crates' wrong bodies in batches: the prover must refuse each, and for its own sake.
+"""Tries the crates' wrong bodies in batches: the prover must disprove each, and for its own sake.
 
     tools/wrong_bodies.py [--jobs N] [--must-fail] [--after-ci] [--logs FOLDER] [--all | CRATE..]
+    tools/wrong_bodies.py CRATE --only NAME [--only NAME ..]
 
-A wrong body is a file `crates/NAME/wrong-bodies/*.edit`: a first line `function: PATH`, the function that must be
-refused, as a check names it, or `function: PATH, PATH` where each of several must, or `function: every clause of PATH`; a line `file: src/..`; and pairs of lines `old: TEXT`, `new: TEXT`, where the old text stands
-once in that file. A function's proof reads the contracts of what it calls, and not the bodies; so one check of a copy of
+A file `crates/NAME/wrong-bodies/SOURCE.edits` has the wrong bodies of `src/SOURCE.rt`. Each has a line `[NAME]`, a name of its
+own in the crate; a line `function: PATH`, the function that must be disproved, as a check names it, or `function: PATH, PATH`
+where each of several must, or `function: every clause of PATH`; and pairs of lines `old: TEXT`, `new: TEXT`, where the old
+text stands once in the file. Below a line `file: src/..` the texts are of that file.
+
+A function's proof reads the contracts of what it calls, and not the bodies; so one check of a copy of
 the crate judges one wrong body each of many functions, and says of each function whether its own proof stands or only
 waits for another's. A function with several wrong bodies is given a twin for each further one. An edit that changes more than
 a function's body has a check of its own.
 
 Without a crate's name, those crates are tried whose line in wrong-bodies.txt is missing or no longer stands, and besides two
 whose line stands, picked by the commit: so a line that isn't true comes to light. `--all` tries all. Where a crate's wrong
-bodies are all refused, its line is written.
+bodies are all disproved, its line is written. `--only` tries the edits of that name alone, and writes no line.
 
 It prints a line for each edit, and at last `N passed, M failed`; the exit status is 1 where one failed. The
 repository's other files stay as they are. `--must-fail` tries the edits of `crates/NAME/must-fail/` as well, and `--logs`
@@ -34,9 +38,10 @@ from threading import Lock
 
 from build import Unproved, build_below
 from crates import ROOT, Crates, Step, processors, run_steps
-from verdicts import WRONG_BODIES, Verdicts, logic_of_toolchain
+from verdicts import Verdicts, logic_of_toolchain
 from wrong_body_checks import Verdict, check, make_room
-from wrong_body_edits import MUST_FAIL, Edit, edited_files, read_edits
+from wrong_body_edits import Edit, edited_files, read_edits
+from wrong_body_files import MUST_FAIL, WRONG_BODIES, written_edits
 from wrong_body_twins import Twins, add_proof_files
 
 # how many crates are tried whose line stands
@@ -46,14 +51,21 @@ PICKED = 2
 class Trial:
     """Tries the wrong bodies of some crates, each on a copy below a folder."""
 
-    def __init__(self, crates: Crates, folder: Path, kinds: list[str], verdicts: Verdicts) -> None:
+    def __init__(self, crates: Crates, folder: Path, kinds: list[str], only: list[str], verdicts: Verdicts) -> None:
         self.crates, self.folder, self.kinds, self.verdicts = crates, folder, kinds, verdicts
+        # the names of the edits that are tried alone, if some are
+        self.only = set(only)
         self.passed = self.failed = 0
         self.lock = Lock()
 
     def edits(self, crate: str) -> tuple[list[Edit], dict[str, str]]:
-        """The edits of a crate, and why others are none."""
-        return read_edits(self.crates.folder(crate), self.kinds)
+        """The edits of a crate that are tried, and why others are none."""
+        good, bad = read_edits(self.crates.folder(crate), self.kinds)
+        return [it for it in good if self.is_tried(it.label)], {label: why for label, why in bad.items() if self.is_tried(label)}
+
+    def is_tried(self, label: str) -> bool:
+        """Whether the edit with this label is one of those that are tried."""
+        return not self.only or label.partition("/")[2] in self.only
 
     def step(self, crate: str) -> Step:
         """The step that judges a crate's edits."""
@@ -61,7 +73,7 @@ class Trial:
         return Step(crate, partial(self.judge, crate), size * len(self.edits(crate)[0]))
 
     def judge(self, crate: str, jobs: int) -> None:
-        """Judges a crate's edits, prints what came of each, and writes the crate's line where all of them were refused."""
+        """Judges a crate's edits, prints what came of each, and writes the crate's line where all of them were disproved."""
         checksum = self.verdicts.checksum(crate)
         edits, bad = self.edits(crate)
         said = {label: f"BAD EDIT: {why}" for label, why in bad.items()}
@@ -69,8 +81,8 @@ class Trial:
         together, alone = Twins(self.crates.folder(crate)).apart(edits)
         while together:
             verdict = self.check(crate, together, jobs)
-            strays = verdict.refused() - {it.function for it in together}
-            said |= {f"{crate}: {it}": "is refused, and has no wrong body" for it in sorted(strays)}
+            strays = verdict.disproved() - {it.function for it in together}
+            said |= {f"{crate}: {it}": "is disproved, and has no wrong body" for it in sorted(strays)}
             judged = [(it, what_is_said(it, verdict)) for it in together]
             said |= {it.label: text for it, text in judged if text}
             waiting = [it for it, text in judged if not text]
@@ -81,12 +93,12 @@ class Trial:
             together = waiting
         for it in alone:
             said[it.label] = what_is_said_of_all(it, self.check(crate, [it], jobs))
-        refused = sum(map(is_refusal, said.values()))
+        disproved = sum(map(is_disproof, said.values()))
         with self.lock:
             print("".join(f"{label}: {text}\n" for label, text in sorted(said.items())), end="", flush=True)
-            self.passed += refused
-            self.failed += len(said) - refused
-            if refused == len(said) and checksum == self.verdicts.checksum(crate):
+            self.passed += disproved
+            self.failed += len(said) - disproved
+            if disproved == len(said) and not self.only and checksum == self.verdicts.checksum(crate):
                 own = len(read_edits(self.crates.folder(crate), [WRONG_BODIES])[0])
                 self.verdicts.write(crate, own, checksum)
 
@@ -106,23 +118,23 @@ class Trial:
 
 
 def what_is_said_of_all(edit: Edit, verdict: Verdict) -> str:
-    """What a check says of an edit that has it to itself: that it was refused where each of its functions was, for its own sake."""
+    """What a check says of an edit that has it to itself: that it was disproved where each of its functions was, for its own sake."""
     names = (edit.function, *edit.others)
-    said = {it: what_is_said(replace(edit, function=it), verdict) or "refused only through what it calls" for it in names}
+    said = {it: what_is_said(replace(edit, function=it), verdict) or "disproved only through what it calls" for it in names}
     for name, text in said.items():
-        if not is_refusal(text):
+        if not is_disproof(text):
             return f"{name}: {text}" if edit.others else text
-    # the weakest of the refusals
+    # the weakest of the disproofs
     return max(said.values(), key=len)
 
 
-def is_refusal(text: str) -> bool:
-    """Whether this says that a function was refused for its own sake."""
-    return text == "refused" or text.startswith("refused, ")
+def is_disproof(text: str) -> bool:
+    """Whether this says that a function was disproved for its own sake."""
+    return text == "disproved" or text.startswith("disproved, ")
 
 
 def what_is_said(edit: Edit, verdict: Verdict) -> str:
-    """What a check says of an edit: `refused` where the prover refused the function for its own sake. Nothing where it only
+    """What a check says of an edit: `disproved` where the prover disproved the function for its own sake. Nothing where it only
     waits for what it calls."""
     said = verdict.functions.get(edit.function)
     if verdict.unread:
@@ -134,8 +146,8 @@ def what_is_said(edit: Edit, verdict: Verdict) -> str:
     if standing := edit.clauses - said.clauses:
         return f"PROVED in its clauses {', '.join(sorted(standing))}"
     if said.goal:
-        return "refused"
-    return f"refused, by {said.proof_file}" if said.proof_file else ""
+        return "disproved"
+    return f"disproved, by {said.proof_file}" if said.proof_file else ""
 
 
 def chosen(verdicts: Verdicts, crates: list[str]) -> list[str]:
@@ -147,31 +159,51 @@ def chosen(verdicts: Verdicts, crates: list[str]) -> list[str]:
     for it in standing:
         verdict = verdicts.read()[it]
         again = ", and tried again now" if it in picked else ""
-        print(f"{it}: {verdict.count} wrong bodies were refused on {verdict.day}{again}", flush=True)
+        print(f"{it}: {verdict.count} wrong bodies were disproved on {verdict.day}{again}", flush=True)
     return [it for it in crates if it not in standing or it in picked]
 
 
-def main() -> int:
-    """Tries the wrong bodies of the crates named, or of those that have to be tried."""
+def words() -> argparse.ArgumentParser:
+    """The words of the command line."""
     parser = argparse.ArgumentParser(description="Tries the crates' wrong bodies in batches.")
     parser.add_argument("--jobs", type=int, default=processors(), metavar="N", help="how many processors to use")
     parser.add_argument("--must-fail", action="store_true", help="try the edits of must-fail/ as well")
     parser.add_argument("--after-ci", action="store_true", help="`rt ci` has just built the libraries")
     parser.add_argument("--logs", type=Path, metavar="FOLDER", help="where to copy what the checks print")
     parser.add_argument("--all", action="store_true", help="try all crates, and not only those whose line doesn't stand")
+    parser.add_argument("--only", action="append", default=[], metavar="NAME", help="try the edits of that name alone, of one crate")
     parser.add_argument("crates", nargs="*", metavar="CRATE")
-    given = parser.parse_args()
-    crates = Crates(ROOT)
+    return parser
+
+
+def fault_of(given: argparse.Namespace, crates: Crates) -> str:
+    """What can't be tried as the command line asks, if so."""
     for it in given.crates:
         if it not in crates.lines:
-            parser.error(f"crates.txt lists no crate {it}")
-    verdicts = Verdicts(ROOT, logic_of_toolchain())
-    kinds = [WRONG_BODIES, MUST_FAIL] if given.must_fail else [WRONG_BODIES]
+            return f"crates.txt lists no crate {it}"
+    if given.only and len(given.crates) != 1:
+        return "--only goes with the name of one crate"
+    names = {it.name for crate in given.crates for it in written_edits(crates.folder(crate), kinds_of(given))}
+    return next((f"{given.crates[0]} has no edit {it}" for it in given.only if it not in names), "")
+
+
+def kinds_of(given: argparse.Namespace) -> list[str]:
+    """The folders whose edits are tried: with `--only` an edit's name says enough."""
+    return [WRONG_BODIES, MUST_FAIL] if given.must_fail or given.only else [WRONG_BODIES]
+
+
+def main() -> int:
+    """Tries the wrong bodies of the crates named, or of those that have to be tried."""
+    parser, crates = words(), Crates(ROOT)
+    given = parser.parse_args()
+    if fault := fault_of(given, crates):
+        parser.error(fault)
+    verdicts, kinds = Verdicts(ROOT, logic_of_toolchain()), kinds_of(given)
     names = [it for it in given.crates or crates.lines if any((crates.folder(it) / kind).is_dir() for kind in kinds)]
     if not given.crates and not given.all:
         names = chosen(verdicts, names)
     with tempfile.TemporaryDirectory(prefix="wrong-bodies-") as folder:
-        trial = Trial(crates, Path(folder), kinds, verdicts)
+        trial = Trial(crates, Path(folder), kinds, given.only, verdicts)
         try:
             if not given.after_ci:
                 build_below(crates, names, given.jobs)
@@ -180,6 +212,7 @@ def main() -> int:
             print(f"not tried: {why}")
             trial.failed += 1
         for log in Path(folder).glob("*.log") if given.logs else []:
+            given.logs.mkdir(parents=True, exist_ok=True)
             shutil.copy2(log, given.logs)
     print(f"{trial.passed} passed, {trial.failed} failed")
     return 1 if trial.failed else 0

@@ -44,8 +44,8 @@ class Verdict:
     functions: dict[str, Said]
     unread: str = ""
 
-    def refused(self) -> set[str]:
-        """The functions that are refused for their own sake."""
+    def disproved(self) -> set[str]:
+        """The functions that are disproved for their own sake."""
         return {name for name, said in self.functions.items() if said.goal or said.proof_file}
 
 

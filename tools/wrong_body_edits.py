@@ -1,18 +1,14 @@
-"""Reads the wrong bodies of a crate, `crates/NAME/wrong-bodies/*.edit`; those of `must-fail/`, which `rt ci` tries one by
-one, have the same form. How they are judged stands elsewhere."""
+"""Applies the wrong bodies of a crate to its files as they are. How they are written, and how they are judged, stands
+elsewhere."""
 
 import re
 from collections.abc import Iterator
 from dataclasses import dataclass
 from pathlib import Path
 
-MUST_FAIL = "must-fail"
+from wrong_body_files import BadEdit, WrittenEdit, written_edits
 
 EVERY_CLAUSE = "every clause of "
-
-
-class BadEdit(Exception):
-    """Why an edit says nothing of its function."""
 
 
 @dataclass(frozen=True)
@@ -35,13 +31,13 @@ class WrongBody:
 
 @dataclass(frozen=True)
 class Edit:
-    """A wrong body: the function that the prover must refuse, and what to change."""
+    """A wrong body: the function that the prover must disprove, and what to change."""
 
     label: str
     function: str
-    # further ones that it must refuse as well, of a change that reaches beyond bodies
+    # further ones that it must disprove as well, of a change that reaches beyond bodies
     others: tuple[str, ...]
-    # the clauses of its contract each of which must be refused, where the edit asks for all of them
+    # the clauses of its contract each of which must be disproved, where the edit asks for all of them
     clauses: frozenset[str]
     # what it makes of each file that it changes
     files: dict[str, str]
@@ -52,30 +48,28 @@ class Edit:
 
 
 def read_edits(crate: Path, folders: list[str]) -> tuple[list[Edit], dict[str, str]]:
-    """The edits in these folders of a crate, and why each other file there is none, by its label."""
+    """The edits in these folders of a crate, and why others there are none, by their labels."""
     good, bad = [], {}
-    for path in sorted(path for folder in folders for path in (crate / folder).glob("*")):
-        label = f"{crate.name}/{path.name.removesuffix('.edit')}"
+    for it in written_edits(crate, folders):
+        label = f"{crate.name}/{it.name}"
         try:
-            good.append(read_edit(path, label, crate))
+            good.append(applied(it, label, crate))
         except BadEdit as why:
             bad[label] = str(why)
     return good, bad
 
 
-def read_edit(path: Path, label: str, crate: Path) -> Edit:
-    """Reads an edit, and applies it to the crate's files as they are."""
-    if not path.is_file() or path.suffix != ".edit":
-        raise BadEdit("its name doesn't end in .edit")
-    lines = path.read_text(encoding="utf-8", errors="replace").splitlines()
-    named = lines[0].removeprefix("function: ") if lines else ""
-    function, *others = named.removeprefix(EVERY_CLAUSE).split(", ")
-    if not lines or not lines[0].startswith("function: ") or not all((function, *others)):
-        raise BadEdit("its first line isn't 'function: PATH', or several paths with commas between them")
-    clauses = clauses_of(function, crate) if named.startswith(EVERY_CLAUSE) else frozenset()
+def applied(edit: WrittenEdit, label: str, crate: Path) -> Edit:
+    """An edit, applied to the crate's files as they are."""
+    if edit.fault:
+        raise BadEdit(edit.fault)
+    function, *others = edit.functions.removeprefix(EVERY_CLAUSE).split(", ")
+    if not all((function, *others)):
+        raise BadEdit("its first line names no function, or a further one without a name")
+    clauses = clauses_of(function, crate) if edit.functions.startswith(EVERY_CLAUSE) else frozenset()
     before: dict[str, str] = {}
     after: dict[str, str] = {}
-    for file, old, new in pairs_of(lines[1:]):
+    for file, old, new in edit.changes:
         if file not in before:
             source = crate / file
             if ".." in Path(file).parts or not file.startswith("src/") or not source.is_file():
@@ -102,25 +96,6 @@ def clauses_of(function: str, crate: Path) -> frozenset[str]:
     if not clauses:
         raise BadEdit(f"there is no one public function {function} with names for its clauses")
     return clauses
-
-
-def pairs_of(lines: list[str]) -> Iterator[tuple[str, str, str]]:
-    """The file, the old text and the new text of each pair, in the order in which they apply."""
-    file = old = ""
-    for line in lines:
-        word, _, text = line.partition(":")
-        text = text.removeprefix(" ")
-        if word == "file":
-            file = text.strip()
-        elif word == "old":
-            old = text
-        elif word == "new" and file and old:
-            yield file, old, text
-            old = ""
-        elif line.strip():
-            raise BadEdit(f"it has a line that isn't understood where it stands: {line}")
-    if old:
-        raise BadEdit("an 'old:' text has no new one")
 
 
 def wrong_body(name: str, file: str, before: str, after: str) -> WrongBody | None:

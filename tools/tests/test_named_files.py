@@ -21,7 +21,7 @@ FILES = {
     "crates/wb_lines/src/kinds.rt": "    // as a swap does\nLineKind::Pop => 1,\n",
     "crates/wb_lines/src/rest/kinds.rt": "LineKind::Pop => 1,\n",
     # none of these is compared
-    "crates/wb_model/wrong-bodies/swap-is-pop.edit": "new: Swap\n",
+    "crates/wb_model/wrong-bodies/statements.edits": "new: Swap\n",
     "crates/wb_model/proofs/WorkedCases/Swaps.antt": "swap\n",
     "crates/wb_run_tests/src/swaps.rt": "swap\n",
     "crates/wb_model/out/script.rt": "swap\n",

@@ -1,5 +1,6 @@
 """When the wrong bodies of a crate are tried again: on a tiny repository in a temporary folder, with these tools in it."""
 
+import re
 import shutil
 import subprocess
 import sys
@@ -11,6 +12,7 @@ TOOLS = Path(__file__).resolve().parent.parent
 sys.path.insert(0, str(TOOLS))
 from crates import Crates  # noqa: E402
 from verdicts import FILE, USED_BY_NOTHING, Verdicts, logic_of_toolchain, without_bodies  # noqa: E402
+from wrong_body_files import MUST_FAIL, WRONG_BODIES, written_edits  # noqa: E402
 
 LOW = """\
 //! A number and the next one.
@@ -42,8 +44,8 @@ pub fn after_next(n: u32) -> u32
     next(next(n))
 }
 """
-LOW_EDIT = "function: low::next\nfile: src/lib.rt\nold:     n + 1\nnew:     n\n"
-HIGH_EDIT = "function: high::after_next\nfile: src/lib.rt\nold: next(next(n))\nnew: next(n)\n"
+LOW_EDIT = "[too-little]\nfunction: low::next\nold:     n + 1\nnew:     n\n"
+HIGH_EDIT = "[too-little]\nfunction: high::after_next\nold: next(next(n))\nnew: next(n)\n"
 # constants that two functions use, one of which promises the number
 CONSTANTS = """\
 
@@ -76,9 +78,12 @@ pub fn as_many() -> u32
 # what a clause needs to name them
 NAMED = "use Rattle.low.specs.declared.TheConstants.{DAYS, HOURS};"
 OTHER_HOURS = "old: u32 = 24;\nnew: u32 = 25;\n"
-OTHER_DAYS = "file: src/lib.rt\nold: u32 = 7;\nnew: u32 = 8;\n"
+OTHER_DAYS = "old: u32 = 7;\nnew: u32 = 8;\n"
 # means the same as the function, so that it is proved
-RIGHT_EDIT = "function: high::after_next\nfile: src/lib.rt\nold: next(next(n))\nnew: n + 2\n"
+RIGHT_EDIT = "\n[right]\nfunction: high::after_next\nold: next(next(n))\nnew: n + 2\n"
+# where the wrong bodies of each crate are
+LOW_EDITS = "crates/low/wrong-bodies/lib.edits"
+HIGH_EDITS = "crates/high/wrong-bodies/lib.edits"
 
 
 class TinyRepository(unittest.TestCase):
@@ -93,7 +98,7 @@ class TinyRepository(unittest.TestCase):
         self.write("HANDLES", "Handles allowed: none.\n")
         for crate, code, edit in (("low", LOW, LOW_EDIT), ("high", HIGH, HIGH_EDIT)):
             self.write(f"crates/{crate}/src/lib.rt", code)
-            self.write(f"crates/{crate}/wrong-bodies/too-little.edit", edit)
+            self.write(f"crates/{crate}/wrong-bodies/lib.edits", edit)
 
     def write(self, name: str, text: str) -> None:
         """Writes a file of the repository."""
@@ -105,6 +110,15 @@ class TinyRepository(unittest.TestCase):
         text = (self.root / name).read_text(encoding="utf-8")
         self.assertIn(old, text)
         self.write(name, text.replace(old, new))
+
+    def add(self, name: str, text: str) -> None:
+        """Adds lines to a file of the repository."""
+        self.write(name, (self.root / name).read_text(encoding="utf-8") + text)
+
+    def run_tool(self, *words: str) -> "subprocess.CompletedProcess[str]":
+        """Runs the tool with these words."""
+        tool = self.root / "tools/wrong_bodies.py"
+        return subprocess.run([sys.executable, tool, "--jobs", "1", *words], capture_output=True, text=True)
 
     def verdicts(self, logic: str = "logic 0") -> Verdicts:
         """The verdicts of the repository, by a toolchain of that logic."""
@@ -131,13 +145,49 @@ class WhatLinesStand(TinyRepository):
     def test_another_kit(self) -> None:
         self.assertEqual(self.standing("logic 1"), [])
 
-    def test_a_changed_edit(self) -> None:
-        self.write("crates/high/wrong-bodies/too-little.edit", RIGHT_EDIT)
+    def test_a_changed_text(self) -> None:
+        self.replace(HIGH_EDITS, "new: next(n)", "new: next(n + 1)")
+        self.assertEqual(self.standing(), ["low"])
+
+    def test_a_blank_more_in_a_text(self) -> None:
+        self.replace(HIGH_EDITS, "new: next(n)", "new:  next(n)")
+        self.assertEqual(self.standing(), ["low"])
+
+    def test_another_name(self) -> None:
+        self.replace(HIGH_EDITS, "[too-little]", "[one-too-little]")
+        self.assertEqual(self.standing(), ["low"])
+
+    def test_another_function(self) -> None:
+        self.replace(HIGH_EDITS, "high::after_next", "high::after_next, high::other")
         self.assertEqual(self.standing(), ["low"])
 
     def test_a_further_edit(self) -> None:
-        self.write("crates/low/wrong-bodies/more.edit", LOW_EDIT)
+        self.add(LOW_EDITS, "\n" + LOW_EDIT.replace("too-little", "more"))
         self.assertEqual(self.standing(), ["high"])
+
+    def test_an_edit_less(self) -> None:
+        self.write(LOW_EDITS, "")
+        self.assertEqual(self.standing(), ["high"])
+
+    def test_a_doubled_edit(self) -> None:
+        self.add(LOW_EDITS, "\n" + LOW_EDIT)
+        self.assertEqual(self.standing(), ["high"])
+
+    def test_an_edit_moved_to_another_file(self) -> None:
+        (self.root / HIGH_EDITS).unlink()
+        moved = HIGH_EDIT.replace("old:", "file: src/lib.rt\nold:")
+        self.write("crates/high/wrong-bodies/further/numbers.edits", moved)
+        self.assertEqual(self.standing(), ["low", "high"])
+        # of another source it isn't the same edit
+        self.write("crates/high/wrong-bodies/further/numbers.edits", HIGH_EDIT)
+        self.assertEqual(self.standing(), ["low"])
+
+    def test_edits_in_another_order(self) -> None:
+        self.add(HIGH_EDITS, RIGHT_EDIT)
+        verdicts = self.verdicts()
+        verdicts.write("high", 2, verdicts.checksum("high"))
+        self.write(HIGH_EDITS, f"{RIGHT_EDIT}\n\n{HIGH_EDIT}")
+        self.assertEqual(self.standing(), ["low", "high"])
 
     def test_a_changed_contract_below(self) -> None:
         self.replace("crates/low/src/lib.rt", "n < 100", "n < 200")
@@ -201,21 +251,46 @@ class WhatNothingUses(unittest.TestCase):
         self.assertEqual(uses, [])
 
 
+class WhatThePageNames(unittest.TestCase):
+    """The edits of this repository that WRONG_BODIES.md names: each is there, and has no fault."""
+
+    def test_each_is_an_edit(self) -> None:
+        page = (TOOLS.parent / "docs/WRONG_BODIES.md").read_text(encoding="utf-8")
+        named = re.findall(r"`(\w+)/(must-fail/)?([a-z0-9-]+)`", page)
+        self.assertGreater(len(named), 30)
+        edits = {crate: written_edits(Crates().folder(crate), [WRONG_BODIES, MUST_FAIL]) for crate, _, _ in named}
+        for crate, _, name in named:
+            self.assertEqual([it.fault for it in edits[crate] if it.name == name], [""], f"{crate}/{name}")
+
+
+class WhatCannotBeTried(TinyRepository):
+    """Command lines that ask for no edit of the repository. Nothing is checked for them."""
+
+    def test_an_edit_that_is_not_there(self) -> None:
+        ran = self.run_tool("low", "--only", "too-much")
+        self.assertIn("low has no edit too-much", ran.stderr)
+        self.assertEqual((ran.stdout, ran.returncode), ("", 2))
+
+    def test_an_edit_of_no_crate(self) -> None:
+        ran = self.run_tool("--only", "too-little")
+        self.assertIn("--only goes with the name of one crate", ran.stderr)
+        self.assertEqual((ran.stdout, ran.returncode), ("", 2))
+
+
 class WhatIsTried(TinyRepository):
     """What the tool tries, by checks of the two crates. It needs the toolchain, and fails without it."""
 
     def try_bodies(self, *words: str) -> tuple[list[str], int]:
         """What the tool prints, and its status."""
-        tool = self.root / "tools/wrong_bodies.py"
-        ran = subprocess.run([sys.executable, tool, "--jobs", "1", *words], capture_output=True, text=True)
+        ran = self.run_tool(*words)
         return ran.stdout.splitlines(), ran.returncode
 
     def test_lines_are_written_and_tried(self) -> None:
         lines, status = self.try_bodies()
-        self.assertEqual(sorted(lines), ["2 passed, 0 failed", "high/too-little: refused", "low/too-little: refused"])
+        self.assertEqual(sorted(lines), ["2 passed, 0 failed", "high/too-little: disproved", "low/too-little: disproved"])
         self.assertEqual(status, 0)
-        # an edit that is proved, with a line that says it was refused
-        self.write("crates/high/wrong-bodies/right.edit", RIGHT_EDIT)
+        # an edit that is proved, with a line that says it was disproved
+        self.add(HIGH_EDITS, RIGHT_EDIT)
         logic = logic_of_toolchain()
         self.assertEqual(self.standing(logic), ["low"])
         verdicts = self.verdicts(logic)
@@ -225,22 +300,35 @@ class WhatIsTried(TinyRepository):
         self.assertIn("high/right: PROVED", lines)
         self.assertEqual((lines[-1], status), ("2 passed, 1 failed", 1))
 
-    def test_each_of_several_functions_must_be_refused(self) -> None:
-        self.write("crates/low/src/lib.rt", LOW.replace("\nghost use", f"\nghost {NAMED}\nghost use") + CONSTANTS)
-        self.write("crates/low/wrong-bodies/days.edit", "function: low::week\n" + OTHER_DAYS)
-        self.write("crates/low/wrong-bodies/both.edit", "function: low::week, low::as_many\n" + OTHER_DAYS)
+    def test_one_alone(self) -> None:
+        self.add(LOW_EDITS, "\n[twice]\nfunction: low::next\nold:     n + 1\nnew:     n + n\n")
+        lines, status = self.try_bodies("low", "--only", "twice", "--logs", str(self.root / "logs"))
+        self.assertEqual((lines, status), (["low/twice: disproved", "1 passed, 0 failed"], 0))
+        self.assertIn("it is not proved that", (self.root / "logs/low.log").read_text(encoding="utf-8"))
+        self.assertFalse((self.root / FILE).exists())
+
+    def test_an_edit_with_the_name_of_another_fails(self) -> None:
+        self.write("crates/low/wrong-bodies/further.edits", LOW_EDIT)
         lines, status = self.try_bodies("low")
-        self.assertIn("low/days: refused", lines)
+        self.assertEqual((lines, status), (["low/too-little: BAD EDIT: another edit of the crate has its name", "0 passed, 1 failed"], 1))
+        self.assertFalse((self.root / FILE).exists())
+
+    def test_each_of_several_functions_must_be_disproved(self) -> None:
+        self.write("crates/low/src/lib.rt", LOW.replace("\nghost use", f"\nghost {NAMED}\nghost use") + CONSTANTS)
+        self.add(LOW_EDITS, "\n[days]\nfunction: low::week\n" + OTHER_DAYS)
+        self.add(LOW_EDITS, "\n[both]\nfunction: low::week, low::as_many\n" + OTHER_DAYS)
+        lines, status = self.try_bodies("low")
+        self.assertIn("low/days: disproved", lines)
         self.assertIn("low/both: low::as_many: PROVED", lines)
         self.assertEqual((lines[-1], status), ("2 passed, 1 failed", 1))
 
-    def test_every_clause_must_be_refused(self) -> None:
+    def test_every_clause_must_be_disproved(self) -> None:
         self.write("crates/low/src/lib.rt", LOW.replace("\nghost use", f"\nghost {NAMED}\nghost use") + CONSTANTS)
-        self.write("crates/low/wrong-bodies/days.edit", "function: every clause of low::numbers_are\n" + OTHER_DAYS)
-        self.write("crates/low/wrong-bodies/all.edit", "function: every clause of low::numbers_are\n" + OTHER_DAYS + OTHER_HOURS)
+        self.add(LOW_EDITS, "\n[days]\nfunction: every clause of low::numbers_are\n" + OTHER_DAYS)
+        self.add(LOW_EDITS, "\n[all]\nfunction: every clause of low::numbers_are\n" + OTHER_DAYS + OTHER_HOURS)
         lines, status = self.try_bodies("low")
         self.assertIn("low/days: PROVED in its clauses hours", lines)
-        self.assertIn("low/all: refused", lines)
+        self.assertIn("low/all: disproved", lines)
         self.assertEqual((lines[-1], status), ("2 passed, 1 failed", 1))
 
 

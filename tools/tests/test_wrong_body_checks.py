@@ -1,4 +1,4 @@
-"""What is read of a check of wrong bodies: which functions are refused for their own sake, and which only wait for others."""
+"""What is read of a check of wrong bodies: which functions are disproved for their own sake, and which only wait for others."""
 
 import sys
 import unittest
@@ -18,10 +18,10 @@ only=4 proved=1
 
 
 class ReadVerdict(unittest.TestCase):
-    """Reads what a check printed of one function that is refused, two that call it, and one that is proved."""
+    """Reads what a check printed of one function that is disproved, two that call it, and one that is proved."""
 
-    def test_refused_is_what_has_an_open_goal(self) -> None:
-        self.assertEqual(read_verdict(PRINTED).refused(), {"low::next"})
+    def test_disproved_is_what_has_an_open_goal(self) -> None:
+        self.assertEqual(read_verdict(PRINTED).disproved(), {"low::next"})
 
     def test_callers_only_wait(self) -> None:
         said = read_verdict(PRINTED).functions
