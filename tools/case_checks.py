@@ -3,7 +3,7 @@
 
     tools/case_checks.py
 
-`run_cases.py` must fail on a wrong answer and on a table that is malformed or empty, and `cases_to_theorems.py` on a word
+`run_cases.py` must fail on a row's wrong answer and on a table that is malformed or empty, and `cases_to_theorems.py` on a word
 that it does not know, with that word and what to add. The last line is `N passed, M failed`.
 """
 
@@ -11,6 +11,11 @@ import subprocess
 import sys
 import tempfile
 from pathlib import Path
+
+# what starts this leaves its folder out of Python's path
+sys.path.insert(0, str(Path(__file__).resolve().parent))
+import case_file  # noqa: E402
+from case_file import Case  # noqa: E402
 
 TOOLS = Path(__file__).resolve().parent
 MODEL = TOOLS.parent / "crates/wb_model"
@@ -135,22 +140,17 @@ def table_holds(room: Path, table: str, part: str) -> bool:
     return is_told(said("run_cases.py", room / "program", cases), part, ", 0 failed" in part)
 
 
-def case_holds(room: Path, stem: Path, script: str, report: str, words: str, part: str) -> bool:
-    """Whether `cases_to_theorems.py`, which writes into `room`, says this of a case whose files have this stem."""
-    files = {".oom": script, ".args": words.replace(" ", "\n") + "\n", ".stdout": report, ".status": "0\n"}
-    for ending, text in files.items():
-        stem.with_name(stem.name + ending).write_text(text)
-    told = said("cases_to_theorems.py", MODEL, stem.with_name(stem.name + ".oom"), "--out", room)
+def case_holds(room: Path, file: Path, script: str, report: str, words: str, part: str) -> bool:
+    """Whether `cases_to_theorems.py`, which writes into `room`, says this of a case, which is put into this file."""
+    case_file.write(file, Case(script.encode(), words.split(), report.encode(), None, 0))
+    told = said("cases_to_theorems.py", MODEL, file, "--out", room)
     return is_told(told, part, part.endswith("theorems"))
 
 
-def folder_holds(room: Path) -> bool:
-    """Whether a case in a folder of its own gives a theorem, and both tools find one case in it."""
-    folder = room / "cases" / "plain"
-    folder.mkdir()
-    held = case_holds(room, folder / "run", SCRIPT, REPORT, "run", "1 theorems")
-    written = (room / "WorkedCases" / "Cases.antt").read_text()
-    return held and "\nplain_run : " in written and is_told(said("run_cases.py", room / "program", room / "cases"), "1 failed", False)
+def names_hold(room: Path) -> bool:
+    """Whether a theorem is named after the file of its case, and its module after the folder."""
+    held = case_holds(room, room / "cases" / "plain.run.case", SCRIPT, REPORT, "run", "1 theorems")
+    return held and "\nplain_run : " in (room / "WorkedCases" / "Cases.antt").read_text()
 
 
 def main() -> int:
@@ -161,9 +161,8 @@ def main() -> int:
         (room / "program").write_text(PROGRAM)
         (room / "program").chmod(0o755)
         held = [table_holds(room, table, part) for table, part in TABLES.items()]
-        held += [case_holds(room, room / "case.run", *case) for case in CASES]
-        (room / "cases" / "one.table").unlink()
-        held.append(folder_holds(room))
+        held += [case_holds(room, room / "case.run.case", *case) for case in CASES]
+        held.append(names_hold(room))
     print(f"{held.count(True)} passed, {held.count(False)} failed")
     return 0 if all(held) else 1
 

@@ -21,6 +21,8 @@ from pathlib import Path
 
 # what starts this leaves its folder out of Python's path
 sys.path.insert(0, str(Path(__file__).resolve().parent))
+import case_file  # noqa: E402
+from case_file import CaseError  # noqa: E402
 from report_terms import cut_term, end_term, rises_term, run_term  # noqa: E402
 from script_terms import Reader  # noqa: E402
 from terms import UnknownWord, among, apply  # noqa: E402
@@ -69,7 +71,7 @@ def rule_of(a: argparse.Namespace) -> str:
 
 
 @dataclass
-class Case:
+class Accepted:
     """An accepted case: the text of its script, its arguments, and the lines of its text report."""
 
     script: str
@@ -84,24 +86,24 @@ def lines_of_object(text: str, version: str) -> list[str]:
     return report["lines"]
 
 
-def case_at(path: Path, most_steps: int) -> Case | str:
-    """The case of a script's file, or why it is left out."""
-    given, told, status = (path.with_suffix(ending) for ending in (".args", ".stdout", ".status"))
+def accepted_at(path: Path, most_steps: int) -> Accepted | str:
+    """The accepted case in a file, or why it is left out."""
+    case = case_file.read(path)
     if path.stem.split(".")[-1] not in TASKS:
         return "no report"
-    if not told.exists():
+    if case.stdout is None:
         return "its whole output isn't given"
-    if status.read_text().strip() not in ("0", "1", "3"):
+    if case.status not in (0, 1, 3):
         return "not accepted"
-    a, files = arguments_of(given.read_text().split())
-    script = TOP / files[0] if files else path
-    version = "3" if a.task == "lengths" else "2"
-    report = lines_of_object(told.read_text(), version) if a.json else told.read_text().removesuffix("\n").split("\n")
+    a, files = arguments_of(case.args)
+    script = (TOP / files[0]).read_bytes() if files else case.script
+    version, told = "3" if a.task == "lengths" else "2", case.stdout.decode()
+    report = lines_of_object(told, version) if a.json else told.removesuffix("\n").split("\n")
     if a.task == "run" and int(report[-1].removeprefix("steps ")) > most_steps:
         return f"more than {most_steps} steps"
     if a.task == "lengths" and sum(line.startswith("from ") for line in report) > MOST_RANGES:
         return f"more than {MOST_RANGES} ranges of lengths"
-    return Case(script.read_bytes().decode(), a, report)
+    return Accepted(script.decode(), a, report)
 
 
 # The failures that a sweep tries, by the word of the line that says that none was found.
@@ -188,14 +190,14 @@ CLAIMS = {"sweep": sweep_claims, "check": check_claims}
 
 TASKS = ("run", "size", "lengths", *CLAIMS)
 
-# Folders of cases that are left out. Tables of small cases are no `.oom` files, and so are left out too.
+# Folders of cases that are left out. Tables of small cases are no case files, and so are left out too.
 LEFT_OUT = {
     "explained",  # what stands on standard error, of which no theorem speaks
     "limits",  # scripts that are as long as they may be, each of them a long term
 }
 
 
-def theorem(name: str, case: Case) -> str:
+def theorem(name: str, case: Accepted) -> str:
     """A case as antt text: its script, its claims and their proof."""
     a, script = case.arguments, "script_" + name
     given = f"{a.budget} (shaped {a.min} {a.step})"
@@ -216,27 +218,21 @@ def theorem(name: str, case: Case) -> str:
     )
 
 
-def name_of(script: Path) -> str:
-    """The name of a case's theorem: that of its file, or of its folder and its file where a folder is one case."""
-    stem = script.stem if "." in script.stem else f"{script.parent.name}.{script.stem}"
-    name = re.sub(r"[^A-Za-z0-9]", "_", stem)
+def name_of(path: Path) -> str:
+    """The name of a case's theorem: that of its file."""
+    name = re.sub(r"[^A-Za-z0-9]", "_", path.stem)
     return name if name[0].isalpha() else "case_" + name
 
 
-def subject_of(script: Path) -> str:
-    """What a case is about: the name of its folder, which may hold other cases."""
-    return script.parent.name if "." in script.stem else script.parent.parent.name
-
-
 def theorems_of(paths: list[Path], most_steps: int) -> tuple[dict[str, dict[str, str]], Counter[str]]:
-    """The theorems of these cases by what they are about and their names, and how many cases are left out for which reason."""
+    """The theorems of these cases by their folders' names and their own, and how many cases are left out for which reason."""
     theorems: dict[str, dict[str, str]] = {}
     left_out: Counter[str] = Counter()
     for path in paths:
         try:
-            case = case_at(path, most_steps)
-        except UnknownWord as unknown:
-            sys.exit(f"{path}: {unknown}")
+            case = accepted_at(path, most_steps)
+        except (CaseError, UnknownWord) as fault:
+            sys.exit(f"{path}: {fault}")
         if isinstance(case, str):
             left_out[case] += 1
             continue
@@ -244,7 +240,7 @@ def theorems_of(paths: list[Path], most_steps: int) -> tuple[dict[str, dict[str,
         if any(name in some for some in theorems.values()):
             sys.exit(f"two cases are called {name}")
         try:
-            theorems.setdefault(subject_of(path), {})[name] = theorem(name, case)
+            theorems.setdefault(path.parent.name, {})[name] = theorem(name, case)
         except UnknownWord as unknown:
             sys.exit(f"{path}: {unknown}")
     return theorems, left_out
@@ -257,13 +253,12 @@ def main() -> int:
         epilog="Check the crate then. Its proofs/Lib.antt names the module WorkedCases.",
     )
     parser.add_argument("crate", type=Path, help="the folder of the crate that holds the definitions")
-    parser.add_argument("cases", type=Path, nargs="+", help="scripts, or folders of cases")
+    parser.add_argument("cases", type=Path, nargs="+", help="case files, or folders of them")
     parser.add_argument("--out", type=Path, help="the folder to write into, in place of the crate's proofs/")
     parser.add_argument("--most-steps", type=int, default=100000, help="leave out longer runs, which may pass the checker's limits")
     parser.add_argument("--compare", action="store_true", help="write nothing, and fail where the files hold something else")
     chosen = parser.parse_args()
-    paths = [file for path in chosen.cases for file in ([path] if path.is_file() else sorted(path.rglob("*.oom")))]
-    paths = [path for path in paths if not LEFT_OUT.intersection(path.parts)]
+    paths = [path for path in case_file.files_in(chosen.cases) if not LEFT_OUT.intersection(path.parts)]
     theorems, left_out = theorems_of(paths, chosen.most_steps)
     files = files_of(chosen.crate.resolve(), theorems)
     folder = chosen.out or chosen.crate / "proofs"

@@ -4,8 +4,8 @@
     tools/failing_allocations.py PROGRAM SCRIPT..
     tools/failing_allocations.py --same PROGRAM
 
-A script with its arguments in a file `STEM.args` beside it is a case, and is given on standard input; of another one the program is
-asked to `check` the file. For each number up to that of its last allocation the program runs once in each of the three ways. Each of
+The program is asked to `check` a script; a case file (`cases/README.md`) has arguments of its own, and its script is given on standard
+input. For each number up to that of its last allocation the program runs once in each of the three ways. Each of
 these runs must write the report that it writes with enough memory and end with its status, or write the line `no memory` and end with 4,
 or end with 4 before anything is read, where the command line itself finds no memory, and write nothing; nothing else may come of it.
 Standard error must have what it has with enough memory, or nothing, or that there is no memory for the command; or less: where no memory
@@ -31,6 +31,7 @@ from itertools import zip_longest
 from pathlib import Path
 from typing import NamedTuple
 
+import case_file
 from crates import processors
 
 SOURCE = Path(__file__).resolve().parent / "failing_allocation.c"
@@ -76,10 +77,10 @@ class Trial:
 
     def __init__(self, program: Path, script: Path, room: Path) -> None:
         self.program, self.library, self.count = program, room / "failing_allocation.so", room / f"{script.stem}.count"
-        arguments = script.with_suffix(".args")
-        is_case = arguments.exists()
-        self.words = arguments.read_text().splitlines() if is_case else ["check", str(script)]
-        self.given = script.read_bytes() if is_case else b""
+        self.words, self.given = ["check", str(script)], b""
+        if script.suffix == case_file.SUFFIX:
+            case = case_file.read(script)
+            self.words, self.given = case.args, case.script
 
     def world(self, how: str, fail_at: int) -> dict[str, str]:
         """The environment in which the allocation with this number fails in this way; none does at 0."""

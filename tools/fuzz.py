@@ -18,6 +18,7 @@ from concurrent.futures import ProcessPoolExecutor
 from functools import partial
 from pathlib import Path
 
+import case_file
 from crates import ROOT, processors
 
 WORDS = re.compile(rb"[^ \n]+")
@@ -31,8 +32,9 @@ COMMANDS = ((["check", "--budget", "200"], 1), (["check", "--budget", "200", "--
 
 def seeds() -> list[bytes]:
     """The scripts of the cases and examples, but for the largest."""
-    files = [*sorted((ROOT / "cases").rglob("*.oom")), *sorted((ROOT / "examples").glob("*.oom"))]
-    return [text for text in (file.read_bytes() for file in files) if 0 < len(text) <= 4000]
+    scripts = [case_file.read(it).script for it in case_file.files_in([ROOT / "cases"])]
+    scripts += [it.read_bytes() for it in sorted((ROOT / "examples").glob("*.oom"))]
+    return [text for text in scripts if 0 < len(text) <= 4000]
 
 
 def damaged(chance: random.Random, scripts: list[bytes], words: list[bytes]) -> bytes:

@@ -15,7 +15,9 @@ from typing import Any
 
 # what starts this leaves its folder out of Python's path
 sys.path.insert(0, str(Path(__file__).resolve().parent))
-from run_cases import report_fault, run_case  # noqa: E402
+import case_file  # noqa: E402
+from case_file import CaseError  # noqa: E402
+from run_cases import answer_to, fault_of  # noqa: E402
 
 
 def ways_to_lose() -> Iterator[tuple[str, dict[str, Any]]]:
@@ -29,17 +31,25 @@ def ways_to_lose() -> Iterator[tuple[str, dict[str, Any]]]:
     os.close(write_end)
 
 
+def fault_with(program: Path, file: Path, streams: dict[str, Any]) -> str | None:
+    """What is wrong with the answer to a case where standard error is this stream, or None."""
+    try:
+        case = case_file.read(file)
+        return fault_of(case, answer_to(program, case.args, case.script, **streams), has_messages=False)
+    except CaseError as error:
+        return str(error)
+
+
 def main() -> int:
     """Runs each case in each way, names those that fail, and prints the totals."""
     if len(sys.argv) != 3:
         sys.exit(__doc__)
     program, folder = Path(sys.argv[1]).resolve(), Path(sys.argv[2]).resolve()
-    root = Path(__file__).resolve().parent.parent
-    cases, failed = sorted(folder.rglob("*.oom")), set()
+    cases, failed = case_file.files_in([folder]), set()
     for way, streams in ways_to_lose():
         for case in cases:
-            if (fault := report_fault(case, run_case(program, case, root, **streams))) is not None:
-                print(f"{case.relative_to(folder).with_suffix('')}: standard error {way}: {fault}")
+            if (fault := fault_with(program, case, streams)) is not None:
+                print(f"{case.relative_to(folder)}: standard error {way}: {fault}")
                 failed.add(case)
     print(f"{len(cases) - len(failed)} passed, {len(failed)} failed")
     return 1 if failed or not cases else 0

@@ -17,6 +17,8 @@ from collections.abc import Callable, Iterator
 from pathlib import Path
 from typing import NamedTuple
 
+import case_file
+
 ROOT = Path(__file__).resolve().parent.parent
 WANTED = 200
 LEAST = 180
@@ -144,11 +146,17 @@ MAKERS: list[Maker] = [
 ]
 
 
-def mistakes(sources: list[Path]) -> Iterator[Mistake]:
+def sources() -> list[str]:
+    """The scripts of the examples and of the guide's cases."""
+    cases = [case_file.read(it).script.decode() for it in case_file.files_in([ROOT / "cases/guide"])]
+    return [it.read_text() for it in sorted((ROOT / "examples").glob("*.oom"))] + [it for it in cases if it.strip()]
+
+
+def mistakes(scripts: list[str]) -> Iterator[Mistake]:
     """Mistakes without end, each in another script than the one before, of another sort, and further on."""
     turn = 0
     while True:
-        lines = sources[turn % len(sources)].read_text().splitlines()
+        lines = scripts[turn % len(scripts)].splitlines()
         made = MAKERS[turn % len(MAKERS)](lines, turn * 7 % len(lines), turn // len(MAKERS))
         turn += 1
         if made is not None:
@@ -173,12 +181,9 @@ def main() -> int:
     parser = argparse.ArgumentParser(description=__doc__.splitlines()[0])
     parser.add_argument("program", type=Path)
     program = parser.parse_args().program.resolve()
-    sources = sorted((ROOT / "examples").glob("*.oom")) + sorted(
-        file for file in (ROOT / "cases/guide").glob("*.oom") if file.read_text().strip()
-    )
     refused = named = 0
     with tempfile.TemporaryDirectory() as folder:
-        for made in mistakes(sources):
+        for made in mistakes(sources()):
             status, explanation = told(program, folder, made)
             if status != REFUSED:
                 continue
