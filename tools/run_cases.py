@@ -12,10 +12,8 @@ never written. The last line is `N passed, M failed`; a case that is written has
 import argparse
 import subprocess
 import sys
-from collections.abc import Iterator
 from dataclasses import dataclass, replace
 from difflib import unified_diff
-from itertools import islice
 from pathlib import Path
 from typing import Any
 
@@ -43,9 +41,9 @@ class Answer:
 
 def answer_to(program: Path, args: list[str], script: bytes, **streams: Any) -> Answer:
     """What a program answers to a script on standard input, with these streams where they are not pipes."""
-    pipes = {"stdout": subprocess.PIPE, "stderr": subprocess.PIPE}
+    how: dict[str, Any] = {"stdout": subprocess.PIPE, "stderr": subprocess.PIPE} | streams
     try:
-        done = subprocess.run([program, *args], input=script, timeout=SECONDS, cwd=ROOT, **(pipes | streams))
+        done = subprocess.run([program, *args], input=script, timeout=SECONDS, cwd=ROOT, **how)
     except subprocess.TimeoutExpired:
         raise CaseError(f"no end after {SECONDS} seconds") from None
     return Answer(done.stdout, done.stderr or b"", done.returncode)
@@ -78,12 +76,14 @@ def fault_of(case: Case, answer: Answer, has_messages: bool = True) -> str | Non
     missing = first_missing(case.contains or [], answer.output)
     if answered == case:
         return missing
-    return "\n".join([*([missing] if missing else []), "another answer:", *islice(difference(case, answered), MOST_LINES)])
+    return "\n".join([*([missing] if missing else []), "another answer:", *difference(case, answered)])
 
 
-def difference(case: Case, other: Case) -> Iterator[str]:
-    """The lines by which two cases differ, as they stand in their files."""
-    return unified_diff(shown_lines(case), shown_lines(other), "as the case says", "as the program answers", lineterm="")
+def difference(case: Case, other: Case) -> list[str]:
+    """The lines by which two cases differ, as they stand in their files; not all if they are very many."""
+    lines = list(unified_diff(shown_lines(case), shown_lines(other), "as the case says", "as the program answers", lineterm=""))
+    rest = len(lines) - MOST_LINES
+    return lines[:MOST_LINES] + ([f"and {rest} further lines"] if rest > 0 else [])
 
 
 def shown_lines(case: Case) -> list[str]:

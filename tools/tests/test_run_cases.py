@@ -84,6 +84,12 @@ class WhatIsSaid(OfCases):
         self.assertEqual(self.said(), (1, f"{file}: another answer:{DIFFERENCE}0 passed, 1 failed\n"))
         self.assertEqual(read(file), WRONG)
 
+    def test_a_long_difference(self) -> None:
+        self.put(replace(RIGHT, stdout=b"leak\n" * 200 + RIGHT.stdout))
+        lines = self.said()[1].splitlines()
+        self.assertEqual(lines[-2:], ["and 109 further lines", "0 passed, 1 failed"])
+        self.assertEqual(len(lines), 103)
+
     def test_each_part_of_an_answer(self) -> None:
         for wrong, line in (
             (replace(RIGHT, stdout=b""), "+leaks 1"),
