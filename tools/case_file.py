@@ -24,7 +24,7 @@ LIKE_A_HEADER = re.compile(rb"^-- .* --$", re.MULTILINE)
 
 
 class CaseError(Exception):
-    """Why a file is no case."""
+    """Why something is no case, with the name of its file if it was read from one."""
 
 
 @dataclass(frozen=True)
@@ -131,6 +131,14 @@ def write(path: Path, case: Case) -> None:
 
 def read(path: Path) -> Case:
     """The case in a file."""
+    try:
+        return case_of(texts_in(path))
+    except CaseError as error:
+        raise CaseError(f"{path}: {error}") from None
+
+
+def texts_in(path: Path) -> dict[str, bytes]:
+    """The texts of the sections that a file has."""
     held = path.read_bytes()
     if not PLAIN.fullmatch(held) or not is_whole(held):
         raise CaseError("there are bytes other than printable ASCII, tabs and line feeds, or the last line has no line feed")
@@ -142,7 +150,7 @@ def read(path: Path) -> Case:
         if texts and SECTIONS.index(name) <= SECTIONS.index(list(texts)[-1]):
             raise CaseError(f"the section {name} stands a second time, or behind {list(texts)[-1]}")
         texts[name] = text_under(path, name, remark, text.encode())
-    return case_of(texts)
+    return texts
 
 
 def parts_of(held: str) -> list[tuple[str, str]]:

@@ -231,8 +231,10 @@ def theorems_of(paths: list[Path], most_steps: int) -> tuple[dict[str, dict[str,
     for path in paths:
         try:
             case = accepted_at(path, most_steps)
-        except (CaseError, UnknownWord) as fault:
-            sys.exit(f"{path}: {fault}")
+        except CaseError as error:
+            sys.exit(str(error))
+        except UnknownWord as unknown:
+            sys.exit(f"{path}: {unknown}")
         if isinstance(case, str):
             left_out[case] += 1
             continue

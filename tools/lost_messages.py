@@ -17,7 +17,7 @@ from typing import Any
 sys.path.insert(0, str(Path(__file__).resolve().parent))
 import case_file  # noqa: E402
 from case_file import CaseError  # noqa: E402
-from run_cases import answer_to, fault_of  # noqa: E402
+from run_cases import NoAnswer, answer_to, fault_of  # noqa: E402
 
 
 def ways_to_lose() -> Iterator[tuple[str, dict[str, Any]]]:
@@ -36,7 +36,7 @@ def fault_with(program: Path, file: Path, streams: dict[str, Any]) -> str | None
     try:
         case = case_file.read(file)
         return fault_of(case, answer_to(program, case.args, case.script, **streams), has_messages=False)
-    except CaseError as error:
+    except (CaseError, NoAnswer) as error:
         return str(error)
 
 

@@ -12,6 +12,7 @@ never written. The last line is `N passed, M failed`; a case that is written has
 import argparse
 import subprocess
 import sys
+from collections.abc import Iterator
 from dataclasses import dataclass, replace
 from difflib import unified_diff
 from pathlib import Path
@@ -30,6 +31,10 @@ SECONDS = 120
 MOST_LINES = 100
 
 
+class NoAnswer(Exception):
+    """That a program takes too long."""
+
+
 @dataclass(frozen=True)
 class Answer:
     """What a program writes, and its status."""
@@ -45,7 +50,7 @@ def answer_to(program: Path, args: list[str], script: bytes, **streams: Any) -> 
     try:
         done = subprocess.run([program, *args], input=script, timeout=SECONDS, cwd=ROOT, **how)
     except subprocess.TimeoutExpired:
-        raise CaseError(f"no end after {SECONDS} seconds") from None
+        raise NoAnswer(f"no end after {SECONDS} seconds") from None
     return Answer(done.stdout, done.stderr or b"", done.returncode)
 
 
@@ -118,28 +123,29 @@ def told_of_case(program: Path, file: Path, is_writing: bool) -> tuple[bool, str
         answer = answer_to(program, case.args, case.script)
     except CaseError as error:
         return False, str(error)
+    except NoAnswer as error:
+        return False, f"{file}: {error}"
     fault = fault_of(case, answer)
     if fault is None or not is_writing:
-        return fault is None, fault or ""
+        return fault is None, f"{file}: {fault}" if fault else ""
     case_file.write(file, with_answer(case, answer))
-    return first_missing(case.contains or [], answer.output) is None, f"written: {fault}"
+    return first_missing(case.contains or [], answer.output) is None, f"{file}: written: {fault}"
 
 
-def told_of_table(program: Path, table: Path) -> list[tuple[str, str]]:
-    """The rows of a table, each with what is wrong with the answer to it, or nothing."""
+def told_of_rows(program: Path, table: Path) -> Iterator[str]:
+    """What is wrong with the answer to each row of a table, or nothing."""
     try:
         rows = case_tables.rows_of(table)
     except CaseError as error:
-        return [(str(table), str(error))]
-    told = []
+        yield str(error)
+        return
     for row in rows:
         try:
             answer = answer_to(program, row.words, row.script)
             fault = case_tables.row_fault(row, answer.status, answer.output, answer.messages)
-        except CaseError as error:
+        except NoAnswer as error:
             fault = str(error)
-        told.append((row.place, fault or ""))
-    return told
+        yield f"{row.place}: {fault}" if fault else ""
 
 
 def main() -> int:
@@ -157,12 +163,12 @@ def main() -> int:
         is_fine, said = told_of_case(program, file, chosen.write)
         passed, failed = passed + is_fine, failed + (not is_fine)
         if said:
-            print(f"{file}: {said}")
+            print(said)
     for table in case_file.files_in(chosen.cases, case_tables.SUFFIX):
-        for place, fault in told_of_table(program, table):
+        for fault in told_of_rows(program, table):
             passed, failed = passed + (not fault), failed + bool(fault)
             if fault:
-                print(f"{place}: {fault}")
+                print(fault)
     print(f"{passed} passed, {failed} failed")
     return 1 if failed or not passed else 0
 

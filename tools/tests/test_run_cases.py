@@ -7,10 +7,12 @@ import tempfile
 import unittest
 from dataclasses import replace
 from pathlib import Path
+from unittest.mock import patch
 
 TOOLS = Path(__file__).resolve().parent.parent
 # what starts this leaves the tools' folder out of Python's path
 sys.path.insert(0, str(TOOLS))
+import run_cases  # noqa: E402
 from case_file import Case, read, write  # noqa: E402
 
 # answers the script that it is given: the first byte is the status, the rest goes to standard output, and its words to standard error
@@ -115,6 +117,15 @@ class WhatIsSaid(OfCases):
         self.assertEqual((status, said.splitlines()[-1]), (1, "1 passed, 2 failed"))
         self.assertIn("two.run.case: there is no section args\n", said)
         self.assertIn("some.table:1: no row follows\n", said)
+
+    def test_a_program_that_does_not_end(self) -> None:
+        self.program.write_text(f"#!{sys.executable}\nimport time\ntime.sleep(60)\n", encoding="utf-8")
+        (self.cases / "some.table").write_text("answer: 0\n    1\n", encoding="ascii")
+        file = self.put(RIGHT)
+        with patch.object(run_cases, "SECONDS", 0.2):
+            self.assertEqual(run_cases.told_of_case(self.program, file, False), (False, f"{file}: no end after 0.2 seconds"))
+            said = list(run_cases.told_of_rows(self.program, self.cases / "some.table"))
+        self.assertEqual(said, [f"{self.cases / 'some.table'}:2: no end after 0.2 seconds"])
 
     def test_files_of_no_case(self) -> None:
         self.put(replace(RIGHT, script=b"1\r", stdout=b"\r"))
