@@ -3,11 +3,13 @@
 
     tools/pictures.py PROGRAM [--write]
 
-Each example has its picture in docs/pictures, which must be the one that the program draws; --write writes them anew. A table of scripts
-says which shapes their pictures must have, and another how many steps their columns are. Each picture must be well-formed XML of a few elements, and the report, the messages and the
-status beside it those without a picture. Where it can't be written, the status must be 5, the last message must say why, and no file may
-be another than before: neither the script, nor a file that is no picture, nor what the report went to. Pictures of
-long runs must be no longer than 5 MiB; how long they are, and how many seconds they took, is printed.
+The pictures of all examples are compared with the reports of their runs (picture_reports.py). Some are kept in docs/pictures, and must
+be those that the program draws, byte for byte; --write writes them anew. These are the pictures that pages show, and some of other kinds. A
+table of scripts says which shapes their pictures must have, and another how many steps their columns are. Each picture must be
+well-formed XML of a few elements, and the report, the messages and the status beside it those without a picture. Where it can't be
+written, the status must be 5, the last message must say why, and no file may be another than before: neither the script, nor a file
+that is no picture, nor what the report went to. Pictures of long runs must be no longer than 5 MiB; how long they are, and how many
+seconds they took, is printed.
 The last line is `N passed, M failed`.
 """
 
@@ -21,16 +23,30 @@ import sys
 import tempfile
 import time
 import xml.etree.ElementTree as ET
-from collections.abc import Callable, Iterator
+from collections.abc import Callable
 from pathlib import Path
 from typing import NamedTuple
 
+# what starts this leaves its folder out of Python's path
+sys.path.insert(0, str(Path(__file__).resolve().parent))
+from picture_file import Picture  # noqa: E402
+from picture_reports import faults_of as picture_faults  # noqa: E402
+from picture_scripts import COLUMNS, LEAK, LONG, TABLE, Row, of_steps  # noqa: E402
+
 ROOT = Path(__file__).resolve().parent.parent
 KEPT = ROOT / "docs" / "pictures"
-SVG = "{http://www.w3.org/2000/svg}"
-ELEMENTS = {f"{SVG}{it}" for it in ("svg", "title", "style", "rect", "path", "text")}
 NOT_WRITTEN = 5
 MOST_BYTES = 5 << 20
+
+# the examples whose pictures are kept beside those that pages show, and the kind that each is of
+KINDS = {
+    "clean-up-fails": "two attempts that fail",
+    "double-delete": "a panic, with objects, TRAPs and cleanup items",
+    "fallback-leaks": "a rate, and cells too low to have a frame",
+    "hole-reused": "a cell that moves",
+    "test-loop": "marks, and attempts that the script makes fail",
+}
+SHOWN = re.compile(r"!\[[^]]*\]\([./\w]*pictures/([^)]*)\.svg\)")
 
 # the examples that show nothing where a single attempt fails are drawn in another way
 OTHERWISE = {
@@ -41,110 +57,6 @@ OTHERWISE = {
     "loader-leaks": ["lengths"],
     "loader-leaks-mended": ["lengths"],
 }
-
-
-class Row(NamedTuple):
-    """A script, the words that draw it, how many rectangles of cells its picture has, and which shapes by the beginnings of their titles."""
-
-    name: str
-    words: str
-    script: str
-    cells: int
-    rectangles: dict[str, int]
-    lines: dict[str, int] = {}
-
-
-def of_steps(last: int, is_leaking: bool) -> str:
-    """A script whose run takes so many steps. If it is to, it leaks where its second request fails, and takes no more steps then."""
-    leak = ["alloc a 16", "alloc b 16", "if some b", "free a", "end", "free b"] if is_leaking else []
-    # all of these lines but the end of the block are steps
-    turns, rest = divmod(last - 1 - max(0, len(leak) - 1), 2)
-    lines = ["ptr a", "ptr b", "int n", f"repeat {turns}", "add n 1", "end", *["add n 1"] * rest, *leak]
-    return "\n".join(["proc main", *lines, "end\n"])
-
-
-def example(name: str) -> str:
-    """The text of an example."""
-    return (ROOT / "examples" / f"{name}.oom").read_text(encoding="utf-8")
-
-
-LEAK = "proc main\nptr a\nalloc a 16\nend\n"
-MARKUP = 'class A 4\nfield t\nend\nproc main\nptr t\nhnew t 4\nappend t "</title></svg><script>&\' ]]>"\nend\n'
-TABLE = [
-    Row(
-        "a cell that is freed",
-        "run",
-        "proc main\nptr a\nalloc a 16\nfree a\nend\n",
-        2,
-        {"cell 1, the cleanup stack's own, 144 bytes at place 0": 1, "cell 2, raw, 32 bytes at place 144, granted by attempt 2 in step 1, freed in step 2": 1},
-        {"rise: attempt 1 made the heap 144 bytes long": 1, "rise: attempt 2 made the heap 176 bytes long": 1, "required 176": 1},
-    ),
-    Row("a leak", "run", LEAK, 2, {"leak: cell 2, raw, 32 bytes at place 144, granted by attempt 2 in step 1, never freed; line 3: alloc a 16": 1}),
-    Row(
-        "a cell that moves",
-        "run",
-        "proc main\nptr a\nptr b\nalloc a 16\nalloc b 16\nrealloc a a 100\nfree a\nfree b\nend\n",
-        4,
-        {"cell 2, raw, 32 bytes at place 144, granted by attempt 2 in step 1, moved away in step 3": 1, "cell 4, raw, 128 bytes at place 208, moved here by attempt 4": 1},
-        {"attempt 4 moved the cell from place 144 to place 208": 1},
-    ),
-    Row(
-        "a cell that grows at its place",
-        "run",
-        "proc main\nptr a\nalloc a 16\nrealloc a a 100\nfree a\nend\n",
-        3,
-        {"cell 2, raw, 32 bytes at place 144, granted by attempt 2 in step 1, given another length in step 2": 1, "cell 2, raw, 128 bytes at place 144, grown by attempt 3": 1},
-    ),
-    Row(
-        "a cell that becomes shorter",
-        "run",
-        "proc main\nptr a\nalloc a 100\nrealloc a a 16\nfree a\nend\n",
-        3,
-        {"cell 2, raw, 32 bytes at place 144, made shorter in step 2, freed in step 3": 1},
-    ),
-    Row(
-        "a cleanup stack that grows",
-        "run",
-        "proc main\nptr a\n" + "alloc a 16\npush a\n" * 8 + "popdestroy 8\nend\n",
-        10,
-        {"cell 1, the cleanup stack's own, 144 bytes at place 0": 1, "cell 10, the cleanup stack's own": 1, "cleanup: 8": 1},
-        {"attempt 10 moved the cell from place 0": 1},
-    ),
-    Row("an object", "run", "class Note 4\nfield text\nend\nproc main\nptr n Note\nnew n Note\ndelete n\nend\n", 2, {"cell 2, object of class Note": 1}),
-    Row("a TRAP", "run", "proc main\nint e\ntrap e\nleave -4\nend\nend\n", 1, {"TRAPs: 1": 1}),
-    Row("an attempt that was made to fail", "run --fail 2", LEAK, 1, {"attempt 2, made to fail: 32 bytes at place 144": 1}, {"attempt 2, made to fail": 1}),
-    Row("a limit", "run --limit 160", LEAK, 1, {"attempt 2, refused by the limit": 1}, {"limit 160": 1}),
-    Row(
-        "two failures",
-        "sweep --pairs",
-        example("clean-up-fails"),
-        5,
-        {"attempt 3, made to fail": 1, "attempt 4, made to fail": 1, "leak: cell 2": 1},
-        {"attempt 3, in step": 2},
-    ),
-    Row("a cut", "run --budget 50", "proc main\nint n\nrepeat 100\nadd n 1\nend\nend\n", 1, {}, {"cut at the budget": 1}),
-    Row("a table", "size", LEAK, 2, {"from 0 refuses 1": 1, "from 144 refuses 2; line 3": 1}),
-    Row(
-        "heaps of every length",
-        "lengths",
-        "proc main\nptr a\nptr b\nalloc a 16\nalloc b 100\nif some b\nfree a\nfree b\nend\nend\n",
-        5,
-        {"from 0 no cleanup stack": 1, "from 144 ended": 1, "from 176 1 leak": 1, "from 304 ended": 1, "leak: cell 2": 1, "attempt 3, refused by the limit": 1},
-        {"attempt 3, in step": 2, "required 304": 1, "limit 176": 1, "longest 176": 1},
-    ),
-    Row("heaps that show nothing", "lengths", "proc main\nend\n", 1, {"from 0 no cleanup stack": 1, "from 144 ended": 1}, {"required 144": 1, "limit": 0}),
-    Row("text of a user", "run", MARKUP, 2, {"leak": 0}, {"panic USER 11; line 7: append t \"</title></svg><script>&' ]]>\"": 1}),
-]
-
-# scripts with long runs, and one that fills the longest heap
-LONG = {
-    "a million steps": "proc main\nptr a\nrepeat 333333\nalloc a 100\nfree a\nend\nend\n",
-    "half a million attempts": "proc main\nptr a\nrepeat 499999\nalloc a 16\nend\nend\n",
-    "the ceiling of the heap": "proc main\nptr a\nrepeat 17\nalloc a 1048576\nend\nend\n",
-}
-
-# how many steps a column is, by the number of the last step: a picture has at most 2,000 columns, from step 0 on, or 1,000 of two runs
-COLUMNS = {False: {1_999: 1, 2_000: 2, 3_999: 2, 4_000: 3, 5_999: 3, 6_000: 4}, True: {999: 1, 1_000: 2, 1_999: 2, 2_000: 3}}
 
 UNWRITABLE = {
     "none/heap.svg": "no such directory",
@@ -175,29 +87,10 @@ class Answer(NamedTuple):
     status: int
 
 
-class Picture:
-    """A picture that the program drew."""
-
-    def __init__(self, text: str) -> None:
-        self.text = text
-        self.root = ET.fromstring(text)
-
-    def shapes(self, tag: str) -> Iterator[ET.Element]:
-        """The shapes with a tag that have a title."""
-        return (it for it in self.root.iter(f"{SVG}{tag}") if it.find(f"{SVG}title") is not None)
-
-    def titles(self, tag: str) -> list[str]:
-        """The titles of these shapes."""
-        return [it.findtext(f"{SVG}title") or "" for it in self.shapes(tag)]
-
-    def cells(self) -> int:
-        """How many rectangles are cells."""
-        return sum(it.get("class", "").split()[0] in ("cell", "thin") for it in self.shapes("rect"))
-
-    def is_plain(self) -> bool:
-        """Whether it has only the elements of a picture, and is named for those who don't see it."""
-        names = {it.tag for it in self.root.iter()}
-        return names <= ELEMENTS and self.root.get("role") == "img" and bool(self.root.get("aria-label"))
+def shown_pictures() -> set[str]:
+    """The names of the pictures that pages show."""
+    pages = [ROOT / "README.md", *(ROOT / "docs").glob("*.md"), *(ROOT / "examples").glob("*.md")]
+    return {name for page in pages for name in SHOWN.findall(page.read_text(encoding="utf-8"))}
 
 
 class Pictures:
@@ -215,7 +108,7 @@ class Pictures:
             print(f"FAILED: {what}")
 
     def run(self, words: list[str], script: str = "", before: Callable[[], None] | None = None) -> Answer:
-        """What the program answers, where file names start at the top of the repository. `before` is called in the process that becomes the program."""
+        """What the program answers, where file names start at the top of the repository. `before` is called in its process, before it."""
         ran = subprocess.run([self.program, *words], input=script.encode(), capture_output=True, cwd=ROOT, preexec_fn=before, check=False)
         return Answer(ran.stdout, ran.stderr, ran.returncode)
 
@@ -234,16 +127,29 @@ class Pictures:
         self.check(len(picture.text.encode()) <= MOST_BYTES, f"{what}: longer than {MOST_BYTES} bytes")
         return picture
 
-    def check_example(self, file: Path, is_writing: bool) -> None:
-        """The picture of an example must be the one that is kept."""
-        name = file.relative_to(ROOT)
-        words = [*OTHERWISE.get(file.stem, ["check"]), str(name)]
-        picture = self.draw(str(name), words)
+    def check_example(self, file: Path, is_kept: bool, is_writing: bool) -> None:
+        """The picture of an example must hold what the reports of its runs say, and if it is kept it must be that one."""
+        name = str(file.relative_to(ROOT))
+        words = OTHERWISE.get(file.stem, ["check"])
+        picture = self.draw(name, [*words, name])
+        if picture is None:
+            return
+        faults = list(picture_faults(picture, words[0], lambda words: self.run([*words, name]).output.decode().splitlines()))
+        self.check(not faults, "\n".join(f"{name}: {it}" for it in faults))
         kept = KEPT / f"{file.stem}.svg"
-        if picture and is_writing:
+        if is_kept and is_writing:
             kept.write_text(picture.text, encoding="utf-8")
-        is_kept = kept.exists() and picture is not None and kept.read_text(encoding="utf-8") == picture.text
-        self.check(is_kept, f"{kept.relative_to(ROOT)}: another picture is drawn; --write writes it anew")
+        if is_kept:
+            is_same = kept.exists() and kept.read_text(encoding="utf-8") == picture.text
+            self.check(is_same, f"{kept.relative_to(ROOT)}: another picture is drawn; --write writes it anew")
+
+    def check_examples(self, is_writing: bool) -> None:
+        """The pictures of all examples, of which those are kept that pages show or that are of a kind of their own."""
+        kept = shown_pictures() | set(KINDS)
+        for file in sorted((ROOT / "examples").glob("*.oom")):
+            self.check_example(file, file.stem in kept, is_writing)
+        held = {it.stem for it in KEPT.iterdir()}
+        self.check(held == kept, f"{KEPT.relative_to(ROOT)} holds other pictures than those that are to be kept: {sorted(held ^ kept)}")
 
     def check_row(self, row: Row) -> None:
         """A script of the table must have the shapes that its row names."""
@@ -323,7 +229,8 @@ class Pictures:
         with report.open("wb") as output:
             ran = subprocess.run([self.program, "run", "--picture", report, script], stdout=output, stderr=subprocess.PIPE, check=False)
         said = plain.messages + f"workbench: {report}: {REPORT_ITSELF}\n".encode()
-        self.check((report.read_bytes(), ran.stderr, ran.returncode) == (plain.output, said, NOT_WRITTEN), f"a picture in the report: {ran}")
+        is_fine = (report.read_bytes(), ran.stderr, ran.returncode) == (plain.output, said, NOT_WRITTEN)
+        self.check(is_fine, f"a picture in the report: {ran}")
         with script.open("rb") as given:
             ran = subprocess.run([self.program, "run", "--picture", script], stdin=given, capture_output=True, check=False)
         self.check(ran.returncode == NOT_WRITTEN and SCRIPT_ITSELF.encode() in ran.stderr, f"a picture in standard input: {ran}")
@@ -394,8 +301,7 @@ def main() -> None:
     KEPT.mkdir(exist_ok=True)
     with tempfile.TemporaryDirectory() as folder:
         pictures = Pictures(given.program.resolve(), Path(folder))
-        for file in sorted((ROOT / "examples").glob("*.oom")):
-            pictures.check_example(file, given.write)
+        pictures.check_examples(given.write)
         for row in TABLE:
             pictures.check_row(row)
         pictures.check_names()

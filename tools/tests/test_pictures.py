@@ -9,7 +9,8 @@ from pathlib import Path
 
 # what starts this leaves the tools' folder out of Python's path
 sys.path.insert(0, str(Path(__file__).resolve().parent.parent))
-from pictures import Picture  # noqa: E402
+from picture_file import Picture  # noqa: E402
+from pictures import KEPT, KINDS, shown_pictures  # noqa: E402
 from workbench import reads_standard_input, script_in, with_whole_picture  # noqa: E402
 
 HEAD = '<svg xmlns="http://www.w3.org/2000/svg" role="img" aria-label="a heap"><title>a heap</title>'
@@ -36,6 +37,15 @@ class OfPictures(unittest.TestCase):
     def test_markup_that_is_not_escaped(self) -> None:
         with self.assertRaises(ET.ParseError):
             Picture(f"{HEAD}<rect><title></title></svg><script></title></rect></svg>")
+
+
+class OfKeptPictures(unittest.TestCase):
+    """Which pictures are kept."""
+
+    def test_those_of_pages_and_of_kinds(self) -> None:
+        self.assertIn("second-phase-leaks", shown_pictures())
+        self.assertFalse(shown_pictures() & set(KINDS))
+        self.assertEqual({it.name for it in KEPT.iterdir()}, {f"{it}.svg" for it in shown_pictures() | set(KINDS)})
 
 
 class OfWords(unittest.TestCase):

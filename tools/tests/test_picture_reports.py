@@ -1,0 +1,146 @@
+#!/usr/bin/env python3
+"""What is wrong with a picture that shows something else than the reports of its runs."""
+
+import sys
+import unittest
+from pathlib import Path
+
+TOOLS = Path(__file__).resolve().parent.parent
+# what starts this leaves the tools' folder out of Python's path
+sys.path.insert(0, str(TOOLS))
+from picture_file import Picture  # noqa: E402
+from picture_reports import faults_of, options_of, outcome_of, row_title  # noqa: E402
+
+PICTURE = (TOOLS.parent / "docs/pictures/second-phase-leaks.svg").read_text(encoding="utf-8")
+FIRST = ["attempt 1 length 144 place 0 granted", "attempt 2 length 48 place 144 granted"]
+REPORTS = {
+    "run": [*FIRST, "attempt 3 length 64 place 192 granted", "ended", "leaks 0", "steps 8"],
+    "run --fail 3": [*FIRST, "attempt 3 length 64 place 192 simulated", "left -4", "leaks 1", "leak 2 length 48 place 144", "steps 3"],
+    "size": ["required 256", "from 0 refuses 1", "from 144 refuses 2", "from 192 refuses 3", "enough from 256"],
+    "lengths": ["from 0 nocleanup", "from 144 left -4", "from 192 leaks 1", "from 256 ended", "length 192"],
+}
+
+
+class OfPictures(unittest.TestCase):
+    """A picture of two runs, and reports."""
+
+    def faults(self, picture: str = PICTURE, command: str = "check", reports: dict[str, list[str]] = REPORTS) -> list[str]:
+        """What is wrong with a picture beside these reports."""
+        return list(faults_of(Picture(picture), command, lambda words: reports[" ".join(words)]))
+
+    def with_other(self, words: str, old: str, new: str) -> list[str]:
+        """What is wrong with the picture where the report for these words has other text in the place of some."""
+        lines = [it.replace(old, new) for it in REPORTS[words]]
+        self.assertNotEqual(lines, REPORTS[words])
+        return self.faults(reports=REPORTS | {words: lines})
+
+    def assert_wrong(self, found: list[str], *parts: str) -> None:
+        """There must be one fault for each of these parts, with it."""
+        self.assertEqual(len(found), len(parts), found)
+        for fault, part in zip(found, parts):
+            self.assertIn(part, fault)
+
+    def assert_other(self, old: str, new: str, *parts: str) -> None:
+        """A picture in which something is changed must have these faults."""
+        self.assertEqual(PICTURE.count(old), 1)
+        self.assert_wrong(self.faults(PICTURE.replace(old, new)), *parts)
+
+    def test_the_picture_itself(self) -> None:
+        self.assertEqual(self.faults(), [])
+
+    def test_other_attempts(self) -> None:
+        for old, new in (("length 64", "length 80"), ("simulated", "refused")):
+            self.assert_wrong(self.with_other("run --fail 3", old, new), "attempts are", "failing attempts are")
+
+    def test_other_cells(self) -> None:
+        self.assert_wrong(self.with_other("run", "place 144", "place 160"), "attempts are", "cells are")
+
+    def test_other_leaks(self) -> None:
+        self.assert_wrong(self.with_other("run --fail 3", "leak 2", "leak 1"), "leaks are")
+
+    def test_other_ends(self) -> None:
+        found = self.with_other("run --fail 3", "left -4", "left -5")
+        self.assert_wrong(found, "the heading doesn't end with ': attempts 3, steps 3, left with -5, 1 leak'")
+
+    def test_other_lengths(self) -> None:
+        self.assert_wrong(self.with_other("size", "required 256", "required 272"), "lengths are")
+        self.assert_wrong(self.with_other("size", "refuses 2", "refuses 3"), "rows of the table are")
+
+    def test_a_table_of_ends(self) -> None:
+        self.assert_wrong(self.faults(command="lengths"), "rows of the table are")
+        ends = {"0 refuses 1": "0 no cleanup stack", "144 refuses 2": "144 left with -4", "192 refuses 3": "192 1 leak"}
+        picture = PICTURE
+        for old, new in ends.items():
+            picture = picture.replace(f"from {old}", f"from {new}")
+        self.assert_wrong(self.faults(picture, "lengths"), "'from 256 ended'")
+        self.assertEqual(self.faults(picture, "lengths", REPORTS | {"lengths": REPORTS["lengths"][:3]}), [])
+
+    def test_shapes_that_lack(self) -> None:
+        for begins, fault in (('<rect class="cell txt"', "cells are"), ('<path class="need strong" d="M76 78L', "lengths are")):
+            shape = next(it for it in PICTURE.splitlines(keepends=True) if it.startswith(begins))
+            self.assert_other(shape, "", fault)
+
+    def test_shapes_too_many(self) -> None:
+        rect = '<rect class="cell ob1" x="1" y="1" width="1" height="1"><title>cell 9</title></rect>'
+        last = '<text class="n" x="556" y="257">1</text>'
+        self.assert_other(last, last + rect, "a rectangle of a cell has the title of none")
+
+    def test_cells_in_a_wrong_place(self) -> None:
+        for old, new in (
+            ('x="182" y="139" width="747"', 'x="192" y="139" width="737"'),
+            ('x="396" y="78" width="533"', 'x="396" y="78" width="633"'),
+            ('y="139" width="747" height="46"', 'y="129" width="747" height="56"'),
+            ('y="78" width="533" height="61"', 'y="78" width="533" height="71"'),
+        ):
+            self.assert_other(old, new, "a cell is from")
+        self.assertEqual(self.faults(PICTURE.replace('y="139" width="747" height="46"', 'y="138" width="748" height="47"')), [])
+
+    def test_a_heading_of_no_rule(self) -> None:
+        picture = PICTURE.replace("The run in which attempt 3 fails", "The run of attempt 3")
+        self.assert_wrong(self.faults(picture), "no rule has the heading")
+
+    def test_no_panel(self) -> None:
+        self.assert_wrong(self.faults('<svg xmlns="http://www.w3.org/2000/svg"/>'), "it has no panel")
+
+
+class OfWordsInPictures(unittest.TestCase):
+    """What headings and tables say, and how reports say it."""
+
+    def test_rules(self) -> None:
+        for heading, options in (
+            ("The run without failure: attempts 1, steps 0, ended, no leaks", ""),
+            ("The run in which attempt 12 fails: attempts 12", "--fail 12"),
+            ("The run in which attempts 3 and 40 fail: attempts 40", "--fail 3 --also 40"),
+            ("The run in which every attempt fails whose number is a multiple of 2: attempts 4", "--every 2"),
+            ("The run in a heap of 176 bytes: attempts 5", "--limit 176"),
+        ):
+            self.assertEqual(options_of(heading), options.split())
+        self.assertIsNone(options_of("The run in which attempt 3 leaks: attempts 3"))
+
+    def test_ends(self) -> None:
+        for lines, end in (
+            ("ended/leaks 0/steps 1", "ended, no leaks"),
+            ("ended/leaks 1/leak 2 length 32 place 144/steps 1", "ended, 1 leak"),
+            ("left -4/leaks 2/leak 2 length 32 place 144/steps 1", "left with -4, 2 leaks"),
+            ("panic ALLOC 000000b0/steps 1", "panic ALLOC 000000b0"),
+            ("nocleanup/steps 0", "no cleanup stack"),
+            ("cut budget/steps 5", "cut at the budget"),
+        ):
+            self.assertEqual(outcome_of(["attempt 1 length 144 place 0 granted", *lines.split("/")]), end)
+
+    def test_rows(self) -> None:
+        for row, title in (
+            ("from 0 refuses 1", "from 0 refuses 1"),
+            ("from 0 nocleanup", "from 0 no cleanup stack"),
+            ("from 144 left -4", "from 144 left with -4"),
+            ("from 176 leaks 1", "from 176 1 leak"),
+            ("from 176 leaks 2", "from 176 2 leaks"),
+            ("from 176 panic USER 42", "from 176 panic USER 42"),
+            ("from 176 cut ceiling", "from 176 cut at the ceiling"),
+            ("from 1200 ended", "from 1200 ended"),
+        ):
+            self.assertEqual(row_title(row), title)
+
+
+if __name__ == "__main__":
+    unittest.main()
