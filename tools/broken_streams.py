@@ -1,16 +1,13 @@
-#!/usr/bin/env python3
-"""Runs the built program with broken input, output and words: what it answers, and that nothing but an exit ends it.
+"""Runs the program with broken input, output and words, and looks at what it answers.
 
-    tools/broken_streams.py PROGRAM
-
-Input is a directory, closed, empty, a pipe that comes in pieces or ends early, a FIFO, a file of 4 GiB or one that isn't there; output
-is closed, full, or a pipe that nobody reads, also where the input is broken too; words are very many, very long, or no UTF-8. A pipe that nobody reads is a write that fails
-like any other: the program isn't killed by SIGPIPE, whatever that signal was set to. The last line is `N passed, M failed`.
+Input is a directory, closed, empty, a pipe that comes in pieces or ends early, a FIFO, a file of 4 GiB or one that isn't there; output is
+closed, full, or a pipe that nobody reads, also where the input is broken too; words are very many, very long, or no UTF-8. A pipe that
+nobody reads is a write that fails like any other, and nothing but an exit ends the program: the program isn't killed by SIGPIPE, whatever
+that signal was set to.
 """
 
 import os
 import subprocess
-import sys
 import tempfile
 import threading
 import time
@@ -18,51 +15,56 @@ from collections.abc import Callable
 from pathlib import Path
 from typing import Any
 
+from tools.program import COMMAND_LINE_FAULT, FOUND, READ_OR_WRITE_FAULT, REFUSED, Answer, NoAnswer, Word, answer_of, program_parser
+from tools.tally import Tally
+
 SCRIPT = b"proc main\nptr a\nalloc a 16\nend\n"
-REPORT = b"attempt 1 length 144 place 0 granted\nattempt 2 length 32 place 144 granted\nended\nleaks 1\nleak 2 length 32 place 144\nsteps 1\n"
+ATTEMPTS = b"attempt 1 length 144 place 0 granted\nattempt 2 length 32 place 144 granted\n"
+REPORT = ATTEMPTS + b"ended\nleaks 1\nleak 2 length 32 place 144\nsteps 1\n"
 # the lengths, and then the same run
 LENGTHS = b"from 0 nocleanup\nfrom 144 ended\nfrom 176 leaks 1\nlength 176\n" + REPORT
-READ_FAULT = b"read fault\n"
+READ_FAULT = b"read fault\n", READ_OR_WRITE_FAULT
+UNWRITTEN = b"", READ_OR_WRITE_FAULT
+NO_COMMAND = b"", COMMAND_LINE_FAULT
 # how long a run may take, in seconds
 LIMIT = 5
 
-# what a run answers: standard output, or None where nothing can be read of it, and the status
-Answer = tuple[bytes | None, int]
+# what is looked at of an answer: one of its streams, nothing where that isn't read, and the status
+Told = tuple[bytes, int]
 
 
 class Runs:
     """Runs of a program, in a folder of their own."""
 
     def __init__(self, program: Path, room: Path) -> None:
-        self.program, self.room = program, room
-        self.passed = self.failed = 0
+        self.program, self.room, self.tally = program, room, Tally()
 
-    def run(self, *words: str | bytes, **streams: Any) -> Answer:
+    def answer(self, *words: Word, **streams: Any) -> Answer:
         """What a run with these words and streams answers."""
-        streams = {"stdout": subprocess.PIPE, "stderr": subprocess.PIPE} | streams
-        ran = subprocess.run([os.fsencode(self.program), *(os.fsencode(it) for it in words)], timeout=LIMIT, **streams)
-        return ran.stdout, ran.returncode
+        return answer_of(self.program, *words, script=SCRIPT, seconds=LIMIT, **streams)
 
-    def messages(self, *words: str, output: str) -> Answer:
+    def run(self, *words: Word, **streams: Any) -> Told:
+        """What a run writes to standard output, and its status."""
+        answer = self.answer(*words, **streams)
+        return answer.output, answer.status
+
+    def messages(self, *words: Word, output: str) -> Told:
         """What a run says on standard error, and its status, where its output goes to a file."""
         with open(output, "wb") as given:
-            ran = subprocess.run([self.program, *words], input=SCRIPT, stdout=given, stderr=subprocess.PIPE, timeout=LIMIT)
-        return ran.stderr, ran.returncode
+            answer = self.answer(*words, stdout=given)
+        return answer.messages, answer.status
 
     def file(self, name: str) -> str:
         """The path of a file in the room."""
         return str(self.room / name)
 
-    def check(self, what: str, wanted: Answer, run: Callable[[], Answer]) -> None:
+    def check(self, what: str, wanted: Told, run: Callable[[], Told]) -> None:
         """Counts whether a run answers as it must."""
         try:
-            answer = run()
-        except subprocess.TimeoutExpired:
-            answer = (b"no answer in time", -1)
-        self.passed += answer == wanted
-        self.failed += answer != wanted
-        if answer != wanted:
-            print(f"{what}: wanted {wanted}, got {answer}")
+            told: Told | NoAnswer = run()
+        except NoAnswer as late:
+            told = late
+        self.tally.check(told == wanted, f"{what}: wanted {wanted}, got {told}")
 
 
 def fed(path: str | int, pieces: list[bytes]) -> threading.Thread:
@@ -79,7 +81,7 @@ def fed(path: str | int, pieces: list[bytes]) -> threading.Thread:
     return writer
 
 
-def from_pipe(runs: Runs, pieces: list[bytes], command: str = "run") -> Answer:
+def from_pipe(runs: Runs, pieces: list[bytes], command: str = "run") -> Told:
     """What a script that comes in pieces is answered with."""
     reader, writer = os.pipe()
     thread = fed(writer, pieces)
@@ -89,7 +91,7 @@ def from_pipe(runs: Runs, pieces: list[bytes], command: str = "run") -> Answer:
     return answer
 
 
-def from_fifo(runs: Runs) -> Answer:
+def from_fifo(runs: Runs) -> Told:
     """What the script is answered with where it is read from a FIFO."""
     os.mkfifo(runs.file("fifo"))
     thread = fed(runs.file("fifo"), [SCRIPT])
@@ -98,51 +100,51 @@ def from_fifo(runs: Runs) -> Answer:
     return answer
 
 
-def to_nobody(runs: Runs, *words: str, restore: bool) -> Answer:
+def to_nobody(runs: Runs, *words: str, restore: bool) -> Told:
     """What comes of a report that goes to a pipe without a reader, with SIGPIPE as it is by default or ignored."""
     reader, writer = os.pipe()
     os.close(reader)
     with open(writer, "wb") as output:
-        return runs.run(*words, input=SCRIPT, stdout=output, restore_signals=restore)
+        return runs.run(*words, stdout=output, restore_signals=restore)
 
 
-def to_full_device(runs: Runs, *words: str) -> Answer:
+def to_full_device(runs: Runs, *words: str) -> Told:
     """What comes of a report for which there is no room."""
     with open("/dev/full", "wb") as output:
-        return runs.run(*words, input=SCRIPT, stdout=output)
+        return runs.run(*words, stdout=output)
 
 
 def inputs(runs: Runs) -> None:
     """Input that is broken."""
     with open(runs.file("big"), "wb") as big:
         big.truncate(4 << 30)
-    runs.check("a directory", (READ_FAULT, 5), lambda: runs.run("run", str(runs.room)))
+    runs.check("a directory", READ_FAULT, lambda: runs.run("run", str(runs.room)))
     directory = os.open(runs.room, os.O_RDONLY)
-    runs.check("a directory as standard input", (READ_FAULT, 5), lambda: runs.run("run", stdin=directory))
-    runs.check("closed standard input", (READ_FAULT, 5), lambda: runs.run("run", preexec_fn=lambda: os.close(0)))
-    runs.check("nothing", (b"refused 8\n", 2), lambda: runs.run("run", stdin=subprocess.DEVNULL))
-    runs.check("a pipe that comes in pieces", (REPORT, 1), lambda: from_pipe(runs, [SCRIPT[:3], SCRIPT[3:20], SCRIPT[20:]]))
-    runs.check("a pipe that ends early", (b"refused 3 line 3\n", 2), lambda: from_pipe(runs, [SCRIPT[:3], SCRIPT[3:18]]))
-    runs.check("lengths of a pipe that comes in pieces", (LENGTHS, 1), lambda: from_pipe(runs, [SCRIPT[:3], SCRIPT[3:]], "lengths"))
-    runs.check("lengths of a pipe that ends early", (b"refused 3 line 3\n", 2), lambda: from_pipe(runs, [SCRIPT[:18]], "lengths"))
-    runs.check("lengths of a directory", (READ_FAULT, 5), lambda: runs.run("lengths", str(runs.room)))
-    runs.check("lengths of closed standard input", (READ_FAULT, 5), lambda: runs.run("lengths", preexec_fn=lambda: os.close(0)))
-    runs.check("lengths of nothing", (b"refused 8\n", 2), lambda: runs.run("lengths", stdin=subprocess.DEVNULL))
-    runs.check("a FIFO", (REPORT, 1), lambda: from_fifo(runs))
-    runs.check("a file of 4 GiB", (b"refused 1\n", 2), lambda: runs.run("run", runs.file("big")))
-    runs.check("no such file", (READ_FAULT, 5), lambda: runs.run("run", runs.file("none")))
-    runs.check("an empty name", (READ_FAULT, 5), lambda: runs.run("run", ""))
-    runs.check("a name of 60,000 bytes", (READ_FAULT, 5), lambda: runs.run("run", "x" * 60_000))
+    runs.check("a directory as standard input", READ_FAULT, lambda: runs.run("run", stdin=directory))
+    runs.check("closed standard input", READ_FAULT, lambda: runs.run("run", preexec_fn=lambda: os.close(0)))
+    runs.check("nothing", (b"refused 8\n", REFUSED), lambda: runs.run("run", stdin=subprocess.DEVNULL))
+    runs.check("a pipe that comes in pieces", (REPORT, FOUND), lambda: from_pipe(runs, [SCRIPT[:3], SCRIPT[3:20], SCRIPT[20:]]))
+    runs.check("a pipe that ends early", (b"refused 3 line 3\n", REFUSED), lambda: from_pipe(runs, [SCRIPT[:3], SCRIPT[3:18]]))
+    runs.check("lengths of a pipe that comes in pieces", (LENGTHS, FOUND), lambda: from_pipe(runs, [SCRIPT[:3], SCRIPT[3:]], "lengths"))
+    runs.check("lengths of a pipe that ends early", (b"refused 3 line 3\n", REFUSED), lambda: from_pipe(runs, [SCRIPT[:18]], "lengths"))
+    runs.check("lengths of a directory", READ_FAULT, lambda: runs.run("lengths", str(runs.room)))
+    runs.check("lengths of closed standard input", READ_FAULT, lambda: runs.run("lengths", preexec_fn=lambda: os.close(0)))
+    runs.check("lengths of nothing", (b"refused 8\n", REFUSED), lambda: runs.run("lengths", stdin=subprocess.DEVNULL))
+    runs.check("a FIFO", (REPORT, FOUND), lambda: from_fifo(runs))
+    runs.check("a file of 4 GiB", (b"refused 1\n", REFUSED), lambda: runs.run("run", runs.file("big")))
+    runs.check("no such file", READ_FAULT, lambda: runs.run("run", runs.file("none")))
+    runs.check("an empty name", READ_FAULT, lambda: runs.run("run", ""))
+    runs.check("a name of 60,000 bytes", READ_FAULT, lambda: runs.run("run", "x" * 60_000))
 
 
 def outputs(runs: Runs) -> None:
     """Output that is broken, of two reports, each in both forms."""
     for words in (("run",), ("run", "--json"), ("lengths",), ("lengths", "--json")):
-        closed = {"input": SCRIPT, "stdout": None, "preexec_fn": lambda: os.close(1)}
-        runs.check(f"closed standard output {words}", (None, 5), lambda: runs.run(*words, **closed))
-        runs.check(f"a full device {words}", (None, 5), lambda: to_full_device(runs, *words))
-        runs.check(f"a pipe without a reader {words}", (None, 5), lambda: to_nobody(runs, *words, restore=True))
-        runs.check(f"the same with SIGPIPE ignored {words}", (None, 5), lambda: to_nobody(runs, *words, restore=False))
+        closed = {"stdout": None, "preexec_fn": lambda: os.close(1)}
+        runs.check(f"closed standard output {words}", UNWRITTEN, lambda: runs.run(*words, **closed))
+        runs.check(f"a full device {words}", UNWRITTEN, lambda: to_full_device(runs, *words))
+        runs.check(f"a pipe without a reader {words}", UNWRITTEN, lambda: to_nobody(runs, *words, restore=True))
+        runs.check(f"the same with SIGPIPE ignored {words}", UNWRITTEN, lambda: to_nobody(runs, *words, restore=False))
 
 
 def faults(runs: Runs) -> None:
@@ -150,34 +152,29 @@ def faults(runs: Runs) -> None:
     missing, full = runs.file("none"), "/dev/full"
     of_missing = f"workbench: {missing}: no such file\n".encode()
     of_full = b"workbench: standard output: no space is left on the device\n"
-    runs.check("no such file, named", (of_missing, 5), lambda: runs.messages("run", missing, output=os.devnull))
-    runs.check("a full device, named", (of_full, 5), lambda: runs.messages("run", output=full))
+    runs.check("no such file, named", (of_missing, READ_OR_WRITE_FAULT), lambda: runs.messages("run", missing, output=os.devnull))
+    runs.check("a full device, named", (of_full, READ_OR_WRITE_FAULT), lambda: runs.messages("run", output=full))
     for json in ((), ("--json",)):
-        runs.check(f"no such file and a full device {json}", (of_missing, 5), lambda: runs.messages("run", *json, missing, output=full))
+        both = f"no such file and a full device {json}"
+        runs.check(both, (of_missing, READ_OR_WRITE_FAULT), lambda: runs.messages("run", *json, missing, output=full))
 
 
-def words(runs: Runs) -> None:
+def command_words(runs: Runs) -> None:
     """Words that are broken."""
-    runs.check("100,000 words", (b"", 6), lambda: runs.run(*["run"] * 100_000))
-    runs.check("an option 50,000 times", (b"", 6), lambda: runs.run("run", *["--budget", "5"] * 50_000))
-    runs.check("a word that is no UTF-8", (b"", 6), lambda: runs.run("run", b"\xff"))
-    runs.check("an option that is no UTF-8", (b"", 6), lambda: runs.run("run", b"--budget=\xff"))
-    runs.check("an option of another command 50,000 times", (b"", 6), lambda: runs.run("lengths", *["--limit", "5"] * 50_000))
+    runs.check("100,000 words", NO_COMMAND, lambda: runs.run(*["run"] * 100_000))
+    runs.check("an option 50,000 times", NO_COMMAND, lambda: runs.run("run", *["--budget", "5"] * 50_000))
+    runs.check("a word that is no UTF-8", NO_COMMAND, lambda: runs.run("run", b"\xff"))
+    runs.check("an option that is no UTF-8", NO_COMMAND, lambda: runs.run("run", b"--budget=\xff"))
+    runs.check("an option of another command 50,000 times", NO_COMMAND, lambda: runs.run("lengths", *["--limit", "5"] * 50_000))
 
 
-def main() -> int:
+def main(words: list[str]) -> int:
     """Makes the runs, and prints the totals."""
-    if len(sys.argv) != 2:
-        sys.exit(__doc__)
+    program = program_parser(__doc__).parse_args(words).program
     with tempfile.TemporaryDirectory() as folder:
-        runs = Runs(Path(sys.argv[1]).resolve(), Path(folder))
+        runs = Runs(program, Path(folder))
         inputs(runs)
         outputs(runs)
         faults(runs)
-        words(runs)
-    print(f"{runs.passed} passed, {runs.failed} failed")
-    return 1 if runs.failed else 0
-
-
-if __name__ == "__main__":
-    sys.exit(main())
+        command_words(runs)
+    return runs.tally.end()

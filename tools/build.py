@@ -1,5 +1,4 @@
-#!/usr/bin/env python3
-"""Proves and builds the program, those crates at the same time that don't stand on one another.
+"""Proves and builds the program.
 
     ./build
 
@@ -16,14 +15,13 @@ import sys
 import tempfile
 import time
 from functools import partial
-from pathlib import Path
 from threading import Event, Lock, Thread
-from types import ModuleType
-from typing import Any, TextIO
+from typing import IO
 
-# what starts this leaves its folder out of Python's path
-sys.path.insert(0, str(Path(__file__).resolve().parent))
-from crates import NOT_BUILT, PROGRAM, PROGRAM_CRATE, ROOT, Crates, Step, building, kit, processors, run_steps  # noqa: E402
+from tools.crates import NOT_BUILT, Crates, Step, building, processors, run_steps
+from tools.kit import kit
+from tools.paths import PROGRAM, PROGRAM_CRATE, ROOT
+from tools.program import parser_of
 
 # the most processes for one crate: further ones would find nothing to do
 AT_ONCE = 8
@@ -74,7 +72,7 @@ class Progress:
             if self.is_terminal:
                 self.show()
 
-    def end(self, crate: str, is_proved: bool, log: TextIO) -> None:
+    def end(self, crate: str, is_proved: bool, log: IO[str]) -> None:
         """Says that a crate is proved, or shows why it isn't."""
         with self.lock:
             self.running.remove(crate)
@@ -101,11 +99,10 @@ class Progress:
 class Build:
     """Builds the libraries below some crates, and says how far it is."""
 
-    def __init__(self, crates: Crates, names: list[str], rtlib: ModuleType) -> None:
-        self.crates, self.rtlib, self.names = crates, rtlib, names
+    def __init__(self, crates: Crates, names: list[str]) -> None:
+        self.crates, self.names = crates, names
         self.libraries = list(dict.fromkeys(it for name in names for it in crates.below(name)))
-        known: dict[str, Any] = {}
-        self.asked = {it: rtlib.Crate(str(crates.folder(it)), str(crates.root), known) for it in self.libraries}
+        self.asked = kit().libraries(crates.root, self.libraries)
         self.progress = Progress(len(self.libraries) + names.count(PROGRAM_CRATE))
 
     def steps(self, lanes: int) -> list[Step]:
@@ -128,12 +125,10 @@ class Build:
 
     def build_library(self, name: str, jobs: int) -> None:
         """Builds a library."""
-        crate = self.asked[name]
-        os.makedirs(f"{crate.folder}/out", exist_ok=True)
         self.progress.begin(name)
-        with tempfile.TemporaryFile("w+", errors="replace") as crate.out:
-            is_proved = crate.build_rlib(["--jobs", str(jobs)], anew=False) == 0
-            self.progress.end(name, is_proved, crate.out)
+        with tempfile.TemporaryFile("w+", errors="replace") as log:
+            is_proved = self.asked[name].build(jobs, log)
+            self.progress.end(name, is_proved, log)
         if not is_proved:
             raise Unproved(f"{name} is not proved")
 
@@ -151,14 +146,8 @@ class Build:
 
     def run(self, lanes: int) -> None:
         """Builds the libraries while no other `rt` works on them, and then the program if it is wanted."""
-        # as rt does it, before any thread starts: what runs ends with this process
-        self.rtlib.guarded()
-        held = self.rtlib.lock(self.asked.values())
-        try:
+        with kit().alone_with(self.asked.values()):
             run_steps(self.steps(lanes), lanes)
-        finally:
-            for it in held:
-                os.close(it)
         if PROGRAM_CRATE in self.names:
             self.build_program(lanes)
 
@@ -166,15 +155,16 @@ class Build:
 def build_below(crates: Crates, names: list[str], lanes: int) -> None:
     """Builds the libraries that these crates stand on, and the program where its crate is among them; raises `Unproved`
     where a crate isn't proved."""
-    build = Build(crates, names, kit())
+    build = Build(crates, names)
     try:
         build.run(lanes)
     finally:
         build.progress.close()
 
 
-def main() -> int:
+def main(words: list[str]) -> int:
     """Builds the program, if it isn't built or is older than what it is made of."""
+    parser_of(__doc__).parse_args(words)
     crates = Crates()
     with building():
         if PROGRAM.exists() and not next(crates.newer_than(PROGRAM.stat().st_mtime), None):
@@ -188,7 +178,3 @@ def main() -> int:
             os._exit(NOT_BUILT)
     print(f"{PROGRAM.relative_to(ROOT)} is proved and built")
     return 0
-
-
-if __name__ == "__main__":
-    sys.exit(main())

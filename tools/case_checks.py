@@ -1,24 +1,18 @@
-#!/usr/bin/env python3
-"""Checks the tools that read worked cases: what they must refuse, on cases in a folder that is made for it.
+"""Checks that the tools which read worked cases refuse what they must, on cases made for it.
 
-    tools/case_checks.py
-
-`run_cases.py` must fail on a row's wrong answer and on a table that is malformed or empty, and `cases_to_theorems.py` on a word
-that it does not know, with that word and what to add. The last line is `N passed, M failed`.
+`cases` must fail on a row's wrong answer and on a table that is malformed or empty, and `theorems` on a word
+that it does not know, with that word and what to add.
 """
 
-import subprocess
 import sys
 import tempfile
 from pathlib import Path
 
-# what starts this leaves its folder out of Python's path
-sys.path.insert(0, str(Path(__file__).resolve().parent))
-import case_file  # noqa: E402
-from case_file import Case  # noqa: E402
-
-TOOLS = Path(__file__).resolve().parent
-MODEL = TOOLS.parent / "crates/wb_model"
+from tools import case_file
+from tools.case_file import Case
+from tools.door import Said, said_by
+from tools.program import parser_of
+from tools.tally import Tally
 
 # answers the script that it is given: the first byte is the status, and the rest goes to standard output
 PROGRAM = f"""#!{sys.executable}
@@ -112,60 +106,48 @@ CASES = [
     (SCRIPT, "attempts 1\nnumber none\n", "sweep --every", "`number` is not known as the second line of this sweep's text"),
     (SCRIPT, "attempts 1\nevery none\n", "sweep", "`every` is not known as the second line of this sweep's text"),
     (SCRIPT, '{"lines":["attempts 1","every none"],"version":2}', "sweep --every --json", "1 theorems"),
-    (SCRIPT, '{"lines":["attempts 1","every none"],"version":1}', "sweep --every --json", "`1` is not known as the version of a JSON report"),
+    (SCRIPT, '{"lines":["attempts 1","every none"],"version":1}', "sweep --every --json", "`1` is not known as the version of a JSON"),
     (SCRIPT, REPORT, "run --some 2", "`--some` is not known as an option"),
     (SCRIPT, REPORT, "walk", "`walk` is not known as a task"),
 ]
 
 
-def said(tool: str, *words: str | Path) -> tuple[int, str]:
-    """How a tool ends, and all that it says."""
-    done = subprocess.run([sys.executable, TOOLS / tool, *words], capture_output=True, text=True)
-    return done.returncode, done.stdout + done.stderr
+def check(tally: Tally, said: Said, part: str, is_fine: bool) -> None:
+    """Counts whether a tool says this, and fails where it must."""
+    text = said.output + said.messages
+    tally.check(part in text and (said.status == 0) == is_fine, f"wanted {part!r}, got status {said.status} and {text[-300:]!r}")
 
 
-def is_told(told: tuple[int, str], part: str, is_fine: bool) -> bool:
-    """Whether a tool says this, without a traceback, and fails where it must."""
-    status, text = told
-    holds = part in text and "Traceback" not in text and (status == 0) == is_fine
-    if not holds:
-        print(f"wanted {part!r}, got status {status} and {text[-300:]!r}")
-    return holds
-
-
-def table_holds(room: Path, table: str, part: str) -> bool:
-    """Whether `run_cases.py` says this of a table."""
+def check_table(tally: Tally, room: Path, table: str, part: str) -> None:
+    """Counts whether `cases` says this of a table."""
     cases = room / "cases"
     (cases / "one.table").write_text(table)
-    return is_told(said("run_cases.py", room / "program", cases), part, ", 0 failed" in part)
+    check(tally, said_by("cases", "--program", room / "program", cases), part, ", 0 failed" in part)
 
 
-def case_holds(room: Path, file: Path, script: str, report: str, words: str, part: str) -> bool:
-    """Whether `cases_to_theorems.py`, which writes into `room`, says this of a case, which is put into this file."""
+def check_case(tally: Tally, room: Path, file: Path, script: str, report: str, words: str, part: str) -> None:
+    """Counts whether `theorems`, which writes into `room`, says this of a case, which is put into this file."""
     case_file.write(file, Case(script.encode(), words.split(), report.encode(), None, 0))
-    told = said("cases_to_theorems.py", MODEL, file, "--out", room)
-    return is_told(told, part, part.endswith("theorems"))
+    check(tally, said_by("theorems", "--out", room, file), part, part.endswith("theorems"))
 
 
-def names_hold(room: Path) -> bool:
-    """Whether a theorem is named after the file of its case, and its module after the folder."""
-    held = case_holds(room, room / "cases" / "plain.run.case", SCRIPT, REPORT, "run", "1 theorems")
-    return held and "\nplain_run : " in (room / "WorkedCases" / "Cases.antt").read_text()
+def check_names(tally: Tally, room: Path) -> None:
+    """Counts whether a theorem is named after the file of its case, and its module after the folder."""
+    check_case(tally, room, room / "cases" / "plain.run.case", SCRIPT, REPORT, "run", "1 theorems")
+    tally.check("\nplain_run : " in (room / "WorkedCases" / "Cases.antt").read_text(), "a theorem with another name")
 
 
-def main() -> int:
+def main(words: list[str]) -> int:
     """Makes each check, and prints the totals."""
+    parser_of(__doc__).parse_args(words)
     with tempfile.TemporaryDirectory() as folder:
-        room = Path(folder)
+        room, tally = Path(folder), Tally()
         (room / "cases").mkdir()
         (room / "program").write_text(PROGRAM)
         (room / "program").chmod(0o755)
-        held = [table_holds(room, table, part) for table, part in TABLES.items()]
-        held += [case_holds(room, room / "case.run.case", *case) for case in CASES]
-        held.append(names_hold(room))
-    print(f"{held.count(True)} passed, {held.count(False)} failed")
-    return 0 if all(held) else 1
-
-
-if __name__ == "__main__":
-    sys.exit(main())
+        for table, part in TABLES.items():
+            check_table(tally, room, table, part)
+        for case in CASES:
+            check_case(tally, room, room / "case.run.case", *case)
+        check_names(tally, room)
+    return tally.end()

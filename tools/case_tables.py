@@ -7,15 +7,15 @@ import re
 from pathlib import Path
 from typing import NamedTuple
 
-from case_file import CaseError
+from tools.case_file import CaseError
+from tools.program import CUT, FINE, FOUND, REFUSED
 
 SUFFIX = ".table"
 # what a table says of the rows behind it, and what holds where it doesn't say it
 SETTINGS = {"words": "run", "rows": "scripts", "before": "", "behind": "", "script": "", "byte": "", "messages": "", "answer": ""}
 ROW = "    "
 ESCAPES = {"n": "\n", "t": "\t", "r": "\r", "\\": "\\", "e": ""}
-ACCEPTED = (0, 1, 3)
-REFUSED = 2
+ACCEPTED = (FINE, FOUND, CUT)
 
 
 class Row(NamedTuple):

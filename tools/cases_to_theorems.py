@@ -1,11 +1,9 @@
-#!/usr/bin/env python3
-"""Worked cases of the workbench as theorems about the definitions.
-
-    tools/cases_to_theorems.py CRATE CASES ..
+"""Writes worked cases as theorems about the definitions, or compares those that are written.
 
 `cases/README.md` says what a case is. Each accepted script becomes a tree of `wb_model/src/script.rt`, each report the value that the
 definitions must give for it, and each case one theorem, proved by computing. The theorems of a folder of cases are in files
-of their own, in the crate's folder `proofs/WorkedCases`; with `--compare` those files are only compared with what would be written.
+of their own, in `proofs/WorkedCases` of `wb_model`; check that crate then. With `--compare` they are only compared with what would be
+written.
 
 A theorem that fails means that the case and the definitions differ. A word that is not known, of a script, of a report or of the
 arguments, ends this with that word and what to add.
@@ -19,19 +17,16 @@ from collections import Counter
 from dataclasses import dataclass
 from pathlib import Path
 
-# what starts this leaves its folder out of Python's path
-sys.path.insert(0, str(Path(__file__).resolve().parent))
-import case_file  # noqa: E402
-from case_file import CaseError  # noqa: E402
-from report_terms import cut_term, end_term, rises_term, run_term  # noqa: E402
-from script_terms import Reader  # noqa: E402
-from terms import UnknownWord, among, apply  # noqa: E402
-from theorem_files import difference, files_of, write  # noqa: E402
+from tools import case_file
+from tools.case_file import CaseError
+from tools.paths import CASES, ROOT
+from tools.program import CEILING, CUT, FINE, FOUND, parser_of
+from tools.report_terms import cut_term, end_term, rises_term, run_term
+from tools.script_terms import Reader
+from tools.terms import UnknownWord, among, apply
+from tools.theorem_files import difference, files_of, write
 
-TOP = Path(__file__).resolve().parent.parent
-
-# the greatest length of a heap, in bytes
-CEILING = 16_777_216
+MODEL = ROOT / "crates/wb_model"
 
 # a longer table of lengths is left out, since each of its ranges is two runs to compute
 MOST_RANGES = 10
@@ -45,8 +40,10 @@ def arguments_of(words: list[str]) -> tuple[argparse.Namespace, list[str]]:
     for name, default in defaults.items():
         parser.add_argument("--" + name, type=int, default=default)
     # a number of `run`, and a flag of the others
-    every = {"type": int} if words[:1] == ["run"] else {"action": "store_true"}
-    parser.add_argument("--every", **every)
+    if words[:1] == ["run"]:
+        parser.add_argument("--every", type=int)
+    else:
+        parser.add_argument("--every", action="store_true")
     parser.add_argument("--pairs", action="store_true")
     parser.add_argument("--json", action="store_true")
     try:
@@ -83,7 +80,8 @@ def lines_of_object(text: str, version: str) -> list[str]:
     """The lines that a JSON report of this version holds."""
     report = json.loads(text)
     among((version,), str(report["version"]), "the version of a JSON report", "read its form in `lines_of_object`")
-    return report["lines"]
+    lines: list[str] = report["lines"]
+    return lines
 
 
 def accepted_at(path: Path, most_steps: int) -> Accepted | str:
@@ -93,10 +91,10 @@ def accepted_at(path: Path, most_steps: int) -> Accepted | str:
         return "no report"
     if case.stdout is None:
         return "its whole output isn't given"
-    if case.status not in (0, 1, 3):
+    if case.status not in (FINE, FOUND, CUT):
         return "not accepted"
     a, files = arguments_of(case.args)
-    script = (TOP / files[0]).read_bytes() if files else case.script
+    script = (ROOT / files[0]).read_bytes() if files else case.script
     version, told = "3" if a.task == "lengths" else "2", case.stdout.decode()
     report = lines_of_object(told, version) if a.json else told.removesuffix("\n").split("\n")
     if a.task == "run" and int(report[-1].removeprefix("steps ")) > most_steps:
@@ -229,41 +227,34 @@ def theorems_of(paths: list[Path], most_steps: int) -> tuple[dict[str, dict[str,
     theorems: dict[str, dict[str, str]] = {}
     left_out: Counter[str] = Counter()
     for path in paths:
+        name = name_of(path)
         try:
             case = accepted_at(path, most_steps)
+            if isinstance(case, str):
+                left_out[case] += 1
+                continue
+            if any(name in some for some in theorems.values()):
+                sys.exit(f"two cases are called {name}")
+            theorems.setdefault(path.parent.name, {})[name] = theorem(name, case)
         except CaseError as error:
             sys.exit(str(error))
-        except UnknownWord as unknown:
-            sys.exit(f"{path}: {unknown}")
-        if isinstance(case, str):
-            left_out[case] += 1
-            continue
-        name = name_of(path)
-        if any(name in some for some in theorems.values()):
-            sys.exit(f"two cases are called {name}")
-        try:
-            theorems.setdefault(path.parent.name, {})[name] = theorem(name, case)
         except UnknownWord as unknown:
             sys.exit(f"{path}: {unknown}")
     return theorems, left_out
 
 
-def main() -> int:
+def main(words: list[str]) -> int:
     """Reads the arguments, and writes the files."""
-    parser = argparse.ArgumentParser(
-        description="Write worked cases as theorems about the definitions, proved by computing.",
-        epilog="Check the crate then. Its proofs/Lib.antt names the module WorkedCases.",
-    )
-    parser.add_argument("crate", type=Path, help="the folder of the crate that holds the definitions")
-    parser.add_argument("cases", type=Path, nargs="+", help="case files, or folders of them")
+    parser = parser_of(__doc__)
+    parser.add_argument("cases", type=Path, nargs="*", default=[CASES], metavar="CASES", help="case files, or folders of them")
     parser.add_argument("--out", type=Path, help="the folder to write into, in place of the crate's proofs/")
     parser.add_argument("--most-steps", type=int, default=100000, help="leave out longer runs, which may pass the checker's limits")
     parser.add_argument("--compare", action="store_true", help="write nothing, and fail where the files hold something else")
-    chosen = parser.parse_args()
+    chosen = parser.parse_args(words)
     paths = [path for path in case_file.files_in(chosen.cases) if not LEFT_OUT.intersection(path.parts)]
     theorems, left_out = theorems_of(paths, chosen.most_steps)
-    files = files_of(chosen.crate.resolve(), theorems)
-    folder = chosen.out or chosen.crate / "proofs"
+    files = files_of(MODEL, theorems)
+    folder = chosen.out or MODEL / "proofs"
     if not chosen.compare:
         write(folder, files)
     elif (other := difference(folder, files)) is not None:
@@ -271,7 +262,3 @@ def main() -> int:
     count = sum(map(len, theorems.values()))
     print("; ".join([f"{count} theorems", *(f"left out {count}: {why}" for why, count in left_out.items())]))
     return 0
-
-
-if __name__ == "__main__":
-    sys.exit(main())

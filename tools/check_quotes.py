@@ -1,15 +1,14 @@
-#!/usr/bin/env python3
-"""Checks that pages quote the code as it stands: each line of their fenced blocks is a line of a crate's source, however
-far it is indented there.
+"""Checks that pages quote the code as it stands.
 
-It names each line that stands in no `src/*.rt` and no `specs/*.antt`, and prints the totals."""
+Each line of their fenced blocks must be a line of a crate's `src/*.rt` or `specs/*.antt`, however far it is indented there."""
 
-import argparse
 import re
-import sys
 from pathlib import Path
 
-ROOT = Path(__file__).resolve().parent.parent
+from tools.paths import DOCS, ROOT
+from tools.program import parser_of
+from tools.tally import Tally
+
 BLOCK = re.compile(r"^```\n(.*?)^```$", re.MULTILINE | re.DOTALL)
 
 
@@ -21,20 +20,14 @@ def quoted(page: Path) -> list[str]:
     return lines + [line for line in BLOCK.sub("", text).splitlines() if line.lstrip().startswith("```")]
 
 
-def main() -> int:
+def main(words: list[str]) -> int:
     """Looks for each quoted line, and prints the totals."""
-    parser = argparse.ArgumentParser(description=__doc__.splitlines()[0])
-    parser.add_argument("pages", type=Path, nargs="*", default=[ROOT / "docs" / "THEOREM.md"])
-    pages = parser.parse_args().pages
+    parser = parser_of(__doc__)
+    parser.add_argument("pages", type=Path, nargs="*", default=[DOCS / "THEOREM.md"])
+    pages, tally = parser.parse_args(words).pages, Tally()
     sources = [*ROOT.glob("crates/*/src/**/*.rt"), *ROOT.glob("crates/*/specs/**/*.antt")]
     known = {line.strip() for file in sources for line in file.read_text().splitlines()}
-    lines = [(page, line) for page in pages for line in quoted(page)]
-    missing = [(page, line) for page, line in lines if line not in known]
-    for page, line in missing:
-        print(f"{page.name}: no line of a crate: {line}")
-    print(f"{len(lines) - len(missing)} passed, {len(missing)} failed")
-    return 1 if missing or not lines else 0
-
-
-if __name__ == "__main__":
-    sys.exit(main())
+    for page in pages:
+        for line in quoted(page):
+            tally.check(line in known, f"{page.name}: no line of a crate: {line}")
+    return tally.end()

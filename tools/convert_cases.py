@@ -1,25 +1,19 @@
-#!/usr/bin/env python3
 """Converts worked cases that are many files each into case files.
-
-    tools/convert_cases.py SOURCE TARGET
 
 SOURCE is a folder of such cases, or the script of one. There a case is files with one stem: `STEM.oom` is the script, `STEM.args`
 has the arguments, one a line, `STEM.stdout` standard output or `STEM.contains` what it contains, `STEM.status` the exit status, and
 `STEM.stderr`, if it is there, standard error. `STEM.case` is written into the same folder below TARGET. If the script's name has no
 other dot, as `FOLDER/run.oom`, that is `FOLDER.run.case`. Each case is read back, and must give each byte of the older files. A case
 file that is there already and holds something else is left as it is, and the case has failed.
-
-The last line is `N passed, M failed`, of cases. Files of SOURCE that belong to no case are named above it.
+Files of SOURCE that belong to no case are named.
 """
 
-import argparse
-import sys
 from pathlib import Path
 
-# what starts this leaves its folder out of Python's path
-sys.path.insert(0, str(Path(__file__).resolve().parent))
-import case_file  # noqa: E402
-from case_file import Case, CaseError  # noqa: E402
+from tools import case_file
+from tools.case_file import Case, CaseError
+from tools.program import parser_of
+from tools.tally import Tally
 
 SCRIPT = ".oom"
 # the ending of the older file for each section
@@ -67,29 +61,23 @@ def convert(script: Path, file: Path) -> None:
         raise CaseError(f"{file} does not give the bytes of {script} and of the files beside it")
 
 
-def main() -> int:
+def main(words: list[str]) -> int:
     """Converts each case, says which couldn't be and what was left, and prints the totals."""
-    parser = argparse.ArgumentParser(description=__doc__, formatter_class=argparse.RawDescriptionHelpFormatter)
+    parser = parser_of(__doc__)
     parser.add_argument("source", type=Path, metavar="SOURCE")
     parser.add_argument("target", type=Path, metavar="TARGET")
-    chosen = parser.parse_args()
+    chosen = parser.parse_args(words)
     source = chosen.source.parent if chosen.source.is_file() else chosen.source
     scripts = case_file.files_in([chosen.source], SCRIPT)
-    passed = failed = 0
+    tally = Tally()
     for script in scripts:
         try:
             convert(script, path_for(script, source, chosen.target))
-            passed += 1
+            tally.check(True)
         except CaseError as error:
-            failed += 1
-            print(f"{script}: {error}")
+            tally.check(False, f"{script}: {error}")
     known = {file for script in scripts for file in older_files(script)}
     for file in sorted(chosen.source.rglob("*")):
         if file.is_file() and file not in known:
             print(f"{file}: it belongs to no case, and is left")
-    print(f"{passed} passed, {failed} failed")
-    return 1 if failed or not passed else 0
-
-
-if __name__ == "__main__":
-    sys.exit(main())
+    return tally.end()

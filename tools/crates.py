@@ -11,21 +11,18 @@ from collections.abc import Callable, Iterator
 from concurrent.futures import FIRST_COMPLETED, Future, ThreadPoolExecutor, wait
 from contextlib import contextmanager
 from dataclasses import dataclass, field
-from importlib.util import module_from_spec, spec_from_file_location
 from pathlib import Path
-from types import ModuleType
 
-ROOT = Path(__file__).resolve().parent.parent
+from tools.paths import PROGRAM, PROGRAM_CRATE, ROOT, TOOLS
 
 # the folders that a crate is made of: its wrong bodies, and what it is run on, are no part of it
 PARTS = ("src", "specs", "proofs")
 
-# the crate whose `main` the program is, and the program once it is built
-PROGRAM_CRATE = "wb_main"
-PROGRAM = ROOT / "crates" / PROGRAM_CRATE / "out" / PROGRAM_CRATE
-
 # the exit status of ./workbench and ./build where there is no program to answer
 NOT_BUILT = 70
+
+# how a function begins up to its name, by the layout that `rt fmt` gives; its group is what it is indented by
+FUNCTION_HEAD = r"( *)(?:pub(?:\([^)]*\))? )?(?:const |unsafe )*fn "
 
 # what a process of the prover takes at most, in bytes
 MEMORY = 3 << 30
@@ -83,7 +80,7 @@ class Crates:
 def building() -> Iterator[None]:
     """Keeps other calls from building the program meanwhile. What is changed after it has begun counts as newer than the
     program that is built."""
-    lock = os.open(ROOT / "tools", os.O_RDONLY)
+    lock = os.open(TOOLS, os.O_RDONLY)
     try:
         try:
             fcntl.flock(lock, fcntl.LOCK_EX | fcntl.LOCK_NB)
@@ -101,7 +98,7 @@ def building() -> Iterator[None]:
 
 def is_being_built() -> bool:
     """Whether another call is building the program."""
-    lock = os.open(ROOT / "tools", os.O_RDONLY)
+    lock = os.open(TOOLS, os.O_RDONLY)
     try:
         fcntl.flock(lock, fcntl.LOCK_SH | fcntl.LOCK_NB)
     except BlockingIOError:
@@ -164,18 +161,6 @@ def run_steps(steps: list[Step], lanes: int) -> None:
     finally:
         # where a step has failed, those that are running end by themselves
         pool.shutdown(wait=False, cancel_futures=True)
-
-
-def kit() -> ModuleType:
-    """The toolchain's own module behind `rt`, for the tools that take its steps one by one."""
-    command = shutil.which("rt")
-    if command is None:
-        sys.exit("the toolchain's command rt is not on the path")
-    sys.dont_write_bytecode = True
-    spec = spec_from_file_location("rtlib", Path(command).resolve().parent / "rtlib.py")
-    module = module_from_spec(spec)
-    spec.loader.exec_module(module)
-    return module
 
 
 def without_comments(text: str) -> str:

@@ -1,25 +1,22 @@
-#!/usr/bin/env python3
-"""Lets allocations of the built program fail: each alone, each with all later ones, and each with all multiples of its number.
-
-    tools/failing_allocations.py PROGRAM SCRIPT..
-    tools/failing_allocations.py --same PROGRAM
+"""Lets allocations of the program itself fail, and looks at what it answers then.
 
 The program is asked to `check` a script; a case file (`cases/README.md`) has arguments of its own, and its script is given on standard
-input. For each number up to that of its last allocation the program runs once in each of the three ways. Each of
-these runs must write the report that it writes with enough memory and end with its status, or write the line `no memory` and end with 4,
-or end with 4 before anything is read, where the command line itself finds no memory, and write nothing; nothing else may come of it.
-Standard error must have what it has with enough memory, or nothing, or that there is no memory for the command; or less: where no memory
-was left to find what raised a panic, the same panic of the same line with what holds of all such panics. Some of the runs that write
-`no memory` are made once more with a standard output that takes nothing, and must then end with 5.
+input. Without a name these are the examples and some cases. For each number up to that of its last allocation the program runs three times:
+that one fails alone, with all later ones, and with all multiples of its number. Each of these runs must write the report that it writes
+with enough memory and end with its status, or write the line `no memory` and end with 4, or end with 4 before anything is read, where the
+command line itself finds no memory, and write nothing; nothing else may come of it. Standard error must have what it has with enough
+memory, or nothing, or that there is no memory for the command; or less: where no memory was left to find what raised a panic, the same
+panic of the same line with what holds of all such panics. Some of the runs that write `no memory` are made once more with a standard output
+that takes nothing, and must then end with 5.
 
-With `--same` the program is given no words and no input, and is one that makes a call once more where it found no memory. So where a
-single allocation fails, it must write exactly what it writes with enough memory, and end with its status. In the other two ways it may
-also stop: then it has written some of those lines, from the first one on, and behind them `no memory`, and ends with 4.
+With `--same` the program is given no words and no input, and is one that makes a call once more where it found no memory: `wb_call_tests`,
+which `rt run` in its crate builds. So where a single allocation fails, it must write exactly what it writes with enough memory, and end
+with its status. In the other two ways it may also stop: then it has written some of those lines, from the first one on, and behind them `no
+memory`, and ends with 4.
 
-It needs a C compiler (`cc`), which builds tools/failing_allocation.c. The last line is `N passed, M failed`, of scripts or programs.
+It needs a C compiler (`cc`), which builds tools/failing_allocation.c.
 """
 
-import argparse
 import os
 import re
 import shutil
@@ -29,28 +26,44 @@ import tempfile
 from concurrent.futures import ThreadPoolExecutor
 from itertools import zip_longest
 from pathlib import Path
-from typing import NamedTuple
+from typing import Any
 
-import case_file
-from crates import processors
+from tools import case_file
+from tools.crates import processors
+from tools.paths import CASES, PROGRAM, ROOT, TOOLS, examples
+from tools.program import READ_OR_WRITE_FAULT, WANT_OF_MEMORY, Answer, NoAnswer, answer_of, program_parser
+from tools.tally import Tally
 
-SOURCE = Path(__file__).resolve().parent / "failing_allocation.c"
+SOURCE = TOOLS / "failing_allocation.c"
+# the cases that are tried beside the examples, if nothing else is named
+TRIED = """
+sweep/first-fit-reuses-hole.check sweep/eighth-push-grows-the-cleanup-cell.check
+sweep/unpushed-object-leaks-when-construction-fails.check sweep/top-cell-grows-in-place.check
+sweep/marks-never-count-the-cleanup-cell.check sweep/procedure-returns-a-pushed-cell.check
+descriptors/refused-text-growth-keeps-the-text.run operations/leave-runs-a-cleanup-operation.run
+raw-heap/forged-header-in-a-payload.run json/empty-main-json-with-kind.size
+sweep/eighth-push-grows-the-cleanup-cell.sweep sweep/unpushed-object-leaks-when-construction-fails.sweep
+sweep/failure-that-outruns-the-budget.sweep sweep/leak-that-needs-two-failures.sweep
+sweep/pushed-object-survives-every-failure.sweep
+cleanup/limit-stops-the-stack-above-a-large-hole.run cleanup/push-past-the-limit-destroys-all-items.run
+rates/leak-that-needs-two-failures-every.run rates/leak-that-needs-two-failures-every-json.sweep
+rates/eighth-push-grows-the-cleanup-cell-every.sweep examples/fallback-leaks-every-json.check
+pairs/leak-that-needs-two-failures-pair.run pairs/leak-that-needs-two-failures-pairs.sweep
+pairs/leak-that-needs-two-failures-pairs-json.sweep pairs/eighth-push-grows-the-cleanup-cell-pairs.sweep
+examples/clean-up-fails-pairs-json.check explained/pictures/two-runs.check
+lengths/unpushed-object-leaks-when-construction-fails.lengths lengths/small-minimum-and-step.lengths
+lengths/failure-that-outruns-the-budget-json.lengths lengths/more-leaks-in-longer-heaps.lengths
+examples/loader-leaks-json.lengths
+""".split()
+# the program that makes a call once more where it found no memory
+CALLS = ROOT / "crates/wb_call_tests/out/wb_call_tests"
 WAYS = ("once", "from", "each")
-NOT_WRITTEN = 5
 # which panic a line of an explanation is about, before it says what raised it
 PANIC = re.compile(rb".*:\d+: panic [A-Z]+ [0-9a-f]+: \w+: ")
 
 
-class Answer(NamedTuple):
-    """What a run writes, and its status."""
-
-    output: bytes
-    messages: bytes
-    status: int
-
-
-NO_MEMORY = Answer(b"no memory\n", b"", 4)
-NO_MEMORY_FOR_THE_COMMAND = (Answer(b"", b"error: no memory\n", 4), Answer(b"", b"", 4))
+NO_MEMORY = Answer(b"no memory\n", b"", WANT_OF_MEMORY)
+NO_MEMORY_FOR_THE_COMMAND = (Answer(b"", b"error: no memory\n", WANT_OF_MEMORY), Answer(b"", b"", WANT_OF_MEMORY))
 
 
 def says_less(answer: Answer, plain: Answer) -> bool:
@@ -77,7 +90,7 @@ class Trial:
 
     def __init__(self, program: Path, script: Path, room: Path) -> None:
         self.program, self.library, self.count = program, room / "failing_allocation.so", room / f"{script.stem}.count"
-        self.words, self.given = ["check", str(script)], b""
+        self.words, self.given = ["check", str(script.resolve())], b""
         if script.suffix == case_file.SUFFIX:
             case = case_file.read(script)
             self.words, self.given = case.args, case.script
@@ -86,19 +99,21 @@ class Trial:
         """The environment in which the allocation with this number fails in this way; none does at 0."""
         return dict(os.environ, LD_PRELOAD=str(self.library), FAIL_AT=str(fail_at), FAIL_HOW=how)
 
+    def answer(self, world: dict[str, str], **streams: Any) -> Answer:
+        """What comes of a run in this environment. File names in the words of a case start at the top of the repository."""
+        return answer_of(self.program, *self.words, script=self.given, env=world, cwd=ROOT, **streams)
+
     def run(self, how: str, fail_at: int) -> Answer:
         """What comes of a run whose allocation with this number fails in this way."""
         world = self.world(how, fail_at)
         if not fail_at:
             world["COUNT_TO"] = str(self.count)
-        ran = subprocess.run([self.program, *self.words], env=world, input=self.given, capture_output=True)
-        return Answer(ran.stdout, ran.stderr, ran.returncode)
+        return self.answer(world)
 
     def unwritten(self, how: str, fail_at: int) -> int:
         """The status of the same run where standard output takes nothing."""
         with open("/dev/full", "wb") as full:
-            words = [self.program, *self.words]
-            return subprocess.run(words, env=self.world(how, fail_at), input=self.given, stdout=full, stderr=subprocess.DEVNULL).returncode
+            return self.answer(self.world(how, fail_at), stdout=full).status
 
     def asked_again(self, wanted: list[int]) -> set[int]:
         """Which of the runs that ended for want of memory are made with a standard output that takes nothing."""
@@ -124,7 +139,8 @@ class Trial:
         last = int(self.count.read_text())
         wanting = 0
         for how in WAYS:
-            was_read, wanted = False, []
+            was_read = False
+            wanted: list[int] = []
             for number in range(1, last + 1):
                 answer = self.run(how, number)
                 was_read |= answer == NO_MEMORY
@@ -135,7 +151,7 @@ class Trial:
             wanting += len(wanted)
             for number in self.asked_again(wanted):
                 status = self.unwritten(how, number)
-                if status != NOT_WRITTEN:
+                if status != READ_OR_WRITE_FAULT:
                     return f"{how} {number} of {last}: status {status} where standard output takes nothing", last, wanting
         return None, last, wanting
 
@@ -144,8 +160,8 @@ class SameTrial(Trial):
     """A program that is given nothing, and makes a call once more where it found no memory."""
 
     def __init__(self, program: Path, room: Path) -> None:
-        self.program, self.library, self.count = program, room / "failing_allocation.so", room / f"{program.stem}.count"
-        self.words, self.given = [], b""
+        super().__init__(program, program, room)
+        self.words = []
 
     def asked_again(self, wanted: list[int]) -> set[int]:
         # it ends with 4 whether its last line is written or not
@@ -163,9 +179,13 @@ class SameTrial(Trial):
         return f"{other}, and {answer.messages!r}"
 
 
-def passes(trial: Trial, name: Path) -> bool:
+def passes(trial: Trial, tried: Path) -> bool:
     """Whether allocations may fail, with what came of it."""
-    fault, last, wanting = trial.fault()
+    name = os.path.relpath(tried)
+    try:
+        fault, last, wanting = trial.fault()
+    except NoAnswer as late:
+        fault, last, wanting = str(late), 0, 0
     if fault:
         print(f"{name}: failed: {fault}", flush=True)
         return False
@@ -174,25 +194,24 @@ def passes(trial: Trial, name: Path) -> bool:
     return wanting > 0
 
 
-def main() -> None:
-    parser = argparse.ArgumentParser(description=__doc__, formatter_class=argparse.RawDescriptionHelpFormatter)
+def main(words: list[str]) -> int:
+    """Tries each script, or the program alone, and prints the totals."""
+    parser = program_parser(__doc__)
     parser.add_argument("--same", action="store_true", help="the program makes a call once more where it found no memory")
-    parser.add_argument("program", type=Path, metavar="PROGRAM")
     parser.add_argument("scripts", type=Path, nargs="*", metavar="SCRIPT")
-    given = parser.parse_args()
-    if given.same == bool(given.scripts):
+    given = parser.parse_args(words)
+    if given.same and given.scripts:
         parser.error("either scripts or --same")
     if not shutil.which("cc"):
         sys.exit("failing allocations can't be tried: there is no C compiler `cc` on the path")
-    program = given.program.resolve()
+    program = CALLS if given.same and given.program == PROGRAM else given.program
+    scripts, tally = given.scripts or [*examples(), *(CASES / f"{it}.case" for it in TRIED)], Tally()
     with tempfile.TemporaryDirectory() as folder, ThreadPoolExecutor(processors()) as pool:
         room = Path(folder)
         subprocess.run(["cc", "-O1", "-shared", "-fPIC", "-o", room / "failing_allocation.so", SOURCE, "-ldl"], check=True)
-        trials = [(SameTrial(program, room), program)] if given.same else [(Trial(program, it, room), it) for it in given.scripts]
-        tried = list(pool.map(lambda it: passes(*it), trials))
-    print(f"{sum(tried)} passed, {len(tried) - sum(tried)} failed")
-    sys.exit(0 if all(tried) else 1)
-
-
-if __name__ == "__main__":
-    main()
+        trials = [(Trial(program, it, room), it) for it in scripts]
+        if given.same:
+            trials = [(SameTrial(program, room), program)]
+        for is_fine in pool.map(lambda it: passes(*it), trials):
+            tally.check(is_fine)
+    return tally.end()

@@ -1,25 +1,23 @@
-#!/usr/bin/env python3
-"""Runs the built program on many damaged scripts, and looks whether it ever ends as it may not.
-
-    tools/fuzz.py PROGRAM [--scripts N] [--seed N] [--keep FOLDER]
+"""Runs the program on many damaged scripts, and looks whether it ever ends as it may not.
 
 Each script is made of worked cases by a few changes: lines are dropped, doubled, moved, or taken from another script; words are put
 in the place of others; bytes are cut off, changed or put in. `check` with a small budget must answer each with a status from 0 to 3: of
 three scripts one by itself and one with `--every` within a second, and one with `--pairs` and a smaller budget within five. A script that
-it answers otherwise is kept in the folder, and named. The last line is `N passed, M failed`.
+it answers otherwise is kept in the folder, and named.
 """
 
-import argparse
 import random
 import re
-import subprocess
-import sys
+from collections import Counter
 from concurrent.futures import ProcessPoolExecutor
 from functools import partial
 from pathlib import Path
 
-import case_file
-from crates import ROOT, processors
+from tools import case_file
+from tools.crates import processors
+from tools.paths import CASES, examples
+from tools.program import CUT, NoAnswer, answer_of, program_parser
+from tools.tally import Tally
 
 WORDS = re.compile(rb"[^ \n]+")
 NUMBER = re.compile(rb"(?<= )-?[0-9]+\b")
@@ -32,8 +30,7 @@ COMMANDS = ((["check", "--budget", "200"], 1), (["check", "--budget", "200", "--
 
 def seeds() -> list[bytes]:
     """The scripts of the cases and examples, but for the largest."""
-    scripts = [case_file.read(it).script for it in case_file.files_in([ROOT / "cases"])]
-    scripts += [it.read_bytes() for it in sorted((ROOT / "examples").glob("*.oom"))]
+    scripts = [case_file.read(it).script for it in case_file.files_in([CASES])] + [it.read_bytes() for it in examples()]
     return [text for text in scripts if 0 < len(text) <= 4000]
 
 
@@ -87,48 +84,44 @@ def with_bytes_changed(chance: random.Random, text: bytes, scripts: list[bytes],
     return text[:at] + new + text[at + chance.randint(0, 2) :]
 
 
-def share_of(seed: int, program: Path, keep: Path) -> tuple[int, list[str], dict[int, int]]:
-    """How many scripts of a share pass, what is said of the others, and how often each status comes."""
+def share_of(seed: int, program: Path, keep: Path) -> tuple[list[str], Counter[str]]:
+    """What is said of the scripts of a share that fail, and how often each status comes."""
     chance, scripts = random.Random(seed), seeds()
     words = sorted({word for text in scripts for word in WORDS.findall(text)})
-    faults, statuses = [], {}
+    faults: list[str] = []
+    statuses: Counter[str] = Counter()
     for number in range(SHARE):
         text = damaged(chance, scripts, words)
         command, seconds = COMMANDS[number % len(COMMANDS)]
         try:
-            ran = subprocess.run([program, *command], input=text, capture_output=True, timeout=seconds)
-            status, fault = ran.returncode, None if 0 <= ran.returncode <= 3 else f"status {ran.returncode}, {ran.stdout[:80]!r}"
-        except subprocess.TimeoutExpired:
-            status, fault = -1, f"no answer within {seconds} s"
-        statuses[status] = statuses.get(status, 0) + 1
+            answer = answer_of(program, *command, script=text, seconds=seconds)
+            told = f"status {answer.status}"
+            fault = "" if 0 <= answer.status <= CUT else f"{told}, {answer.output[:80]!r}"
+        except NoAnswer as late:
+            told, fault = "no answer", str(late)
+        statuses[told] += 1
         if fault:
             keep.mkdir(exist_ok=True, parents=True)
             file = keep / f"{seed}-{number}.oom"
             file.write_bytes(text)
             faults.append(f"{file}: {' '.join(command)}: {fault}")
-    return SHARE - len(faults), faults, statuses
+    return faults, statuses
 
 
-def main() -> int:
+def main(words: list[str]) -> int:
     """Makes the shares side by side, and prints the totals."""
-    parser = argparse.ArgumentParser(description=__doc__.splitlines()[0])
-    parser.add_argument("program", type=Path)
+    parser = program_parser(__doc__)
     parser.add_argument("--scripts", type=int, default=300_000, metavar="N", help="how many scripts [default: 300000]")
     parser.add_argument("--seed", type=int, default=1, metavar="N", help="which scripts [default: 1]")
     parser.add_argument("--keep", type=Path, default=Path("fuzz-found"), metavar="FOLDER", help="where scripts go that fail")
-    given = parser.parse_args()
+    given = parser.parse_args(words)
     shares = range(-(-given.scripts // SHARE))
-    passed, failed, statuses = 0, 0, {}
+    tally, statuses = Tally(), Counter[str]()
     with ProcessPoolExecutor(processors()) as pool:
-        share = partial(share_of, program=given.program.resolve(), keep=given.keep)
-        for done, faults, told in pool.map(share, (given.seed * 1_000_000 + it for it in shares)):
+        share = partial(share_of, program=given.program, keep=given.keep)
+        for faults, told in pool.map(share, (given.seed * 1_000_000 + it for it in shares)):
             print("".join(f"{it}\n" for it in faults), end="", flush=True)
-            passed, failed = passed + done, failed + len(faults)
-            statuses = {it: statuses.get(it, 0) + told.get(it, 0) for it in {*statuses, *told}}
-    print("statuses: " + ", ".join(f"{status} {statuses[status]} times" for status in sorted(statuses)))
-    print(f"{passed} passed, {failed} failed")
-    return 1 if failed else 0
-
-
-if __name__ == "__main__":
-    sys.exit(main())
+            tally.add(SHARE - len(faults), len(faults))
+            statuses += told
+    print(", ".join(f"{told} {count} times" for told, count in sorted(statuses.items())))
+    return tally.end()

@@ -1,31 +1,23 @@
-#!/usr/bin/env python3
-"""Compares what `lengths` says with runs in heaps of single lengths, of the examples and of scripts that are made.
+"""Compares what `lengths` says with runs in heaps of single lengths.
 
-    tools/lengths.py PROGRAM [--scripts N] [--seed N] [--keep FOLDER]
-
-Of each script the program is asked for `run --limit L`: for the first and the last length of each range of the table, one between them, and
-fifty lengths at random, half of them from 0 to the ceiling and half below twice the length at which the last range begins. Each must end as
-its range says. The length found must be where the first range begins whose runs leak or panic, with just the lines of that run, and `length
-none` comes only where there is no such range; the status follows from the ranges. Neighbours must differ. Where `size` finds a length, the
-last range begins there at most, and its words are those of the run without a limit. `--json` must write the same lines and ranges, in
-version 3, and `check` the lines of `size` and of `sweep`, as it would without `lengths`. A script that differs is kept in the folder, and
-named. So that a program which finds nothing can't pass, each outcome must come often enough among the scripts that are made. The last line
-is `N passed, M failed`.
+Of each example, and of each script that is made, the program is asked for `run --limit L`: for the first and the last length of each range
+of the table, one between them, and fifty lengths at random, half of them from 0 to the ceiling and half below twice the length at which the
+last range begins. Each must end as its range says. The length found must be where the first range begins whose runs leak or panic, with
+just the lines of that run, and `length none` comes only where there is no such range; the status follows from the ranges. Neighbours must
+differ. Where `size` finds a length, the last range begins there at most, and its words are those of the run without a limit. `--json` must
+write the same lines and ranges, in version 3, and `check` the lines of `size` and of `sweep`, as it would without `lengths`. A script that
+differs is kept in the folder, and named. So that a program which finds nothing can't pass, each outcome must come often enough among the
+scripts that are made.
 """
 
 import json
 import random
-import sys
 from itertools import pairwise
-from pathlib import Path
-from typing import NamedTuple
+from typing import Any, NamedTuple
 
-# what starts this may leave its folder out of Python's path
-sys.path.insert(0, str(Path(__file__).resolve().parent))
-from sweep_checks import CUT, FINE, FOUND, Answer, Script, Wanted, compare_scripts, must, shown  # noqa: E402
+from tools.program import CEILING, CUT, FINE, FOUND
+from tools.sweep_checks import Report, Script, Wanted, compare_scripts, must, shown
 
-# the greatest length of a heap, in bytes
-CEILING = 16_777_216
 # how many lengths are drawn at random
 DRAWN = 50
 # what a run's last words are, where they are a whole line of it
@@ -75,23 +67,23 @@ class LengthScript(Script):
         self.compare_others(table)
         return self.outcome_of(table, told)
 
-    def compare_object(self, told: Answer, table: list[Range], number: int | str) -> None:
+    def compare_object(self, told: Report, table: list[Range], number: int | str) -> None:
         """Whether the JSON says the same."""
-        values = {"attempts": None, "kind": "lengths", "lines": told.lines, "number": number}
+        values: dict[str, Any] = {"attempts": None, "kind": "lengths", "lines": told.lines, "number": number}
         values |= {"ranges": [[it.first, it.words] for it in table], "required": None, "rises": None, "status": told.status, "version": 3}
-        self.compare(Answer([json.dumps(values, separators=(",", ":"))], told.status), "lengths", "--json")
+        self.compare(Report([json.dumps(values, separators=(",", ":"))], told.status), "lengths", "--json")
 
     def compare_others(self, table: list[Range]) -> None:
         """Whether the table fits the length that `size` finds, and `check` is what it would be without it."""
         size, sweep = self.answer("size"), self.answer("sweep")
-        self.compare(size if size.status == CUT else Answer(size.lines + sweep.lines, sweep.status), "check")
+        self.compare(size if size.status == CUT else Report(size.lines + sweep.lines, sweep.status), "check")
         if size.status == FINE:
             required = int(size.lines[0].removeprefix("required "))
             must(table[-1].first <= required, f"the last range begins at {table[-1].first}, past the required {required}")
             words = words_of(self.run())
             must(words == table[-1].words, f"the run without a limit is `{words}`, and the last range says `{table[-1].words}`")
 
-    def outcome_of(self, table: list[Range], told: Answer) -> str:
+    def outcome_of(self, table: list[Range], told: Report) -> str:
         """The outcome that a table tells, by its name in WANTED."""
         if told.status != FOUND:
             return "a cut and no bad length" if told.status == CUT else "no bad length"
@@ -119,7 +111,7 @@ def lengths_to_try(table: list[Range], chance: random.Random) -> set[int]:
     return ends | {chance.randint(0, nearby if at % 2 else CEILING) for at in range(DRAWN)}
 
 
-def words_of(run: Answer) -> str:
+def words_of(run: Report) -> str:
     """How a run ends, in the words of a table."""
     end = next((line for line in run.lines if line.startswith((*WHOLE_LINES, "left ", "ended"))), "")
     must(end != "", f"a run without an end: {shown(run)}")
@@ -127,5 +119,6 @@ def words_of(run: Answer) -> str:
     return end if end.startswith(WHOLE_LINES) or leaks == "leaks 0" else leaks
 
 
-if __name__ == "__main__":
-    sys.exit(compare_scripts(LengthScript, WANTED, __doc__))
+def main(words: list[str]) -> int:
+    """Compares all scripts, and prints the totals."""
+    return compare_scripts(LengthScript, WANTED, __doc__, words)

@@ -1,23 +1,19 @@
-#!/usr/bin/env python3
-"""Runs a program on worked cases while what it says on standard error is lost: standard output and status must be the same.
+"""Runs worked cases while what the program says on standard error is lost.
 
-    tools/lost_messages.py PROGRAM CASES
-
-Standard error is closed, then a device without room, then a pipe that nobody reads. The last line is `N passed, M failed`,
-of cases.
+Standard error is closed, then a device without room, then a pipe that nobody reads. Standard output and status must be the same.
 """
 
 import os
-import sys
 from collections.abc import Iterator
 from pathlib import Path
 from typing import Any
 
-# what starts this leaves its folder out of Python's path
-sys.path.insert(0, str(Path(__file__).resolve().parent))
-import case_file  # noqa: E402
-from case_file import CaseError  # noqa: E402
-from run_cases import NoAnswer, answer_to, fault_of  # noqa: E402
+from tools import case_file
+from tools.case_file import CaseError
+from tools.paths import CASES
+from tools.program import NoAnswer, program_parser
+from tools.run_cases import answer_to, fault_of
+from tools.tally import Tally
 
 
 def ways_to_lose() -> Iterator[tuple[str, dict[str, Any]]]:
@@ -40,20 +36,16 @@ def fault_with(program: Path, file: Path, streams: dict[str, Any]) -> str | None
         return str(error)
 
 
-def main() -> int:
+def main(words: list[str]) -> int:
     """Runs each case in each way, names those that fail, and prints the totals."""
-    if len(sys.argv) != 3:
-        sys.exit(__doc__)
-    program, folder = Path(sys.argv[1]).resolve(), Path(sys.argv[2]).resolve()
-    cases, failed = case_file.files_in([folder]), set()
+    parser = program_parser(__doc__)
+    parser.add_argument("cases", type=Path, nargs="*", metavar="CASES", default=[Path(os.path.relpath(CASES / "explained"))])
+    given, tally = parser.parse_args(words), Tally()
+    cases, failed = case_file.files_in(given.cases), set()
     for way, streams in ways_to_lose():
         for case in cases:
-            if (fault := fault_with(program, case, streams)) is not None:
-                print(f"{case.relative_to(folder)}: standard error {way}: {fault}")
+            if (fault := fault_with(given.program, case, streams)) is not None:
+                print(f"{case}: standard error {way}: {fault}")
                 failed.add(case)
-    print(f"{len(cases) - len(failed)} passed, {len(failed)} failed")
-    return 1 if failed or not cases else 0
-
-
-if __name__ == "__main__":
-    sys.exit(main())
+    tally.add(len(cases) - len(failed), len(failed))
+    return tally.end()

@@ -1,19 +1,18 @@
-#!/usr/bin/env python3
-"""Makes scripts that are accepted and make attempts of many sorts, some of which leak, panic or are cut where attempts fail.
-
-    tools/made_scripts.py FOLDER [--scripts N] [--seed N]
+"""Makes scripts with attempts of many sorts, most of which some failure makes leak, panic or be cut.
 
 Each script is a `main` that calls some parts, each within a TRAP: cells, cells that grow, texts, objects, the cleanup stack, loops,
-requests with a fallback. Most scripts have one part with a mistake, which some failure or other shows: of a single attempt, or only of two. Around
-the parts there may be `failnext`, `failevery`, `failnone` and heap marks. The same numbers give the same scripts. `tools/rates.py`,
-`tools/pairs.py` and `tools/lengths.py` try the program on them, and `test` the program that compares forks.
+requests with a fallback. Most scripts have one part with a mistake, which some failure or other shows: of a single attempt, or only of two.
+Around the parts there may be `failnext`, `failevery`, `failnone` and heap marks. The same numbers give the same scripts. The commands
+`rates`, `pairs` and `lengths` try the program on them, and `forks` the program that compares forks.
 """
 
 import argparse
 import random
-import sys
 from collections.abc import Callable
 from pathlib import Path
+
+from tools.language import words_of_roles
+from tools.program import parser_of
 
 SCRIPTS, SEED = 300, 1
 
@@ -136,20 +135,23 @@ def leave(chance: random.Random, is_wrong: bool) -> list[str]:
 def stale(chance: random.Random, is_wrong: bool) -> list[str]:
     """A cell below another one; wrong: it is freed by its old pointer, which is right only as long as it can't grow."""
     freed = "free cell" if is_wrong else "if some grown; set cell grown; end; free cell"
-    return lines(f"ptr cell; ptr above; ptr grown; allocl cell 16; push cell; allocl above 16; pop 1; realloc grown cell 64; free above; {freed}")
+    grow = "allocl above 16; pop 1; realloc grown cell 64; free above"
+    return lines(f"ptr cell; ptr above; ptr grown; allocl cell 16; push cell; {grow}; {freed}")
 
 
 def inner_trap(chance: random.Random, is_wrong: bool) -> list[str]:
     """A TRAP of its own; wrong: nobody asks for the code."""
     asked = "" if is_wrong else "leaveiferror code"
-    return lines(f"ptr name; int code; trap code; hnewl name {chance.randint(2, 30)}; end; {asked}; push name; copy name \"x\"; popdestroy 1")
+    tried = f"trap code; hnewl name {chance.randint(2, 30)}; end"
+    return lines(f'ptr name; int code; {tried}; {asked}; push name; copy name "x"; popdestroy 1')
 
 
 def clean_up(chance: random.Random, is_wrong: bool) -> list[str]:
     """Gives up what it has where there is no memory, and asks for memory to report that; wrong: without any it gives up too early."""
     early = "leaveifnull report" if is_wrong else ""
     given_up = f"alloc report {room(chance)}; {early}; free report; free session; leave -4"
-    return lines(f"ptr session; ptr work; ptr report; allocl session 16; alloc work {room(chance)}; if null work; {given_up}; end; free work; free session")
+    tried = f"allocl session 16; alloc work {room(chance)}; if null work; {given_up}; end"
+    return lines(f"ptr session; ptr work; ptr report; {tried}; free work; free session")
 
 
 def report(chance: random.Random, is_wrong: bool) -> list[str]:
@@ -163,7 +165,8 @@ def second_try(chance: random.Random, is_wrong: bool) -> list[str]:
     """A request that is made once more; wrong: where that is refused too, the other cell is forgotten."""
     body = f"alloc body {room(chance)}"
     given_up = "" if is_wrong else "free header"
-    return lines(f"ptr header; ptr body; allocl header 16; {body}; if null body; {body}; end; if null body; {given_up}; leave -4; end; free body; free header")
+    tried = f"{body}; if null body; {body}; end; if null body; {given_up}; leave -4; end"
+    return lines(f"ptr header; ptr body; allocl header 16; {tried}; free body; free header")
 
 
 def turns(chance: random.Random, is_wrong: bool) -> list[str]:
@@ -182,8 +185,9 @@ def fallback_of_fallback(chance: random.Random, is_wrong: bool) -> list[str]:
 def spare(chance: random.Random, is_wrong: bool) -> list[str]:
     """Two cells of which one is enough; wrong: where there is none, a third is forgotten."""
     given_up = "" if is_wrong else "free kept"
-    tried = f"allocl kept 16; alloc first {room(chance)}; alloc second {room(chance)}; if null first; if null second; {given_up}; leave -4; end; end"
-    return lines(f"ptr kept; ptr first; ptr second; {tried}; free first; free second; free kept")
+    tried = f"allocl kept 16; alloc first {room(chance)}; alloc second {room(chance)}"
+    neither = f"if null first; if null second; {given_up}; leave -4; end; end"
+    return lines(f"ptr kept; ptr first; ptr second; {tried}; {neither}; free first; free second; free kept")
 
 
 def growth(chance: random.Random, is_wrong: bool) -> list[str]:
@@ -206,7 +210,8 @@ def many_pushes_instead(chance: random.Random, is_wrong: bool) -> list[str]:
     """So many small cells in the place of a large one that the cleanup stack grows; wrong: with one that isn't pushed."""
     count = chance.randint(2, 9)
     push, end = ("", "; free kept") if is_wrong else ("push kept", "")
-    small = f"allocl kept {room(chance)}; {push}; repeat {count}; allocl cell 16; push cell; end; popdestroy {count + (not is_wrong)}{end}; null cell"
+    pushes = f"{push}; repeat {count}; allocl cell 16; push cell; end; popdestroy {count + (not is_wrong)}"
+    small = f"allocl kept {room(chance)}; {pushes}{end}; null cell"
     return lines(f"ptr cell; ptr kept; alloc cell {room(chance) + 2000}; if null cell; {small}; end; free cell")
 
 
@@ -241,11 +246,11 @@ def setting(chance: random.Random) -> str:
 
 def indented(body: list[str]) -> list[str]:
     """The lines of a body, each as deep as its block."""
-    written, depth = [], 1
+    written, depth, opening = [], 1, words_of_roles("If", "Loop")
     for line in body:
         depth -= line == "end"
         written.append("    " * depth + line)
-        depth += line.split()[0] in ("if", "repeat", "trap")
+        depth += line.split()[0] in opening
     return written
 
 
@@ -255,7 +260,8 @@ def script(number: int, seed: int = SEED) -> str:
     parts = [chance.choice(chance.choice((PARTS, PARTS_OF_TWO))) for _ in range(chance.choice((1, 2, 3, 3, 4, 5, 6)))]
     wrong = chance.randrange(len(parts)) if chance.random() < 0.75 else None
     is_marked, is_set = chance.random() < 0.3, chance.random() < 0.3
-    written, main = [], lines("int code")
+    written: list[str] = []
+    main = lines("int code")
     for at, part in enumerate(parts):
         written += [f"proc part{at}", *indented(part(chance, at == wrong)), "end"]
         main += [setting(chance)] if is_set else []
@@ -270,19 +276,20 @@ def scripts(count: int = SCRIPTS, seed: int = SEED) -> list[str]:
     return [script(number, seed) for number in range(count)]
 
 
-def main() -> int:
-    """Writes the scripts into files."""
-    parser = argparse.ArgumentParser(description=__doc__.splitlines()[0])
-    parser.add_argument("folder", type=Path, help="where the scripts go")
-    parser.add_argument("--scripts", type=int, default=SCRIPTS, metavar="N", help=f"how many scripts [default: {SCRIPTS}]")
+def add_choice(parser: argparse.ArgumentParser) -> None:
+    """Adds the options that say which scripts are made."""
+    parser.add_argument("--scripts", type=int, default=SCRIPTS, metavar="N", help=f"how many scripts are made [default: {SCRIPTS}]")
     parser.add_argument("--seed", type=int, default=SEED, metavar="N", help=f"which scripts [default: {SEED}]")
-    given = parser.parse_args()
+
+
+def main(words: list[str]) -> int:
+    """Writes the scripts into files."""
+    parser = parser_of(__doc__)
+    parser.add_argument("folder", type=Path, help="where the scripts go")
+    add_choice(parser)
+    given = parser.parse_args(words)
     given.folder.mkdir(parents=True, exist_ok=True)
     for number, made in enumerate(scripts(given.scripts, given.seed)):
         (given.folder / f"{number:03}.oom").write_text(made, encoding="ascii")
     print(f"{given.scripts} scripts in {given.folder}")
     return 0
-
-
-if __name__ == "__main__":
-    sys.exit(main())

@@ -1,5 +1,4 @@
-#!/usr/bin/env python3
-"""Makes 200 scripts with one mistake each, and counts of how many the program's explanation names the mistaken word or line.
+"""Makes 200 scripts with one mistake each, and counts how many of the mistakes are named.
 
 The scripts come of the examples and the guide's cases, always the same ones: a letter is dropped or doubled or two are
 swapped, a word is gone or one too many, an `end` is gone or too many, a declaration is gone. A mistake that leaves a script
@@ -9,23 +8,22 @@ The mistake is named where standard error has a line `FILE:N:` with its number, 
 is gone the line of its block will do, and of a declaration the name.
 """
 
-import argparse
-import subprocess
-import sys
 import tempfile
 from collections.abc import Callable, Iterator
 from pathlib import Path
 from typing import NamedTuple
 
-import case_file
+from tools import case_file
+from tools.language import words_of_roles
+from tools.paths import CASES, examples
+from tools.program import REFUSED, Answer, answer_of, program_parser
+from tools.tally import Tally
 
-ROOT = Path(__file__).resolve().parent.parent
 WANTED = 200
 LEAST = 180
-REFUSED = 2
-SECONDS = 60
-OPENERS = {"class", "proc", "op", "if", "repeat", "trap", "destroy"}
-DECLARATIONS = {"ptr", "int", "buf", "view", "field"}
+# the words of lines that an `end` ends, if they stand in any line, and of those that declare something
+OPENERS = words_of_roles("Class", "Procedure", "If", "Loop", "Destroy")
+DECLARATIONS = words_of_roles("Declaration", "Field")
 
 
 class Mistake(NamedTuple):
@@ -97,7 +95,7 @@ def opens(words: list[str]) -> bool:
 
 def opener_of(lines: list[str], end: int) -> int | None:
     """The index of the line whose block an `end` closes."""
-    open_lines = []
+    open_lines: list[int] = []
     for at, line in enumerate(lines[: end + 1]):
         words = words_of(line)
         if opens(words):
@@ -113,7 +111,8 @@ def end_gone(lines: list[str], at: int, turn: int) -> Mistake | None:
     """Leaves out one `end` of the script, whatever the line that was chosen."""
     ends = [place for place, line in enumerate(lines) if words_of(line) == ["end"]]
     end = ends[turn % len(ends)]
-    return Mistake(lines[:end] + lines[end + 1 :], {end + 1, opener_of(lines, end) + 1}, set())
+    opener = opener_of(lines, end)
+    return None if opener is None else Mistake(lines[:end] + lines[end + 1 :], {end + 1, opener + 1}, set())
 
 
 def end_too_many(lines: list[str], at: int, turn: int) -> Mistake | None:
@@ -148,8 +147,8 @@ MAKERS: list[Maker] = [
 
 def sources() -> list[str]:
     """The scripts of the examples and of the guide's cases."""
-    cases = [case_file.read(it).script.decode() for it in case_file.files_in([ROOT / "cases/guide"])]
-    return [it.read_text() for it in sorted((ROOT / "examples").glob("*.oom"))] + [it for it in cases if it.strip()]
+    cases = [case_file.read(it).script.decode() for it in case_file.files_in([CASES / "guide"])]
+    return [it.read_text() for it in examples()] + [it for it in cases if it.strip()]
 
 
 def mistakes(scripts: list[str]) -> Iterator[Mistake]:
@@ -163,11 +162,10 @@ def mistakes(scripts: list[str]) -> Iterator[Mistake]:
             yield made
 
 
-def told(program: Path, folder: str, made: Mistake) -> tuple[int, str]:
-    """The program's exit status and standard error for a script, whose file is `script.oom`."""
+def told(program: Path, folder: str, made: Mistake) -> Answer:
+    """What the program answers to a script, whose file is `script.oom`."""
     Path(folder, "script.oom").write_text("\n".join(made.lines) + "\n")
-    done = subprocess.run([program, "run", "script.oom"], cwd=folder, capture_output=True, text=True, timeout=SECONDS)
-    return done.returncode, done.stderr
+    return answer_of(program, "run", "script.oom", cwd=folder)
 
 
 def is_named(made: Mistake, explanation: str) -> bool:
@@ -176,18 +174,16 @@ def is_named(made: Mistake, explanation: str) -> bool:
     return of_line or any(f"`{word}`" in explanation for word in made.words)
 
 
-def main() -> int:
+def main(words: list[str]) -> int:
     """Makes the scripts, shows each whose mistake isn't named, and prints the count."""
-    parser = argparse.ArgumentParser(description=__doc__.splitlines()[0])
-    parser.add_argument("program", type=Path)
-    program = parser.parse_args().program.resolve()
+    program = program_parser(__doc__).parse_args(words).program
     refused = named = 0
     with tempfile.TemporaryDirectory() as folder:
         for made in mistakes(sources()):
-            status, explanation = told(program, folder, made)
-            if status != REFUSED:
+            answer = told(program, folder, made)
+            if answer.status != REFUSED:
                 continue
-            refused += 1
+            refused, explanation = refused + 1, answer.messages.decode()
             if is_named(made, explanation):
                 named += 1
             else:
@@ -195,8 +191,6 @@ def main() -> int:
             if refused == WANTED:
                 break
     print(f"{named} of {refused} mistakes named")
-    return 0 if named >= LEAST else 1
-
-
-if __name__ == "__main__":
-    sys.exit(main())
+    tally = Tally()
+    tally.check(named >= LEAST, f"{LEAST} are wanted")
+    return tally.end()

@@ -1,7 +1,4 @@
-#!/usr/bin/env python3
-"""Compares the lists of DEVELOPING.md with the files that name one example of each: a line of the language, a rule and an option.
-
-    tools/named_files.py
+"""Compares the lists of files in DEVELOPING.md with the files that name one example of each.
 
 A section that says how something is added lists the files to change. Those in bold are the ones that name its example, all of them: each
 file of crates/, tools/ and bench/ that names it must be there in bold, and each that is there in bold must name it. A folder in bold
@@ -14,12 +11,14 @@ Not looked at are cases and the theorems of worked cases, wrong bodies, tests, w
 
 import os
 import re
-import sys
 from collections.abc import Iterator
 from pathlib import Path
 from typing import NamedTuple
 
-ROOT = Path(__file__).resolve().parent.parent
+from tools.paths import ROOT
+from tools.program import parser_of
+from tools.tally import Tally
+
 PAGE = "docs/DEVELOPING.md"
 
 
@@ -97,7 +96,7 @@ def found_for(name: str, folder: str, known: list[str]) -> list[str]:
 def folder_of(code: str) -> str | None:
     """The folder that what is in the code type belongs to, if it says so."""
     found = FOLDER.match(code)
-    return found and (f"crates/{found[1]}" if found[1] else found[2])
+    return (f"crates/{found[1]}" if found[1] else found[2]) if found else None
 
 
 def listed_in(section: str, known: list[str]) -> Listed:
@@ -134,20 +133,14 @@ def faults_of(section: str, example: Example, texts: dict[str, str]) -> Iterator
     yield from (f"{it}: names {example.name}, and isn't in bold in the list" for it in sorted(lacking))
 
 
-def main() -> int:
+def main(words: list[str]) -> int:
     """Compares each list, and says what is in one and missing in the other."""
+    parser_of(__doc__).parse_args(words)
     sections = {title: text for title, text in SECTION.findall((ROOT / PAGE).read_text(encoding="utf-8")) if title.startswith("Add ")}
-    texts, failed = texts_in(ROOT), 0
+    texts, tally = texts_in(ROOT), Tally()
     faults = {title: ["there is no such section"] for title in EXAMPLES}
     for title, section in sections.items():
         faults[title] = list(faults_of(section, EXAMPLES[title], texts)) if title in EXAMPLES else listed_in(section, list(texts)).faults
     for title, found in faults.items():
-        failed += bool(found)
-        for fault in found:
-            print(f"{PAGE}, {title}: {fault}")
-    print(f"{len(faults) - failed} passed, {failed} failed")
-    return 1 if failed else 0
-
-
-if __name__ == "__main__":
-    sys.exit(main())
+        tally.check(not found, "\n".join(f"{PAGE}, {title}: {fault}" for fault in found))
+    return tally.end()

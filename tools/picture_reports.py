@@ -9,7 +9,7 @@ import re
 import xml.etree.ElementTree as ET
 from collections.abc import Callable, Iterator
 
-from picture_file import Panel, Picture, is_cell
+from tools.picture_file import Panel, Picture, is_cell
 
 # the lines of a report for the words of a command
 Reports = Callable[[list[str]], list[str]]

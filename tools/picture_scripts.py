@@ -1,9 +1,8 @@
 """Scripts whose pictures have shapes of every kind, long ones, and how many steps a column of their pictures is."""
 
-from pathlib import Path
 from typing import NamedTuple
 
-ROOT = Path(__file__).resolve().parent.parent
+from tools.paths import EXAMPLES
 
 
 class Row(NamedTuple):
@@ -28,7 +27,7 @@ def of_steps(last: int, is_leaking: bool) -> str:
 
 def example(name: str) -> str:
     """The text of an example."""
-    return (ROOT / "examples" / f"{name}.oom").read_text(encoding="utf-8")
+    return (EXAMPLES / f"{name}.oom").read_text(encoding="utf-8")
 
 
 LEAK = "proc main\nptr a\nalloc a 16\nend\n"
@@ -138,7 +137,7 @@ TABLE = [
         {"from 0 no cleanup stack": 1, "from 144 ended": 1},
         {"required 144": 1, "limit": 0},
     ),
-    Row("text of a user", "run", MARKUP, 2, {"leak": 0}, {"panic USER 11; line 7: append t \"</title></svg><script>&' ]]>\"": 1}),
+    Row("text of a user", "run", MARKUP, 2, {"leak": 0}, {'panic USER 11; line 7: append t "</title></svg><script>&\' ]]>"': 1}),
 ]
 
 # scripts with long runs, and one that fills the longest heap

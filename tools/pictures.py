@@ -1,7 +1,4 @@
-#!/usr/bin/env python3
 """Draws pictures with the built program, and checks what they hold.
-
-    tools/pictures.py PROGRAM [--write]
 
 The pictures of all examples are compared with the reports of their runs (picture_reports.py). Some are kept in docs/pictures, and must
 be those that the program draws, byte for byte; --write writes them anew. These are the pictures that pages show, and some of other kinds. A
@@ -10,32 +7,28 @@ well-formed XML of a few elements, and the report, the messages and the status b
 written, the status must be 5, the last message must say why, and no file may be another than before: neither the script, nor a file
 that is no picture, nor what the report went to. Pictures of long runs must be no longer than 5 MiB; how long they are, and how many
 seconds they took, is printed.
-The last line is `N passed, M failed`.
 """
 
-import argparse
 import os
 import re
 import resource
 import signal
-import subprocess
-import sys
 import tempfile
 import time
 import xml.etree.ElementTree as ET
-from collections.abc import Callable
+from collections.abc import Callable, Sequence
 from pathlib import Path
-from typing import NamedTuple
+from typing import Any
 
-# what starts this leaves its folder out of Python's path
-sys.path.insert(0, str(Path(__file__).resolve().parent))
-from picture_file import Picture  # noqa: E402
-from picture_reports import faults_of as picture_faults  # noqa: E402
-from picture_scripts import COLUMNS, LEAK, LONG, TABLE, Row, of_steps  # noqa: E402
+from tools.pages import pages
+from tools.paths import DOCS, ROOT, examples
+from tools.picture_file import Picture
+from tools.picture_reports import faults_of as picture_faults
+from tools.picture_scripts import COLUMNS, LEAK, LONG, TABLE, Row, of_steps
+from tools.program import READ_OR_WRITE_FAULT, Answer, Word, answer_of, program_parser
+from tools.tally import Tally
 
-ROOT = Path(__file__).resolve().parent.parent
-KEPT = ROOT / "docs" / "pictures"
-NOT_WRITTEN = 5
+KEPT = DOCS / "pictures"
 MOST_BYTES = 5 << 20
 
 # the examples whose pictures are kept beside those that pages show, and the kind that each is of
@@ -76,41 +69,25 @@ NO_PICTURES = {"text": "a report\n", "nothing": "", "too little": "<svg", "anoth
 # a picture of before, which is replaced
 OLD = "<svg>old</svg>\n"
 
-BOTH = {"stdout": subprocess.PIPE, "stderr": subprocess.PIPE}
-
-
-class Answer(NamedTuple):
-    """What the program writes, and its status."""
-
-    output: bytes
-    messages: bytes
-    status: int
-
 
 def shown_pictures() -> set[str]:
     """The names of the pictures that pages show."""
-    pages = [ROOT / "README.md", *(ROOT / "docs").glob("*.md"), *(ROOT / "examples").glob("*.md")]
-    return {name for page in pages for name in SHOWN.findall(page.read_text(encoding="utf-8"))}
+    return {name for page in pages() for name in SHOWN.findall(page.read_text(encoding="utf-8"))}
 
 
 class Pictures:
     """What the program draws in a folder of its own, and how much of it was right."""
 
     def __init__(self, program: Path, room: Path) -> None:
-        self.program, self.room = program, room
-        self.passed = self.failed = 0
+        self.program, self.room, self.tally = program, room, Tally()
 
     def check(self, is_fine: bool, what: str) -> None:
         """Counts a check, and says which failed."""
-        self.passed += is_fine
-        self.failed += not is_fine
-        if not is_fine:
-            print(f"FAILED: {what}")
+        self.tally.check(is_fine, f"FAILED: {what}")
 
-    def run(self, words: list[str], script: str = "", before: Callable[[], None] | None = None) -> Answer:
+    def run(self, words: Sequence[Word], script: str = "", before: Callable[[], None] | None = None, **streams: Any) -> Answer:
         """What the program answers, where file names start at the top of the repository. `before` is called in its process, before it."""
-        ran = subprocess.run([self.program, *words], input=script.encode(), capture_output=True, cwd=ROOT, preexec_fn=before, check=False)
-        return Answer(ran.stdout, ran.stderr, ran.returncode)
+        return answer_of(self.program, *words, script=script.encode(), cwd=ROOT, preexec_fn=before, **streams)
 
     def draw(self, what: str, words: list[str], script: str = "") -> Picture | None:
         """The picture that goes with an answer; None if there is none. The answer must be the one without a picture."""
@@ -146,7 +123,7 @@ class Pictures:
     def check_examples(self, is_writing: bool) -> None:
         """The pictures of all examples, of which those are kept that pages show or that are of a kind of their own."""
         kept = shown_pictures() | set(KINDS)
-        for file in sorted((ROOT / "examples").glob("*.oom")):
+        for file in examples():
             self.check_example(file, file.stem in kept, is_writing)
         held = {it.stem for it in KEPT.iterdir()}
         self.check(held == kept, f"{KEPT.relative_to(ROOT)} holds other pictures than those that are to be kept: {sorted(held ^ kept)}")
@@ -176,7 +153,7 @@ class Pictures:
             answer = self.run(["run", "--picture", name], LEAK)
             shown = name or '""'
             message = f"workbench: {shown}: {why}\n".encode()
-            wanted = Answer(plain.output, plain.messages + message, NOT_WRITTEN)
+            wanted = Answer(plain.output, plain.messages + message, READ_OR_WRITE_FAULT)
             self.check(answer == wanted, f"a picture in {name!r}: {answer}")
 
     def files(self) -> dict[str, bytes]:
@@ -188,7 +165,7 @@ class Pictures:
         script = str(self.room / "script.oom")
         plain, held = self.run(["run", script]), self.files()
         answer = self.run(["run", "--picture", str(file), script], before=before)
-        wanted = Answer(plain.output, plain.messages + f"workbench: {file}: {why}\n".encode(), NOT_WRITTEN)
+        wanted = Answer(plain.output, plain.messages + f"workbench: {file}: {why}\n".encode(), READ_OR_WRITE_FAULT)
         self.check(answer == wanted, f"{what}: {answer}")
         self.check(self.files() == held, f"{what}: other files than before")
 
@@ -197,9 +174,9 @@ class Pictures:
         script, file, pipe = self.room / "script.oom", self.room / "kept", self.room / "pipe"
         script.write_text(LEAK, encoding="utf-8")
         self.check_left("the script", script, SCRIPT_ITSELF)
-        for name, make in (("another name", os.link), ("a link", os.symlink)):
+        for name in ("another name", "a link"):
             other = self.room / f"{name}.oom"
-            make(script, other)
+            other.symlink_to(script) if name == "a link" else other.hardlink_to(script)
             self.check_left(f"{name} of the script", other, SCRIPT_ITSELF)
         for what, held in NO_PICTURES.items():
             file.write_text(held, encoding="utf-8")
@@ -227,20 +204,21 @@ class Pictures:
         script, report, old = self.room / "script.oom", self.room / "report.txt", self.room / "old.svg"
         plain = self.run(["run", str(script)])
         with report.open("wb") as output:
-            ran = subprocess.run([self.program, "run", "--picture", report, script], stdout=output, stderr=subprocess.PIPE, check=False)
+            ran = self.run(["run", "--picture", report, script], stdout=output)
         said = plain.messages + f"workbench: {report}: {REPORT_ITSELF}\n".encode()
-        is_fine = (report.read_bytes(), ran.stderr, ran.returncode) == (plain.output, said, NOT_WRITTEN)
+        is_fine = (report.read_bytes(), ran.messages, ran.status) == (plain.output, said, READ_OR_WRITE_FAULT)
         self.check(is_fine, f"a picture in the report: {ran}")
         with script.open("rb") as given:
-            ran = subprocess.run([self.program, "run", "--picture", script], stdin=given, capture_output=True, check=False)
-        self.check(ran.returncode == NOT_WRITTEN and SCRIPT_ITSELF.encode() in ran.stderr, f"a picture in standard input: {ran}")
+            ran = self.run(["run", "--picture", script], stdin=given)
+        self.check(ran.status == READ_OR_WRITE_FAULT and SCRIPT_ITSELF.encode() in ran.messages, f"a picture in standard input: {ran}")
         self.check(script.read_text(encoding="utf-8") == LEAK, "standard input was replaced")
         for stream, written in (("stdout", plain.output), ("stderr", plain.messages)):
             old.write_text(OLD, encoding="utf-8")
             with old.open("ab") as output:
-                ran = subprocess.run([self.program, "run", "--picture", old, script], **{**BOTH, stream: output}, check=False)
+                streams: dict[str, Any] = {stream: output}
+                ran = self.run(["run", "--picture", old, script], **streams)
             held = old.read_bytes()
-            self.check(ran.returncode == NOT_WRITTEN and held.startswith(OLD.encode() + written), f"a picture in {stream}: {ran}")
+            self.check(ran.status == READ_OR_WRITE_FAULT and held.startswith(OLD.encode() + written), f"a picture in {stream}: {ran}")
 
     def check_replaced(self) -> None:
         """A picture is replaced whole, with its permissions, and through links, which stay links."""
@@ -293,14 +271,14 @@ class Pictures:
             print(f"{name}: {len(picture.text.encode())} bytes, {seconds:.1f} s with a run beside it", flush=True)
 
 
-def main() -> None:
-    parser = argparse.ArgumentParser(description=__doc__, formatter_class=argparse.RawDescriptionHelpFormatter)
-    parser.add_argument("program", type=Path, metavar="PROGRAM")
+def main(words: list[str]) -> int:
+    """Makes all checks, and prints the totals."""
+    parser = program_parser(__doc__)
     parser.add_argument("--write", action="store_true", help="write the pictures of the examples anew")
-    given = parser.parse_args()
+    given = parser.parse_args(words)
     KEPT.mkdir(exist_ok=True)
     with tempfile.TemporaryDirectory() as folder:
-        pictures = Pictures(given.program.resolve(), Path(folder))
+        pictures = Pictures(given.program, Path(folder))
         pictures.check_examples(given.write)
         for row in TABLE:
             pictures.check_row(row)
@@ -316,9 +294,4 @@ def main() -> None:
                 pictures.check_columns(last, of_two, steps)
         for name, script in LONG.items():
             pictures.check_long(name, script)
-    print(f"{pictures.passed} passed, {pictures.failed} failed")
-    sys.exit(1 if pictures.failed else 0)
-
-
-if __name__ == "__main__":
-    main()
+    return pictures.tally.end()

@@ -1,11 +1,8 @@
-#!/usr/bin/env python3
-"""Runs long sweeps and searches through all lengths of the built program, and looks at what they say of their progress on standard error.
+"""Runs long sweeps of the program, and looks at what is said of their progress on standard error.
 
-    tools/progress.py PROGRAM
-
-On a terminal one line says which failure or length is being tried. It appears once a sweep has taken two seconds, is rewritten in place,
-and is wiped before the report. Elsewhere nothing is said, nor of a sweep that is shorter. The scripts are made longer and longer
-until their sweeps take long enough on this machine. The last line is `N passed, M failed`.
+They are of single failures, rates, pairs and lengths. On a terminal one line says which failure or length is being tried. It appears once a
+sweep has taken two seconds, is rewritten in place, and is wiped before the report. Elsewhere nothing is said, nor of a sweep that is
+shorter. The scripts are made longer and longer until their sweeps take long enough on this machine.
 """
 
 import os
@@ -13,12 +10,14 @@ import pty
 import re
 import select
 import subprocess
-import sys
 import time
 from collections.abc import Callable
 from concurrent.futures import ThreadPoolExecutor
 from pathlib import Path
-from typing import NamedTuple
+from typing import Any, NamedTuple
+
+from tools.program import Answer, Word, answer_of, program_parser
+from tools.tally import Tally, summed
 
 # how long a sweep goes on before anything is said of it, the shortest time between two lines, and for how much longer a sweep
 # that is looked at goes on, in seconds
@@ -44,15 +43,6 @@ class Kind(NamedTuple):
     in_pairs: bool
 
 
-class Ran(NamedTuple):
-    """What a run wrote and how it ended."""
-
-    output: bytes
-    errors: bytes
-    status: int
-    seconds: float
-
-
 class Shown(NamedTuple):
     """What a run wrote to a terminal, each piece with the second that it came in, and how it ended."""
 
@@ -72,7 +62,8 @@ def fine(attempts: int) -> str:
 
 def leaking(attempts: int) -> str:
     """A script that leaks where its last attempt fails: a cell grows, and its only pointer is overwritten."""
-    return f"proc main\nptr a\nptr b\nrepeat {attempts}\nalloc a 16\nfree a\nend\nalloc b 16\nalloc a 16\nif some a\nfree b\nend\nfree a\nend\n"
+    turns = f"repeat {attempts}\nalloc a 16\nfree a\nend\n"
+    return f"proc main\nptr a\nptr b\n{turns}alloc b 16\nalloc a 16\nif some a\nfree b\nend\nfree a\nend\n"
 
 
 def growing(attempts: int) -> str:
@@ -88,50 +79,44 @@ KINDS = [
 ]
 
 
-class Checks:
-    """How much passed and failed."""
+class Checks(Tally):
+    """How much passed and failed of what is looked at."""
 
-    def __init__(self) -> None:
-        self.passed = self.failed = 0
-
-    def check(self, what: str, holds: bool, shown: object = "") -> None:
+    def look(self, what: str, holds: bool, shown: object = "") -> None:
         """Counts whether it holds, and says so where it doesn't."""
-        self.passed += holds
-        self.failed += not holds
-        if not holds:
-            print(f"{what}: not so: {shown!r}")
+        self.check(holds, f"{what}: not so: {shown!r}")
 
 
-def words_of(program: Path, kind: Kind) -> list[str | Path]:
+def words_of(kind: Kind) -> list[Word]:
     """The words of a sweep, with a budget that is enough."""
-    return [program, *kind.words, "--budget", "1000000"]
+    return [*kind.words, "--budget", "1000000"]
 
 
-def run(program: Path, kind: Kind, script: bytes, **streams: int) -> Ran:
+def run(program: Path, kind: Kind, script: bytes, **streams: Any) -> Answer:
     """A run with standard error no terminal."""
-    begun = time.monotonic()
-    streams = {"stderr": subprocess.PIPE} | streams
-    ran = subprocess.run(words_of(program, kind), input=script, stdout=subprocess.PIPE, timeout=LIMIT, **streams)
-    return Ran(ran.stdout, ran.stderr or b"", ran.returncode, time.monotonic() - begun)
+    return answer_of(program, *words_of(kind), script=script, seconds=LIMIT, **streams)
 
 
-def long_sweep(program: Path, kind: Kind, attempts: int) -> tuple[int, Ran]:
+def long_sweep(program: Path, kind: Kind, attempts: int) -> tuple[int, Answer]:
     """How many attempts, at least these, a sweep has that takes long enough, and what came of it."""
     wanted = QUIET + LONGER
     while True:
+        begun = time.monotonic()
         ran = run(program, kind, kind.script(attempts).encode())
-        if ran.seconds >= wanted:
+        seconds = time.monotonic() - begun
+        if seconds >= wanted:
             return attempts, ran
         # somewhat more than it should take, but not by what a run too short to be timed would say
-        attempts = int(attempts * min(8.0, max(1.1, (1.15 * wanted / ran.seconds) ** (1 / kind.power))))
+        attempts = int(attempts * min(8.0, max(1.1, (1.15 * wanted / seconds) ** (1 / kind.power))))
 
 
 def show(program: Path, kind: Kind, script: bytes) -> Shown:
     """A run with standard output and standard error on one terminal."""
     master, slave = pty.openpty()
     begun, pieces = time.monotonic(), []
-    running = subprocess.Popen(words_of(program, kind), stdin=subprocess.PIPE, stdout=slave, stderr=slave)
+    running = subprocess.Popen([program, *words_of(kind)], stdin=subprocess.PIPE, stdout=slave, stderr=slave)
     os.close(slave)
+    assert running.stdin
     with running.stdin as given:
         given.write(script)
     while select.select([master], [], [], LIMIT)[0]:
@@ -147,11 +132,17 @@ def show(program: Path, kind: Kind, script: bytes) -> Shown:
     return Shown(pieces, running.wait(LIMIT), time.monotonic() - begun)
 
 
-def losing_terminal(program: Path, kind: Kind, script: bytes) -> Ran:
+def close_later(end: int) -> None:
+    """Closes an end of a terminal before anything is said."""
+    time.sleep(QUIET / 2)
+    os.close(end)
+
+
+def losing_terminal(program: Path, kind: Kind, script: bytes) -> Answer:
     """A run whose standard error is a terminal that goes away."""
     master, slave = pty.openpty()
     with ThreadPoolExecutor() as beside:
-        gone = beside.submit(lambda: (time.sleep(QUIET / 2), os.close(master)))
+        gone = beside.submit(close_later, master)
         ran = run(program, kind, script, stderr=slave)
         gone.result()
     os.close(slave)
@@ -183,16 +174,16 @@ def look_at_lines(checks: Checks, kind: Kind, name: str, attempts: int, shown: S
     """What is said while a sweep goes on."""
     written = shown.bytes().decode("ascii")
     lines = list((LENGTH_LINE if kind.calls == "heap" else LINE).finditer(written))
-    checks.check(f"{name}: a line", len(lines) > 0, written[:200])
-    checks.check(f"{name}: none before two seconds", all(at >= QUIET - PAUSE for at, piece in shown.pieces if b"trying" in piece))
-    checks.check(f"{name}: no more than ten a second", len(lines) <= 1 + (shown.seconds - QUIET + PAUSE) / PAUSE, len(lines))
+    checks.look(f"{name}: a line", len(lines) > 0, written[:200])
+    checks.look(f"{name}: none before two seconds", all(at >= QUIET - PAUSE for at, piece in shown.pieces if b"trying" in piece))
+    checks.look(f"{name}: no more than ten a second", len(lines) <= 1 + (shown.seconds - QUIET + PAUSE) / PAUSE, len(lines))
     if kind.calls == "heap":
         lengths = [int(it[1]) for it in lines]
-        checks.check(f"{name}: each shorter", lengths == sorted(set(lengths), reverse=True), lengths)
+        checks.look(f"{name}: each shorter", lengths == sorted(set(lengths), reverse=True), lengths)
         return
-    checks.check(f"{name}: of how many", all(int(it[3]) == attempts >= int(it[2]) >= 1 for it in lines), [it[0] for it in lines])
-    checks.check(f"{name}: one after another", all(tried(one) < tried(two) for one, two in zip(lines, lines[1:])), [it[0] for it in lines])
-    checks.check(f"{name}: its kind", all(it[1] == kind.calls for it in lines) and kind.in_pairs == any(it[4] for it in lines))
+    checks.look(f"{name}: of how many", all(int(it[3]) == attempts >= int(it[2]) >= 1 for it in lines), [it[0] for it in lines])
+    checks.look(f"{name}: one after another", all(tried(one) < tried(two) for one, two in zip(lines, lines[1:])), [it[0] for it in lines])
+    checks.look(f"{name}: its kind", all(it[1] == kind.calls for it in lines) and kind.in_pairs == any(it[4] for it in lines))
 
 
 def look_at(program: Path, kind: Kind) -> Checks:
@@ -210,17 +201,17 @@ def look_at(program: Path, kind: Kind) -> Checks:
             break
         # the machine has become quicker meanwhile
         attempts += attempts // 4
-    checks.check(f"{name}: nothing is said without a terminal", b"trying" not in ran.errors and b"\r" not in ran.errors, ran.errors)
+    checks.look(f"{name}: nothing is said without a terminal", b"trying" not in ran.messages and b"\r" not in ran.messages, ran.messages)
     told = re.search(rb'attempts"?[ :](\d+)', ran.output)
-    checks.check(f"{name}: the report where the terminal goes away", gone[0] == ran.output and gone.status == ran.status, gone)
+    checks.look(f"{name}: the report where the terminal goes away", gone[0] == ran.output and gone.status == ran.status, gone)
     look_at_lines(checks, kind, name, int(told[1]) if told else 0, shown)
-    checks.check(f"{name}: the status", shown.status == ran.status, shown.status)
-    whole = (ran.output + ran.errors).decode("ascii").split("\n")
-    checks.check(f"{name}: the line is wiped, and the report whole", screen(shown.bytes()) == whole)
+    checks.look(f"{name}: the status", shown.status == ran.status, shown.status)
+    whole = (ran.output + ran.messages).decode("ascii").split("\n")
+    checks.look(f"{name}: the line is wiped, and the report whole", screen(shown.bytes()) == whole)
     short = kind.script(3).encode()
     ran, shown = run(program, kind, short), show(program, kind, short)
-    wanted = (ran.output + ran.errors).replace(b"\n", b"\r\n")
-    checks.check(f"{name}: a short one", shown.bytes() == wanted and shown.status == ran.status, shown)
+    wanted = (ran.output + ran.messages).replace(b"\n", b"\r\n")
+    checks.look(f"{name}: a short one", shown.bytes() == wanted and shown.status == ran.status, shown)
     return checks
 
 
@@ -245,22 +236,14 @@ def look_at_slow_failures(program: Path) -> Checks:
             break
         turns = int(turns * min(8.0, max(1.2, 1.15 * 2 * (QUIET + LONGER) / shown.seconds)))
     named = [(it[2], it[3]) for it in LINE.finditer(shown.bytes().decode("ascii"))]
-    checks.check("a failure is named before its run", named == [("5", "5")], named)
+    checks.look("a failure is named before its run", named == [("5", "5")], named)
     return checks
 
 
-def main() -> int:
+def main(words: list[str]) -> int:
     """Looks at all kinds side by side, and prints the totals."""
-    if len(sys.argv) != 2:
-        sys.exit(__doc__)
-    program = Path(sys.argv[1]).resolve()
+    program = program_parser(__doc__).parse_args(words).program
     with ThreadPoolExecutor() as beside:
         slow = beside.submit(look_at_slow_failures, program)
         looked = [*beside.map(lambda kind: look_at(program, kind), KINDS), slow.result()]
-    passed, failed = sum(it.passed for it in looked), sum(it.failed for it in looked)
-    print(f"{passed} passed, {failed} failed")
-    return 1 if failed else 0
-
-
-if __name__ == "__main__":
-    sys.exit(main())
+    return summed(looked).end()

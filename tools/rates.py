@@ -1,25 +1,22 @@
-#!/usr/bin/env python3
-"""Compares what `sweep --every` finds with runs under each rate, of the examples and of scripts that are made.
+"""Compares what `sweep --every` finds with runs under each rate.
 
-    tools/rates.py PROGRAM [--scripts N] [--seed N] [--keep FOLDER]
-
-Of each script the program is asked for `run --every n`, for each n from 0 to two past the last attempt of the run without failure. What
-`sweep --every` finds must be the least rate whose run leaks or panics, with just the lines of that run; `every none` only where no such
-run does; a cut where the least rate that isn't fine is cut. Rates past the last attempt must give the run without failure, `check --every`
-the lines of `size` and of the sweep, and `--json` the same lines, with the rate as `number`. A script that differs is kept in the
-folder, and named. So that a program which finds nothing can't pass, each outcome must come often enough among the scripts that
-are made. The last line is `N passed, M failed`.
+Of each example, and of each script that is made, the program is asked for `run --every n`, for each n from 0 to two past the last attempt
+of the run without failure. What `sweep --every` finds must be the least rate whose run leaks or panics, with just the lines of that run;
+`every none` only where no such run does; a cut where the least rate that isn't fine is cut. Rates past the last attempt must give the run
+without failure, `check --every` the lines of `size` and of the sweep, and `--json` the same lines, with the rate as `number`. A script that
+differs is kept in the folder, and named. So that a program which finds nothing can't pass, each outcome must come often enough among the
+scripts that are made.
 """
 
-import sys
-from pathlib import Path
 
-# what starts this may leave its folder out of Python's path
-sys.path.insert(0, str(Path(__file__).resolve().parent))
-from sweep_checks import CUT, FINE, Answer, Script, Wanted, attempts_of, compare_scripts, failing_of, must, swept  # noqa: E402
+from tools.program import CUT, FINE
+from tools.sweep_checks import Report, Script, Wanted, attempts_of, compare_scripts, failing_of, must, swept
 
 # a rate alone is one where no single failure shows anything
-WANTED: Wanted = {"no rate": 20, "rate 0": 2, "rate 2": 10, "a rate above 2": 10, "a rate alone": 5, "a cut at the budget": 2, "a cut at the ceiling": 1}
+WANTED: Wanted = {
+    **{"no rate": 20, "rate 0": 2, "rate 2": 10, "a rate above 2": 10, "a rate alone": 5},
+    **{"a cut at the budget": 2, "a cut at the ceiling": 1},
+}
 
 
 class RatedScript(Script):
@@ -38,7 +35,7 @@ class RatedScript(Script):
         self.compare_forms(sweep)
         return self.outcome_of(sweep)
 
-    def outcome_of(self, sweep: Answer) -> str:
+    def outcome_of(self, sweep: Report) -> str:
         """The outcome that a sweep tells, by its name in WANTED."""
         if sweep.status == CUT:
             return f"a cut at the {sweep.lines[0].split(' ')[2]}"
@@ -50,13 +47,14 @@ class RatedScript(Script):
         return f"rate {rate}" if rate in (0, 2) else "a rate above 2"
 
 
-def wanted_of(runs: list[Answer], attempts: int) -> Answer:
+def wanted_of(runs: list[Report], attempts: int) -> Report:
     """What a sweep must answer, where these are the runs under all rates that can differ."""
     for rate, run in enumerate(runs):
         if run.status != FINE:
             return swept(attempts, f"every {rate}", run)
-    return Answer([f"attempts {attempts}", "every none"], FINE)
+    return Report([f"attempts {attempts}", "every none"], FINE)
 
 
-if __name__ == "__main__":
-    sys.exit(compare_scripts(RatedScript, WANTED, __doc__))
+def main(words: list[str]) -> int:
+    """Compares all scripts, and prints the totals."""
+    return compare_scripts(RatedScript, WANTED, __doc__, words)

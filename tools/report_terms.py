@@ -1,12 +1,6 @@
 """Lines of reports as terms: the values that the definitions must give for them."""
 
-import sys
-from pathlib import Path
-
-# what starts this leaves its folder out of Python's path
-sys.path.insert(0, str(Path(__file__).resolve().parent))
-from terms import among, apply, integer, listed, made, option, text_term  # noqa: E402
-
+from tools.terms import among, apply, integer, listed, made, option, text_term
 
 # The first words of a run's lines, and the words in them that name a value of the definitions.
 RUN_LINES = ("print", "note", "attempt", "ended", "left", "leaks", "leak", "panic", "nocleanup", "cut", "steps")

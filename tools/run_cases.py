@@ -1,57 +1,31 @@
-#!/usr/bin/env python3
 """Runs a program on worked cases, and compares its answers with theirs.
-
-    tools/run_cases.py PROGRAM CASES.. [--write]
 
 CASES are case files, tables, or folders of these; `cases/README.md` says what they are. Of each failing case the difference is shown,
 from the case as it is to the one that the program's answer would make. With --write that is put into the file: look at each difference
 then, since a case's answer must come from the rules and not from the program. Tables, and what very long outputs must contain, are
-never written. The last line is `N passed, M failed`; a case that is written has passed.
+never written. A case that is written has passed.
 """
 
-import argparse
-import subprocess
-import sys
+import os
 from collections.abc import Iterator
-from dataclasses import dataclass, replace
+from dataclasses import replace
 from difflib import unified_diff
 from pathlib import Path
 from typing import Any
 
-# what starts this leaves its folder out of Python's path
-sys.path.insert(0, str(Path(__file__).resolve().parent))
-import case_file  # noqa: E402
-import case_tables  # noqa: E402
-from case_file import Case, CaseError  # noqa: E402
+from tools import case_file, case_tables
+from tools.case_file import Case, CaseError
+from tools.paths import CASES, ROOT
+from tools.program import SECONDS, Answer, NoAnswer, answer_of, program_parser
+from tools.tally import Tally
 
-# file names in arguments start here
-ROOT = Path(__file__).resolve().parent.parent
-SECONDS = 120
 # a longer difference is cut
 MOST_LINES = 100
 
 
-class NoAnswer(Exception):
-    """That a program takes too long."""
-
-
-@dataclass(frozen=True)
-class Answer:
-    """What a program writes, and its status."""
-
-    output: bytes
-    messages: bytes
-    status: int
-
-
 def answer_to(program: Path, args: list[str], script: bytes, **streams: Any) -> Answer:
-    """What a program answers to a script on standard input, with these streams where they are not pipes."""
-    how: dict[str, Any] = {"stdout": subprocess.PIPE, "stderr": subprocess.PIPE} | streams
-    try:
-        done = subprocess.run([program, *args], input=script, timeout=SECONDS, cwd=ROOT, **how)
-    except subprocess.TimeoutExpired:
-        raise NoAnswer(f"no end after {SECONDS} seconds") from None
-    return Answer(done.stdout, done.stderr or b"", done.returncode)
+    """What a program answers to the words and the script of a case. File names in its words start at the top of the repository."""
+    return answer_of(program, *args, script=script, seconds=SECONDS, cwd=ROOT, **streams)
 
 
 def with_answer(case: Case, answer: Answer, has_messages: bool = True) -> Case:
@@ -148,30 +122,21 @@ def told_of_rows(program: Path, table: Path) -> Iterator[str]:
         yield f"{row.place}: {fault}" if fault else ""
 
 
-def main() -> int:
+def main(words: list[str]) -> int:
     """Runs each case and each row, says what is wrong, and prints the totals."""
-    parser = argparse.ArgumentParser(description=__doc__, formatter_class=argparse.RawDescriptionHelpFormatter)
-    parser.add_argument("program", type=Path, metavar="PROGRAM")
-    parser.add_argument("cases", type=Path, nargs="+", metavar="CASES")
+    parser = program_parser(__doc__)
+    parser.add_argument("cases", type=Path, nargs="*", metavar="CASES", default=[Path(os.path.relpath(CASES))])
     parser.add_argument("--write", action="store_true", help="write the program's answers into the cases that fail")
-    chosen = parser.parse_args()
-    program, passed, failed = chosen.program.resolve(), 0, 0
+    chosen = parser.parse_args(words)
+    tally = Tally()
     for file in files_left_alone(chosen.cases):
-        failed += 1
-        print(f"{file}: it belongs to no case")
+        tally.check(False, f"{file}: it belongs to no case")
     for file in case_file.files_in(chosen.cases, case_file.SUFFIX):
-        is_fine, said = told_of_case(program, file, chosen.write)
-        passed, failed = passed + is_fine, failed + (not is_fine)
-        if said:
+        is_fine, said = told_of_case(chosen.program, file, chosen.write)
+        if is_fine and said:
             print(said)
+        tally.check(is_fine, said)
     for table in case_file.files_in(chosen.cases, case_tables.SUFFIX):
-        for fault in told_of_rows(program, table):
-            passed, failed = passed + (not fault), failed + bool(fault)
-            if fault:
-                print(fault)
-    print(f"{passed} passed, {failed} failed")
-    return 1 if failed or not passed else 0
-
-
-if __name__ == "__main__":
-    sys.exit(main())
+        for fault in told_of_rows(chosen.program, table):
+            tally.check(not fault, fault)
+    return tally.end()

@@ -3,43 +3,40 @@
 They are read by the small reader here, not by the workbench's own, so that the theorems speak of the definitions alone."""
 
 import re
-import sys
+from collections.abc import Callable
 from dataclasses import dataclass, field
-from pathlib import Path
 
-# what starts this leaves its folder out of Python's path
-sys.path.insert(0, str(Path(__file__).resolve().parent))
-from terms import UnknownWord, among, apply, found, integer, listed, made, option, text_term  # noqa: E402
+from tools.language import line_of, lines_by_kind, words_of_roles
+from tools.terms import UnknownWord, among, apply, found, integer, listed, made, option, text_term
 
-# The lines that are a list of operands of fixed kinds: word, constructor, the
-# operands' letters, and what follows them. The others are in `Reader.statement`.
-# P and Q stand for pointers, V for numbers, X for int locals, D for texts that
-# can be changed, T for texts that can be read, W for views, C for classes, N for
-# procedures and O for operations.
-STATEMENTS: dict[str, list[str]] = {
-    entry.split()[0]: entry.split()[1:]
+# The statements that are one line with the operands of its kind: its word, the constructor, and what follows the operands there. The
+# others are in `Reader.statement`.
+STATEMENTS: dict[str, tuple[str, list[str]]] = {
+    entry.split()[0]: (entry.split()[1], entry.split()[2:])
     for entry in """
-    alloc Alloc PV GivesNull, allocl Alloc PV Leaves, realloc Realloc PPV GivesNull, reallocl Realloc PPV Leaves,
-    free Free P, alloclen AllocLen XP, store Store PVV, load Load XPV, new New PC GivesNull, newleave New PC Leaves,
-    construct Construct P, delete Delete P, null SetNull P, add Add XV, push Push P, pushobj PushObject P,
-    pushop PushOperation PO, pop Pop V, popdestroy PopDestroy V, popcheck PopCheck P, leave Leave V,
-    leaveiferror LeaveIfError V, leaveifnull LeaveIfNull P, mark Mark, markend MarkEnd V, check Check V,
-    checkall CheckAll V, failnext FailNext V, failevery FailEvery V, failnone FailNone, hnew NewText PV GivesNull,
-    hnewl NewText PV Leaves, hrealloc ReallocText PPV, copy Copy DT, append Append DT, insert Insert DVT,
-    deltext DeleteText DVV, setlength SetLength DV, left Left WTV, right Right WTV, mid Mid WTVV, getlen GetLength XT,
-    getmax GetMaximum XD, heap NoteHeap, available NoteAvailable, compress NoteCompress
-    """.split(",")
+    alloc Alloc GivesNull, allocl Alloc Leaves, realloc Realloc GivesNull, reallocl Realloc Leaves, free Free, alloclen AllocLen,
+    store Store, load Load, new New GivesNull, newleave New Leaves, construct Construct, delete Delete, null SetNull, add Add, push Push,
+    pushobj PushObject, pushop PushOperation, pop Pop, popdestroy PopDestroy, popcheck PopCheck, leave Leave, leaveiferror LeaveIfError,
+    leaveifnull LeaveIfNull, mark Mark, markend MarkEnd, check Check, checkall CheckAll, failnext FailNext, failevery FailEvery,
+    failnone FailNone, hnew NewText GivesNull, hnewl NewText Leaves, hrealloc ReallocText, copy Copy, append Append, insert Insert,
+    deltext DeleteText, setlength SetLength, left Left, right Right, mid Mid, getlen GetLength, getmax GetMaximum, heap NoteHeap,
+    available NoteAvailable, compress NoteCompress
+    """.split(
+        ","
+    )
 }
 
-CONDITIONS = {"null": ("IsNull", "P"), "some": ("NotNull", "P"), "eq": ("Equal", "VV"), "less": ("Less", "VV")}
+# The conditions by their keywords: the constructor, and the kind of line.
+CONDITIONS = {"null": ("IsNull", "IfNull"), "some": ("NotNull", "IfSome"), "eq": ("Equal", "IfEqual"), "less": ("Less", "IfLess")}
 
-# Lines that mean one thing where the first operand is a number, and another where not.
-OVERLOADED = {"set": (("SetNumber", "XV"), ("Set", "PP")), "print": (("PrintNumber", "V"), ("PrintText", "T"))}
+# Lines that mean one thing where the first operand is a number, and another where not, with the places of their operands.
+OVERLOADED = {
+    "set": (("SetNumber", ("Variable", "Value")), ("Set", ("Pointer", "Pointer"))),
+    "print": (("PrintNumber", ("Value",)), ("PrintText", ("Readable",))),
+}
 
-# Lines with one operand that open a block.
-BLOCKS = {"repeat": ("Repeat", "V"), "trap": ("Trap", "X")}
-
-DECLARATIONS = ("ptr", "int", "buf", "view")
+# Lines that open a block.
+BLOCKS = {"repeat": "Repeat", "trap": "Trap"}
 
 NUMERAL = re.compile("-?[0-9]+")
 
@@ -153,12 +150,12 @@ class Reader:
         return apply("Par.OfPointer", self.class_option(of.class_name))
 
     def class_named(self, name: str) -> ClassLines:
-        """C."""
+        """What the class of this name declares."""
         return found(self.classes, name, "the name of a class", "read its declaration in `Reader.declare`")
 
     def class_option(self, name: str | None) -> str:
         """The class of a pointer, a field or a parameter, where it has one."""
-        return option(None if name is None else str(self.class_named(name).index))
+        return option(None if name is None else self.class_index(name))
 
     def procedure(self, name: str) -> str:
         """A procedure by its name."""
@@ -174,7 +171,7 @@ class Reader:
         """A body up to its `end`, with its parameters and the class of `self`."""
         self.locals, self.this = dict(given), this
         begun: list[str] = []
-        while self.lines[-1][1][0] in DECLARATIONS:
+        while self.lines[-1][1][0] in words_of_roles("Declaration"):
             begun.append(self.declaration(self.next_line()))
         return made("body", locals=listed(begun), statements=listed(self.block()[0]))
 
@@ -203,61 +200,66 @@ class Reader:
         """One statement, with what stands inside it."""
         key, operands = words[0], words[1:]
         if key in STATEMENTS:
-            name, letters, rest = [*STATEMENTS[key], "", ""][:3]
-            return apply(name, *self.operands(key, letters, operands, "STATEMENTS"), *rest.split())
+            name, rest = STATEMENTS[key]
+            return apply(name, *self.operands(key, line_of(key, "Plain").places, operands), *rest)
         if key in OVERLOADED:
-            name, letters = OVERLOADED[key][self.sort_of("".join(operands[:1])) != "int"]
-            return apply(name, *self.operands(key, letters, operands, "OVERLOADED"))
+            name, places = OVERLOADED[key][self.sort_of("".join(operands[:1])) != "int"]
+            return apply(name, *self.operands(key, places, operands))
         if key == "call":
             return apply("Call", *self.call(operands))
         if key == "callto":
             return apply("CallTo", self.local(operands[0]), *self.call(operands[1:]))
         if key == "return":
-            return apply("ReturnPointer", *self.operands(key, "P", operands, "`Reader.statement`")) if operands else "Return"
+            return apply("ReturnPointer", *self.operands(key, ("Pointer",), operands)) if operands else "Return"
         if key == "if":
             return self.choice(operands)
-        name, letter = found(BLOCKS, key, "a statement", "add it to STATEMENTS, OVERLOADED or BLOCKS, or read it in `Reader.statement`")
-        return apply(name, *self.operands(key, letter, operands, "BLOCKS"), listed(self.block()[0]))
+        name = found(BLOCKS, key, "a statement", "add it to STATEMENTS, OVERLOADED or BLOCKS, or read it in `Reader.statement`")
+        return apply(name, *self.operands(key, line_of(key, "Loop").places, operands), listed(self.block()[0]))
 
-    def operands(self, key: str, letters: str, words: list[str], table: str) -> list[str]:
-        """All operands of a line, by their letters."""
-        if len(words) > len(letters):
-            raise UnknownWord(words[len(letters)], f"an operand of `{key}`", f"its letters in {table} are too few")
-        if len(words) < len(letters):
-            raise UnknownWord(key, f"a line with {len(words)} operands", f"its letters in {table} are too many")
-        return list(map(self.operand, letters, words))
+    def operands(self, key: str, places: tuple[str, ...], words: list[str]) -> list[str]:
+        """All operands of a line, by their places."""
+        if len(words) > len(places):
+            raise UnknownWord(words[len(places)], f"an operand of `{key}`", "`wb_lines` has fewer places for it")
+        if len(words) < len(places):
+            raise UnknownWord(key, f"a line with {len(words)} operands", "`wb_lines` has more places for it")
+        return list(map(self.operand, places, words))
 
     def call(self, words: list[str]) -> tuple[str, str]:
         """A procedure and its arguments."""
-        arguments = [
-            apply("Given", self.number(w)) if self.sort_of(w) == "int" else apply("Passed", self.pointer(w)) for w in words[1:]
-        ]
+        arguments = [apply("Given", self.number(w)) if self.sort_of(w) == "int" else apply("Passed", self.pointer(w)) for w in words[1:]]
         return self.procedure(words[0]), listed(arguments)
 
     def choice(self, operands: list[str]) -> str:
         """`if` with its condition and both parts."""
-        name, letters = found(CONDITIONS, operands[0], "a condition", "add it to CONDITIONS")
-        condition = apply(name, *self.operands(operands[0], letters, operands[1:], "CONDITIONS"))
+        name, kind = found(CONDITIONS, operands[0], "a condition", "add it to CONDITIONS")
+        condition = apply(name, *self.operands(operands[0], lines_by_kind()[kind].places, operands[1:]))
         first, closed_by = self.block()
         if closed_by == "end":
             return apply("If", condition, listed(first))
         return apply("IfElse", condition, listed(first), listed(self.block()[0]))
 
-    def operand(self, letter: str, word: str) -> str:
-        """An operand by its letter."""
-        readers = {"P": self.pointer, "V": self.number, "X": self.local, "W": self.local, "D": self.writable, "T": self.readable}
-        if letter in readers:
-            return readers[letter](word)
-        if letter == "C":
-            return str(self.class_named(word).index)
+    def operand(self, place: str, word: str) -> str:
+        """An operand by its place."""
+        readers: dict[str, Callable[[str], str]] = {
+            **{"Pointer": self.pointer, "Written": self.pointer, "Value": self.number, "Variable": self.local, "ViewName": self.local},
+            **{"Writable": self.writable, "Readable": self.readable, "Class": self.class_index, "Operation": self.operation},
+        }
+        return found(readers, place, "the place of an operand", "read it in `Reader.operand`")(word)
+
+    def class_index(self, word: str) -> str:
+        """A class by its name."""
+        return str(self.class_named(word).index)
+
+    def operation(self, word: str) -> str:
+        """An operation by its name."""
         return str(found(self.operations, word, "the name of an operation", "read its declaration in `Reader.declare`"))
 
     def local_named(self, word: str) -> Local:
         """A local of the body."""
-        return found(self.locals, word, "a local or an operand", "read its form in `Reader.sort_of`, or its declaration in `Reader.declaration`")
+        return found(self.locals, word, "a local or an operand", "read it in `Reader.sort_of`, or its declaration in `Reader.declaration`")
 
     def local(self, word: str) -> str:
-        """X and W, and other locals by their name."""
+        """A local by its name."""
         return str(self.local_named(word).index)
 
     def sort_of(self, word: str) -> str:
@@ -273,7 +275,7 @@ class Reader:
         return "H.This" if name == "self" else apply("H.Local", self.local(name))
 
     def pointer(self, word: str) -> str:
-        """P and Q."""
+        """A pointer."""
         if "." not in word:
             return apply("Held", self.holder(word))
         base, _, name = word.partition(".")
@@ -282,15 +284,15 @@ class Reader:
         return apply("Field", self.holder(base), str(of.index), str(list(of.fields).index(name)))
 
     def number(self, word: str) -> str:
-        """V."""
+        """A number."""
         return apply("Constant", integer(int(word))) if NUMERAL.fullmatch(word) else apply("Variable", self.local(word))
 
     def writable(self, word: str) -> str:
-        """D."""
+        """A text that can be changed."""
         return apply("OwnBuffer", self.local(word)) if self.sort_of(word) == "buf" else apply("InCell", self.pointer(word))
 
     def readable(self, word: str) -> str:
-        """T."""
+        """A text that can be read."""
         sort = self.sort_of(word)
         if sort == "literal":
             self.literals.append(word[1:-1])

@@ -2,21 +2,17 @@
 
 import argparse
 import json
-import subprocess
-import sys
 from collections import Counter
 from collections.abc import Iterable
 from concurrent.futures import ThreadPoolExecutor
 from pathlib import Path
 from typing import NamedTuple
 
-# what starts a tool may leave its folder out of Python's path
-sys.path.insert(0, str(Path(__file__).resolve().parent))
-from crates import ROOT, processors  # noqa: E402
-from made_scripts import SCRIPTS, SEED, scripts  # noqa: E402
-
-SECONDS = 60
-FINE, FOUND, REFUSED, CUT = 0, 1, 2, 3
+from tools.crates import processors
+from tools.made_scripts import add_choice, scripts
+from tools.paths import examples
+from tools.program import CUT, FINE, FOUND, NoAnswer, answer_of, program_parser
+from tools.tally import Tally
 
 # what a sweep finds: a number, a rate, a pair, or `none`
 Failing = int | list[int] | str
@@ -24,7 +20,7 @@ Failing = int | list[int] | str
 Wanted = dict[str, int]
 
 
-class Answer(NamedTuple):
+class Report(NamedTuple):
     """The lines that a command writes, and its status."""
 
     lines: list[str]
@@ -54,28 +50,28 @@ class Script:
         """The command that is compared."""
         return f"sweep --{cls.KIND}"
 
-    def answer(self, *words: str) -> Answer:
+    def answer(self, *words: str) -> Report:
         """What a command answers."""
-        ran = subprocess.run([self.program, *words], input=self.text, capture_output=True, timeout=SECONDS)
-        return Answer(ran.stdout.decode("ascii").splitlines(), ran.returncode)
+        answer = answer_of(self.program, *words, script=self.text)
+        return Report(answer.output.decode("ascii").splitlines(), answer.status)
 
-    def run(self, *failing: str | int) -> Answer:
+    def run(self, *failing: str | int) -> Report:
         """The run under the failure that these options say."""
         words = ["run", *map(str, failing)]
         told = self.answer(*words)
         must(told.status in (FINE, FOUND, CUT), f"`{' '.join(words)}` ends with {told.status}")
         return told
 
-    def compare(self, wanted: Answer, *words: str) -> Answer:
+    def compare(self, wanted: Report, *words: str) -> Report:
         """What a command answers, which must be this."""
         told = self.answer(*words)
         must(told == wanted, f"`{' '.join(words)}` gives {shown(told)} in place of {shown(wanted)}")
         return told
 
-    def compare_forms(self, sweep: Answer) -> None:
+    def compare_forms(self, sweep: Report) -> None:
         """Whether `check` with the flag and the JSON say the same as a sweep."""
         size = self.answer("size")
-        wanted = size if size.status == CUT else Answer(size.lines + sweep.lines, sweep.status)
+        wanted = size if size.status == CUT else Report(size.lines + sweep.lines, sweep.status)
         check = self.compare(wanted, "check", f"--{self.KIND}")
         for command, plain in (("sweep", sweep), ("check", check)):
             written = self.answer(command, f"--{self.KIND}", "--json")
@@ -89,7 +85,7 @@ class Script:
         raise NotImplementedError
 
 
-def attempts_of(run: Answer) -> int:
+def attempts_of(run: Report) -> int:
     """How many attempts a run tells of."""
     return sum(line.startswith("attempt ") for line in run.lines)
 
@@ -109,16 +105,16 @@ def values_of(status: int, lines: list[str]) -> dict[str, Failing | None]:
     return {"attempts": int(lines[0].removeprefix("attempts ")), "number": failing_of(lines)}
 
 
-def swept(attempts: int, failing: str, run: Answer) -> Answer:
+def swept(attempts: int, failing: str, run: Report) -> Report:
     """What a sweep must answer whose least failure that isn't fine is this one, with its run. It is spelled as `every 3` or `pair 2 4`."""
     word, _, numbers = failing.partition(" ")
     if run.status == CUT:
         why = next(line for line in run.lines if line.startswith("cut "))
-        return Answer([f"cut {numbers} {why.removeprefix('cut ')}"], CUT)
-    return Answer([f"attempts {attempts}", f"{word} {numbers}", *run.lines], FOUND)
+        return Report([f"cut {numbers} {why.removeprefix('cut ')}"], CUT)
+    return Report([f"attempts {attempts}", f"{word} {numbers}", *run.lines], FOUND)
 
 
-def shown(answer: Answer) -> str:
+def shown(answer: Report) -> str:
     """The beginning of an answer."""
     return f"status {answer.status} and {answer.lines[:4]}"
 
@@ -127,48 +123,44 @@ def compared(script: type[Script], program: Path, name: str, text: bytes) -> tup
     """What comes of a script, or what is wrong."""
     try:
         return script(program, text).outcome(), None
-    except (Difference, subprocess.TimeoutExpired, ValueError, LookupError) as fault:
+    except (Difference, NoAnswer, ValueError, LookupError) as fault:
         return None, f"{name}: {fault}"
 
 
 def too_few(wanted: Wanted, outcomes: Counter[str], count: int) -> list[str]:
     """Which outcomes the made scripts don't show often enough."""
     least = {outcome: often * count // 100 for outcome, often in wanted.items()}
-    return [f"{outcome}: {outcomes[outcome]} of {count}, and {often} are wanted" for outcome, often in least.items() if outcomes[outcome] < often]
+    return [f"{it}: {outcomes[it]} of {count}, and {often} are wanted" for it, often in least.items() if outcomes[it] < often]
 
 
-def arguments(about: str) -> argparse.Namespace:
+def arguments(about: str | None, words: list[str]) -> argparse.Namespace:
     """What the words of the command line ask for."""
-    parser = argparse.ArgumentParser(description=about.splitlines()[0])
-    parser.add_argument("program", type=Path)
-    parser.add_argument("--scripts", type=int, default=SCRIPTS, metavar="N", help=f"how many scripts are made [default: {SCRIPTS}]")
-    parser.add_argument("--seed", type=int, default=SEED, metavar="N", help=f"which scripts [default: {SEED}]")
+    parser = program_parser(about)
+    add_choice(parser)
     parser.add_argument("--keep", type=Path, metavar="FOLDER", help="where scripts go that differ")
-    return parser.parse_args()
+    return parser.parse_args(words)
 
 
-def keep_scripts(folder: Path | None, differing: Iterable[tuple[str, bytes]]) -> None:
-    """Writes these scripts into the folder, if there is one."""
-    for name, text in differing if folder else ():
+def keep_scripts(folder: Path, differing: Iterable[tuple[str, bytes]]) -> None:
+    """Writes these scripts into the folder."""
+    for name, text in differing:
         folder.mkdir(parents=True, exist_ok=True)
         (folder / f"{name.replace(' ', '-').removesuffix('.oom')}.oom").write_bytes(text)
 
 
-def compare_scripts(script: type[Script], wanted: Wanted, about: str) -> int:
+def compare_scripts(script: type[Script], wanted: Wanted, about: str | None, words: list[str]) -> int:
     """Compares the answers for examples and made scripts, prints what comes how often, and the totals, and gives the exit status."""
-    given = arguments(about)
-    program = given.program.resolve()
-    examples = [(it.name, it.read_bytes()) for it in sorted((ROOT / "examples").glob("*.oom"))]
+    given, tally = arguments(about, words), Tally()
     made = [(f"made {number}", it.encode("ascii")) for number, it in enumerate(scripts(given.scripts, given.seed))]
-    named = [*examples, *made]
+    named = [*((it.name, it.read_bytes()) for it in examples()), *made]
     with ThreadPoolExecutor(processors()) as pool:
-        told = list(pool.map(lambda it: compared(script, program, *it), named))
-    faults = [fault for _, fault in told if fault]
-    print("".join(f"{fault}\n" for fault in faults), end="")
-    keep_scripts(given.keep, (it for it, (_, fault) in zip(named, told) if fault))
-    outcomes = Counter(outcome for outcome, _ in told[len(examples) :] if outcome)
-    rare = too_few(wanted, outcomes, given.scripts)
-    print("".join(f"too few scripts with {it}\n" for it in rare), end="")
+        told = list(pool.map(lambda it: compared(script, given.program, *it), named))
+    for _, fault in told:
+        tally.check(fault is None, fault or "")
+    if given.keep:
+        keep_scripts(given.keep, (it for it, (_, fault) in zip(named, told) if fault))
+    outcomes = Counter(outcome for outcome, _ in told[len(told) - len(made) :] if outcome)
+    for rare in too_few(wanted, outcomes, given.scripts):
+        tally.check(False, f"too few scripts with {rare}")
     print(f"{script.command()} of made scripts: " + ", ".join(f"{outcomes[it]} with {it}" for it in wanted))
-    print(f"{len(told) - len(faults)} passed, {len(faults) + len(rare)} failed")
-    return 1 if faults or rare or not told else 0
+    return tally.end()

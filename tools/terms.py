@@ -5,6 +5,7 @@ Nothing here knows what a script or a report is."""
 from collections.abc import Collection
 from typing import TypeVar
 
+
 class UnknownWord(Exception):
     """A word that this tool does not know, what it was read as, and what to add to the tool."""
 

@@ -16,12 +16,15 @@ LINES = 380
 
 # What is named from the crate's declared types.
 DECLARED = """
-failures.Failures.TheVariants.{Single, Every, Pairs}; heap.Rule.TheVariants as R; heap.Panic.TheVariants as P; script.Holder.TheVariants as H;
+failures.Failures.TheVariants.{Single, Every, Pairs};
+heap.Rule.TheVariants as R; heap.Panic.TheVariants as P; script.Holder.TheVariants as H;
 heap.Shape.{Shape}; heap.Answer.{Answer}; heap.Answer.TheVariants.{Granted, Simulated, Refused}; heap.Attempt.{Attempt};
-run_end.RunEnd.TheVariants as E; run.Leak.{Leak}; run.Note.{Note}; run.Note.TheVariants.{Heap, Available, Compress}; run.Outcome.{Outcome}; run.RunResult.{RunResult}; run.Why.TheVariants.{Budget, Ceiling};
+run_end.RunEnd.TheVariants as E; run.Leak.{Leak}; run.Note.{Note}; run.Note.TheVariants.{Heap, Available, Compress};
+run.Outcome.{Outcome}; run.RunResult.{RunResult}; run.Why.TheVariants.{Budget, Ceiling};
 run.Outcome.TheVariants.{Ended, Panicked, NoCleanup, Cut}; script.Script.{Script};
 script.Body.{Body}; script.Class.{Class}; script.Operation.{Operation}; script.Procedure.{Procedure}; script.Local.{Local};
-script.Parameter.{Parameter}; size.Rise.{Rise}; script.Parameter.TheVariants as Par; script.Local.TheVariants.{OfPointer, OfNumber, OfBuffer, OfView};
+script.Parameter.{Parameter}; size.Rise.{Rise}; script.Parameter.TheVariants as Par;
+script.Local.TheVariants.{OfPointer, OfNumber, OfBuffer, OfView};
 script.Pointer.TheVariants.{Held, Field}; script.Number.TheVariants.{Constant, Variable}; script.Writable.TheVariants.{OwnBuffer, InCell};
 script.Readable.TheVariants.{Of, ViewOf, Quoted}; script.Condition.TheVariants.{IsNull, NotNull, Equal, Less};
 script.Argument.TheVariants.{Passed, Given}; script.Refusal.TheVariants.{GivesNull, Leaves}; script.Statement.{Statement};
@@ -29,7 +32,10 @@ script.StatementAt.{StatementAt}; script.Statement.TheOpen.{Statement-F}; script
 """
 
 # The files of specs/ whose definitions a run computes through, and what it computes through beside these.
-COMPUTED_IN = ("meaning/Attempts", "meaning/Meaning", "meaning/Operands", "meaning/Reading", "runs/Run", "meaning/State", "meaning/Statements")
+COMPUTED_IN = (
+    *("meaning/Attempts", "meaning/Meaning", "meaning/Operands", "meaning/Reading"),
+    *("runs/Run", "meaning/State", "meaning/Statements"),
+)
 COMPUTED_THROUGH = """out-Statement denote.Hole.Carrier.out roll-Statement denote.Hole.Carrier.roll
 denote.Hole.Carrier.shown denote.Hole.Carrier.hidden {declared}.script.Statement.TheBlock.shown-the_row-StatementAt-0 digits"""
 
@@ -67,7 +73,7 @@ line number length place answer = record { number = number; length = length; pla
 
 abbrev pub rise : ℕ → ℕ → Rise
 rise number top = record { number = number; top = top }
-"""
+"""  # noqa: E501
 
 WRITTEN = "Written by tools/cases_to_theorems.py; edit nothing here."
 
@@ -100,7 +106,8 @@ def shorthands(crate: Path) -> str:
 
 def theorem_file(crate: Path, subject: str, theorems: list[str]) -> str:
     """A file of theorems, each line of which has at most so many characters."""
-    common = f"use Rattle.{crate.name}.proofs.{TOP}.{COMMON}.{{everything, on, script, class_of, procedure, operation, body, result, leak, shaped, line, rise}}"
+    names = "everything, on, script, class_of, procedure, operation, body, result, leak, shaped, line, rise"
+    common = f"use Rattle.{crate.name}.proofs.{TOP}.{COMMON}.{{{names}}}"
     head = [f"-- Worked cases of `{subject}`, each by computing. {WRITTEN}", *(f"use {use}" for use in uses_of(crate)), common]
     text = "\n".join(head) + "\n\n" + "\n".join(theorems)
     return "\n".join(map(wrapped, without_unused(text).split("\n")))

@@ -13,8 +13,8 @@ from datetime import date
 from functools import cache
 from pathlib import Path
 
-from crates import Crates, without_comments
-from wrong_body_files import WRONG_BODIES, written_edits
+from tools.crates import FUNCTION_HEAD, Crates, without_comments
+from tools.wrong_body_files import WRONG_BODIES, written_edits
 
 FILE = "wrong-bodies.txt"
 HEAD = """\
@@ -26,8 +26,7 @@ LINE = re.compile(r"(\w+) (\d+) (\d{4}-\d\d-\d\d) ([0-9a-f]{64})")
 USED_BY_NOTHING = (("proofs", "WorkedCases.antt"), ("proofs", "WorkedCases"))
 # the files of the proof of one function
 OF_ONE_FUNCTION = ("Answers.antt", "Invariants.antt", "Proof.antt")
-# where a function begins, by the layout that `rt fmt` gives
-FUNCTION = re.compile(r"( *)(?:pub(?:\([^)]*\))? )?(?:const |unsafe )*fn \w+")
+FUNCTION = re.compile(FUNCTION_HEAD + r"\w+")
 # what `rt version` says of the logic
 LOGIC = re.compile(r"\blogic [0-9a-f]+")
 

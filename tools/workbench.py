@@ -1,6 +1,6 @@
-#!/usr/bin/env python3
-"""Turns into the workbench, on the same words and streams. Where the program isn't built, or is older than what it is made
-of, its sources are compiled without their proof for this one answer."""
+"""Turns into the workbench, on the same words and streams.
+
+Where the program isn't built, or is older than what it is made of, its sources are compiled without their proof for this one answer."""
 
 import os
 import re
@@ -11,9 +11,8 @@ import tempfile
 from collections.abc import Iterator
 from pathlib import Path
 
-# what starts this leaves its folder out of Python's path
-sys.path.insert(0, str(Path(__file__).resolve().parent))
-from crates import NOT_BUILT, PROGRAM, PROGRAM_CRATE, ROOT, Crates, is_being_built  # noqa: E402
+from tools.crates import NOT_BUILT, Crates, is_being_built
+from tools.paths import PROGRAM, PROGRAM_CRATE, ROOT
 
 NAME = "workbench"
 
@@ -140,22 +139,18 @@ def without_closing(lines: list[bytes]) -> Iterator[bytes]:
     yield from (OTHER_NAME.sub(b"Usage: " + NAME.encode(), it) for it in lines[:last])
 
 
-def main() -> int:
+def main(words: list[str]) -> int:
     """Turns into the program, or answers in its place."""
+    # as the program itself would end
+    signal.signal(signal.SIGINT, signal.SIG_DFL)
     crates = Crates()
     why = why_not_built(crates)
     if why:
         say(f"{why}, so these sources are compiled unproved for this one answer, in about two minutes;")
         say("./build proves and builds the program, in about 20 to 40 minutes, and then an answer takes a fraction of a second")
-        return first_answer(crates, sys.argv[1:])
+        return first_answer(crates, words)
     # Python ignores these, and the program would too
     for ignored in (signal.SIGPIPE, signal.SIGXFSZ):
         signal.signal(ignored, signal.SIG_DFL)
     # the name by which it calls itself in its help
-    os.execv(PROGRAM, [NAME, *sys.argv[1:]])
-
-
-if __name__ == "__main__":
-    # as the program itself would end
-    signal.signal(signal.SIGINT, signal.SIG_DFL)
-    sys.exit(main())
+    os.execv(PROGRAM, [NAME, *words])

@@ -1,8 +1,4 @@
-#!/usr/bin/env python3
-"""Tries the crates' wrong bodies in batches: the prover must disprove each, and for its own sake.
-
-    tools/wrong_bodies.py [--jobs N] [--must-fail] [--after-ci] [--logs FOLDER] [--all | CRATE..]
-    tools/wrong_bodies.py CRATE --only NAME [--only NAME ..]
+"""Tries the crates' wrong bodies in batches: the prover must disprove each for its own sake.
 
 A file `crates/NAME/wrong-bodies/SOURCE.edits` has the wrong bodies of `src/SOURCE.rt`. Each has a line `[NAME]`, a name of its
 own in the crate; a line `function: PATH`, the function that must be disproved, as a check names it, or `function: PATH, PATH`
@@ -18,10 +14,9 @@ Without a crate's name, those crates are tried whose line in wrong-bodies.txt is
 whose line stands, picked by the commit: so a line that isn't true comes to light. `--all` tries all. Where a crate's wrong
 bodies are all disproved, its line is written. `--only` tries the edits of that name alone, and writes no line.
 
-It prints a line for each edit, and at last `N passed, M failed`; the exit status is 1 where one failed. The
-repository's other files stay as they are. `--must-fail` tries the edits of `crates/NAME/must-fail/` as well, and `--logs`
-keeps what the checks printed. `--after-ci` takes the libraries that an `rt ci` of the same sources has just left in `out/`;
-else those that are missing are built.
+It prints a line for each edit. The repository's other files stay as they are. `--must-fail` tries the edits of
+`crates/NAME/must-fail/` as well, and `--logs` keeps what the checks printed. `--after-ci` takes the libraries that
+an `rt ci` of the same sources has just left in `out/`; else those that are missing are built.
 """
 
 import argparse
@@ -29,20 +24,22 @@ import hashlib
 import random
 import shutil
 import subprocess
-import sys
 import tempfile
 from dataclasses import replace
 from functools import partial
 from pathlib import Path
 from threading import Lock
 
-from build import Unproved, build_below
-from crates import ROOT, Crates, Step, processors, run_steps
-from verdicts import Verdicts, logic_of_toolchain
-from wrong_body_checks import Verdict, check, make_room
-from wrong_body_edits import Edit, edited_files, read_edits
-from wrong_body_files import MUST_FAIL, WRONG_BODIES, written_edits
-from wrong_body_twins import Twins, add_proof_files
+from tools.build import Unproved, build_below
+from tools.crates import Crates, Step, processors, run_steps
+from tools.paths import ROOT
+from tools.program import parser_of
+from tools.tally import Tally
+from tools.verdicts import Verdicts, logic_of_toolchain
+from tools.wrong_body_checks import Verdict, check, make_room
+from tools.wrong_body_edits import Edit, edited_files, read_edits
+from tools.wrong_body_files import MUST_FAIL, WRONG_BODIES, written_edits
+from tools.wrong_body_twins import Twins, add_proof_files
 
 # how many crates are tried whose line stands
 PICKED = 2
@@ -55,7 +52,7 @@ class Trial:
         self.crates, self.folder, self.kinds, self.verdicts = crates, folder, kinds, verdicts
         # the names of the edits that are tried alone, if some are
         self.only = set(only)
-        self.passed = self.failed = 0
+        self.tally = Tally()
         self.lock = Lock()
 
     def edits(self, crate: str) -> tuple[list[Edit], dict[str, str]]:
@@ -96,8 +93,7 @@ class Trial:
         disproved = sum(map(is_disproof, said.values()))
         with self.lock:
             print("".join(f"{label}: {text}\n" for label, text in sorted(said.items())), end="", flush=True)
-            self.passed += disproved
-            self.failed += len(said) - disproved
+            self.tally.add(disproved, len(said) - disproved)
             if disproved == len(said) and not self.only and checksum == self.verdicts.checksum(crate):
                 own = len(read_edits(self.crates.folder(crate), [WRONG_BODIES])[0])
                 self.verdicts.write(crate, own, checksum)
@@ -106,8 +102,8 @@ class Trial:
         """Checks the crate with these edits."""
         room = self.folder / crate
         copy = room / "crates" / crate
-        for it in ("src", "proofs"):
-            shutil.rmtree(copy / it, ignore_errors=True)
+        for part in ("src", "proofs"):
+            shutil.rmtree(copy / part, ignore_errors=True)
         self.crates.copy(crate, copy)
         is_wide = edits[0].body is None
         for file, text in (edits[0].files if is_wide else edited_files(edits, self.crates.folder(crate))).items():
@@ -163,9 +159,9 @@ def chosen(verdicts: Verdicts, crates: list[str]) -> list[str]:
     return [it for it in crates if it not in standing or it in picked]
 
 
-def words() -> argparse.ArgumentParser:
+def words_parser() -> argparse.ArgumentParser:
     """The words of the command line."""
-    parser = argparse.ArgumentParser(description="Tries the crates' wrong bodies in batches.")
+    parser = parser_of(__doc__)
     parser.add_argument("--jobs", type=int, default=processors(), metavar="N", help="how many processors to use")
     parser.add_argument("--must-fail", action="store_true", help="try the edits of must-fail/ as well")
     parser.add_argument("--after-ci", action="store_true", help="`rt ci` has just built the libraries")
@@ -192,10 +188,10 @@ def kinds_of(given: argparse.Namespace) -> list[str]:
     return [WRONG_BODIES, MUST_FAIL] if given.must_fail or given.only else [WRONG_BODIES]
 
 
-def main() -> int:
+def main(words: list[str]) -> int:
     """Tries the wrong bodies of the crates named, or of those that have to be tried."""
-    parser, crates = words(), Crates(ROOT)
-    given = parser.parse_args()
+    parser, crates = words_parser(), Crates(ROOT)
+    given = parser.parse_args(words)
     if fault := fault_of(given, crates):
         parser.error(fault)
     verdicts, kinds = Verdicts(ROOT, logic_of_toolchain()), kinds_of(given)
@@ -210,13 +206,8 @@ def main() -> int:
             run_steps([trial.step(it) for it in names], given.jobs)
         except Unproved as why:
             print(f"not tried: {why}")
-            trial.failed += 1
+            trial.tally.add(0, 1)
         for log in Path(folder).glob("*.log") if given.logs else []:
             given.logs.mkdir(parents=True, exist_ok=True)
             shutil.copy2(log, given.logs)
-    print(f"{trial.passed} passed, {trial.failed} failed")
-    return 1 if trial.failed else 0
-
-
-if __name__ == "__main__":
-    sys.exit(main())
+    return trial.tally.end(may_be_none=True)

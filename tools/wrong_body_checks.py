@@ -7,7 +7,8 @@ import subprocess
 from dataclasses import dataclass
 from pathlib import Path
 
-from crates import Crates, kit
+from tools.crates import Crates
+from tools.kit import kit
 
 LIBRARY = Path("out/rlib")
 
@@ -97,8 +98,7 @@ def check(room: Path, crate: str, functions: list[str], jobs: int) -> Verdict:
 
 
 def make_room(crates: Crates, crate: str, room: Path) -> None:
-    """Copies what a check of the crate needs into a new folder. `rt` takes the libraries below it as they are built: `rt ci`,
-    which may have built them, leaves no stamp with them."""
+    """Copies what a check of the crate needs into a new folder, with the libraries below it as they are built."""
     room.mkdir()
     lower = crates.below(crate)
     (room / "crates.txt").write_text("".join(f"{crates.lines[it]}\n" for it in [*lower, crate]), encoding="utf-8")
@@ -108,8 +108,7 @@ def make_room(crates: Crates, crate: str, room: Path) -> None:
         crates.copy(name, room / "crates" / name)
     for name in lower:
         shutil.copytree(crates.folder(name) / LIBRARY, room / "crates" / name / LIBRARY, copy_function=link)
-    for library in kit().Crate(str(room / "crates" / crate), str(room), {}).below():
-        Path(library.rlib).with_name("stamp").write_text(library.stamp(), encoding="utf-8")
+    kit().take_as_built(room, crate)
 
 
 def link(source: str, target: str) -> str:

@@ -6,7 +6,8 @@ from collections.abc import Iterator
 from dataclasses import dataclass
 from pathlib import Path
 
-from wrong_body_files import BadEdit, WrittenEdit, written_edits
+from tools.crates import FUNCTION_HEAD
+from tools.wrong_body_files import BadEdit, WrittenEdit, written_edits
 
 EVERY_CLAUSE = "every clause of "
 
@@ -113,7 +114,7 @@ def wrong_body(name: str, file: str, before: str, after: str) -> WrongBody | Non
 def functions_of(name: str, lines: list[str]) -> Iterator[Function]:
     """The functions of that name."""
     for at, line in enumerate(lines):
-        head = re.match(rf"( *)(?:pub(?:\([^)]*\))? )?(?:const |unsafe )*fn {re.escape(name)}\b", line)
+        head = re.match(rf"{FUNCTION_HEAD}{re.escape(name)}\b", line)
         if not head:
             continue
         open_at = next((to for to in range(at, len(lines)) if re.match(rf"{head[1]}\S.*\{{$|{head[1]}\{{$", lines[to].rstrip())), None)
@@ -125,7 +126,7 @@ def functions_of(name: str, lines: list[str]) -> Iterator[Function]:
 
 def edited_files(edits: list[Edit], crate: Path) -> dict[str, str]:
     """What edits of bodies make of the crate's files together: a twin is added below its function."""
-    bodies = [(it.body, bool(it.twin_of)) for it in edits]
+    bodies = [(it.body, bool(it.twin_of)) for it in edits if it.body]
     texts = {}
     for file in sorted({body.file for body, _ in bodies}):
         lines = (crate / file).read_text(encoding="utf-8").splitlines(keepends=True)

@@ -11,7 +11,8 @@ from collections import Counter
 from dataclasses import replace
 from pathlib import Path
 
-from wrong_body_edits import Edit
+from tools.crates import FUNCTION_HEAD
+from tools.wrong_body_edits import Edit, WrongBody
 
 # what is generated for a function, in modules that its own proof files import
 GENERATED = r"\.(?:Goals|Given|Code|Statement)\b"
@@ -30,27 +31,27 @@ class Twins:
         """The edits that one check can judge, each of a function of its own, and those that need a check each: an edit that
         changes more than its function's body, or whose function can't have a twin."""
         seen: Counter[str] = Counter()
-        together, alone = [], []
+        together: list[Edit] = []
+        alone: list[Edit] = []
         for edit in edits:
             if edit.body is None:
                 alone.append(edit)
                 continue
             seen[edit.function] += 1
-            it = edit if seen[edit.function] == 1 else self.twin(edit, seen[edit.function])
+            it = edit if seen[edit.function] == 1 else self.twin(edit, edit.body, seen[edit.function])
             (together if it else alone).append(it or edit)
         return together, alone
 
-    def twin(self, edit: Edit, number: int) -> Edit | None:
+    def twin(self, edit: Edit, body: WrongBody, number: int) -> Edit | None:
         """The edit as one that adds a twin of its function, if a twin can be had."""
-        lines = (self.crate / edit.body.file).read_text(encoding="utf-8").splitlines()
-        if is_of_a_trait(lines, edit.body.place.start) or not self.can_be_renamed(edit.function):
+        lines = (self.crate / body.file).read_text(encoding="utf-8").splitlines()
+        if is_of_a_trait(lines, body.place.start) or not self.can_be_renamed(edit.function):
             return None
         path, _, name = edit.function.rpartition("::")
         own = f"{name}_wrong_{number}"
-        head = rf"(?m)^( *(?:pub(?:\([^)]*\))? )?(?:const |unsafe )*fn ){name}\b"
-        renamed, count = re.subn(head, rf"\g<1>{own}", edit.body.text)
-        body = replace(edit.body, text=renamed)
-        return replace(edit, function=f"{path}::{own}", body=body, twin_of=edit.function) if count == 1 else None
+        head = rf"(?m)^({FUNCTION_HEAD}){name}\b"
+        renamed, count = re.subn(head, rf"\g<1>{own}", body.text)
+        return replace(edit, function=f"{path}::{own}", body=replace(body, text=renamed), twin_of=edit.function) if count == 1 else None
 
     def can_be_renamed(self, function: str) -> bool:
         """Whether the function's proof files, if it has some, are those of another function by changing what they import."""

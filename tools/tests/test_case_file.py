@@ -1,15 +1,11 @@
-#!/usr/bin/env python3
 """The file of a case: what is read of it, what is written, and what is no case."""
 
-import sys
 import tempfile
 import unittest
 from dataclasses import replace
 from pathlib import Path
 
-# what starts this leaves the tools' folder out of Python's path
-sys.path.insert(0, str(Path(__file__).resolve().parent.parent))
-from case_file import Case, CaseError, files_in, read, write  # noqa: E402
+from tools.case_file import Case, CaseError, files_in, read, write
 
 CASE = Case(b"proc main\nend\n", ["run", "--limit", "160"], b"ended\nleaks 0\n", None, 0, b"note: nothing leaks\n")
 TEXT = """-- script --
@@ -160,7 +156,11 @@ class WhatIsNoCase(InAFolder):
         self.assert_no_case("", "there is no section args")
 
     def test_sections_that_lack(self) -> None:
-        for name, why in (("args", "no section args"), ("stdout", "one of the sections stdout and contains"), ("status", "no section status")):
+        for name, why in (
+            ("args", "no section args"),
+            ("stdout", "one of the sections stdout and contains"),
+            ("status", "no section status"),
+        ):
             before, behind = TEXT.split(f"-- {name} --\n")
             with self.subTest(name):
                 self.assert_no_case(before + "-- " + behind.split("\n-- ", 1)[1], why)
@@ -206,7 +206,3 @@ class WhatIsNoCase(InAFolder):
         self.file.write_bytes(TEXT.replace("ended", "caf\u00e9").encode())
         with self.assertRaisesRegex(CaseError, "bytes other than printable ASCII"):
             read(self.file)
-
-
-if __name__ == "__main__":
-    unittest.main()

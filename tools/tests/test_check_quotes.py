@@ -1,14 +1,10 @@
-#!/usr/bin/env python3
 """Which lines of a page count as quoted."""
 
-import sys
 import tempfile
 import unittest
 from pathlib import Path
 
-# what starts this leaves the tools' folder out of Python's path
-sys.path.insert(0, str(Path(__file__).resolve().parent.parent))
-from check_quotes import quoted  # noqa: E402
+from tools.check_quotes import quoted
 
 
 class OfQuotes(unittest.TestCase):
@@ -28,7 +24,3 @@ class OfQuotes(unittest.TestCase):
 
     def test_a_block_without_an_end(self) -> None:
         self.assertEqual(self.lines("```\none\n```\n\n```\ntwo\n"), ["one", "```"])
-
-
-if __name__ == "__main__":
-    unittest.main()

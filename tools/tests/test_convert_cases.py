@@ -1,17 +1,12 @@
-#!/usr/bin/env python3
 """Whether cases that are many files each lose nothing in the form of one file, and give each byte back."""
 
-import subprocess
-import sys
 import tempfile
 import unittest
 from pathlib import Path
 
-TOOLS = Path(__file__).resolve().parent.parent
-# what starts this leaves the tools' folder out of Python's path
-sys.path.insert(0, str(TOOLS))
-from case_file import files_of, read  # noqa: E402
-from convert_cases import older_files, older_files_of  # noqa: E402
+from tools.case_file import files_of, read
+from tools.convert_cases import older_files, older_files_of
+from tools.door import said_by
 
 # the files of cases, by the name of the case file that they must come to
 OLDER = {
@@ -62,10 +57,9 @@ class OfOlderCases(unittest.TestCase):
 
     def converted(self, source: Path | None = None) -> tuple[int, str]:
         """How a conversion ends, and what it says."""
-        words = [sys.executable, TOOLS / "convert_cases.py", source or self.source, self.target]
-        done = subprocess.run(words, capture_output=True, text=True)
-        self.assertEqual(done.stderr, "")
-        return done.returncode, done.stdout
+        status, said, messages = said_by("convert-cases", source or self.source, self.target)
+        self.assertEqual(messages, "")
+        return status, said
 
     def test_each_byte_comes_back(self) -> None:
         self.assertEqual(self.converted(), (0, f"{len(OLDER)} passed, 0 failed\n"))
@@ -125,7 +119,3 @@ class OfOlderCases(unittest.TestCase):
         for it in self.source.rglob("*.oom"):
             it.unlink()
         self.assertEqual(self.converted()[0], 1)
-
-
-if __name__ == "__main__":
-    unittest.main()

@@ -1,15 +1,10 @@
-#!/usr/bin/env python3
 """Whether scripts are made as they should be."""
 
 import random
-import sys
 import unittest
-from pathlib import Path
 
-TOOLS = Path(__file__).resolve().parent.parent
-sys.path.insert(0, str(TOOLS))
-from cases_to_theorems import Reader  # noqa: E402
-from made_scripts import PARTS, PARTS_OF_TWO, scripts  # noqa: E402
+from tools.made_scripts import PARTS, PARTS_OF_TWO, scripts
+from tools.script_terms import Reader
 
 
 class WhatIsMade(unittest.TestCase):
@@ -37,7 +32,3 @@ class WhatIsMade(unittest.TestCase):
         words = {line.split()[0] for made in scripts() for line in made.splitlines()}
         asking = {"alloc", "allocl", "realloc", "hnew", "hnewl", "hrealloc", "newleave", "push", "pushobj", "pushop"}
         self.assertLessEqual(asking | {"failnext", "failevery", "failnone", "mark", "trap", "leave"}, words)
-
-
-if __name__ == "__main__":
-    unittest.main()

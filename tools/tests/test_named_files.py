@@ -1,15 +1,12 @@
-#!/usr/bin/env python3
 """What `named_files.py` refuses, by a small tree and pages that are made for it."""
 
 import re
-import sys
 import tempfile
 import unittest
 from pathlib import Path
 
-# what starts this leaves the tools' folder out of Python's path
-sys.path.insert(0, str(Path(__file__).resolve().parent.parent))
-from named_files import EXAMPLES, PAGE, ROOT, SECTION, Example, faults_of, texts_in  # noqa: E402
+from tools.named_files import EXAMPLES, PAGE, SECTION, Example, faults_of, texts_in
+from tools.paths import ROOT
 
 SWAP = Example("swap", re.compile(r"swap", re.IGNORECASE))
 
@@ -84,7 +81,3 @@ class OfThePage(unittest.TestCase):
     def test_each_list_is_there(self) -> None:
         titles = [title for title, _ in SECTION.findall((ROOT / PAGE).read_text(encoding="utf-8"))]
         self.assertEqual([it for it in EXAMPLES if it not in titles], [])
-
-
-if __name__ == "__main__":
-    unittest.main()

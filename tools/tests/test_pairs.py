@@ -1,43 +1,42 @@
-#!/usr/bin/env python3
 """What `pairs.py` refuses, by a program that is made for it."""
 
 import unittest
 from collections import Counter
 from pathlib import Path
 
-from given_answers import LEAK, PLAIN, SHORT, GivenScript, run_of
-
-from pairs import TRIED, TRIED_LATE, WANTED, Pair, PairedScript, pairs_made, pairs_past, some_pairs, spread
-from sweep_checks import CUT, FINE, FOUND, Answer, Difference, compared, too_few
+from tools.pairs import TRIED, TRIED_LATE, WANTED, Pair, PairedScript, pairs_made, pairs_past, some_pairs, spread
+from tools.program import CUT, FINE, FOUND
+from tools.sweep_checks import Difference, Report, compared, too_few
+from tools.tests.given_answers import LEAK, PLAIN, SHORT, GivenScript, run_of
 
 # attempt 1 ends the run, and where attempt 2 fails two more are made in its place
 MADE = {(1,): run_of(1, "nocleanup"), (2,): run_of(5)}
 PLAIN_OF_MADE = {(1, 2): MADE[1,], (2, 6): MADE[2,]}
 
-Runs = dict[tuple[int, ...], Answer]
+Runs = dict[tuple[int, ...], Report]
 
 
 class OfAnswers(GivenScript, PairedScript):
     """A script whose answers where two attempts fail are given."""
 
 
-def of_pair(pair: Pair, run: Answer) -> Answer:
+def of_pair(pair: Pair, run: Report) -> Report:
     """What a sweep answers that finds this pair with this run."""
     if run.status == CUT:
-        return Answer([f"cut {pair[0]} {pair[1]} budget"], CUT)
-    return Answer(["attempts 3", f"pair {pair[0]} {pair[1]}", *run.lines], run.status)
+        return Report([f"cut {pair[0]} {pair[1]} budget"], CUT)
+    return Report(["attempts 3", f"pair {pair[0]} {pair[1]}", *run.lines], run.status)
 
 
-NONE = Answer(["attempts 3", "pair none"], FINE)
+NONE = Report(["attempts 3", "pair none"], FINE)
 
 
 class WhatIsRefused(unittest.TestCase):
     """Which answers agree, and which don't."""
 
-    def outcome(self, runs: Runs, found: Answer, **others: Answer) -> str:
+    def outcome(self, runs: Runs, found: Report, **others: Report) -> str:
         return OfAnswers(MADE | PLAIN_OF_MADE | runs, found, **others).outcome()
 
-    def differs(self, runs: Runs, found: Answer, **others: Answer) -> None:
+    def differs(self, runs: Runs, found: Report, **others: Report) -> None:
         with self.assertRaises(Difference):
             self.outcome(runs, found, **others)
 
@@ -48,9 +47,9 @@ class WhatIsRefused(unittest.TestCase):
         self.assertEqual(self.outcome({(2, 5): SHORT}, of_pair((2, 5), SHORT)), "a pair cut at the budget")
 
     def test_a_number_first(self) -> None:
-        number = Answer(["attempts 3", "number 3", *LEAK.lines], FOUND)
+        number = Report(["attempts 3", "number 3", *LEAK.lines], FOUND)
         self.assertEqual(self.outcome({(2, 3): LEAK}, number, sweep=number), "a number")
-        cut = Answer(["cut 2 budget"], CUT)
+        cut = Report(["cut 2 budget"], CUT)
         self.assertEqual(self.outcome({(2, 3): LEAK}, cut, sweep=cut), "a cut number")
         self.differs({(2, 3): LEAK}, of_pair((2, 3), LEAK), sweep=number)
         self.differs({(2, 3): LEAK}, of_pair((2, 3), LEAK), sweep=cut)
@@ -72,20 +71,20 @@ class WhatIsRefused(unittest.TestCase):
 
     def test_a_pair_that_shows_nothing(self) -> None:
         self.differs({}, of_pair((2, 3), PLAIN))
-        self.differs({}, Answer(of_pair((2, 3), PLAIN).lines, FOUND))
+        self.differs({}, Report(of_pair((2, 3), PLAIN).lines, FOUND))
         self.differs({(2, 5): LEAK}, of_pair((2, 4), LEAK))
-        self.differs({}, Answer(["cut 2 3 budget"], CUT))
+        self.differs({}, Report(["cut 2 3 budget"], CUT))
 
     def test_another_run(self) -> None:
-        self.differs({(2, 3): LEAK}, of_pair((2, 3), Answer(LEAK.lines[1:], FOUND)))
-        self.differs({(2, 3): LEAK}, of_pair((2, 3), Answer(LEAK.lines, FINE)))
-        self.differs({(2, 3): LEAK}, Answer(["cut 2 3 budget"], CUT))
-        self.differs({(2, 3): SHORT}, Answer(["cut 2 3 ceiling"], CUT))
+        self.differs({(2, 3): LEAK}, of_pair((2, 3), Report(LEAK.lines[1:], FOUND)))
+        self.differs({(2, 3): LEAK}, of_pair((2, 3), Report(LEAK.lines, FINE)))
+        self.differs({(2, 3): LEAK}, Report(["cut 2 3 budget"], CUT))
+        self.differs({(2, 3): SHORT}, Report(["cut 2 3 ceiling"], CUT))
 
     def test_another_number_of_attempts(self) -> None:
-        self.differs({(2, 3): LEAK}, Answer(["attempts 5", *of_pair((2, 3), LEAK).lines[1:]], FOUND))
-        self.differs({}, Answer(["attempts 5", "pair none"], FINE))
-        self.differs({}, Answer(["attempts 5", "pair none"], FINE), sweep=Answer(["attempts 5", "number none"], FINE))
+        self.differs({(2, 3): LEAK}, Report(["attempts 5", *of_pair((2, 3), LEAK).lines[1:]], FOUND))
+        self.differs({}, Report(["attempts 5", "pair none"], FINE))
+        self.differs({}, Report(["attempts 5", "pair none"], FINE), sweep=Report(["attempts 5", "number none"], FINE))
 
     def test_what_is_no_pair(self) -> None:
         for pair in ((0, 2), (3, 3), (3, 2), (4, 5)):
@@ -100,9 +99,15 @@ class WhatIsRefused(unittest.TestCase):
         found = of_pair((2, 4), LEAK)
         for command in ("sweep", "check"):
             right = OfAnswers({}, found).answer(command, "--pairs", "--json")
-            for old, new in (("[2,4]", "[2,5]"), ("[2,4]", "2"), ('"pairs"', '"single"'), ('"version":2', '"version":1'), ('"attempts":3', '"attempts":2')):
+            for old, new in (
+                ("[2,4]", "[2,5]"),
+                ("[2,4]", "2"),
+                ('"pairs"', '"single"'),
+                ('"version":2', '"version":1'),
+                ('"attempts":3', '"attempts":2'),
+            ):
                 self.assertIn(old, right.lines[0])
-                self.differs({(2, 4): LEAK}, found, **{f"{command}_pairs_json": Answer([right.lines[0].replace(old, new)], FOUND)})
+                self.differs({(2, 4): LEAK}, found, **{f"{command}_pairs_json": Report([right.lines[0].replace(old, new)], FOUND)})
         self.differs({(2, 4): LEAK}, found, check_pairs=found)
 
 
@@ -140,7 +145,3 @@ class WhatIsGuarded(unittest.TestCase):
     def test_outcomes_that_are_rare(self) -> None:
         self.assertEqual(too_few(WANTED, Counter(WANTED), 100), [])
         self.assertEqual(len(too_few(WANTED, Counter({"a pair": 100}), 100)), len(WANTED) - 1)
-
-
-if __name__ == "__main__":
-    unittest.main()

@@ -1,17 +1,12 @@
-#!/usr/bin/env python3
 """What is wrong with a picture that shows something else than the reports of its runs."""
 
-import sys
 import unittest
-from pathlib import Path
 
-TOOLS = Path(__file__).resolve().parent.parent
-# what starts this leaves the tools' folder out of Python's path
-sys.path.insert(0, str(TOOLS))
-from picture_file import Picture  # noqa: E402
-from picture_reports import faults_of, options_of, outcome_of, row_title  # noqa: E402
+from tools.paths import DOCS
+from tools.picture_file import Picture
+from tools.picture_reports import faults_of, options_of, outcome_of, row_title
 
-PICTURE = (TOOLS.parent / "docs/pictures/second-phase-leaks.svg").read_text(encoding="utf-8")
+PICTURE = (DOCS / "pictures/second-phase-leaks.svg").read_text(encoding="utf-8")
 FIRST = ["attempt 1 length 144 place 0 granted", "attempt 2 length 48 place 144 granted"]
 REPORTS = {
     "run": [*FIRST, "attempt 3 length 64 place 192 granted", "ended", "leaks 0", "steps 8"],
@@ -140,7 +135,3 @@ class OfWordsInPictures(unittest.TestCase):
             ("from 1200 ended", "from 1200 ended"),
         ):
             self.assertEqual(row_title(row), title)
-
-
-if __name__ == "__main__":
-    unittest.main()

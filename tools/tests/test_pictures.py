@@ -1,17 +1,12 @@
-#!/usr/bin/env python3
 """What is read off a picture, and how its file is named where the program isn't built."""
 
 import os
-import sys
 import unittest
 import xml.etree.ElementTree as ET
-from pathlib import Path
 
-# what starts this leaves the tools' folder out of Python's path
-sys.path.insert(0, str(Path(__file__).resolve().parent.parent))
-from picture_file import Picture  # noqa: E402
-from pictures import KEPT, KINDS, shown_pictures  # noqa: E402
-from workbench import reads_standard_input, script_in, with_whole_picture  # noqa: E402
+from tools.picture_file import Picture
+from tools.pictures import KEPT, KINDS, shown_pictures
+from tools.workbench import reads_standard_input, script_in, with_whole_picture
 
 HEAD = '<svg xmlns="http://www.w3.org/2000/svg" role="img" aria-label="a heap"><title>a heap</title>'
 CELLS = (
@@ -68,7 +63,3 @@ class OfWords(unittest.TestCase):
         for command in ("run", "size", "lengths", "sweep", "check"):
             self.assertTrue(reads_standard_input([command, "--budget", "5"]))
             self.assertFalse(reads_standard_input([command, "x.oom"]))
-
-
-if __name__ == "__main__":
-    unittest.main()

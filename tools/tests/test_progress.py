@@ -1,15 +1,10 @@
-#!/usr/bin/env python3
 """What `progress.py` refuses, by what a terminal might have shown."""
 
 import contextlib
 import io
-import sys
 import unittest
-from pathlib import Path
 
-# what starts this leaves the tools' folder out of Python's path
-sys.path.insert(0, str(Path(__file__).resolve().parent.parent))
-from progress import KINDS, Checks, Shown, look_at_lines, screen  # noqa: E402
+from tools.progress import KINDS, Checks, Kind, Shown, look_at_lines, screen
 
 SINGLE, RATES, PAIRS, LENGTHS = KINDS
 
@@ -22,7 +17,7 @@ def shown(*pieces: tuple[float, str], seconds: float = 3.0) -> Shown:
 class Lines(unittest.TestCase):
     """Which lines are those of a sweep of 40 attempts."""
 
-    def failed(self, kind, *pieces: tuple[float, str], seconds: float = 3.0) -> int:
+    def failed(self, kind: Kind, *pieces: tuple[float, str], seconds: float = 3.0) -> int:
         checks = Checks()
         with contextlib.redirect_stdout(io.StringIO()):
             look_at_lines(checks, kind, "a sweep", 40, shown(*pieces, seconds=seconds))
@@ -31,7 +26,11 @@ class Lines(unittest.TestCase):
     def test_lines_that_are_right(self) -> None:
         self.assertEqual(self.failed(SINGLE, (2.0, "\rtrying attempt 9 of 40"), (2.1, "\rtrying attempt 12 of 40")), 0)
         self.assertEqual(self.failed(RATES, (2.5, "\rtrying rate 40 of 40")), 0)
-        lines = (2.0, "\rtrying attempt 40 of 40"), (2.1, "\rtrying attempt 2 of 40 with attempt 3"), (2.2, "\rtrying attempt 2 of 40 with attempt 41")
+        lines = (
+            (2.0, "\rtrying attempt 40 of 40"),
+            (2.1, "\rtrying attempt 2 of 40 with attempt 3"),
+            (2.2, "\rtrying attempt 2 of 40 with attempt 41"),
+        )
         self.assertEqual(self.failed(PAIRS, *lines), 0)
 
     def test_lengths_that_grow_shorter(self) -> None:
@@ -74,7 +73,3 @@ class Screens(unittest.TestCase):
 
     def test_a_line_that_is_left(self) -> None:
         self.assertEqual(screen(b"\rtrying 10 of 40\rleaks 0\r\n"), ["leaks 010 of 40", ""])
-
-
-if __name__ == "__main__":
-    unittest.main()

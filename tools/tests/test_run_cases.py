@@ -1,7 +1,5 @@
-#!/usr/bin/env python3
 """What is said of cases that are run, and what is written into them."""
 
-import subprocess
 import sys
 import tempfile
 import unittest
@@ -9,11 +7,9 @@ from dataclasses import replace
 from pathlib import Path
 from unittest.mock import patch
 
-TOOLS = Path(__file__).resolve().parent.parent
-# what starts this leaves the tools' folder out of Python's path
-sys.path.insert(0, str(TOOLS))
-import run_cases  # noqa: E402
-from case_file import Case, read, write  # noqa: E402
+from tools import run_cases
+from tools.case_file import Case, read, write
+from tools.door import said_by
 
 # answers the script that it is given: the first byte is the status, the rest goes to standard output, and its words to standard error
 PROGRAM = f"""#!{sys.executable}
@@ -62,11 +58,11 @@ class OfCases(unittest.TestCase):
         write(self.cases / f"{name}.case", case)
         return self.cases / f"{name}.case"
 
-    def said(self, *words: str | Path, tool: str = "run_cases.py") -> tuple[int, str]:
-        """How a tool ends, and what it says. Without words it is given the folder."""
-        done = subprocess.run([sys.executable, TOOLS / tool, self.program, *(words or [self.cases])], capture_output=True, text=True)
-        self.assertEqual(done.stderr, "")
-        return done.returncode, done.stdout
+    def said(self, *words: str | Path, command: str = "cases") -> tuple[int, str]:
+        """How a command ends, and what it says. Without words it is given the folder."""
+        status, said, messages = said_by(command, "--program", self.program, *(words or [self.cases]))
+        self.assertEqual(messages, "")
+        return status, said
 
 
 class WhatIsSaid(OfCases):
@@ -87,7 +83,7 @@ class WhatIsSaid(OfCases):
         self.assertEqual(read(file), WRONG)
 
     def test_a_long_difference(self) -> None:
-        self.put(replace(RIGHT, stdout=b"leak\n" * 200 + RIGHT.stdout))
+        self.put(replace(RIGHT, stdout=b"leak\n" * 200 + b"ended\nleaks 1\nsteps 4\n"))
         lines = self.said()[1].splitlines()
         self.assertEqual(lines[-2:], ["and 109 further lines", "0 passed, 1 failed"])
         self.assertEqual(len(lines), 103)
@@ -123,9 +119,9 @@ class WhatIsSaid(OfCases):
         (self.cases / "some.table").write_text("answer: 0\n    1\n", encoding="ascii")
         file = self.put(RIGHT)
         with patch.object(run_cases, "SECONDS", 0.2):
-            self.assertEqual(run_cases.told_of_case(self.program, file, False), (False, f"{file}: no end after 0.2 seconds"))
+            self.assertEqual(run_cases.told_of_case(self.program, file, False), (False, f"{file}: no answer within 0.2 s"))
             said = list(run_cases.told_of_rows(self.program, self.cases / "some.table"))
-        self.assertEqual(said, [f"{self.cases / 'some.table'}:2: no end after 0.2 seconds"])
+        self.assertEqual(said, [f"{self.cases / 'some.table'}:2: no answer within 0.2 s"])
 
     def test_files_of_no_case(self) -> None:
         self.put(replace(RIGHT, script=b"1\r", stdout=b"\r"))
@@ -181,15 +177,11 @@ class WithLostMessages(OfCases):
     def test_messages_that_are_not_compared(self) -> None:
         self.program.write_text(PROGRAM.replace("sys.stderr.write(", "str("), encoding="utf-8")
         self.put(RIGHT)
-        self.assertEqual(self.said(tool="lost_messages.py"), (0, "1 passed, 0 failed\n"))
+        self.assertEqual(self.said(command="lost-messages"), (0, "1 passed, 0 failed\n"))
 
     def test_output_that_depends_on_them(self) -> None:
         self.program.write_text(PROGRAM.replace("given[1:])", "given[1:] if sys.stderr else b'')"), encoding="utf-8")
         self.put(RIGHT)
-        status, said = self.said(tool="lost_messages.py")
+        status, said = self.said(command="lost-messages")
         self.assertEqual((status, said.splitlines()[-1]), (1, "0 passed, 1 failed"))
         self.assertIn("one.run.case: standard error closed: another answer:\n", said)
-
-
-if __name__ == "__main__":
-    unittest.main()

@@ -3,16 +3,14 @@
 import re
 import shutil
 import subprocess
-import sys
 import tempfile
 import unittest
 from pathlib import Path
 
-TOOLS = Path(__file__).resolve().parent.parent
-sys.path.insert(0, str(TOOLS))
-from crates import Crates  # noqa: E402
-from verdicts import FILE, USED_BY_NOTHING, Verdicts, logic_of_toolchain, without_bodies  # noqa: E402
-from wrong_body_files import MUST_FAIL, WRONG_BODIES, written_edits  # noqa: E402
+from tools.crates import Crates
+from tools.paths import ROOT, TOOLS
+from tools.verdicts import FILE, USED_BY_NOTHING, Verdicts, logic_of_toolchain, without_bodies
+from tools.wrong_body_files import MUST_FAIL, WRONG_BODIES, written_edits
 
 LOW = """\
 //! A number and the next one.
@@ -117,8 +115,7 @@ class TinyRepository(unittest.TestCase):
 
     def run_tool(self, *words: str) -> "subprocess.CompletedProcess[str]":
         """Runs the tool with these words."""
-        tool = self.root / "tools/wrong_bodies.py"
-        return subprocess.run([sys.executable, tool, "--jobs", "1", *words], capture_output=True, text=True)
+        return subprocess.run([self.root / "tools/dev", "wrong-bodies", "--jobs", "1", *words], capture_output=True, text=True)
 
     def verdicts(self, logic: str = "logic 0") -> Verdicts:
         """The verdicts of the repository, by a toolchain of that logic."""
@@ -255,7 +252,7 @@ class WhatThePageNames(unittest.TestCase):
     """The edits of this repository that WRONG_BODIES.md names: each is there, and has no fault."""
 
     def test_each_is_an_edit(self) -> None:
-        page = (TOOLS.parent / "docs/WRONG_BODIES.md").read_text(encoding="utf-8")
+        page = (ROOT / "docs/WRONG_BODIES.md").read_text(encoding="utf-8")
         named = re.findall(r"`(\w+)/(must-fail/)?([a-z0-9-]+)`", page)
         self.assertGreater(len(named), 30)
         edits = {crate: written_edits(Crates().folder(crate), [WRONG_BODIES, MUST_FAIL]) for crate, _, _ in named}
@@ -330,7 +327,3 @@ class WhatIsTried(TinyRepository):
         self.assertIn("low/days: PROVED in its clauses hours", lines)
         self.assertIn("low/all: disproved", lines)
         self.assertEqual((lines[-1], status), ("2 passed, 1 failed", 1))
-
-
-if __name__ == "__main__":
-    unittest.main()

@@ -1,17 +1,15 @@
 """What is read of a check of wrong bodies: which functions are disproved for their own sake, and which only wait for others."""
 
-import sys
 import unittest
-from pathlib import Path
 
-sys.path.insert(0, str(Path(__file__).resolve().parent.parent))
-from wrong_body_checks import read_verdict  # noqa: E402
+from tools.wrong_body_checks import read_verdict
 
 PRINTED = """\
 note: src/low.rt:7:5: it is not proved that what the function ensures holds when it returns (`returns-clause-next`)
 fn low::next: no proof: expected answers in ./proofs/next/Answers.antt; `search` did not prove `returns-clause-next`
 fn low::after_next: no proof: it calls `low::next`, which is not proved
-fn low::put_next: no proof: the borrow checker's part in its proof is not made yet: a call of `low::next`, which has no proof: help: prove it first, and the check then prints what is left of this function
+fn low::put_next: no proof: the borrow checker's part in its proof is not made yet: a call of `low::next`, which has no proof: \
+help: prove it first, and the check then prints what is left of this function
 fn low::zero: proved
 only=4 proved=1
 """
@@ -27,7 +25,3 @@ class ReadVerdict(unittest.TestCase):
         said = read_verdict(PRINTED).functions
         self.assertEqual([said[it].calls for it in ("low::after_next", "low::put_next")], ["`low::next`", "`low::next`"])
         self.assertTrue(said["low::zero"].is_proved)
-
-
-if __name__ == "__main__":
-    unittest.main()

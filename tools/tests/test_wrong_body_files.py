@@ -1,13 +1,11 @@
 """How wrong bodies are written: what is read of a crate's files of edits, and which edits are none."""
 
-import sys
 import tempfile
 import unittest
 from pathlib import Path
 
-sys.path.insert(0, str(Path(__file__).resolve().parent.parent))
-from wrong_body_edits import read_edits  # noqa: E402
-from wrong_body_files import MUST_FAIL, WRONG_BODIES, WrittenEdit, written_edits  # noqa: E402
+from tools.wrong_body_edits import read_edits
+from tools.wrong_body_files import MUST_FAIL, WRONG_BODIES, WrittenEdit, written_edits
 
 TWO = """\
 [longer]
@@ -117,7 +115,3 @@ class WhatIsNone(CrateOfEdits):
         self.assertEqual(self.bad("wrong-bodies/narrow.edits", f"{head}old: 5\n"), {"low/even": "an 'old:' text has no new one"})
         for line, why in (("", "its first line isn't 'function: PATH'"), ("function: \n", "its first line names no function")):
             self.assertIn(why, self.bad("wrong-bodies/narrow.edits", f"[even]\n{line}old: 5\nnew: 6\n")["low/even"])
-
-
-if __name__ == "__main__":
-    unittest.main()

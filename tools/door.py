@@ -1,0 +1,88 @@
+"""The one door to the tools: finds the module behind a command, and hands it the further words."""
+
+import ast
+import contextlib
+import io
+import sys
+from importlib import import_module
+from pathlib import Path
+from typing import NamedTuple
+
+from tools.paths import TOOLS
+
+# the module of each command, in the order in which they are listed
+COMMANDS = {
+    "cases": "run_cases",
+    "convert-cases": "convert_cases",
+    "lost-messages": "lost_messages",
+    "broken-streams": "broken_streams",
+    "progress": "progress",
+    "failing-allocations": "failing_allocations",
+    "pictures": "pictures",
+    "mistakes": "mistakes",
+    "forks": "forks",
+    "rates": "rates",
+    "pairs": "pairs",
+    "lengths": "lengths",
+    "fuzz": "fuzz",
+    "made-scripts": "made_scripts",
+    "theorems": "cases_to_theorems",
+    "wrong-bodies": "wrong_bodies",
+    "case-checks": "case_checks",
+    "quotes": "check_quotes",
+    "named-files": "named_files",
+    "crates": "dependency_list",
+    "pages": "pages",
+    "style": "style",
+    "build": "build",
+    "workbench": "workbench",
+}
+
+HELP = ("-h", "--help", "help")
+
+
+def about(command: str) -> str:
+    """What a command does: the first paragraph of what its module says of itself, as one line."""
+    text = ast.get_docstring(ast.parse((TOOLS / f"{COMMANDS[command]}.py").read_text(encoding="utf-8"))) or ""
+    return " ".join(text.partition("\n\n")[0].split())
+
+
+def listed() -> str:
+    """All commands with what they do."""
+    width = max(map(len, COMMANDS))
+    rows = (f"  {command:{width}}  {about(command)}" for command in COMMANDS)
+    return "\n".join(["./tools/dev COMMAND [..]; ./tools/dev COMMAND --help says more of one.", "", *rows])
+
+
+def main(words: list[str]) -> int:
+    """Runs a command, and gives its exit status."""
+    if not words or words[0] in HELP:
+        print(listed())
+        return 0
+    command, *rest = words
+    if command not in COMMANDS:
+        print(f"./tools/dev: there is no command {command}\n\n{listed()}", file=sys.stderr)
+        return 2
+    # the name that its help has
+    sys.argv[0] = f"dev {command}"
+    return int(import_module(f"tools.{COMMANDS[command]}").main(rest))
+
+
+class Said(NamedTuple):
+    """How a command ended, and what it wrote."""
+
+    status: int
+    output: str
+    messages: str
+
+
+def said_by(command: str, *words: str | Path) -> Said:
+    """How a command ends, and what it writes: for tests of tools."""
+    with contextlib.redirect_stdout(io.StringIO()) as output, contextlib.redirect_stderr(io.StringIO()) as messages:
+        try:
+            status: int | str | None = main([command, *map(str, words)])
+        except SystemExit as ended:
+            status = ended.code
+        if isinstance(status, str):
+            print(status, file=sys.stderr)
+    return Said(status if isinstance(status, int) else int(status is not None), output.getvalue(), messages.getvalue())
