@@ -1,6 +1,7 @@
 """Makes long scripts whose lines mostly have something to do: pointers are live where they are used, and texts fit. A few lines refuse."""
 
 import random
+from collections.abc import Sequence
 
 CLASS = """\
 class Node 4
@@ -47,7 +48,7 @@ class Maker:
         self.texts = [f"h{at}" for at in range(3)]
         self.nodes = [f"o{at}" for at in range(3)]
 
-    def pick(self, words: tuple | list) -> str:
+    def pick(self, words: Sequence[object]) -> str:
         """One of some words."""
         return str(self.chance.choice(words))
 
@@ -66,7 +67,14 @@ class Maker:
         elif made == 4:
             self.lines += [f"{self.pick(('realloc', 'reallocl'))} q {p} {size}", "if some q", f"set {p} q", "end"]
         elif made == 5:
-            self.guarded(p, f"alloclen n {p}", "print n", "if less 15 n", f"store {p} {self.chance.randint(0, 3)} {self.chance.randint(-99, 99)}", "end")
+            self.guarded(
+                p,
+                f"alloclen n {p}",
+                "print n",
+                "if less 15 n",
+                f"store {p} {self.chance.randint(0, 3)} {self.chance.randint(-99, 99)}",
+                "end",
+            )
         elif made == 6:
             self.guarded(p, f"alloclen n {p}", "if less 15 n", f"load n {p} {self.chance.randint(0, 3)}", "print n", "end")
         elif made == 7:
@@ -88,19 +96,42 @@ class Maker:
         elif made == 2:
             self.lines += ["setlength c 2", f"{self.pick(('copy', 'append'))} {edited} {self.text_operand()}"]
         elif made == 3:
-            self.lines += [f"setlength {edited} {self.chance.randint(0, 30)}", f"insert {edited} 0 {self.pick(LITERALS)}", f"print {edited}"]
+            self.lines += [
+                f"setlength {edited} {self.chance.randint(0, 30)}",
+                f"insert {edited} 0 {self.pick(LITERALS)}",
+                f"print {edited}",
+            ]
         elif made == 4:
             self.lines += [f"deltext {edited} 0 {self.chance.randint(0, 9)}", f"getlen n {edited}", "print n"]
         elif made == 5:
-            self.lines += [f"left {self.pick(('v', 'w'))} {self.pick((*LITERALS[3:], 'd'))} {self.chance.randint(0, 10)}", "print v", "print w"]
+            self.lines += [
+                f"left {self.pick(('v', 'w'))} {self.pick((*LITERALS[3:], 'd'))} {self.chance.randint(0, 10)}",
+                "print v",
+                "print w",
+            ]
         elif made == 6:
-            self.lines += [f"right {self.pick(('v', 'w'))} d {self.chance.randint(0, 9)}", f"mid w d {self.chance.randint(0, 4)} {self.chance.randint(0, 6)}"]
+            self.lines += [
+                f"right {self.pick(('v', 'w'))} d {self.chance.randint(0, 9)}",
+                f"mid w d {self.chance.randint(0, 4)} {self.chance.randint(0, 6)}",
+            ]
         elif made == 7:
-            self.guarded(h, f"getmax n {h}", "print n", "if less 9 n", f'copy {h} "0123456789"', f"append b {h}", "setlength b 3", f"print {h}", "end")
+            self.guarded(
+                h,
+                f"getmax n {h}",
+                "print n",
+                "if less 9 n",
+                f'copy {h} "0123456789"',
+                f"append b {h}",
+                "setlength b 3",
+                f"print {h}",
+                "end",
+            )
         elif made == 8:
             self.guarded(h, f"setlength {h} 0", f"hrealloc q {h} {units}", "if some q", f"set {h} q", "null q", "end")
         elif made == 9:
-            self.guarded(h, f"getmax n {h}", "if less 5 n", f'copy {h} "xyz"', f'insert {h} {self.chance.randint(0, 3)} "in"', f"print {h}", "end")
+            self.guarded(
+                h, f"getmax n {h}", "if less 5 n", f'copy {h} "xyz"', f'insert {h} {self.chance.randint(0, 3)} "in"', f"print {h}", "end"
+            )
         elif made == 10:
             self.lines += [f"{self.pick(('left', 'right'))} v w 0", f"setlength d {self.chance.randint(9, 12)}", 'append d "."', "print v"]
         else:
@@ -108,7 +139,9 @@ class Maker:
 
     def whole(self) -> None:
         """A line that asks of the heap, or makes requests fail."""
-        self.lines.append(self.pick(("heap", "available", "compress", f"failnext {self.pick((1, 2, 3, 9))}", "failevery 5", "failnone", "available")))
+        self.lines.append(
+            self.pick(("heap", "available", "compress", f"failnext {self.pick((1, 2, 3, 9))}", "failevery 5", "failnone", "available"))
+        )
 
     def node(self) -> None:
         """A line of objects."""
@@ -118,7 +151,18 @@ class Maker:
         elif made == 2:
             self.guarded(o, f"delete {o}.second", f"null {o}.second", f"new {o}.second Node")
         elif made == 3:
-            self.guarded(o, f"free {o}.first", f"null {o}.first", "trap n", f"construct {o}", "end", f"if some {o}.first", f"load n {o}.first 1", "print n", "end")
+            self.guarded(
+                o,
+                f"free {o}.first",
+                f"null {o}.first",
+                "trap n",
+                f"construct {o}",
+                "end",
+                f"if some {o}.first",
+                f"load n {o}.first 1",
+                "print n",
+                "end",
+            )
         elif o != p:
             self.guarded(o, f"delete {o}.second", f"set {o}.second {p}", f"null {p}")
 
@@ -126,22 +170,69 @@ class Maker:
         """Some lines under a TRAP, with items."""
         count, undone = self.chance.randint(1, 12), self.pick(("push q", "pushop q drop"))
         end = self.pick((f"popdestroy {count}", "leave -7", f"popcheck q\nfree q\nnull q\npopdestroy {count - 1}"))
-        self.lines += ["trap n", f"repeat {count}", f"allocl q {self.pick(SIZES[:9])}", undone, "end", *end.split("\n"), "end", "print n", "null q"]
+        self.lines += [
+            "trap n",
+            f"repeat {count}",
+            f"allocl q {self.pick(SIZES[:9])}",
+            undone,
+            "end",
+            *end.split("\n"),
+            "end",
+            "print n",
+            "null q",
+        ]
 
     def mark(self) -> None:
         """Lines within a mark."""
         number = self.pick((0, 0, 0, 1))
-        self.lines += ["mark", "alloc q 40", "realloc q q 90", "free q", "null q", f"check {number}" if self.chance.random() < 0.1 else "heap", "markend 0"]
+        self.lines += [
+            "mark",
+            "alloc q 40",
+            "realloc q q 90",
+            "free q",
+            "null q",
+            f"check {number}" if self.chance.random() < 0.1 else "heap",
+            "markend 0",
+        ]
 
     def odd(self) -> None:
         """A line that may refuse, as it stands."""
         p, q, h, o = self.pick(self.cells), self.pick(self.cells), self.pick(self.texts), self.pick(self.nodes)
-        self.lines += self.pick((
-            f"free {p}", f"set {p} {q}", f"store {p} 9 1", f"load n {h} 0", f"realloc {p} {h} 9", f"free {h}", f"set {h} {p}", f"copy {h} b",
-            f"delete {p}", f"set {p} {o}.first", f"set {o}.second {o}", f"insert b 99 c", "insert b 0 b", "append b b", f"left v {h} 2",
-            f"set {o} {q}", "mark", "markend 1", "checkall 5", "check 0", f"push {p}", "pop 1", f"hrealloc {h} {h} 1", f"alloclen n {o}",
-            f"pushobj {o}", f"popdestroy 1", "add n 999999999", f"callto {p} fill {q} n", "leaveiferror n", f"leaveifnull {p}", "return",
-        )).split("\n")
+        self.lines += self.pick(
+            (
+                f"free {p}",
+                f"set {p} {q}",
+                f"store {p} 9 1",
+                f"load n {h} 0",
+                f"realloc {p} {h} 9",
+                f"free {h}",
+                f"set {h} {p}",
+                f"copy {h} b",
+                f"delete {p}",
+                f"set {p} {o}.first",
+                f"set {o}.second {o}",
+                "insert b 99 c",
+                "insert b 0 b",
+                "append b b",
+                f"left v {h} 2",
+                f"set {o} {q}",
+                "mark",
+                "markend 1",
+                "checkall 5",
+                "check 0",
+                f"push {p}",
+                "pop 1",
+                f"hrealloc {h} {h} 1",
+                f"alloclen n {o}",
+                f"pushobj {o}",
+                "popdestroy 1",
+                "add n 999999999",
+                f"callto {p} fill {q} n",
+                "leaveiferror n",
+                f"leaveifnull {p}",
+                "return",
+            )
+        ).split("\n")
 
 
 def long_script(chance: random.Random) -> str:

@@ -1,6 +1,5 @@
 """The scripts that `bench/run` measures, and what the cost of each is divided by."""
 
-import re
 from collections.abc import Callable
 from typing import NamedTuple
 
@@ -66,7 +65,9 @@ copy b w
 append b "01234567890123456789012345678901234567890123456789"
 end
 end
-""".replace("{text}", "x" * 250)
+""".replace(
+    "{text}", "x" * 250
+)
 
 LONG_TEXTS = """
 proc main
@@ -324,14 +325,19 @@ def long_script() -> str:
     return "\n".join(lines + ["end"]) + "\n"
 
 
+def number_of(word: str, text: str) -> int:
+    """The number of the line that begins with a word."""
+    return next(int(line.split(" ")[1]) for line in text.splitlines() if line.startswith(f"{word} "))
+
+
 def steps(text: str) -> int:
     """How many steps a run's report tells."""
-    return int(re.search(r"^steps (\d+)$", text, re.M).group(1))
+    return number_of("steps", text)
 
 
 def attempts_swept(text: str) -> int:
     """How many attempts a sweep's report tells."""
-    return int(re.search(r"^attempts (\d+)$", text, re.M).group(1))
+    return number_of("attempts", text)
 
 
 def pairs_swept(text: str) -> int:
@@ -347,7 +353,7 @@ class Workload(NamedTuple):
     task: str
     script: str
     unit: str
-    count: Callable[[str], int]
+    divisor: Callable[[str], int]
     # too long for callgrind, or told wrong by it, since it counts a large move of memory byte by byte
     by_time: bool = False
 
