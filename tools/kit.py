@@ -73,6 +73,11 @@ class Kit:
             Path(it.rlib).with_name("stamp").write_text(it.stamp(), encoding="utf-8")
 
 
+def version() -> str:
+    """The toolchain, as it calls itself."""
+    return subprocess.run(["rt", "version"], stdout=subprocess.PIPE, text=True).stdout.strip() if shutil.which("rt") else "no toolchain"
+
+
 def changes_in(module: Any) -> Iterator[str]:
     """What the module lacks of what the tools call."""
     for name, (words, named) in CALLS.items():
@@ -88,10 +93,9 @@ def changes_in(module: Any) -> Iterator[str]:
 def stop_if_changed(changes: Iterable[str]) -> None:
     """Ends the tool where the module isn't what it was."""
     if said := "; ".join(changes):
-        here = subprocess.run(["rt", "version"], stdout=subprocess.PIPE, text=True).stdout.strip() if shutil.which("rt") else "no rt"
         sys.exit(
             f"the toolchain's module rtlib.py has changed: {said}. tools/kit.py, which calls it, was written for {WRITTEN_FOR}, "
-            f"and this is {here}: that file is to be mended. Until then `rt run` in crates/wb_main builds the program."
+            f"and this is {version()}: that file is to be mended. Until then `rt run` in crates/wb_main builds the program."
         )
 
 

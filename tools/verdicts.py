@@ -7,13 +7,13 @@ bodies their names and texts count, and not in which file each stands: so one ca
 
 import hashlib
 import re
-import subprocess
 from dataclasses import dataclass
 from datetime import date
 from functools import cache
 from pathlib import Path
 
 from tools.crates import FUNCTION_HEAD, Crates, without_comments
+from tools.kit import version
 from tools.wrong_body_files import WRONG_BODIES, written_edits
 
 FILE = "wrong-bodies.txt"
@@ -33,9 +33,8 @@ LOGIC = re.compile(r"\blogic [0-9a-f]+")
 
 def logic_of_toolchain() -> str:
     """The logic by which the toolchain proves: of what `rt version` prints, or all of that where it names none."""
-    said = subprocess.run(["rt", "version"], stdout=subprocess.PIPE, text=True, check=True).stdout.strip()
-    named = LOGIC.search(said)
-    return named[0] if named else said
+    named = LOGIC.search(version())
+    return named[0] if named else version()
 
 
 @dataclass(frozen=True)
