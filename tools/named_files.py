@@ -1,4 +1,7 @@
-"""Compares the lists of files in DEVELOPING.md with the files that name one example of each.
+#!/usr/bin/env python3
+"""Compares the lists of DEVELOPING.md with the files that name one example of each: a line of the language, a rule, options, a report's line.
+
+    tools/named_files.py
 
 A section that says how something is added lists the files to change. Those in bold are the ones that name its example, all of them: each
 file of crates/, tools/ and bench/ that names it must be there in bold, and each that is there in bold must name it. A folder in bold
@@ -33,8 +36,19 @@ class Example(NamedTuple):
 EXAMPLES = {
     "Add a statement to the language": Example("popcheck", re.compile(r"pop_?check", re.IGNORECASE)),
     "Add a rule by which attempts fail": Example("Pair", re.compile(r"\bPairs?\b")),
-    "Add an option": Example(
+    "Add an option that takes a number": Example(
         "--also", re.compile(r"--also\b|\"also\"|\balso_(?:option|rule|is)\b|\bonly_also\b|\balso: (?:String|format!)|\bAlso\b")
+    ),
+    "Add a flag": Example(
+        "--json",
+        re.compile(r"\bjson_(?:flag|in|is|rule)\b|\bonly_json\b|codes \"json\"|\bjson: bool|\bcommand\.json\b|\bjson = (?:true|false)"),
+    ),
+    "Add a line to the report of a run": Example(
+        "note available",
+        re.compile(
+            r"\bNote::Available\b|\bAvailable\(u32|\(Available |\bNote\.TheVariants\.\{[^}]*\bAvailable\b|\bnote available\b|\bNOTES = "
+            r"|\bavailable_note\b|\bnote_of_available\b"
+        ),
     ),
 }
 
