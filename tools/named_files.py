@@ -1,7 +1,4 @@
-#!/usr/bin/env python3
 """Compares the lists of DEVELOPING.md with the files that name one example of each: a line of the language, a rule, options, a report's line.
-
-    tools/named_files.py
 
 A section that says how something is added lists the files to change. Those in bold are the ones that name its example, all of them: each
 file of crates/, tools/ and bench/ that names it must be there in bold, and each that is there in bold must name it. A folder in bold
