@@ -3,5 +3,7 @@ pub mod Asked
 pub mod AskedPieces
 pub mod Counted
 pub mod Later
+pub mod NoRise
 pub mod NothingAsked
 pub mod Quiet
+pub mod QuietSteps

@@ -1,4 +1,5 @@
 pub mod Asks
+pub mod AttemptRises
 pub mod BetweenTurns
 pub mod Bodies
 pub mod BufferEdits
@@ -20,6 +21,7 @@ pub mod LocalValues
 pub mod ObjectInvariant
 pub mod Owed
 pub mod PointerOperands
+pub mod QuietTurns
 pub mod TextOperands
 pub mod TextInvariant
 pub mod TextStatements

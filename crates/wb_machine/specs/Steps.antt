@@ -1,5 +1,5 @@
 -- What must hold before a step, and before a statement that begins in it: of the pieces that are left, and of the state.
-use Rattle.std.specs.Prelude.{◌≡◌, ℕ, ◌+◌, ◌^◌, ◌<◌, List}
+use Rattle.std.specs.Prelude.{◌≡◌, ◌+◌, ◌^◌, ◌<◌, List}
 use Rattle.wb_model.specs.declared.script.Script.{Script}
 use Rattle.wb_machine.specs.declared.pieces.Ending.{Ending}
 use Rattle.wb_machine.specs.declared.pieces.Ending.TheVariants.{GoesOn}

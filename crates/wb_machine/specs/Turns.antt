@@ -27,5 +27,14 @@ pub record TurnLeaves (turn : Turn) (old new : Seen) : Type 0 where
   -- it makes the attempt that it asks for, unless the ceiling cuts the run
   pub made : MakesAsked old.asks new.met_ceiling old.attempts new.attempts
   pub ceiling : new.met_ceiling ≡ true → new.over ≡ true
+  -- the rises are those of the run up to the end of this turn
+  pub rises : new.rises ≡ old.next_rises
   pub ended : (turn ≡ Ended) ↔ (new.over ≡ true)
   pub line : new.line ≡ line_after old
+
+-- a run keeps the rises, and its next turn, which isn't the first, asks for an attempt after which they are what they were
+pub record WillMakeNoRise (m : Seen) : Type 0 where
+  pub begun : m.begun ≡ true
+  pub keeps : m.keeps_rises ≡ true
+  pub asks : m.asks ≡ true
+  pub same : m.next_rises ≡ m.rises

@@ -12,6 +12,7 @@ use Rattle.wb_machine.specs.RunState.{state_of}
 use Rattle.wb_machine.specs.Asks.{asks_next}
 use Rattle.wb_machine.specs.Depths.{open_traps_in}
 use Rattle.wb_machine.specs.BetweenTurns.{IsBetweenTurns}
+use Rattle.wb_machine.specs.QuietTurns.{steps_after}
 use Rattle.wb_machine.specs.Seen.{Seen}
 use Rattle.wb_machine.specs.Flow.{is_stop, is_over, has_met_ceiling, pending_in, progress_of, rest_at}
 use Rattle.wb_machine.specs.Results.{leaks_at_end}
@@ -22,6 +23,10 @@ has_ended m = m.begun && is_over m.control.ending m.control.pieces.items
 
 abbrev pub progress_in : Inside → Progress
 progress_in m = progress_of m.begun m.control.ending (pending_in m.state.callers m.control.pieces.items) (state_of m.script.now m.state)
+
+-- what the run comes to, were it cut at the end of the next turn
+abbrev pub run_to_next : Inside → WholeRun
+run_to_next m = rest_at m.script.now (steps_after m.begun m.state.steps m.budget) m.state.debug.rule m.begun m.control.ending m.control.pieces.items m.state
 
 abbrev pub seen : Inside → Seen
 seen m = record {
@@ -45,6 +50,8 @@ seen m = record {
   asks = not m.failed && asks_next m.script.now m.budget (progress_in m);
   failed = m.failed;
   keeps_rises = keeps_rises m.state.debug;
+  rises = m.state.debug.rises;
+  next_rises = (run_to_next m).rises;
 }
 
 -- Rest: what the pending pieces give from the state on

@@ -13,7 +13,7 @@ ghost use Rattle.wb_machine.specs.Flow.{is_stop};
 ghost use Rattle.wb_machine.specs.RunState.{first_state};
 ghost use Rattle.wb_machine.specs.Seen.{seen_at_start};
 ghost use Rattle.wb_machine.specs.Results.{leaks_at_end};
-ghost use Rattle.wb_machine.specs.Turns.{IsSameRun, TurnLeaves};
+ghost use Rattle.wb_machine.specs.Turns.{IsSameRun, TurnLeaves, WillMakeNoRise};
 
 use crate::control::Control;
 use crate::fault::RunFault;
@@ -113,8 +113,9 @@ impl<'a> Machine<'a> {
     /// carries it out, or cuts the run where the budget is used up; all ends that follow belong to it. A turn
     /// makes one attempt where `will_attempt` was true before it, unless the ceiling cuts the run, and none
     /// elsewhere. Once the run is over it answers `Ended` and changes nothing. After `NoMemory` the machine
-    /// answers `NoMemory` for good. The turn after which a run has ended plainly lists the leaks; no other asks
-    /// for memory for them.
+    /// answers `NoMemory` for good. The turn after which a run has ended plainly, or by a leave, lists the leaks; no other asks
+    /// for memory for them. Where the rises are kept, a turn after the first asks for no memory but this if its attempt is no
+    /// rise.
     pub fn step(&mut self) -> Result<Turn, NoMemory>
         ensures same { IsSameRun self.old self.new }
         ensures turned { IfOk result (λ turn. TurnLeaves turn self.old self.new) }
@@ -124,6 +125,7 @@ impl<'a> Machine<'a> {
         ensures more { self.new.attempts ≤ self.old.attempts + 1 }
         ensures failed { OnErr result (self.new.failed ≡ true) }
         ensures for_good { self.old.failed ≡ true → (is_err result ≡ true) × (self.new ≡ self.old) }
+        ensures quiet { WillMakeNoRise self.old → OnErr result (self.new.over ≡ true) }
     {
         if self.failed {
             return Err(NoMemory);

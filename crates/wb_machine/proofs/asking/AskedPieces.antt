@@ -31,7 +31,7 @@ use Rattle.wb_machine.proofs.turns.Scripts.{own_first, sound_top}
 use Rattle.wb_machine.proofs.turns.Steps.{pending_pushed}
 use Rattle.wb_machine.proofs.asking.Asked.{statement_asked}
 
-last_of : {X : Type 0} (xs : List X) (x : X) → slice_get (xs ++ x ∷ []) (length (xs ++ x ∷ []) - 1) ≡ Some x
+pub last_of : {X : Type 0} (xs : List X) (x : X) → slice_get (xs ++ x ∷ []) (length (xs ++ x ∷ []) - 1) ≡ Some x
 last_of [] x = refl
 last_of (y ∷ ys) x =
     let long : length (y ∷ (ys ++ x ∷ [])) - 1 ≡ suc (length (ys ++ x ∷ []) - 1) = omega (arith, length-append ys (x ∷ [])) in

@@ -1,6 +1,6 @@
 //! What the head of a statement leaves: it is carried out, or leaves pieces.
 
-ghost use Rattle.std.specs.Prelude.{◌≡◌, ◌+◌, ◌≤◌, [], ◌∷◌, ℕ, None, length, max, IsTrue, OnOk};
+ghost use Rattle.std.specs.Prelude.{◌≡◌, ◌+◌, ◌≤◌, [], ◌∷◌, ℕ, None, length, max, IsOk, IsTrue, OnOk};
 ghost use Rattle.std.specs.List.{list_all};
 ghost use Rattle.wb_model.specs.language.Sound.{is_script};
 ghost use Rattle.wb_model.specs.declared.heap.Rule.{Rule};
@@ -9,6 +9,7 @@ ghost use Rattle.wb_model.specs.declared.script.Body.{Body};
 ghost use Rattle.wb_model.specs.declared.script.Statement.TheOpen.{Statement-F};
 ghost use Rattle.wb_model.specs.declared.script.Statement.TheViews.{out-Statement};
 ghost use Rattle.wb_machine.specs.declared.pieces.Ending.TheVariants.{GoesOn};
+ghost use Rattle.wb_machine.specs.AttemptRises.{AsksForNoRise};
 ghost use Rattle.wb_machine.specs.Bodies.{IsBody};
 ghost use Rattle.wb_machine.specs.LocalValues.{is_small, values_of_arguments};
 ghost use Rattle.wb_machine.specs.PointerOperands.{first_refusal, of_condition, operands_refusal};
@@ -285,6 +286,8 @@ impl<'a> Control<'a> {
         ensures keeps { KeepsSteps state.old state.new }
         ensures whole { OnOk result (StaysWhole script.now state.old state.new) }
         ensures room { OnOk result (HasRoom self.new.ending self.new.pieces.items state.new) }
+        ensures quiet { AsksForNoRise script.now state.old (out-Statement statement.now) →
+            (IsOk result) × (self.new.pieces ≡ self.old.pieces) }
         ensures line { self.new.line ≡ self.old.line }
     {
         match statement {
@@ -342,6 +345,8 @@ impl<'a> Control<'a> {
         ensures keeps { KeepsSteps state.old state.new }
         ensures whole { OnOk result (StaysWhole script.now state.old state.new) }
         ensures room { OnOk result (HasRoom self.new.ending self.new.pieces.items state.new) }
+        ensures quiet { AsksForNoRise script.now state.old (out-Statement statement.now) →
+            (IsOk result) × (self.new.pieces ≡ self.old.pieces) }
         ensures line { self.new.line ≡ self.old.line }
     {
         match state.operands_refusal(statement) {

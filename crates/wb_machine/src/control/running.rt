@@ -1,7 +1,7 @@
 //! The turns of a run: one, and all that are left.
 
 ghost use Rattle.std.specs.Prelude.{◌≡◌, ◌+◌, ◌<◌, ◌≤◌, ◌&&◌, ℕ, true, false, if◌then◌else◌};
-ghost use Rattle.std.specs.Prelude.{nat_lt, unwrap_or, min, IsTrue, OnOk};
+ghost use Rattle.std.specs.Prelude.{nat_lt, unwrap_or, min, IsOk, IsTrue, OnOk};
 ghost use Rattle.wb_model.specs.language.Sound.{is_script};
 ghost use Rattle.wb_model.specs.runs.Rest.{first_line, Fits};
 ghost use Rattle.wb_model.specs.declared.heap.Rule.{Rule};
@@ -14,6 +14,7 @@ ghost use Rattle.wb_machine.specs.Flow.{pending_in, is_over, has_met_ceiling, pr
 ghost use Rattle.wb_machine.specs.Flow.{IsReady, rest_from, rest_at};
 ghost use Rattle.wb_machine.specs.Asks.{asks_next, MakesAsked};
 ghost use Rattle.wb_machine.specs.Owed.{Stays};
+ghost use Rattle.wb_machine.specs.QuietTurns.{steps_after, BeginsNoRise};
 
 use crate::control::Control;
 use crate::pieces::Ending;
@@ -39,7 +40,7 @@ impl<'a> Control<'a> {
 
     /// A turn. The first begins the run, and any other takes a step, or cuts the run where the budget is used
     /// up. Pieces that are done after it are taken off at once. It makes an attempt exactly where one is asked for,
-    /// unless the ceiling cuts the run.
+    /// unless the ceiling cuts the run. Where the rises are kept, a step whose attempt is no rise asks for no memory.
     #[inline(always)]
     pub fn turn(
         &mut self,
@@ -67,6 +68,11 @@ impl<'a> Control<'a> {
             (progress_of begun self.old.ending (pending_in state.old.callers self.old.pieces.items)
             (state_of script.now state.old))) (has_met_ceiling self.new.ending)
             state.old.debug.attempts state.new.debug.attempts) }
+        ensures rises { OnOk result (state.new.debug.rises
+            ≡ (rest_at script.now (steps_after begun state.old.steps budget) state.old.debug.rule
+            begun self.old.ending self.old.pieces.items state.old).rises) }
+        ensures quiet { begun ≡ true → state.old.steps < budget →
+            BeginsNoRise script.now self.old.pieces.items state.old → IsOk result }
         ensures later { OnOk result (begun ≡ true →
             state.new.steps ≡ min (state.old.steps + 1) budget) }
         ensures steps { OnOk result (begun ≡ true →

@@ -1,6 +1,7 @@
 use Rattle.std.proofs.Common.{rules, ap, ◌∙◌, sym, subst, arith}
 use Rattle.wb_model.specs.declared.script.Statement.TheViews.{out-Statement}
 use Rattle.wb_machine.specs.RunState.{RunState}
+use Rattle.wb_machine.specs.AttemptRises.{AsksForNoRise}
 use Rattle.wb_machine.specs.Flow.{context_of, FitsStep, rest_of_statement}
 use Rattle.wb_machine.proofs.effects.Outcomes.{on_ok_then}
 use Rattle.wb_machine.proofs.kept.WholeCells.{stepped_whole}
@@ -33,3 +34,7 @@ begin_unless_refused-requires-clause-may c =
 pub returns-clause-room : goal.returns-clause-room
 returns-clause-room c =
     on_ok_then c.begin_unless_refused.result c.begin_unless_refused.ensures.room (λ room. room)
+
+pub returns-clause-quiet : goal.returns-clause-quiet
+returns-clause-quiet c asking =
+    c.begin_unless_refused.ensures.quiet (subst (λ (x : RunState). AsksForNoRise c.args.script.now x (out-Statement c.args.first.now.statement)) (sym c.tick.ensures) asking)

@@ -1,13 +1,15 @@
-use Rattle.std.proofs.Common.{rules, ◌≡◌, ap, ◌∙◌, sym, subst, Bool, true, false}
+use Rattle.std.proofs.Common.{rules, ◌≡◌, ℕ, is_ok, ap, ◌∙◌, sym, subst, Bool, true, false}
 use Rattle.wb_model.specs.runs.Rest.{Fits}
 use Rattle.std.specs.Prelude.{not, ◌&&◌}
 use Rattle.wb_model.specs.heap.Debug.{keeps_rises}
 use Rattle.wb_model.specs.runs.Run.{whole_run}
 use Rattle.wb_machine.specs.Asks.{asks_next}
-use Rattle.wb_machine.specs.Flow.{is_stop, is_over, pending_in, progress_of}
+use Rattle.wb_machine.specs.Flow.{is_stop, is_over, pending_in, progress_of, rest_at}
 use Rattle.wb_machine.specs.RunState.{state_of}
 use Rattle.wb_machine.specs.Seen.{Seen}
-use Rattle.wb_machine.specs.Whole.{has_ended}
+use Rattle.wb_machine.specs.QuietTurns.{steps_after}
+use Rattle.wb_machine.specs.Whole.{has_ended, run_to_next}
+use Rattle.wb_machine.proofs.asking.QuietSteps.{over_rises, turn_begins}
 use Rattle.wb_machine.proofs.asking.AskedPieces.{over_asks}
 use Rattle.wb_machine.proofs.whole_runs.Fitting.{fits-before}
 use Rattle.wb_machine.proofs.machine.Machine.step.Goals.{else-self-2-via-then-self-2+else-is_over, else-self-2-via-else-self-2}
@@ -61,6 +63,27 @@ returns-then-is_over-clause-turned c = record {
         let clash : false ≡ true = sym never ∙ ap (λ (s : Seen). s.asks) c.self.view_is ∙ at_once in cc;
   };
   ceiling = search rules;
+  rises =
+      let m = c.self.inside in
+      let n : Bool → ℕ = λ b. steps_after b m.state.steps m.budget in
+      let next : (run_to_next m).rises ≡ m.state.debug.rises =
+      ap (λ b. (rest_at m.script.now (n b) m.state.debug.rule b m.control.ending m.control.pieces.items m.state).rises) c.if-self-2.true
+      ∙ over_rises m.script.now (n true) m.state.debug.rule m.control.ending m.control.pieces.items m.state (sym c.is_over.ensures ∙ c.if-is_over.true) in
+      sym (ap (λ (s : Seen). s.rises) c.self.view_is) ∙ sym next ∙ ap (λ (s : Seen). s.next_rises) c.self.view_is;
   ended = search rules;
   line = search rules;
 }
+
+-- a machine whose memory ran out asks for nothing
+pub returns-then-self-clause-quiet : goal.returns-then-self-clause-quiet
+returns-then-self-clause-quiet c will =
+    let m = c.self.inside in
+    let next = asks_next m.script.now m.budget (progress_of m.begun m.control.ending (pending_in m.state.callers m.control.pieces.items) (state_of m.script.now m.state)) in
+    let never : (not m.failed && next) ≡ false = ap (λ b. not b && next) c.if-self.true in
+    let clash : false ≡ true = sym never ∙ ap (λ (s : Seen). s.asks) c.self.view_is ∙ will.asks in cc
+
+-- memory doesn't run out in the turn itself
+pub returns-in_err-turn-clause-quiet : goal.returns-in_err-turn-clause-quiet
+returns-in_err-turn-clause-quiet c will =
+    let next = turn_begins c.self.inside c.args.self.now c.self.view_is (c.self.invariant.sound c.if-self.false) will in
+    let clash : false ≡ true = sym (ap is_ok c.in_err-turn.was) ∙ c.turn.ensures.quiet next.begun next.less next.begins in cc

@@ -1,0 +1,10 @@
+use Rattle.std.proofs.Common.{ap, ◌∙◌}
+use Rattle.wb_model.specs.heap.Debug.{keeps_rises}
+use Rattle.wb_machine.specs.RunState.{RunState}
+use Rattle.wb_machine.specs.Seen.{seen_at_start}
+use Rattle.wb_machine.proofs.machine.Machine.new_rises.Goals as goal
+
+pub returns-clause-seen : goal.returns-clause-seen
+returns-clause-seen c =
+    c.at_start.ensures
+    ∙ ap (λ (x : RunState). seen_at_start (keeps_rises x.debug) c.args.script.now x.debug.rule c.args.budget x.debug.shape) c.in_ok-new_rises.ensures.ok
