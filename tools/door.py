@@ -33,6 +33,8 @@ COMMANDS = {
     "named-files": "named_files",
     "crates": "dependency_list",
     "pages": "pages",
+    "editors": "editors",
+    "help-files": "help_files",
     "style": "style",
     "build": "build",
     "workbench": "workbench",
