@@ -35,6 +35,7 @@ COMMANDS = {
     "pages": "pages",
     "editors": "editors",
     "help-files": "help_files",
+    "ci-examples": "ci_examples",
     "style": "style",
     "build": "build",
     "workbench": "workbench",
