@@ -1,10 +1,11 @@
 """Proves and builds the program.
 
     ./build
+    ./build --install PREFIX    and copies it below PREFIX, with its man page and its completions
 
-says how far it is: on a terminal in one line, else in a line for each crate. Where a crate isn't proved, it shows what the
-prover says of it. The exit status is 0 where the program is built, and else 70. `RT_JOBS` says how many processors to use, in
-the place of all.
+It says how far it is: on a terminal in one line, else in a line for each crate. Where a crate isn't proved, it shows what the
+prover says of it. The exit status is 0 where the program is built, and installed if that is asked for, and else 70. `RT_JOBS` says how
+many processors to use, in the place of all.
 
 `rt` builds the libraries of a program one after another. This takes the same steps by the module behind `rt`, and then
 calls `rt run`, which builds whatever is missing."""
@@ -15,10 +16,12 @@ import sys
 import tempfile
 import time
 from functools import partial
+from pathlib import Path
 from threading import Event, Lock, Thread
 from typing import IO
 
 from tools.crates import NOT_BUILT, Crates, Step, building, processors, run_steps
+from tools.install import install
 from tools.kit import kit
 from tools.paths import PROGRAM, PROGRAM_CRATE, ROOT
 from tools.program import parser_of
@@ -162,9 +165,8 @@ def build_below(crates: Crates, names: list[str], lanes: int) -> None:
         build.progress.close()
 
 
-def main(words: list[str]) -> int:
+def build_if_older() -> int:
     """Builds the program, if it isn't built or is older than what it is made of."""
-    parser_of(__doc__).parse_args(words)
     crates = Crates()
     with building():
         if PROGRAM.exists() and not next(crates.newer_than(PROGRAM.stat().st_mtime), None):
@@ -178,3 +180,18 @@ def main(words: list[str]) -> int:
             os._exit(NOT_BUILT)
     print(f"{PROGRAM.relative_to(ROOT)} is proved and built")
     return 0
+
+
+def main(words: list[str]) -> int:
+    """Builds the program, and installs it if that is asked for."""
+    parser = parser_of(__doc__)
+    parser.add_argument("--install", type=Path, metavar="PREFIX", help="copy the program, its man page and its completions below PREFIX")
+    given = parser.parse_args(words)
+    status = build_if_older()
+    try:
+        if given.install and not status:
+            install(given.install)
+    except OSError as fault:
+        print(f"the program was not installed: {fault}", file=sys.stderr, flush=True)
+        return NOT_BUILT
+    return status

@@ -1,0 +1,72 @@
+# What bash completes of the words of workbench. Made by `./tools/dev help-files` from the program's own help.
+
+# completes files that fit a pattern, and folders
+_workbench_files()
+{
+    mapfile -t COMPREPLY < <(compgen -f -X "!$1" -- "$2"; compgen -d -- "$2")
+    compopt -o filenames 2> /dev/null
+}
+
+# completes some words
+_workbench_words()
+{
+    mapfile -t COMPREPLY < <(compgen -W "$1" -- "$2")
+}
+
+_workbench()
+{
+    local at=$COMP_CWORD word=${COMP_WORDS[COMP_CWORD]} options values given
+    COMPREPLY=()
+    if ((COMP_CWORD == 1)); then
+        _workbench_words 'run size lengths sweep check help --help' "$word"
+        return
+    fi
+    case ${COMP_WORDS[1]} in
+        run)
+            options='--limit --fail --also --every --budget --min --step --json --picture --help'
+            values='--limit --fail --also --every --budget --min --step --picture'
+            ;;
+        size)
+            options='--budget --min --step --json --picture --help'
+            values='--budget --min --step --picture'
+            ;;
+        lengths)
+            options='--budget --min --step --json --picture --help'
+            values='--budget --min --step --picture'
+            ;;
+        sweep)
+            options='--every --pairs --budget --min --step --json --picture --help'
+            values='--budget --min --step --picture'
+            ;;
+        check)
+            options='--every --pairs --budget --min --step --json --picture --help'
+            values='--budget --min --step --picture'
+            ;;
+        help)
+            _workbench_words 'run size lengths sweep check help' "$word"
+            return
+            ;;
+        *) return ;;
+    esac
+    # a value may follow its option in the same word, with `=` between, which is a word of its own here
+    if [[ $word == '=' ]]; then
+        word=''
+    elif [[ ${COMP_WORDS[at - 1]} == '=' ]]; then
+        ((at--))
+    fi
+    if [[ " $values " == *" ${COMP_WORDS[at - 1]} "* ]]; then
+        # a number is not completed
+        [[ " --picture " == *" ${COMP_WORDS[at - 1]} "* ]] && _workbench_files '*.svg' "$word"
+    elif [[ $word == -* ]]; then
+        # an option may be given once
+        for given in "${COMP_WORDS[@]:2:COMP_CWORD - 2}"; do
+            options=" $options "
+            options=${options/ "$given" / }
+        done
+        _workbench_words "$options" "$word"
+    else
+        _workbench_files '*.oom' "$word"
+    fi
+}
+
+complete -F _workbench workbench

@@ -1,0 +1,2 @@
+" Files that are scripts of the workbench.
+autocmd BufNewFile,BufRead *.oom setfiletype oom

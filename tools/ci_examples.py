@@ -1,0 +1,157 @@
+"""Tries `examples/ci/check-folder` on the examples, and on a copy of some of them with faults.
+
+    ./tools/dev ci-examples             tries it; the last line is `N passed, M failed`
+    ./tools/dev ci-examples --write     writes the required lengths of all examples to examples/ci/required-lengths.txt
+
+The required lengths of all examples must be those of that file. In the copy one script is missing, one is rejected, one needs a longer heap
+than it did, one is cut, and one is new: each must have its line, and the whole its status."""
+
+import os
+import subprocess
+import tempfile
+from pathlib import Path
+from typing import NamedTuple
+
+from tools.paths import EXAMPLES, ROOT, examples
+from tools.program import CUT, FINE, FOUND, program_parser
+from tools.tally import Tally
+
+TOOL = EXAMPLES / "ci" / "check-folder"
+LENGTHS = EXAMPLES / "ci" / "required-lengths.txt"
+
+REJECTED, MISSING, COMMAND_LINE = 2, 5, 6
+# how the words of a script begin that isn't as the baseline has it
+FAULTS = ("grown", "missing", "not in")
+
+GROWN = "proc main\n    ptr name\n    alloc name 1000\n    free name\nend\n"
+REJECTED_SCRIPT = "proc main\n    alloc\nend\n"
+CUT_SCRIPT = "proc main\n    repeat 1048576\n    end\nend\n"
+
+
+class Told(NamedTuple):
+    """What a call of the script ends with."""
+
+    lines: list[str]
+    explained: str
+    status: int
+
+
+class Folder:
+    """A folder of scripts in which a call is made, and the program that it asks."""
+
+    def __init__(self, program: Path, room: Path) -> None:
+        self.program, self.room = program, room
+
+    def write(self, name: str, script: str) -> None:
+        """Writes a script."""
+        file = self.room / "scripts" / name
+        file.parent.mkdir(parents=True, exist_ok=True)
+        file.write_text(script, encoding="ascii")
+
+    def take(self, *names: str) -> None:
+        """Copies examples into the folder."""
+        for name in names:
+            self.write(name, (EXAMPLES / name).read_text(encoding="ascii"))
+
+    def call(self, *words: str | Path) -> Told:
+        """What `check-folder` says on these words, in the folder above the scripts."""
+        environment = dict(os.environ, WORKBENCH=str(self.program))
+        ran = subprocess.run([TOOL, *words], cwd=self.room, env=environment, capture_output=True, text=True)
+        return Told(ran.stdout.splitlines(), ran.stderr, ran.returncode)
+
+
+class Tests(Tally):
+    """How many expectations have held so far, and how many haven't."""
+
+    def expect(self, what: str, told: object, wanted: object) -> None:
+        """Counts whether what was told is what is wanted."""
+        self.check(told == wanted, f"{what}: {told!r} in place of {wanted!r}")
+
+
+def try_examples(tests: Tests, program: Path) -> None:
+    """Whether all examples have the required lengths that the baseline names, and no others are there."""
+    told = Folder(program, ROOT).call("examples", "--baseline", LENGTHS)
+    tests.expect("the status of the examples", told.status, FOUND)
+    tests.expect("how many examples have a line", len(told.lines), len(examples()))
+    rows = (line.split(" ", 1) for line in LENGTHS.read_text(encoding="ascii").splitlines())
+    wanted = {f"examples/{name}": length for length, name in rows}
+    for line in told.lines:
+        name, _, said = line.partition(": ")
+        words = [it for it in said.split(", ") if it.startswith(("required", *FAULTS))]
+        tests.expect(f"what the baseline says of {name}", words, [f"required {wanted.get(name)}"])
+
+
+def try_baseline(tests: Tests, folder: Folder) -> None:
+    """Whether a baseline is written, and whether a folder that is as it was passes."""
+    folder.take("holes.oom", "retry.oom")
+    folder.write("inner/small.oom", GROWN.replace("1000", "10"))
+    words = ("scripts", "--baseline", "lengths.txt")
+    told = folder.call(*words, "--write-baseline")
+    tests.expect("a folder without faults", told.status, FINE)
+    tests.expect("what is said of it beside its lines", told.explained, "")
+    wanted = "560 holes.oom\n176 inner/small.oom\n"
+    tests.expect("the baseline", (folder.room / "lengths.txt").read_text(encoding="utf-8")[: len(wanted)], wanted)
+    tests.expect("the folder as it was", folder.call(*words), told)
+
+
+def try_faults(tests: Tests, folder: Folder) -> None:
+    """Whether each fault of a folder has its line, and its status the whole."""
+    words = ("scripts", "--baseline", "lengths.txt")
+    folder.write("inner/small.oom", GROWN)
+    told = folder.call(*words)
+    wanted = "scripts/inner/small.oom: required 1168, number none, length none, grown from 176"
+    tests.expect("a length that has grown", told.lines[1], wanted)
+    tests.expect("its status", told.status, FOUND)
+    folder.take("second-phase-leaks.oom")
+    told = folder.call(*words)
+    wanted = "scripts/second-phase-leaks.oom: required 256, number 3, length 192, not in the baseline"
+    tests.expect("a script that leaks", told.lines[3], wanted)
+    tests.expect("its status", told.status, FOUND)
+    tests.expect("its explanation", "second-phase-leaks.oom:16: leak: " in told.explained, True)
+    folder.write("retry.oom", REJECTED_SCRIPT)
+    told = folder.call(*words)
+    tests.expect("a script that is rejected", told.lines[2], "scripts/retry.oom: refused 3 line 2")
+    tests.expect("its status", told.status, REJECTED)
+    folder.write("long.oom", CUT_SCRIPT)
+    told = folder.call(*words)
+    tests.expect("a script that is cut", told.lines[2], "scripts/long.oom: cut 0 budget, length none, not in the baseline")
+    tests.expect("its status", told.status, CUT)
+    (folder.room / "scripts/holes.oom").unlink()
+    told = folder.call(*words, "--jobs", "1")
+    tests.expect("a script that is missing", told.lines[0], "scripts/holes.oom: missing")
+    tests.expect("its status", told.status, MISSING)
+    tests.expect("all lines", len(told.lines), 5)
+
+
+def try_words(tests: Tests, folder: Folder) -> None:
+    """Whether what can't be done is a fault of the command line, and leaves the baseline as it is."""
+    before = (folder.room / "lengths.txt").read_bytes()
+    for words in (
+        ["none"],
+        ["scripts", "--write-baseline"],
+        ["scripts", "--jobs", "0"],
+        ["scripts", "--baseline", "no-such-file"],
+        ["scripts", "--baseline", "scripts/retry.oom"],
+    ):
+        tests.expect(" ".join(words), folder.call(*words).status, COMMAND_LINE)
+    tests.expect("no program", Folder(folder.room / "no-such-file", folder.room).call("scripts").status, COMMAND_LINE)
+    unreadable = folder.room / "scripts" / "unreadable.oom"
+    unreadable.symlink_to(folder.room / "scripts" / "inner" / "no-such-file")
+    tests.expect("a link to nothing", folder.call("scripts", "--baseline", "lengths.txt", "--write-baseline").status, MISSING)
+    tests.expect("the baseline after these", (folder.room / "lengths.txt").read_bytes(), before)
+
+
+def main(words: list[str]) -> int:
+    """Tries the script, or writes the baseline of the examples."""
+    parser = program_parser(__doc__)
+    parser.add_argument("--write", action="store_true", help="write the required lengths of the examples")
+    given = parser.parse_args(words)
+    if given.write:
+        return int(Folder(given.program, ROOT).call("examples", "--baseline", LENGTHS, "--write-baseline").status > CUT)
+    tests = Tests()
+    try_examples(tests, given.program)
+    with tempfile.TemporaryDirectory() as room:
+        folder = Folder(given.program, Path(room))
+        for part in (try_baseline, try_faults, try_words):
+            part(tests, folder)
+    return tests.end()
