@@ -1,20 +1,25 @@
 //! Copies of heaps, cells and words: each reports what its source does, and what is done to one changes nothing in the other. Those
 //! of heaps are taken before the sixth attempt of a script that frees neighbours and then asks for a cell in their place.
 
-use crate::debug_calls::{Call as DebugCall, CopiedDebugHeap, Marked, WorkedDebugHeap};
-use crate::heap_calls::{Call as HeapCall, CopiedHeap, Numbered, WorkedHeap};
-use std::alloc::Global;
+use crate::debug_calls::{Call as DebugCall, Marked, WorkedDebugHeap};
+use crate::heap_calls::{Call as HeapCall, Numbered, WorkedHeap};
+use crate::walker::{Called, all_answer};
 use std::test::Fail;
 use wb_cells::Cells;
 use wb_chunk::Chunk;
-use wb_debug::DebugFault;
 use wb_model::heap::Answer::Granted;
 use wb_model::heap::{Header, Kind, Ptr, Rule, Shape};
-use wb_rheap::HeapFault;
 
 const SHAPE: Shape = Shape { min: 0, step: 4096 };
 
-static DEBUG_HEAP: CopiedDebugHeap = CopiedDebugHeap {
+/// A heap that is copied after some calls: what both report then, and calls that change one of them.
+struct Copied<W, C: 'static> {
+    before: W,
+    told: &'static [C],
+    changes: &'static [C],
+}
+
+static DEBUG_HEAP: Copied<WorkedDebugHeap, DebugCall> = Copied {
     before: WorkedDebugHeap {
         about: "cells that were freed merge",
         rule: Rule::Number(0),
@@ -71,7 +76,7 @@ static DEBUG_HEAP: CopiedDebugHeap = CopiedDebugHeap {
     ],
 };
 
-static HEAP: CopiedHeap = CopiedHeap {
+static HEAP: Copied<WorkedHeap, HeapCall> = Copied {
     before: WorkedHeap {
         about: "cells that were freed merge",
         limit: 8192,
@@ -118,63 +123,51 @@ static HEAP: CopiedHeap = CopiedHeap {
     ],
 };
 
-// What a debug heap is asked, and a heap: one function for each step, since a proof grows with the heaps that a function drops.
+// One function for each step, since a proof grows with the heaps that a function drops.
 
-/// Whether a debug heap reports the same before and after another one changes.
-fn stays_beside(heap: &mut Marked, other: &mut Marked, copied: &CopiedDebugHeap) -> bool {
-    let is_same = other.all_answer(copied.told) & heap.all_answer(copied.told);
-    let has_changed = other.all_answer(copied.changes);
-    is_same & has_changed & heap.all_answer(copied.told)
+/// Whether a heap reports the same before and after another one changes.
+fn stays_beside<H: Called>(
+    heap: &mut H,
+    other: &mut H,
+    told: &[H::Call],
+    changes: &[H::Call],
+) -> bool {
+    let is_same = all_answer(other, told) & all_answer(heap, told);
+    let has_changed = all_answer(other, changes);
+    is_same & has_changed & all_answer(heap, told)
 }
 
 /// Whether a copy stays while a second one changes, which takes the memory of `spare`, and then changes as it did.
-fn is_apart_over(
-    spare: Marked,
-    copy: &mut Marked,
-    copied: &CopiedDebugHeap,
-) -> Result<bool, DebugFault> {
+fn is_apart_over<H: Called>(
+    spare: H,
+    copy: &mut H,
+    told: &[H::Call],
+    changes: &[H::Call],
+) -> Result<bool, H::Fault> {
     let mut second = copy.try_copy_over(spare)?;
-    let stays = stays_beside(copy, &mut second, copied);
-    Ok(stays & copy.all_answer(copied.changes))
+    let stays = stays_beside(copy, &mut second, told, changes);
+    Ok(stays & all_answer(copy, changes))
 }
 
 /// Whether a copy stays while its source changes, and while a copy of the copy does.
-fn is_apart(alloc: Global, copied: &CopiedDebugHeap) -> Result<bool, DebugFault> {
-    let mut source = Marked::new(alloc, &copied.before)?;
-    let is_begun = source.all_answer(copied.before.calls);
+fn is_apart<H: Called>(
+    mut source: H,
+    told: &[H::Call],
+    changes: &[H::Call],
+) -> Result<bool, H::Fault> {
     let mut copy = source.try_copy()?;
-    let stays = stays_beside(&mut copy, &mut source, copied);
-    Ok(is_apart_over(source, &mut copy, copied)? & is_begun & stays)
-}
-
-fn heap_stays_beside(heap: &mut Numbered, other: &mut Numbered, copied: &CopiedHeap) -> bool {
-    let is_same = other.all_answer(copied.told) & heap.all_answer(copied.told);
-    let has_changed = other.all_answer(copied.changes);
-    is_same & has_changed & heap.all_answer(copied.told)
-}
-
-fn is_heap_apart_over(
-    spare: Numbered,
-    copy: &mut Numbered,
-    copied: &CopiedHeap,
-) -> Result<bool, HeapFault> {
-    let mut second = copy.try_copy_over(spare)?;
-    let stays = heap_stays_beside(copy, &mut second, copied);
-    Ok(stays & copy.all_answer(copied.changes))
-}
-
-fn is_heap_apart(alloc: Global, copied: &CopiedHeap) -> Result<bool, HeapFault> {
-    let mut source = Numbered::new(alloc, &copied.before)?;
-    let is_begun = source.all_answer(copied.before.calls);
-    let mut copy = source.try_copy()?;
-    let stays = heap_stays_beside(&mut copy, &mut source, copied);
-    Ok(is_heap_apart_over(source, &mut copy, copied)? & is_begun & stays)
+    let stays = stays_beside(&mut copy, &mut source, told, changes);
+    Ok(is_apart_over(source, &mut copy, told, changes)? & stays)
 }
 
 #[test]
 fn copies_of_heaps_are_apart(rt: HostRuntime) -> Result<(), Fail> {
-    assert!(rt; is_apart(rt.alloc(), &DEBUG_HEAP)?);
-    assert!(rt; is_heap_apart(rt.alloc(), &HEAP)?);
+    let mut marked = Marked::new(rt.alloc(), &DEBUG_HEAP.before)?;
+    assert!(rt; all_answer(&mut marked, DEBUG_HEAP.before.calls));
+    assert!(rt; is_apart(marked, DEBUG_HEAP.told, DEBUG_HEAP.changes)?);
+    let mut numbered = Numbered::new(rt.alloc(), &HEAP.before)?;
+    assert!(rt; all_answer(&mut numbered, HEAP.before.calls));
+    assert!(rt; is_apart(numbered, HEAP.told, HEAP.changes)?);
     Ok(())
 }
 

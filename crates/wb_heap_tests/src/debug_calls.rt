@@ -3,6 +3,8 @@
 ghost use Rattle.std.specs.Prelude.{◌≡◌};
 
 use crate::heap_calls::{Cell, header, pointer};
+use crate::walker;
+use crate::walker::Called;
 use std::alloc::Global;
 use wb_debug::{DebugFault, DebugHeap};
 use wb_model::heap::{Answer, Attempt, Gave, Kind, Panic, Ptr, Rule, Shape};
@@ -72,14 +74,6 @@ pub(crate) struct WorkedDebugHeap {
     pub(crate) calls: &'static [Call],
 }
 
-/// A debug heap that is copied after some calls: what both report then, and calls that change one of them.
-#[derive(Clone, Copy)]
-pub(crate) struct CopiedDebugHeap {
-    pub(crate) before: WorkedDebugHeap,
-    pub(crate) told: &'static [Call],
-    pub(crate) changes: &'static [Call],
-}
-
 /// A debug heap, and how many marks are open.
 #[derive(Drop)]
 pub(crate) struct Marked {
@@ -94,52 +88,13 @@ pub(crate) fn first_other(
     worked: &WorkedDebugHeap,
 ) -> Result<Option<usize>, DebugFault> {
     let mut marked = Marked::new(alloc, worked)?;
-    Ok(marked.first_other(worked.calls))
+    Ok(walker::first_other(&mut marked, worked.calls))
 }
 
-impl Marked {
-    /// A heap after attempt 1.
-    pub(crate) fn new(alloc: Global, worked: &WorkedDebugHeap) -> Result<Marked, DebugFault> {
-        let mut marked = Marked {
-            heap: DebugHeap::new(alloc, worked.rule, worked.shape)?,
-            marks: 0,
-        };
-        match marked.attempt(128, Kind::Cleanup) {
-            Some(_) => Ok(marked),
-            None => Err(DebugFault::NoMemory),
-        }
-    }
+impl Called for Marked {
+    type Call = Call;
 
-    pub(crate) fn try_copy(&self) -> Result<Marked, DebugFault> {
-        Ok(Marked {
-            heap: self.heap.try_copy()?,
-            marks: self.marks,
-        })
-    }
-
-    /// A copy over the memory of a heap that is done with.
-    pub(crate) fn try_copy_over(&self, spare: Marked) -> Result<Marked, DebugFault> {
-        let (_, heap) = spare.heap.into_trace_and_heap();
-        Ok(Marked {
-            heap: self.heap.try_copy_over(Some(heap))?,
-            marks: self.marks,
-        })
-    }
-
-    /// The index of the first call that gives another answer.
-    fn first_other(&mut self, calls: &[Call]) -> Option<usize> {
-        for (index, call) in calls.iter().enumerate() {
-            if !self.answers(*call) {
-                return Some(index);
-            }
-        }
-        None
-    }
-
-    /// Whether each call gives its answer.
-    pub(crate) fn all_answer(&mut self, calls: &[Call]) -> bool {
-        self.first_other(calls).is_none()
-    }
+    type Fault = DebugFault;
 
     /// Whether a call gives its answer.
     fn answers(&mut self, call: Call) -> bool {
@@ -158,6 +113,36 @@ impl Marked {
             Call::Copy(from, to, n) => self.copy(pointer(from), pointer(to), n),
             Call::Compress(length) => self.heap.note_compress() == Note::Compress(length),
             _ => self.writes_halves(call),
+        }
+    }
+
+    fn try_copy(&self) -> Result<Marked, DebugFault> {
+        Ok(Marked {
+            heap: self.heap.try_copy()?,
+            marks: self.marks,
+        })
+    }
+
+    /// A copy over the memory of a heap that is done with.
+    fn try_copy_over(&self, spare: Marked) -> Result<Marked, DebugFault> {
+        let (_, heap) = spare.heap.into_trace_and_heap();
+        Ok(Marked {
+            heap: self.heap.try_copy_over(Some(heap))?,
+            marks: self.marks,
+        })
+    }
+}
+
+impl Marked {
+    /// A heap after attempt 1.
+    pub(crate) fn new(alloc: Global, worked: &WorkedDebugHeap) -> Result<Marked, DebugFault> {
+        let mut marked = Marked {
+            heap: DebugHeap::new(alloc, worked.rule, worked.shape)?,
+            marks: 0,
+        };
+        match marked.attempt(128, Kind::Cleanup) {
+            Some(_) => Ok(marked),
+            None => Err(DebugFault::NoMemory),
         }
     }
 

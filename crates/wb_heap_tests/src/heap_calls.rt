@@ -4,6 +4,8 @@ ghost use Rattle.std.specs.Prelude.{◌<◌, ◌≤◌, All, IsTrue};
 ghost use Rattle.wb_model.specs.heap.LimitedHeap.{IsCellLength};
 ghost use Rattle.wb_model.specs.heap.Row.{headers};
 
+use crate::walker;
+use crate::walker::Called;
 use std::alloc::Global;
 use wb_model::heap::{Header, Kind, Ptr, Shape};
 use wb_model::limits::CEILING;
@@ -79,14 +81,6 @@ pub(crate) struct WorkedHeap {
     pub(crate) calls: &'static [Call],
 }
 
-/// A heap that is copied after some calls: what both report then, and calls that change one of them.
-#[derive(Clone, Copy)]
-pub(crate) struct CopiedHeap {
-    pub(crate) before: WorkedHeap,
-    pub(crate) told: &'static [Call],
-    pub(crate) changes: &'static [Call],
-}
-
 /// A heap, and the number of its next attempt.
 #[derive(Drop)]
 pub(crate) struct Numbered {
@@ -99,58 +93,13 @@ pub(crate) struct Numbered {
 /// The index of the first call that gives another answer.
 pub(crate) fn first_other(alloc: Global, worked: &WorkedHeap) -> Result<Option<usize>, HeapFault> {
     let mut numbered = Numbered::new(alloc, worked)?;
-    Ok(numbered.first_other(worked.calls))
+    Ok(walker::first_other(&mut numbered, worked.calls))
 }
 
-impl Numbered {
-    /// A heap after its first attempt.
-    pub(crate) fn new(alloc: Global, worked: &WorkedHeap) -> Result<Numbered, HeapFault> {
-        if worked.limit > CEILING {
-            return Err(HeapFault::TooShort);
-        }
-        let mut numbered = Numbered {
-            heap: Heap::new(alloc, worked.limit, worked.shape)?,
-            next: 1,
-        };
-        numbered.grant(144)?;
-        Ok(numbered)
-    }
+impl Called for Numbered {
+    type Call = Call;
 
-    pub(crate) fn try_copy(&self) -> Result<Numbered, HeapFault> {
-        match self.heap.try_copy() {
-            Ok(heap) => Ok(Numbered {
-                heap,
-                next: self.next,
-            }),
-            Err(_) => Err(HeapFault::NoMemory),
-        }
-    }
-
-    /// A copy over the memory of a heap that is done with.
-    pub(crate) fn try_copy_over(&self, spare: Numbered) -> Result<Numbered, HeapFault> {
-        match self.heap.try_copy_over(Some(spare.heap)) {
-            Ok(heap) => Ok(Numbered {
-                heap,
-                next: self.next,
-            }),
-            Err(_) => Err(HeapFault::NoMemory),
-        }
-    }
-
-    /// The index of the first call that gives another answer.
-    fn first_other(&mut self, calls: &[Call]) -> Option<usize> {
-        for (index, call) in calls.iter().enumerate() {
-            if !self.answers(*call) {
-                return Some(index);
-            }
-        }
-        None
-    }
-
-    /// Whether each call gives its answer.
-    pub(crate) fn all_answer(&mut self, calls: &[Call]) -> bool {
-        self.first_other(calls).is_none()
-    }
+    type Fault = HeapFault;
 
     /// Whether a call gives its answer.
     fn answers(&mut self, call: Call) -> bool {
@@ -169,6 +118,42 @@ impl Numbered {
             Call::Compress(length) => self.heap.compress() == length,
             _ => self.writes_halves(call),
         }
+    }
+
+    fn try_copy(&self) -> Result<Numbered, HeapFault> {
+        match self.heap.try_copy() {
+            Ok(heap) => Ok(Numbered {
+                heap,
+                next: self.next,
+            }),
+            Err(_) => Err(HeapFault::NoMemory),
+        }
+    }
+
+    /// A copy over the memory of a heap that is done with.
+    fn try_copy_over(&self, spare: Numbered) -> Result<Numbered, HeapFault> {
+        match self.heap.try_copy_over(Some(spare.heap)) {
+            Ok(heap) => Ok(Numbered {
+                heap,
+                next: self.next,
+            }),
+            Err(_) => Err(HeapFault::NoMemory),
+        }
+    }
+}
+
+impl Numbered {
+    /// A heap after its first attempt.
+    pub(crate) fn new(alloc: Global, worked: &WorkedHeap) -> Result<Numbered, HeapFault> {
+        if worked.limit > CEILING {
+            return Err(HeapFault::TooShort);
+        }
+        let mut numbered = Numbered {
+            heap: Heap::new(alloc, worked.limit, worked.shape)?,
+            next: 1,
+        };
+        numbered.grant(144)?;
+        Ok(numbered)
     }
 
     /// The same of a call that writes halves of a payload.

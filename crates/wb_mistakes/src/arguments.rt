@@ -82,10 +82,8 @@ fn explain_argument<'x>(
 
 /// The first line of the procedure that a line calls; `None` if no procedure has the name.
 fn procedure_of<'l, 'a>(lines: &'l [Line<'a>], line: &Line) -> Option<&'l Line<'a>> {
-    match find_item(lines, line.text_at(procedure_place(line))) {
-        Some(item) => lines.get(item.line),
-        None => None,
-    }
+    let item = find_item(lines, line.text_at(procedure_place(line)))?;
+    lines.get(item.line)
 }
 
 fn explain_call<'x>(

@@ -51,18 +51,14 @@ pub(crate) fn elsewhere_of_local(lines: &[Line], index: usize, name: &[u8]) -> O
     if let Some(item) = find_item(lines, name) {
         return Some(Elsewhere::OtherKind(item_problem(item.kind), item.line));
     }
-    match find_local_anywhere(lines, name) {
-        Some(local) => Some(Elsewhere::OtherBody(local.line)),
-        None => None,
-    }
+    let local = find_local_anywhere(lines, name)?;
+    Some(Elsewhere::OtherBody(local.line))
 }
 
 /// What a name is that no class, procedure or operation has; `None` if it is nothing elsewhere either.
 pub(crate) fn elsewhere_of_item(lines: &[Line], index: usize, name: &[u8]) -> Option<Elsewhere> {
-    match find_local(lines, index, name) {
-        Some(local) => Some(Elsewhere::OtherKind(local_problem(local.kind), local.line)),
-        None => None,
-    }
+    let local = find_local(lines, index, name)?;
+    Some(Elsewhere::OtherKind(local_problem(local.kind), local.line))
 }
 
 /// Says what a name is elsewhere.

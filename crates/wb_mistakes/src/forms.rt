@@ -18,10 +18,7 @@ pub(crate) fn operand_place_at(line_kind: LineKind, place: usize) -> Option<Oper
 
 /// The operand at a place of a line, by the line's form; `None` if it has none there.
 pub(crate) fn operand_place_of(line: &Line, place: usize) -> Option<OperandPlace> {
-    match line.line_kind() {
-        Some(line_kind) => operand_place_at(line_kind, place),
-        None => None,
-    }
+    operand_place_at(line.line_kind()?, place)
 }
 
 /// Whether a line of this form may have this number of words, its first one included.

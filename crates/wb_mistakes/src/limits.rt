@@ -65,11 +65,22 @@ fn parameter_count(line: &Line) -> usize {
     count
 }
 
+/// Whether a line has this role, if it is one of which there may be only so many.
+fn has_role(line: &Line, wanted: Role) -> bool {
+    matches!(
+        (role(line), wanted),
+        (Role::Class, Role::Class)
+            | (Role::Field, Role::Field)
+            | (Role::Procedure, Role::Procedure)
+            | (Role::Declaration, Role::Declaration)
+    )
+}
+
 /// The number of lines of a role from one index to another, both included.
 fn count_between(lines: &[Line], from: usize, to: usize, wanted: Role) -> usize {
     let mut count: usize = 0;
     for (index, line) in lines.iter().enumerate() {
-        if index >= from && index <= to && role(line) as u8 == wanted as u8 {
+        if index >= from && index <= to && has_role(line, wanted) {
             count = count.saturating_add(1);
         }
     }

@@ -8,10 +8,12 @@ use wb_lines::declares::{body_in, item_kind_in, local_kind_in};
 use wb_model::script_lines::{BodyKind, ItemKind, Operand, Role};
 
 fn is_item(line: &Line, kind: ItemKind) -> bool {
-    match item_kind_in(&line.form) {
-        Some(found) => found as u8 == kind as u8,
-        None => false,
-    }
+    matches!(
+        (item_kind_in(&line.form), kind),
+        (Some(ItemKind::Class), ItemKind::Class)
+            | (Some(ItemKind::Procedure), ItemKind::Procedure)
+            | (Some(ItemKind::Operation), ItemKind::Operation)
+    )
 }
 
 /// The class, procedure or operation with the nearest name; `None` if none is near.

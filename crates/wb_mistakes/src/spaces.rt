@@ -21,10 +21,7 @@ pub(crate) struct ItemAt {
 
 /// The kind of the line with an index; `None` if there is no such line, or it has none.
 pub(crate) fn line_kind_at(lines: &[Line], index: usize) -> Option<LineKind> {
-    match lines.get(index) {
-        Some(line) => line.line_kind(),
-        None => None,
-    }
+    lines.get(index)?.line_kind()
 }
 
 /// Returns the first class, procedure or operation with a name; `None` if there is none.
@@ -170,24 +167,15 @@ pub(crate) fn find_field(lines: &[Line], class: usize, name: &[u8]) -> Option<us
 
 /// The index of the line that begins the first class, procedure or operation with a name; `None` if there is none.
 pub(crate) fn line_of_item(lines: &[Line], name: &[u8]) -> Option<usize> {
-    match find_item(lines, name) {
-        Some(item) => Some(item.line),
-        None => None,
-    }
+    Some(find_item(lines, name)?.line)
 }
 
 /// The index of the line that declares the local with a name, in the body of a line and before that line; `None` if there is none.
 pub(crate) fn line_of_local(lines: &[Line], index: usize, name: &[u8]) -> Option<usize> {
-    match find_local(lines, index, name) {
-        Some(local) => Some(local.line),
-        None => None,
-    }
+    Some(find_local(lines, index, name)?.line)
 }
 
 /// The index of the line that declares the field with a name, of the class that begins last up to a line; `None` if there is none.
 pub(crate) fn line_of_field(lines: &[Line], index: usize, name: &[u8]) -> Option<usize> {
-    match class_before(lines, index) {
-        Some(class) => find_field(lines, class, name),
-        None => None,
-    }
+    find_field(lines, class_before(lines, index)?, name)
 }

@@ -1,5 +1,5 @@
 use Rattle.wb_model.specs.cells.TextCells.{IsTextAt}
-use Rattle.wb_heap_tests.proofs.cell_texts.a_text_grows_with_its_cell.Given as goal
+use Rattle.wb_object_tests.proofs.cell_texts.a_text_grows_with_its_cell.Given as goal
 
 -- the pointer goes on naming a text
 abbrev pub invariant-loop-units : goal.invariant-loop-units

@@ -1,5 +1,5 @@
 use Rattle.wb_model.specs.cells.TextCells.{IsTextAt}
-use Rattle.wb_heap_tests.proofs.texts.first_other.Given as goal
+use Rattle.wb_object_tests.proofs.texts.first_other.Given as goal
 
 -- both cells go on holding texts
 abbrev pub invariant-loop-index : goal.invariant-loop-index

@@ -1,6 +1,6 @@
 //! `wb_cleanup`: worked cleanup stacks, by what each call answers, and what the words of the cell are then.
 
-use crate::heap_calls::{Cell, pointer};
+use crate::pointers::{Cell, pointer};
 use crate::worked_stacks::{Entry, STACKS, Step, WorkedStack};
 use std::alloc::Global;
 use std::marker::Model;
@@ -22,7 +22,7 @@ struct Stacked {
 
 impl Model for Stacked {
     ghost use Rattle.std.specs.Prelude.{Bool};
-    ghost use Rattle.wb_heap_tests.specs.Stacked.{IsStacked};
+    ghost use Rattle.wb_object_tests.specs.Stacked.{IsStacked};
 
     ghost Value = { Bool };
 

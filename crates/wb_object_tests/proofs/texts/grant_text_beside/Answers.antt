@@ -10,7 +10,7 @@ use Rattle.wb_model.specs.heap.Debug.{Debug, IsLiveIn, IsSoundDebug, alloc_made,
 use Rattle.wb_model.specs.cells.TextCells.{IsTextAt}
 use Rattle.wb_model.proofs.Reallocations.{at-number, found-all, found-from, found-head}
 use Rattle.wb_model.proofs.TextCellsHeap.{text-beside}
-use Rattle.wb_heap_tests.proofs.texts.grant_text_beside.Goals as goal
+use Rattle.wb_object_tests.proofs.texts.grant_text_beside.Goals as goal
 
 -- a text's pointer has the number of an attempt that was made
 old-number : (q : Ptr) (d : Debug) → IsSoundDebug d → IsTextAt q d → q.number ≢ number_of_next d

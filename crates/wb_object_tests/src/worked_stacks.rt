@@ -1,6 +1,6 @@
 //! The table of worked cleanup stacks: what is called, and what each call must answer. `stacks` makes the calls.
 
-use crate::heap_calls::Cell;
+use crate::pointers::Cell;
 use wb_cleanup::Pushed;
 use wb_model::heap::{Panic, Rule};
 

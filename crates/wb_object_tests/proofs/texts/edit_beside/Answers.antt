@@ -1,6 +1,6 @@
 use Rattle.wb_hbuf.specs.Sources.{cell_edited}
-use Rattle.wb_heap_tests.proofs.OtherTexts.{text-edited}
-use Rattle.wb_heap_tests.proofs.texts.edit_beside.Goals as goal
+use Rattle.wb_object_tests.proofs.OtherTexts.{text-edited}
+use Rattle.wb_object_tests.proofs.texts.edit_beside.Goals as goal
 
 pub returns-clause-other : goal.returns-clause-other
 returns-clause-other c =

@@ -87,7 +87,7 @@ fn is_so(alloc: Global, worked: &WorkedBuffer) -> Result<bool, AllocError> {
     Ok(by_literals.max() == u32::from(worked.max))
 }
 
-const EDITED: WorkedBuffer = WorkedBuffer {
+static EDITED: WorkedBuffer = WorkedBuffer {
     max: 8,
     changes: &[
         (Change::Copy(b"abcd"), None, b"abcd"),
@@ -100,7 +100,7 @@ const EDITED: WorkedBuffer = WorkedBuffer {
     ],
 };
 
-const INSERTED: WorkedBuffer = WorkedBuffer {
+static INSERTED: WorkedBuffer = WorkedBuffer {
     max: 255,
     changes: &[
         (Change::Append(b"abc"), None, b"abc"),
@@ -111,7 +111,7 @@ const INSERTED: WorkedBuffer = WorkedBuffer {
     ],
 };
 
-const REFUSED: WorkedBuffer = WorkedBuffer {
+static REFUSED: WorkedBuffer = WorkedBuffer {
     max: 4,
     changes: &[
         (Change::Copy(b"abc"), None, b"abc"),

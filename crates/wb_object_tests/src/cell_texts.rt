@@ -12,7 +12,7 @@ use wb_model::heap::{Gave, Panic, Ptr, Rule, Shape};
 use wb_model::limits::MOST_UNITS;
 use wb_model::memory::NoMemory;
 
-const EDITS: [WorkedTexts; 10] = [
+static EDITS: [WorkedTexts; 10] = [
     WorkedTexts {
         about: "a text is as long as its cell has room",
         first: 4,

@@ -5,7 +5,7 @@ ghost use Rattle.wb_model.specs.meaning.Statements.{payload_of_object};
 ghost use Rattle.wb_model.specs.meaning.Bodies.{class_at};
 ghost use Rattle.wb_objects.specs.Objects.{HasField};
 
-use crate::heap_calls::{Cell, pointer};
+use crate::pointers::{Cell, pointer};
 use std::alloc::Global;
 use wb_debug::{DebugFault, DebugHeap};
 use wb_hbuf::make as make_text;

@@ -1,7 +1,7 @@
 use Rattle.wb_model.specs.cells.TextCells.{max_at, text_at}
 use Rattle.wb_model.specs.meaning.Texts.{set_length_text}
-use Rattle.wb_heap_tests.proofs.OtherTexts.{text-edited}
-use Rattle.wb_heap_tests.proofs.texts.set_length_beside.Goals as goal
+use Rattle.wb_object_tests.proofs.OtherTexts.{text-edited}
+use Rattle.wb_object_tests.proofs.texts.set_length_beside.Goals as goal
 
 pub returns-clause-other : goal.returns-clause-other
 returns-clause-other c =

@@ -6,8 +6,8 @@ use Rattle.wb_model.specs.declared.memory.NoMemory.{NoMemory}
 use Rattle.wb_model.specs.heap.Debug.{Debug, IsSoundDebug, alloc_made}
 use Rattle.wb_cleanup.specs.declared.cleanup.Cleanup.{Cleanup}
 use Rattle.wb_cleanup.proofs.HeapBesideStack.{alloc-beside}
-use Rattle.wb_heap_tests.specs.Stacked.{IsStacked}
-use Rattle.wb_heap_tests.proofs.stacks.Stacked.alloc.Goals as goal
+use Rattle.wb_object_tests.specs.Stacked.{IsStacked}
+use Rattle.wb_object_tests.proofs.stacks.Stacked.alloc.Goals as goal
 
 -- an attempt for another cell leaves the stack, whatever it answers
 kept : (stack : Cleanup) (d e : Debug) (full : Bool) (bytes : ℕ) (kind : Kind) (answer : Result Gave NoMemory) → IsStacked stack d full →
