@@ -13,7 +13,7 @@ use wb_picture::{
     ScriptFile, Setting, picture_of_check, picture_of_lengths, picture_of_run, picture_of_size,
     picture_of_sweep,
 };
-use workbench::answer::READ_OR_WRITE_FAULT;
+use workbench::exit_status::READ_OR_WRITE_FAULT;
 use workbench::findings::Findings;
 use workbench::program::Exit;
 use workbench::{Command, FileName, Task};
