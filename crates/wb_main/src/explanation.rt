@@ -13,13 +13,10 @@ use wb_model::heap::Rule;
 use wb_model::limits::LARGEST_BUDGET;
 use wb_model::memory::NoMemory;
 use wb_model::script::Script;
-use workbench::answer::READ_OR_WRITE_FAULT;
+use workbench::exit_status::{NOTHING_FOUND, READ_OR_WRITE_FAULT};
 use workbench::findings::Findings;
 use workbench::program::Exit;
 use workbench::{Command, Task};
-
-/// The status of a report that found nothing.
-const NOTHING_FOUND: u8 = 0;
 
 /// Returns the explanation of an answer, by what the program's words came to and by what failed first of what was read and
 /// written; empty if there is nothing to say. The only error is that memory ran out.

@@ -44,10 +44,7 @@ fn main(rt: HostRuntime) -> ExitCode {
 
 /// Returns the name of the script's file; `None` if that is standard input.
 fn script_file(exit: &Exit) -> Option<&FileName> {
-    match &exit.command {
-        Some(command) => command.file.as_ref(),
-        None => None,
-    }
+    exit.command.as_ref()?.file.as_ref()
 }
 
 /// Says what there is to say of the answer. Where memory runs out, or a write fails, it is left out.

@@ -13,7 +13,7 @@ use wb_picture::{
     ScriptFile, Setting, picture_of_check, picture_of_lengths, picture_of_run, picture_of_size,
     picture_of_sweep,
 };
-use workbench::answer::READ_OR_WRITE_FAULT;
+use workbench::exit_status::READ_OR_WRITE_FAULT;
 use workbench::findings::Findings;
 use workbench::program::Exit;
 use workbench::{Command, FileName, Task};
@@ -58,13 +58,7 @@ fn file_for_picture(exit: &Exit) -> Option<&FileName>
     if exit.status == READ_OR_WRITE_FAULT {
         return None;
     }
-    match &exit.command {
-        Some(command) => match &command.picture {
-            Some(name) => Some(name),
-            None => None,
-        },
-        None => None,
-    }
+    exit.command.as_ref()?.picture.as_ref()
 }
 
 /// Returns the picture of an answer; `None` if there is no report, and if the script is refused. The only error is that memory

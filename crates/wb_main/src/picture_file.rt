@@ -10,6 +10,7 @@ use std::io::{ErrorKind, Read, Write};
 use std::os::unix::fs::MetadataExt;
 use std::path::{Path, PathBuf};
 use std::{fs, io};
+use thiserror::Error;
 use wb_explain::files::{Deed, file_fault};
 use workbench::FileName;
 
@@ -55,19 +56,24 @@ impl<'a> PictureFiles for ProcessFiles<'a> {
 }
 
 /// Why a picture isn't put into a file.
-#[derive(Clone, Copy, Debug, PartialEq, Eq)]
+#[derive(Clone, Copy, Debug, PartialEq, Eq, Error)]
 enum PictureFault {
     /// The name stands for standard output with many programs.
+    #[error("a picture is not written to standard output")]
     Dash,
-    /// It is the script.
+    #[error("it is the script, which a picture does not replace")]
     Script,
     /// What is written to standard output or to standard error goes there.
+    #[error("the report or the messages go there")]
     Output,
     /// It is a device, a pipe or a socket.
+    #[error("it is not a regular file")]
     NotRegular,
-    /// It exists, and doesn't begin as an SVG does.
+    /// It doesn't begin as an SVG does.
+    #[error("it exists and is not an SVG, so it is left as it is")]
     NotPicture,
     /// The system refuses what has to be done.
+    #[error("{0}")]
     System(ErrorKind),
 }
 
@@ -86,20 +92,13 @@ impl From<AllocError> for PictureFault {
 /// Says why the picture isn't put into the file. If memory runs out, or this can't be written either, it is left out.
 fn say_fault(rt: &HostRuntime, name: &FileName, fault: PictureFault) {
     let file = shown_name(name);
-    let why = match fault {
-        PictureFault::System(kind) => {
-            if let Ok(text) = file_fault(rt.alloc(), file, Deed::Writing, kind) {
-                let _ = rt.stderr().write_all(text.as_bytes());
-            }
-            return;
+    if let PictureFault::System(kind) = fault {
+        if let Ok(text) = file_fault(rt.alloc(), file, Deed::Writing, kind) {
+            let _ = rt.stderr().write_all(text.as_bytes());
         }
-        PictureFault::Dash => "a picture is not written to standard output",
-        PictureFault::Script => "it is the script, which a picture does not replace",
-        PictureFault::Output => "the report or the messages go there",
-        PictureFault::NotRegular => "it is not a regular file",
-        PictureFault::NotPicture => "it exists and is not an SVG, so it is left as it is",
-    };
-    let _ = writeln!(rt.stderr(), "workbench: {file}: {why}");
+        return;
+    }
+    let _ = writeln!(rt.stderr(), "workbench: {file}: {fault}");
 }
 
 /// Puts a picture into the file that a name leads to. What is there is replaced only if it is a picture.

@@ -1,17 +1,13 @@
 -- What a loop of reads, and one of writes, does to known bytes.
-use Rattle.std.proofs.Common.{◌≡◌, ℕ, ◌+◌, ◌-◌, ◌≤◌, List, [], ◌++◌, Option, None, Some, refl, arith, length-take, length, take, drop, sym, ap, ◌∙◌, subst, append_assoc, drop_at, length-take-le}
+use Rattle.std.proofs.Common.{◌≡◌, ℕ, ◌+◌, ◌-◌, ◌≤◌, List, [], ◌++◌, Option, None, Some, arith, length-take, length, take, drop, sym, ap, ◌∙◌, subst, append_assoc}
 use Rattle.std.proofs.Math.Seq.{take-add}
-use Rattle.std.proofs.lemmas.List.{append-nil, take-append-le, take_at, take_rest}
-use Rattle.std.specs.Io.KnownBytes.{Appends, Consumes, Keeps}
+use Rattle.std.proofs.lemmas.List.{append-nil, length-append, take-append-le, take_rest}
+use Rattle.std.specs.Io.KnownBytes.{Appends, Consumes}
 use Rattle.wb_streams.specs.Streams.{TakesAtMost}
 
 pub Appends-nothing : (a : Option (List ℕ)) → Appends a a []
 Appends-nothing None = tt
 Appends-nothing (Some x) = sym (append-nil x)
-
-pub Consumes-nothing : (a : Option (List ℕ)) → Consumes a a []
-Consumes-nothing None = tt
-Consumes-nothing (Some x) = refl
 
 pub Appends-trans : (a b c : Option (List ℕ)) (bs cs : List ℕ) → Appends a b bs → Appends b c cs → Appends a c (bs ++ cs)
 Appends-trans None b c bs cs p q = tt
@@ -33,43 +29,15 @@ Appends-more a b c text at n before now =
     ap (λ l. take at text ++ take n l) (take_rest text at) ∙ sym (take-add at n text) in
     subst (Appends a c) joined (Appends-trans a b c _ _ before now)
 
--- the front of a buffer, once its part from a place on holds other bytes
-pub take-spliced : (at n : ℕ) (xs ys post : List ℕ) → at ≤ length xs → n ≤ length ys → take (at + n) (take at xs ++ (ys ++ post)) ≡ take at xs ++ take n ys
-take-spliced at n xs ys post within fits =
-    let front : length (take at xs) ≡ at = length-take-le at xs within in
-    take-add at n _
-    ∙ ap (λ l. l ++ take n (drop at (take at xs ++ (ys ++ post)))) (take_at (take at xs) (ys ++ post) at front)
-    ∙ ap (λ l. take at xs ++ take n l) (drop_at (take at xs) (ys ++ post) at front)
-    ∙ ap (λ l. take at xs ++ l) (take-append-le n ys post fits)
+-- the reader gave what was kept, and then the first bytes of a part, which are kept too
+pub Consumes-more : (a b c : Option (List ℕ)) (kept part rest longer : List ℕ) (n : ℕ) → longer ≡ kept ++ take n (part ++ rest) → n ≤ length part
+    → Consumes a b kept → Consumes b c (take n part) → Consumes a c longer
+Consumes-more a b c kept part rest longer n is fits before now =
+    let same : longer ≡ kept ++ take n part = is ∙ ap (λ l. kept ++ l) (take-append-le n part rest fits) in
+    subst (Consumes a c) (sym same) (Consumes-trans a b c _ _ before now)
 
--- the reader gave the front of a buffer, and then the bytes that were put after it
-pub Consumes-more : (a b c : Option (List ℕ)) (xs ys post : List ℕ) (at n : ℕ) → at ≤ length xs → n ≤ length ys → Consumes a b (take at xs) → Consumes b c (take n ys)
-    → Consumes a c (take (at + n) (take at xs ++ (ys ++ post)))
-Consumes-more a b c xs ys post at n within fits before now =
-    subst (Consumes a c) (sym (take-spliced at n xs ys post within fits)) (Consumes-trans a b c _ _ before now)
-
--- ---- how much a reader gave
-
-Consumes-kept : (a b c : Option (List ℕ)) (bs : List ℕ) → Consumes a b bs → Keeps b c → Consumes a c bs
-Consumes-kept None b c bs p q = tt
-Consumes-kept (Some x) None c bs p q = absurd p
-Consumes-kept (Some x) (Some y) None bs p q = absurd q
-Consumes-kept (Some x) (Some y) (Some z) bs p q = p ∙ ap (λ l. bs ++ l) (sym q)
-
-pub taken_none : (most : ℕ) (a : Option (List ℕ)) → TakesAtMost most a a
-taken_none most None = ([], omega arith, tt)
-taken_none most (Some x) = ([], omega arith, refl)
-
-pub taken_front : (most : ℕ) (a b : Option (List ℕ)) (buffer : List ℕ) (n : ℕ) → length buffer ≡ most → Consumes a b (take n buffer) → TakesAtMost most a b
-taken_front most a b buffer n full gave = (take n buffer, omega (arith, length-take n buffer), gave)
-
--- and then a read failed
-pub taken_before_fault : (most : ℕ) (a b c : Option (List ℕ)) (buffer : List ℕ) (n : ℕ) → length buffer ≡ most → Consumes a b (take n buffer) → Keeps b c → TakesAtMost most a c
-taken_before_fault most a b c buffer n full gave kept = taken_front most a c buffer n full (Consumes-kept a b c _ gave kept)
-
--- and then a read gave nothing
-pub taken_before_end : (most : ℕ) (a b c : Option (List ℕ)) (buffer more : List ℕ) (n count : ℕ) → length buffer ≡ most → count ≡ 0 → Consumes a b (take n buffer)
-    → Consumes b c (take count more) → TakesAtMost most a c
-taken_before_end most a b c buffer more n count full none gave now =
-    let nothing : Consumes b c [] = subst (λ k. Consumes b c (take k more)) none now in
-    taken_front most a c buffer n full (subst (Consumes a c) (append-nil (take n buffer)) (Consumes-trans a b c _ _ gave nothing))
+-- the reader gave no more than that
+pub taken_more : (most : ℕ) (a b c : Option (List ℕ)) (kept part : List ℕ) (n : ℕ) → length kept + n ≤ most → Consumes a b kept → Consumes b c (take n part)
+    → TakesAtMost most a c
+taken_more most a b c kept part n within before now =
+    (kept ++ take n part, omega (arith, within, length-append kept (take n part), length-take n part), Consumes-trans a b c _ _ before now)

@@ -1,8 +1,7 @@
 //! The answer to a command: what is read, what is written, and the exit status. What a report says is in
 //! `report`.
 
-ghost use Rattle.std.specs.Prelude.{◌≡◌, ◌+◌, ◌<◌, ◌≤◌, length, take, IfOk, IfSome, IsTrue, OnOk, OnErr, is_err};
-ghost use Rattle.std.specs.Io.{ReadsAtMost};
+ghost use Rattle.std.specs.Prelude.{◌≡◌, ◌+◌, ◌<◌, ◌≤◌, IfOk, IsTrue, OnOk, OnErr, is_err};
 ghost use Rattle.std.specs.Io.KnownBytes.{Appends};
 ghost use Rattle.workbench.specs.declared.answer.ReportFault.TheVariants.{Read, NoMemory};
 ghost use Rattle.workbench.specs.Answer.{AreFindings, AreFirst, IsAnswer, IsPartWritten, IsReportOf};
@@ -15,6 +14,7 @@ ghost use Rattle.wb_model.specs.declared.limits.TheConstants.{LONGEST_SCRIPT};
 ghost use Rattle.workbench.specs.Report.{no_memory};
 ghost use Rattle.wb_streams.specs.Streams.{AppendsFirst, Reads, TakesAtMost, Writes};
 
+use crate::exit_status::{READ_OR_WRITE_FAULT, WANT_OF_MEMORY};
 use crate::findings::Findings;
 use crate::json_report::json_text;
 use crate::report::{Report, report_on};
@@ -28,11 +28,8 @@ use wb_sweep::Progress;
 /// The most that is read of a script, in bytes: one more than a script may have, so that a longer one shows.
 pub const MOST_READ: usize = 65_537;
 
-/// The exit status where the workbench's own memory ran out.
-pub const WANT_OF_MEMORY: u8 = 4;
-
-/// The exit status where a read or a write failed.
-pub const READ_OR_WRITE_FAULT: u8 = 5;
+/// How many bytes one read is asked for at most.
+const PART: usize = 4_096;
 
 /// Why there is no report.
 #[derive(Clone, Copy, Debug, PartialEq, Eq)]
@@ -226,7 +223,8 @@ fn lay_out(
     })
 }
 
-/// The first bytes that the reader gives, up to its end or to the most that are wanted.
+/// The first bytes that the reader gives, up to its end or to the most that are wanted. Each read but the last brings a byte, so
+/// there are no more reads than bytes are wanted, and one.
 fn first_bytes<R: Source>(
     alloc: Global,
     reader: &mut R,
@@ -236,31 +234,17 @@ fn first_bytes<R: Source>(
     ensures taken { TakesAtMost most (R.remaining reader.old) (R.remaining reader.new) }
     ensures read { Reads R.reads reader.old (is_read_fault result) reader.new }
 {
-    let mut bytes = vec![in alloc; 0; most]?;
-    let count = fill(reader, bytes.as_mut_slice())?;
-    bytes.truncate(count);
-    Ok(bytes)
-}
-
-/// Reads until the buffer is full or the reader has no more, and gives how many bytes came. Each read but
-/// the last brings a byte, so there are no more reads than the buffer has bytes, and one.
-fn fill<R: Source>(reader: &mut R, buffer: &mut [u8]) -> Result<usize, StreamFault>
-    ensures bound { ReadsAtMost result buffer.new }
-    ensures bytes { IfOk result (λ n. IfSome (R.remaining reader.old)
-        (λ all. take n buffer.new ≡ take (length buffer.old) all)) }
-    ensures taken { TakesAtMost (length buffer.old)
-        (R.remaining reader.old) (R.remaining reader.new) }
-    ensures read { Reads R.reads reader.old (is_err result) reader.new }
-{
-    let mut filled = 0;
-    while filled < buffer.len() {
-        let count = read_some(reader, &mut buffer[filled..])?;
+    let mut bytes = Vec::new(alloc);
+    let mut part = [0; PART];
+    while bytes.len() < most {
+        let room = PART.min(most - bytes.len());
+        let count = read_some(reader, &mut part[..room])?;
         if count == 0 {
-            return Ok(filled);
+            return Ok(bytes);
         }
-        filled += count;
+        bytes.extend_from_slice(&part[..count])?;
     }
-    Ok(filled)
+    Ok(bytes)
 }
 
 /// Writes the whole text, or the first of it up to a write that fails.

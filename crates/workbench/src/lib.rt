@@ -6,6 +6,7 @@
 pub mod answer;
 mod appending;
 mod end_text;
+pub mod exit_status;
 pub mod findings;
 pub mod host;
 mod json_report;

@@ -8,7 +8,8 @@ ghost use Rattle.wb_command_line.specs.Command.{is_answerable};
 ghost use Rattle.workbench.specs.Program.{IsCarriedOut, IsDone, IsReadAs, IsRefused, answered_of};
 ghost use Rattle.workbench.specs.Program.{fault_of_words, words_status};
 
-use crate::answer::{Answered, WANT_OF_MEMORY, answer, say_read_fault};
+use crate::answer::{Answered, answer, say_read_fault};
+use crate::exit_status::{COMMAND_LINE_FAULT, WANT_OF_MEMORY};
 use crate::findings::Findings;
 use crate::host::{Host, Messages, WordsFault};
 use std::alloc::Global;
@@ -18,9 +19,6 @@ use wb_command_line::command::{Command, CommandFault};
 use wb_command_line::command_line::command;
 use wb_streams::streams::Sink;
 use wb_sweep::Progress;
-
-/// The exit status of a fault in the command line.
-pub const COMMAND_LINE_FAULT: u8 = 6;
 
 /// What came of the program's words.
 #[derive(Debug, Drop)]

@@ -7,6 +7,7 @@ ghost use Rattle.workbench.specs.ReportValues.{no_values};
 ghost use Rattle.workbench.specs.Report.{IsReport, fault_line, refused, refused_at};
 
 use crate::appending::or_no_memory;
+use crate::exit_status::REJECTED;
 use crate::report_values::ReportValues;
 use crate::tasks::carry_out;
 use std::alloc::Global;
@@ -55,7 +56,7 @@ fn refusal(alloc: Global, fault: ScriptFault) -> Result<Report, NoMemory>
     Ok(Report {
         text,
         values: ReportValues::none(),
-        status: 2,
+        status: REJECTED,
     })
 }
 

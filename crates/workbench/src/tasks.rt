@@ -11,6 +11,7 @@ ghost use Rattle.workbench.specs.Report.{IsRunReport, IsTaskReport};
 ghost use Rattle.workbench.specs.RunText.{outcome_status};
 ghost use Rattle.workbench.specs.TwoNumbers.{IsSizeReport, IsSweepReport, IsCheckReport};
 
+use crate::exit_status::{CUT, FOUND, NOTHING_FOUND};
 use crate::lengths_text::put_lengths;
 use crate::numbers_text::{put_cut_at, put_sizing, put_sweep};
 use crate::report::Report;
@@ -28,15 +29,6 @@ use wb_model::run::Outcome;
 use wb_model::script::Script;
 use wb_size::{SizeFault, size};
 use wb_sweep::{Progress, SweepFault, sweep};
-
-/// The exit status where nothing was found.
-const NOTHING_FOUND: u8 = 0;
-
-/// The exit status where a leak or a panic was found.
-const FOUND: u8 = 1;
-
-/// The exit status where a run was cut.
-const CUT: u8 = 3;
 
 /// What the command's task comes to on a script. The only error is that memory ran out. `progress` is notified of a sweep, and of the
 /// runs in heaps of all lengths.
