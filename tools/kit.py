@@ -105,10 +105,10 @@ def module_behind_rt() -> ModuleType:
     if command is None:
         sys.exit("the toolchain's command rt is not on the path")
     file = Path(command).resolve().parent / "rtlib.py"
-    spec = spec_from_file_location("rtlib", file) if file.is_file() else None
-    if spec is None or spec.loader is None:
+    if not file.is_file():
         stop_if_changed([f"there is no {file}"])
-        raise AssertionError
+    spec = spec_from_file_location("rtlib", file)
+    assert spec and spec.loader
     # nothing is written into the toolchain's folder
     sys.dont_write_bytecode = True
     module = module_from_spec(spec)
