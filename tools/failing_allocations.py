@@ -11,8 +11,8 @@ that takes nothing, and must then end with 5.
 
 With `--same` the program is given no words and no input, and is one that makes a call once more where it found no memory: `wb_call_tests`,
 which `rt run` in its crate builds. So where a single allocation fails, it must write exactly what it writes with enough memory, and end
-with its status. In the other two ways it may also stop: then it has written some of those lines, from the first one on, and behind them `no
-memory`, and ends with 4.
+with its status. An attempt that isn't a rise, on a heap or in a run that keeps the rises, must make no allocation. In the other two ways
+it may also stop: then it has written some of those lines, from the first one on, and behind them `no memory`, and ends with 4.
 
 It needs a C compiler (`cc`), which builds tools/failing_allocation.c.
 """
@@ -24,7 +24,7 @@ import subprocess
 import sys
 import tempfile
 from concurrent.futures import ThreadPoolExecutor
-from itertools import zip_longest
+from itertools import accumulate, zip_longest
 from pathlib import Path
 from typing import Any
 
@@ -61,6 +61,14 @@ WAYS = ("once", "from", "each")
 # which panic a line of an explanation is about, before it says what raised it
 PANIC = re.compile(rb".*:\d+: panic [A-Z]+ [0-9a-f]+: \w+: ")
 
+# what the program that makes calls once more writes of a rise of a run, before a turn that asks for an attempt, and after it
+RISE_OF_RUN = re.compile(r"rise (\d+) of the run to \d+")
+TURN_TO_COME = "an attempt is to come"
+ATTEMPT_OF_RUN = re.compile(r"attempt (\d+) of the run, at line \d+")
+# what it writes of an attempt on a heap that isn't a rise
+NO_RISE = re.compile(r"(?:re)?alloc .*, rise false, trace 0")
+# it makes at least so many that aren't
+FEWEST_WITHOUT_RISE = 180
 
 NO_MEMORY = Answer(b"no memory\n", b"", WANT_OF_MEMORY)
 NO_MEMORY_FOR_THE_COMMAND = (Answer(b"", b"error: no memory\n", WANT_OF_MEMORY), Answer(b"", b"", WANT_OF_MEMORY))
@@ -83,6 +91,12 @@ def stops_early(answer: Answer, plain: Answer) -> bool:
     written = answer.output.removesuffix(NO_MEMORY.output)
     begins = plain.output.startswith(written) and (not written or written.endswith(b"\n"))
     return begins and answer == NO_MEMORY._replace(output=written + NO_MEMORY.output)
+
+
+def is_without_rise(before: str, line: str, rises: set[str]) -> bool:
+    """Whether a line, after the one before it, is of an attempt that is none of these rises of the run, or none of its heap."""
+    attempt = ATTEMPT_OF_RUN.match(line)
+    return bool(NO_RISE.match(line) or before == TURN_TO_COME and attempt and attempt[1] not in rises)
 
 
 class Trial:
@@ -133,10 +147,16 @@ class Trial:
         """What a wrong answer says."""
         return f"{answer.output!r} and {answer.messages!r}"
 
+    def asked_needlessly(self, plain: Answer) -> str | None:
+        """Which line is of what takes no memory, and made an allocation; None if none did."""
+        return None
+
     def fault(self) -> tuple[str | None, int, int]:
         """What is wrong with an answer, or None; how many allocations the plain run makes, and how many runs ended for want of memory."""
         plain = self.run("once", 0)
-        last = int(self.count.read_text())
+        last = int(self.count.read_text().splitlines()[-1])
+        if asked := self.asked_needlessly(plain):
+            return asked, last, 0
         wanting = 0
         for how in WAYS:
             was_read = False
@@ -172,6 +192,31 @@ class SameTrial(Trial):
 
     def is_fine(self, how: str, answer: Answer, plain: Answer, was_read: bool) -> bool:
         return answer == plain or (how != "once" and self.wants(answer, plain))
+
+    def asked_needlessly(self, plain: Answer) -> str | None:
+        lines = plain.output.decode().splitlines()
+        rises = {it[1] for it in map(RISE_OF_RUN.match, lines) if it}
+        without = [at for at, it in enumerate(lines) if at and is_without_rise(lines[at - 1], it, rises)]
+        if len(without) < FEWEST_WITHOUT_RISE:
+            return f"no more than {len(without)} attempts that aren't rises"
+        made = self.made_by_line(plain.output)
+        asking = next((at for at in without if made[at]), None)
+        return None if asking is None else f"{made[asking]} allocations for `{lines[asking]}`, which is no rise"
+
+    def made_by_line(self, output: bytes) -> list[int]:
+        """How many allocations were made for each line of the output, after the line before it was written."""
+        rows = (it.split() for it in self.count.read_text().splitlines()[:-1])
+        pieces = [(int(size), int(made)) for size, made in rows]
+        ends = list(zip(accumulate(size for size, _ in pieces), (made for _, made in pieces)))
+        if not ends or ends[-1][0] != len(output):
+            raise RuntimeError("the pieces that were counted aren't those that were written")
+        counts, total, before = [], 0, 0
+        for line in output.splitlines(keepends=True):
+            total += len(line)
+            now = next(made for end, made in ends if end >= total)
+            counts.append(now - before)
+            before = now
+        return counts
 
     def shown(self, answer: Answer, plain: Answer) -> str:
         pairs = zip_longest(answer.output.splitlines(), plain.output.splitlines())

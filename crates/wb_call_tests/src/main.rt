@@ -11,6 +11,7 @@ mod heaps;
 mod lines;
 mod objects;
 mod rises;
+mod rises_of_runs;
 mod runs;
 mod scripts;
 mod stacks;

@@ -1,5 +1,5 @@
-//! Attempts on a heap that keeps the rises alone. One that isn't a rise needs no memory: so it is granted or denied at
-//! once, whichever allocation is refused.
+//! Attempts on a heap that keeps the rises alone. One that isn't a rise asks for no memory: so it is granted or denied at
+//! once, whichever allocation is refused, and `tools/failing_allocations.py` counts that it makes no allocation.
 
 ghost use Rattle.std.specs.Prelude.{◌≡◌, ◌+◌, ◌^◌, ◌<◌, ◌≤◌, true, IfOk, IsSome};
 ghost use Rattle.wb_model.specs.heap.Debug.{keeps_rises};
@@ -23,14 +23,16 @@ enum Call {
     Free(u32, u32),
     /// Every attempt with a multiple of this number fails from here on.
     FailEvery(u32),
+    /// So many times a mark, and an attempt to get a cell of its level.
+    MarkedCells(u32),
 }
 
 /// The heap begins without memory, so that the first attempt asks for it.
 const SHAPE: Shape = Shape { min: 0, step: 64 };
 
 /// Cells at the top, in a hole and past the top, attempts that are simulated, and cells that become longer at their place
-/// and elsewhere, and shorter.
-static CALLS: [Call; 21] = [
+/// and elsewhere, and shorter; at last cells of more levels than the heap counts, below the end of a long cell that was released.
+static CALLS: [Call; 25] = [
     Call::Alloc(128),
     Call::FailEvery(2),
     Call::Alloc(16),
@@ -52,6 +54,10 @@ static CALLS: [Call; 21] = [
     Call::Realloc(144, 12, 40),
     Call::Alloc(200),
     Call::Alloc(200),
+    Call::FailEvery(50),
+    Call::Alloc(4000),
+    Call::Free(512, 17),
+    Call::MarkedCells(70),
 ];
 
 /// Makes the calls of the table, and prints the rises then.
@@ -81,10 +87,23 @@ fn make_calls(rt: &HostRuntime, heap: &mut DebugHeap) -> Result<(), Stop>
             }
             Call::Free(place, number) => release(heap, Ptr { place, number }),
             Call::FailEvery(n) => fail_every(heap, n),
+            Call::MarkedCells(count) => make_marked_cells(rt, heap, count)?,
         }
     }
     for rise in heap.rises().as_slice() {
         println!(rt; "  rise {} to {}", rise.number, rise.top)?;
+    }
+    Ok(())
+}
+
+/// Cells of levels of their own.
+fn make_marked_cells(rt: &HostRuntime, heap: &mut DebugHeap, count: u32) -> Result<(), Stop>
+    requires { keeps_rises heap.old ≡ true }
+    ensures { keeps_rises heap.new ≡ true }
+{
+    for _ in 0..count {
+        mark(heap);
+        alloc(rt, heap, 16)?;
     }
     Ok(())
 }
@@ -182,6 +201,15 @@ fn release(heap: &mut DebugHeap, ptr: Ptr)
     ensures { keeps_rises heap.new ≡ keeps_rises heap.old }
 {
     let _ = heap.release(ptr);
+}
+
+/// Opens a mark.
+fn mark(heap: &mut DebugHeap)
+    ensures { keeps_rises heap.new ≡ keeps_rises heap.old }
+{
+    if heap.level() < u32::MAX {
+        heap.mark();
+    }
 }
 
 /// Sets what is to fail from here on.

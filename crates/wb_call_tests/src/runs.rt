@@ -12,12 +12,12 @@ use wb_model::memory::NoMemory;
 use wb_model::run::{Outcome, RunResult};
 use wb_model::script::Script;
 
-const BUDGET: u32 = 1000;
+pub(crate) const BUDGET: u32 = 1000;
 
 /// The first turn, one for each step, and one that cuts the run.
-const MOST_TURNS: u32 = BUDGET + 2;
+pub(crate) const MOST_TURNS: u32 = BUDGET + 2;
 
-const SHAPE: Shape = Shape {
+pub(crate) const SHAPE: Shape = Shape {
     min: 256,
     step: 256,
 };
@@ -83,7 +83,7 @@ fn take_turn_beside<'a>(
 
 /// Takes a turn. A machine that found no memory finds none for good: so a copy of the one that waits takes its place, and the turn
 /// is taken once more.
-fn step<'a>(lead: &mut Machine<'a>, waiting: &Machine<'a>) -> Result<Turn, NoMemory> {
+pub(crate) fn step<'a>(lead: &mut Machine<'a>, waiting: &Machine<'a>) -> Result<Turn, NoMemory> {
     match lead.step() {
         Ok(turn) => Ok(turn),
         Err(_) => {
@@ -94,7 +94,7 @@ fn step<'a>(lead: &mut Machine<'a>, waiting: &Machine<'a>) -> Result<Turn, NoMem
 }
 
 /// A copy of a run, asked for once more where memory ran out.
-fn copy<'a>(machine: &Machine<'a>) -> Result<Machine<'a>, NoMemory> {
+pub(crate) fn copy<'a>(machine: &Machine<'a>) -> Result<Machine<'a>, NoMemory> {
     match machine.try_copy() {
         Ok(copy) => Ok(copy),
         Err(_) => machine.try_copy(),

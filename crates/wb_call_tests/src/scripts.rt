@@ -4,6 +4,7 @@ ghost use Rattle.std.specs.Prelude.{IfOk, IsTrue};
 ghost use Rattle.wb_model.specs.language.Sound.{is_script};
 
 use crate::objects::make_objects;
+use crate::rises_of_runs::run_for_rises;
 use crate::runs::run_script;
 use crate::stop::Stop;
 use std::alloc::Global;
@@ -67,6 +68,58 @@ leave code
 end
 ";
 
+/// A script of whose attempts most aren't rises, below the end of a long cell that is released: cells of more levels than a heap counts, also in an outer
+/// level once inner ones were ended, attempts that are refused, in a TRAP and at its end, an object, texts, and pushes that grow the cleanup stack.
+static BELOW_THE_TOP: &[u8] = b"class Item 4
+field next Item
+end
+proc main
+ptr big
+ptr cell
+ptr item Item
+ptr text
+int code
+int n
+allocl big 20000
+free big
+repeat 70
+mark
+alloc cell 16
+end
+set n 1
+repeat 10
+alloc cell 16
+realloc cell cell 40
+realloc cell cell 8
+free cell
+check n
+markend n
+add n 1
+end
+hnewl text 4
+hrealloc text text 40
+failnext 1
+hrealloc text text 400
+newleave item Item
+failnext 1
+new item Item
+trap code
+mark
+repeat 18
+allocl cell 8
+push cell
+end
+failnext 1
+allocl cell 8
+end
+trap code
+failnext 1
+allocl cell 8
+end
+alloc cell 50
+end
+";
+
 /// Scripts with a fault, each found by another check.
 static FAULTY: [&[u8]; 6] = [
     b"proc main\nptr a\n\x07\nend",
@@ -83,7 +136,11 @@ pub(crate) fn read_scripts(rt: &HostRuntime) -> Result<(), Stop> {
         write_fault(rt, bytes)?;
     }
     match read_again(rt.alloc(), SCRIPT) {
-        Ok(script) => use_script(rt, &script),
+        Ok(script) => use_script(rt, &script)?,
+        Err(_) => return Err(Stop::NoMemory),
+    }
+    match read_again(rt.alloc(), BELOW_THE_TOP) {
+        Ok(script) => run_for_rises(rt, &script),
         Err(_) => Err(Stop::NoMemory),
     }
 }

@@ -1,0 +1,82 @@
+//! A run that keeps the rises alone, taken turn by turn. Each turn that asks for an attempt is between two lines, so that
+//! `tools/failing_allocations.py` counts what it asks for: nothing, unless its attempt is one of the rises, which come last.
+
+ghost use Rattle.std.specs.Prelude.{IsTrue};
+ghost use Rattle.wb_model.specs.language.Sound.{is_script};
+
+use crate::runs::{BUDGET, MOST_TURNS, SHAPE, copy, step};
+use crate::stop::Stop;
+use std::alloc::Global;
+use wb_machine::{Machine, Turn, run_rises};
+use wb_model::memory::NoMemory;
+use wb_model::run::RisesResult;
+use wb_model::script::Script;
+
+/// Runs a script, and prints its rises.
+pub(crate) fn run_for_rises(rt: &HostRuntime, script: &Script) -> Result<(), Stop>
+    requires { IsTrue (is_script script.now) }
+{
+    let mut lead = machine(rt.alloc(), script)?;
+    take_turns(rt, &mut lead)?;
+    let sized = rises_of(rt.alloc(), script)?;
+    for rise in sized.rises.as_slice() {
+        println!(rt; "rise {} of the run to {}", rise.number, rise.top)?;
+    }
+    Ok(())
+}
+
+/// A machine at the start of the run, asked for once more where memory ran out.
+fn machine<'a>(alloc: Global, script: &'a Script) -> Result<Machine<'a>, NoMemory>
+    requires { IsTrue (is_script script.now) }
+{
+    match Machine::new_rises(alloc, script, BUDGET, SHAPE) {
+        Ok(machine) => Ok(machine),
+        Err(_) => Machine::new_rises(alloc, script, BUDGET, SHAPE).map_err(|_| NoMemory),
+    }
+}
+
+/// The whole run, made once more where memory ran out.
+fn rises_of(alloc: Global, script: &Script) -> Result<RisesResult, NoMemory>
+    requires { IsTrue (is_script script.now) }
+{
+    match run_rises(alloc, script, BUDGET, SHAPE) {
+        Ok(sized) => Ok(sized),
+        Err(_) => run_rises(alloc, script, BUDGET, SHAPE).map_err(|_| NoMemory),
+    }
+}
+
+/// Takes all turns of a run.
+fn take_turns(rt: &HostRuntime, lead: &mut Machine) -> Result<(), Stop> {
+    for _ in 0..MOST_TURNS {
+        if take_turn(rt, lead)? == Turn::Ended {
+            break;
+        }
+    }
+    Ok(())
+}
+
+/// Takes a turn while a copy waits.
+fn take_turn(rt: &HostRuntime, lead: &mut Machine) -> Result<Turn, Stop> {
+    let waiting = copy(lead)?;
+    if lead.will_attempt() {
+        take_asking_turn(rt, lead, &waiting)
+    } else {
+        Ok(step(lead, &waiting)?)
+    }
+}
+
+/// Takes a turn that asks for an attempt, between two lines.
+fn take_asking_turn<'a>(
+    rt: &HostRuntime,
+    lead: &mut Machine<'a>,
+    waiting: &Machine<'a>,
+) -> Result<Turn, Stop> {
+    println!(rt; "an attempt is to come")?;
+    let turn = step(lead, waiting)?;
+    println!(rt;
+        "attempt {} of the run, at line {}",
+        lead.attempts(),
+        lead.line()
+    )?;
+    Ok(turn)
+}
