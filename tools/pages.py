@@ -1,7 +1,8 @@
-"""Counts the words of the pages, and shows their sentences of more than 35 words.
+"""Counts the words of the pages, and shows their sentences of more than 35 words, and what they refer to that isn't there.
 
-Code and tables are left out. What is in the code type counts as one word. The tool fails where the pages have more such sentences than
-`pyproject.toml` allows; that number is only ever lowered.
+Code and tables are left out of the counts. What is in the code type counts as one word. The tool fails where the pages have more such
+sentences than `pyproject.toml` allows; that number is only ever lowered. It also fails where a file that is linked to, a page that is named,
+or a section that is named with its page isn't there.
 """
 
 import re
@@ -9,6 +10,7 @@ from collections.abc import Iterator
 from pathlib import Path
 from typing import NamedTuple
 
+from tools.page_references import lacking
 from tools.paths import ROOT
 from tools.program import parser_of
 
@@ -81,12 +83,12 @@ def most_allowed() -> int:
 
 
 def main(words: list[str]) -> int:
-    """Prints the counts of each page and its long sentences, and the totals."""
+    """Prints the counts of each page, its long sentences and what it lacks, and the totals."""
     parser = parser_of(__doc__)
     parser.add_argument("--brief", action="store_true", help="show the counts alone")
     parser.add_argument("pages", type=Path, nargs="*", metavar="PAGE", help="these pages alone, and whatever number of long sentences")
     given = parser.parse_args(words)
-    count = long = 0
+    count = long = lacked = 0
     for page in given.pages or pages():
         found = list(sentences(page.read_text(encoding="utf-8")))
         too_long = [it for it in found if len(it.words) > LONGEST]
@@ -96,8 +98,11 @@ def main(words: list[str]) -> int:
         print(f"{name}: {here} words, {len(too_long)} sentences of more than {LONGEST}")
         for it in () if given.brief else too_long:
             print(f"  line {it.line}: {len(it.words)} words: {' '.join(it.words[:8]).replace(IN_CODE, '`..`')} ..")
+        for fault in lacking(page):
+            print(f"  {fault}")
+            lacked += 1
     print(f"{count} words, {long} sentences of more than {LONGEST} words")
     most = long if given.pages else most_allowed()
     if long != most:
         print(f"pyproject.toml allows {most}: " + ("make them shorter" if long > most else f"lower that to {long}"))
-    return 1 if long > most else 0
+    return 1 if long > most or lacked else 0

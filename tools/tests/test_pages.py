@@ -37,6 +37,12 @@ fenced. Not read.
 <!-- Nor this. -->
 Last
 """
+REFERENCES = """\
+[Here](other.md), [there](none.md#part), [outside](https://example.com/page).
+`other.md`, "One code, and
+more", `docs/REPORTS.md`, "Status", `other.md`, "Two", `missing.md`.
+"""
+LACKING = ["there is no none.md", 'other.md has no section "Two"', "there is no page missing.md"]
 # the lines and the numbers of words
 WANTED = [(3, 6), (3, 8), (4, 1), (4, 3), (6, 6), (8, 1), (8, 2), (12, 1), (26, 1)]
 
@@ -61,6 +67,19 @@ class Sentences(unittest.TestCase):
         self.assertEqual(status, 0, said)
         self.assertGreater(len(pages()), 10)
         self.assertLess(most_allowed(), 1000)
+
+
+class References(unittest.TestCase):
+    """What a page refers to."""
+
+    def test_what_is_lacking(self) -> None:
+        with tempfile.TemporaryDirectory() as folder:
+            page = Path(folder, "page.md")
+            page.write_text(REFERENCES, encoding="utf-8")
+            Path(folder, "other.md").write_text("# Other\n\n## One `code`, and more\n", encoding="utf-8")
+            status, said, _ = said_by("pages", page)
+        self.assertEqual(status, 1)
+        self.assertEqual([it.strip() for it in said.splitlines()[1:-1]], LACKING)
 
 
 class ListsOfCrates(unittest.TestCase):
