@@ -3,10 +3,11 @@
 CASES are case files, tables, or folders of these; `cases/README.md` says what they are. Of each failing case the difference is shown,
 from the case as it is to the one that the program's answer would make. With --write that is put into the file: look at each difference
 then, since a case's answer must come from the rules and not from the program. Tables, and what very long outputs must contain, are
-never written. A case that is written has passed.
+never written. A case that is written has passed. Nothing is written by a program of ./build that is older than its sources.
 """
 
 import os
+import sys
 from collections.abc import Iterator
 from dataclasses import replace
 from difflib import unified_diff
@@ -15,7 +16,8 @@ from typing import Any
 
 from tools import case_file, case_tables
 from tools.case_file import Case, CaseError
-from tools.paths import CASES, ROOT
+from tools.crates import Crates
+from tools.paths import CASES, PROGRAM, ROOT
 from tools.program import SECONDS, Answer, NoAnswer, answer_of, program_parser
 from tools.tally import Tally
 
@@ -122,12 +124,22 @@ def told_of_rows(program: Path, table: Path) -> Iterator[str]:
         yield f"{row.place}: {fault}" if fault else ""
 
 
+def why_old(program: Path) -> str:
+    """Why a program gives old answers; nothing of one that ./build didn't build, or that is newer than its sources."""
+    newer = next(Crates().newer_than(PROGRAM.stat().st_mtime), None) if program == PROGRAM and PROGRAM.exists() else None
+    return f"the program is older than its sources: {newer.relative_to(ROOT)} is newer" if newer else ""
+
+
 def main(words: list[str]) -> int:
     """Runs each case and each row, says what is wrong, and prints the totals."""
     parser = program_parser(__doc__)
     parser.add_argument("cases", type=Path, nargs="*", metavar="CASES", default=[Path(os.path.relpath(CASES))])
     parser.add_argument("--write", action="store_true", help="write the program's answers into the cases that fail")
     chosen = parser.parse_args(words)
+    if why := why_old(chosen.program):
+        print(why + (": ./build comes before --write" if chosen.write else ""), file=sys.stderr)
+        if chosen.write:
+            return 1
     tally = Tally()
     for file in files_left_alone(chosen.cases):
         tally.check(False, f"{file}: it belongs to no case")

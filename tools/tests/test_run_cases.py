@@ -1,5 +1,6 @@
 """What is said of cases that are run, and what is written into them."""
 
+import os
 import sys
 import tempfile
 import unittest
@@ -151,6 +152,18 @@ class WhatIsWritten(OfCases):
         self.assertEqual(read(file), RIGHT)
         self.assertEqual(other.read_bytes(), kept)
         self.assertEqual(self.said(), (0, "2 passed, 0 failed\n"))
+
+    def test_a_program_that_is_older_than_its_sources(self) -> None:
+        file = self.put(WRONG)
+        kept = file.read_bytes()
+        with patch.object(run_cases, "PROGRAM", self.program):
+            os.utime(self.program, (0, 0))
+            status, said, messages = said_by("cases", "--program", self.program, self.cases)
+            self.assertEqual((status, said), (1, f"{file}: another answer:{DIFFERENCE}0 passed, 1 failed\n"))
+            self.assertRegex(messages, r"^the program is older than its sources: \S+ is newer\n$")
+            status, said, messages = said_by("cases", "--program", self.program, self.cases, "--write")
+        self.assertEqual((status, said, file.read_bytes()), (1, "", kept))
+        self.assertIn(": ./build comes before --write\n", messages)
 
     def test_answers_of_all_bytes(self) -> None:
         file = self.put(replace(RIGHT, script=b"1\xff"))
