@@ -1,8 +1,8 @@
 """Counts the words of the pages, and shows their sentences of more than 35 words, and what they refer to that isn't there.
 
 Code and tables are left out of the counts. What is in the code type counts as one word. The tool fails where the pages have more such
-sentences than `pyproject.toml` allows; that number is only ever lowered. It also fails where a file that is linked to, a page that is named,
-or a section that is named with its page isn't there.
+sentences than `pyproject.toml` allows; that number is only ever lowered. It also fails where a file that is linked to, a page that is
+named, or a section that is named with its page isn't there.
 """
 
 import re
