@@ -11,8 +11,9 @@ that takes nothing, and must then end with 5.
 
 With `--same` the program is given no words and no input, and is one that makes a call once more where it found no memory: `wb_call_tests`,
 which `rt run` in its crate builds. So where a single allocation fails, it must write exactly what it writes with enough memory, and end
-with its status. An attempt that isn't a rise, on a heap or in a run that keeps the rises, must make no allocation. In the other two ways
-it may also stop: then it has written some of those lines, from the first one on, and behind them `no memory`, and ends with 4.
+with its status. An attempt that isn't a rise, on a heap or in a run that keeps the rises, must make no allocation, but for the last one of
+the run, whose turn also lists the leaks. In the other two ways it may also stop: then it has written some of those lines, from the first
+one on, and behind them `no memory`, and ends with 4.
 
 It needs a C compiler (`cc`), which builds tools/failing_allocation.c.
 """
@@ -196,7 +197,9 @@ class SameTrial(Trial):
     def asked_needlessly(self, plain: Answer) -> str | None:
         lines = plain.output.decode().splitlines()
         rises = {it[1] for it in map(RISE_OF_RUN.match, lines) if it}
-        without = [at for at, it in enumerate(lines) if at and is_without_rise(lines[at - 1], it, rises)]
+        # the run ends with the turn of its last attempt, which lists the leaks
+        ending = max((at for at, it in enumerate(lines) if ATTEMPT_OF_RUN.match(it)), default=0)
+        without = [at for at, it in enumerate(lines) if at and at != ending and is_without_rise(lines[at - 1], it, rises)]
         if len(without) < FEWEST_WITHOUT_RISE:
             return f"no more than {len(without)} attempts that aren't rises"
         made = self.made_by_line(plain.output)
