@@ -21,6 +21,14 @@ pub mod Parts
 pub mod PrintableLemmas
 pub mod KeptCells
 pub mod ThroughoutLemmas
+pub mod FollowEither
+pub mod FollowFrames
+pub mod FollowLemmas
+pub mod FollowPast
+pub mod FollowPieces
+pub mod FollowRuns
+pub mod FollowStatements
+pub mod FollowTexts
 pub mod FreeSlots
 pub mod FreeSlotLemmas
 pub mod Payloads
@@ -41,7 +49,11 @@ pub mod LengthAnswers
 pub mod LengthLemmas
 pub mod LengthTables
 pub mod RuleLemmas
+pub mod SameExamples
+pub mod SameHeaps
+pub mod SameNumbers
 pub mod SameRuns
+pub mod SameTurned
 pub mod SweepLemmas
 pub mod QuietRuns
 pub mod QuietWays

@@ -18,6 +18,7 @@ pub mod line_laws;
 pub mod memory;
 pub mod printed_line;
 pub mod progress;
+pub mod renaming_laws;
 pub mod run;
 pub mod run_end;
 pub mod script;

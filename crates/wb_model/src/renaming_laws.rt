@@ -1,0 +1,70 @@
+//! Laws of runs that have come to states which are the same but for allocation numbers. Each is the contract of a function that
+//! does nothing, so that the gate proves it.
+
+ghost use Rattle.std.specs.Prelude.{◌≡◌, ◌≢◌, ℕ, ◌≤◌};
+ghost use Rattle.wb_model.specs.runs.Account.{Account};
+ghost use Rattle.wb_model.specs.runs.Follows.{steps_of, AreBeside, Follows, IsSameOutcome};
+ghost use Rattle.wb_model.specs.runs.Follows.{reached, Reached, RefusesAlike, RestsAgree};
+ghost use Rattle.wb_model.specs.runs.Rest.{Progress, left_to_do, rest};
+ghost use Rattle.wb_model.specs.runs.Run.{is_bad};
+ghost use Rattle.wb_model.specs.runs.RunEnds.{end_of};
+ghost use Rattle.wb_model.specs.runs.SameButNumbers.{IsRenaming, IsSameProgress, Renaming, turned};
+ghost use Rattle.wb_model.specs.runs.Sweeps.{is_fine};
+ghost use Rattle.wb_model.specs.declared.heap.Rule.{Rule};
+ghost use Rattle.wb_model.specs.declared.heap.Rule.TheVariants.{Number, Pair};
+ghost use Rattle.wb_model.specs.declared.heap.Shape.{Shape};
+ghost use Rattle.wb_model.specs.declared.run.Outcome.{Outcome};
+ghost use Rattle.wb_model.specs.declared.run.Outcome.TheVariants.{Cut};
+ghost use Rattle.wb_model.specs.declared.run.RunResult.{RunResult};
+ghost use Rattle.wb_model.specs.declared.run.Why.TheVariants.{Budget};
+ghost use Rattle.wb_model.specs.declared.script.Script.{Script};
+
+/// Two runs that are the same but for numbers ask for the same from there on, and come to the same, whatever is answered, until the
+/// budget cuts the one that has counted more steps. Either may be taken for the first: the map of their numbers is read backwards.
+pub fn renamed_runs_follow()
+    ensures follows { (script : Script) (budget further : ℕ) (w : Renaming) (p other : Progress) →
+        AreBeside budget further w p other →
+        Follows budget further w (left_to_do script budget p) (left_to_do script budget other) }
+    ensures backwards { (w : Renaming) (p other : Progress) →
+        IsRenaming w → IsSameProgress w.names p other →
+        IsRenaming (turned w) × IsSameProgress (turned w).names other p }
+{}
+
+/// Where the rules of two such runs say the same of the attempts that are still to be made, the second comes to what the first comes
+/// to: with as many steps and attempts from there on, if the budget allows these steps. If not, it is cut by the budget. That holds
+/// where the second has counted no fewer steps, and where the budget doesn't cut the first.
+pub fn renamed_runs_agree()
+    ensures further { (script : Script) (budget further : ℕ) (shape other_shape : Shape)
+        (r s : Rule) (w : Renaming) (p other : Progress) (a b : Account) →
+        AreBeside budget further w p other →
+        a.attempts ≡ w.made → b.attempts ≡ w.other_made →
+        RefusesAlike r s (reached p a) (reached other b) →
+        RestsAgree budget (reached p a) (reached other b) (rest script budget shape r p a)
+        (rest script budget other_shape s other b) }
+    ensures either { (script : Script) (budget : ℕ) (shape other_shape : Shape) (r s : Rule)
+        (w : Renaming) (p other : Progress) (a b : Account) →
+        IsRenaming w → IsSameProgress w.names p other →
+        steps_of p ≤ budget → steps_of other ≤ budget →
+        a.attempts ≡ w.made → b.attempts ≡ w.other_made →
+        RefusesAlike r s (reached p a) (reached other b) →
+        (rest script budget shape r p a).result.outcome ≢ Cut Budget →
+        RestsAgree budget (reached p a) (reached other b) (rest script budget shape r p a)
+        (rest script budget other_shape s other b) }
+{}
+
+/// Outcomes that are the same but for numbers end alike in words, and are judged alike.
+pub fn renamed_outcomes_are_judged_alike()
+    ensures words { (one other : Outcome) → IsSameOutcome one other → end_of other ≡ end_of one }
+    ensures judged { (x y : RunResult) → IsSameOutcome x.outcome y.outcome →
+        (is_bad y ≡ is_bad x) × (is_fine y ≡ is_fine x) }
+{}
+
+/// Rules for the numbers of attempts that were made say the same of those that are still to be made: nothing.
+pub fn failures_lie_behind()
+    ensures numbers { (here there : Reached) (i j : ℕ) →
+        i ≤ here.attempts → j ≤ there.attempts →
+        RefusesAlike (Number i) (Number j) here there }
+    ensures pairs { (here there : Reached) (i j k : ℕ) →
+        i ≤ here.attempts → j ≤ there.attempts → k ≤ there.attempts →
+        RefusesAlike (Number i) (Pair j k) here there }
+{}
