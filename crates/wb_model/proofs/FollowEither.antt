@@ -13,7 +13,7 @@ use Rattle.wb_model.specs.runs.Account.{Account}
 use Rattle.wb_model.specs.runs.Rest.{Progress, rest}
 use Rattle.wb_model.specs.runs.Run.{WholeRun}
 use Rattle.wb_model.specs.runs.SameButNumbers.{Renaming, IsRenaming, IsSameProgress, turned}
-use Rattle.wb_model.specs.runs.Follows.{steps_of, AreBeside, Reached, reached, ComesToTheSame, RefusesAlike, RestsAgree}
+use Rattle.wb_model.specs.runs.Follows.{steps_of, Reached, reached, RefusesAlike, RestsAgree}
 use Rattle.wb_model.proofs.RuleLemmas.{unsimulated-open}
 use Rattle.wb_model.proofs.SameNumbers.{ap_two}
 use Rattle.wb_model.proofs.SameTurned.{outcome-turned, progress-turned, renaming-turned}

@@ -2,7 +2,6 @@
 use Rattle.std.proofs.Common.{◌≡◌, ℕ, ℤ, ◌-◌, Bool, true, false, not, ◌&&◌, List, [], ◌∷◌, map, refl, ap}
 use Rattle.std.specs.Prelude.{nat_eq, int_le, int_lt, pos}
 use Rattle.wb_model.specs.declared.heap.Item.{Item}
-use Rattle.wb_model.specs.declared.heap.Item.TheVariants as I
 use Rattle.wb_model.specs.declared.heap.Ptr.{Ptr}
 use Rattle.wb_model.specs.declared.limits.TheConstants.{LARGEST_REQUEST}
 use Rattle.wb_model.specs.declared.script.Argument.{Argument}
@@ -17,10 +16,10 @@ use Rattle.wb_model.specs.declared.script.Refusal.{Refusal}
 use Rattle.wb_model.specs.declared.script.Script.{Script}
 use Rattle.wb_model.specs.meaning.Bodies.{operation_at}
 use Rattle.wb_model.specs.meaning.Operands.{number_of, within}
-use Rattle.wb_model.specs.meaning.State.{Frame, Value, number, initial, State, Way, goes_on, returns, leaves, Process, ends, null}
+use Rattle.wb_model.specs.meaning.State.{Frame, Value, number, initial, State, Way, goes_on, returns, leaves, Process, ends}
 use Rattle.wb_model.specs.meaning.Statements.{Todo, destroy_items, Context, Meaning, is_raw, fresh_words, alloc_raw, realloc_raw, realloc_of, in_frame, plain, with_arguments, destroyed_object, destroyed_item, trapped, with_condition, leave_if}
 use Rattle.wb_model.specs.runs.SameButNumbers.{Names, Renaming, IsRenaming, AllBeside, none_beside, one_beside, IsSamePointer, same_words, IsSameCell, IsSameItem, same_free, same_delete, same_call, same_nothing, IsSameValue, same_pointer, same_number, same_buffer, same_view, IsSameFrame, IsSameWay, same_plain, same_return, same_leave, IsSameTodo, same_statements, same_items, same_object}
-use Rattle.wb_model.specs.runs.Follows.{IsLate, IsPast, IsBeside, Follows, both_end, both_stop}
+use Rattle.wb_model.specs.runs.Follows.{IsLate, IsPast, IsBeside, Follows, both_end}
 use Rattle.wb_model.proofs.SameNumbers.{ap_two, null-test, length-beside, append-beside, frame-later}
 use Rattle.wb_model.proofs.SameHeaps.{cell_at-beside}
 use Rattle.wb_model.proofs.FollowLemmas.{number-same, null-beside, GoesOn, GoesPast, and_then-follows, then_do-follows, require-follows, with_some-follows, given-same, with_same-follows, set_local-beside, with_pointer-follows, allocate-follows, reallocate-follows, given_to-follows}

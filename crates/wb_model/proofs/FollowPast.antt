@@ -1,5 +1,5 @@
 -- A run that is late stays late, since steps never fall: what that says of each process, from the induction over lasting facts.
-use Rattle.std.proofs.Common.{ℕ, zero, suc, ◌+◌, ◌-◌, ◌≤◌, List, [], ◌∷◌, refl, arith}
+use Rattle.std.proofs.Common.{ℕ, zero, suc, ◌+◌, ◌-◌, List, [], ◌∷◌, refl, arith}
 use Rattle.wb_model.specs.declared.script.Script.{Script}
 use Rattle.wb_model.specs.meaning.Meaning.{meaning_within}
 use Rattle.wb_model.specs.meaning.State.{State, Process, ends, stops, asks, notes}

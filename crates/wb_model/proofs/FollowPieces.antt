@@ -8,12 +8,12 @@ use Rattle.wb_model.specs.declared.script.Script.{Script}
 use Rattle.wb_model.specs.declared.script.Statement.TheViews.{out-Statement}
 use Rattle.wb_model.specs.meaning.Meaning.{begun, begun_if, piece, meaning_within, meaning_of}
 use Rattle.wb_model.specs.meaning.State.{State, Way, goes_on, returns, leaves, Process, ends, then_do, require}
-use Rattle.wb_model.specs.meaning.Statements.{Todo, all, turns, destroy_items, destroy_object, drop_newest, Context, Meaning}
+use Rattle.wb_model.specs.meaning.Statements.{Todo, all, turns, destroy_items, Context, Meaning}
 use Rattle.wb_model.specs.runs.Rest.{Afterwards, nothing_more, gives_to, releases, after_frame, Pending, doing, catching, caught, calling, main_catching, main_caught, resumed, resume, Progress, left_to_do}
 use Rattle.wb_model.specs.runs.Run.{start, main_trapped, in_main, started, process}
 use Rattle.wb_model.specs.runs.SameButNumbers.{Names, Renaming, IsRenaming, AllBeside, none_beside, one_beside, IsSamePointer, IsSameItem, same_none, same_pointer, same_number, IsSameWay, same_plain, same_return, same_leave, IsSameTodo, same_statements, same_turns, same_items, same_object, IsSameAfterwards, same_nothing_more, same_gives_to, same_releases, IsSamePending, same_doing, same_catching, same_caught, same_calling, same_main_catching, same_main_caught, IsSameProgress, same_not_begun, same_going, same_stopped}
 use Rattle.wb_model.specs.runs.Follows.{IsLate, IsPast, IsBeside, Follows, both_end, both_stop, cut_first, steps_of, AreBeside}
-use Rattle.wb_model.proofs.AlikeLemmas.{Fine, AlikeAll, then_do-alike, with_some-alike, with_class-alike, release-alike}
+use Rattle.wb_model.proofs.AlikeLemmas.{AlikeAll, then_do-alike, with_some-alike, with_class-alike, release-alike}
 use Rattle.wb_model.proofs.AlikeFrames.{plain-alike, in_frame-alike, destroyed_item-alike, trapped-alike}
 use Rattle.wb_model.proofs.EachStatement.{statement-alike}
 use Rattle.wb_model.proofs.SameNumbers.{length-beside, BothSome, neither, both_some, Extends, pointer-later, pending-later}

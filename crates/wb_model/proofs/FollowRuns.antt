@@ -1,21 +1,18 @@
 -- What two runs come to from where they are the same but for numbers, under rules that say the same from there on.
-use Rattle.std.proofs.Common.{◌≡◌, ℕ, ℤ, ◌+◌, ◌<◌, ◌≤◌, ◌⊎◌, inl, inr, Bool, List, [], ◌∷◌, map, refl, sym, ap, ◌∙◌, subst, arith, cond, Option, Some, None}
+use Rattle.std.proofs.Common.{◌≡◌, ℕ, ◌+◌, ◌≤◌, ◌⊎◌, inl, inr, List, map, refl, sym, ap, ◌∙◌, subst, arith, cond, Option, Some, None}
 use Rattle.wb_model.specs.declared.heap.Answer.{Answer}
 use Rattle.wb_model.specs.declared.heap.Answer.TheVariants.{Simulated}
 use Rattle.wb_model.specs.declared.heap.Header.{Header}
 use Rattle.wb_model.specs.declared.heap.Rule.{Rule}
 use Rattle.wb_model.specs.declared.heap.Shape.{Shape}
-use Rattle.wb_model.specs.declared.run.Outcome.TheVariants.{Cut}
 use Rattle.wb_model.specs.declared.run.Why.TheVariants.{Budget, Ceiling}
 use Rattle.wb_model.specs.declared.script.Script.{Script}
-use Rattle.wb_model.specs.heap.Heap.{cells_of_all_levels}
-use Rattle.wb_model.specs.heap.Row.{headers}
 use Rattle.wb_model.specs.heap.Rules.{Request, unless_refused, refusal_of, answer_to}
 use Rattle.wb_model.specs.heap.Space.{Space, space_of}
-use Rattle.wb_model.specs.meaning.State.{State, Way, goes_on, returns, leaves, Stop, panics, is_cut, no_cleanup, Query, heap_note, available_note, compress_note, Process, ends, stops, asks, notes}
+use Rattle.wb_model.specs.meaning.State.{State, Way, Stop, panics, is_cut, no_cleanup, Query, heap_note, available_note, compress_note, Process, ends, stops, asks, notes}
 use Rattle.wb_model.specs.runs.Account.{End, over, stopped, Account, Settled, settled, on_answer, recorded, noted, next_number}
 use Rattle.wb_model.specs.runs.Rest.{Progress, left_to_do, rest}
-use Rattle.wb_model.specs.runs.Run.{leak_of, leaks_in, left_by, outcome_of, result_of, whole_of, WholeRun}
+use Rattle.wb_model.specs.runs.Run.{leak_of, outcome_of, whole_of}
 use Rattle.wb_model.specs.runs.SameButNumbers.{Names, Renaming, one_more, AllBeside, none_beside, one_beside, IsSameHeader, IsSameState, IsSameWay, same_plain, same_return, same_leave}
 use Rattle.wb_model.specs.runs.Follows.{IsLate, IsPast, IsBeside, Follows, both_end, both_stop, both_ask, both_note, cut_first, AreBeside, IsSameLeak, IsSameOutcome, same_end, same_panic, same_no_cleanup, same_cut, reached, RefusesAlike, RestsAgree}
 use Rattle.wb_model.proofs.SameHeaps.{headers-beside, all_levels-beside}

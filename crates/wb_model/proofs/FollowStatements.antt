@@ -1,5 +1,5 @@
 -- One process follows another through each statement, with a case for each, where what is inside does.
-use Rattle.std.proofs.Common.{◌≡◌, ℕ, ℤ, zero, suc, ◌+◌, ◌-◌, ◌+ℤ◌, Bool, not, List, [], ◌∷◌, length, take, replicate, refl, sym, ap, subst, Option}
+use Rattle.std.proofs.Common.{◌≡◌, ℕ, ℤ, zero, suc, ◌+◌, ◌-◌, ◌+ℤ◌, not, List, [], length, take, replicate, refl, sym, ap, subst, Option}
 use Rattle.std.specs.Prelude.{nat_le, int_lt, pos, slice_get, slice_set}
 use Rattle.wb_model.specs.declared.heap.Item.{Item}
 use Rattle.wb_model.specs.declared.heap.Panic.{Panic}
@@ -11,10 +11,10 @@ use Rattle.wb_model.specs.declared.script.Script.{Script}
 use Rattle.wb_model.specs.declared.script.Statement.TheOpen.{Statement-F}
 use Rattle.wb_model.specs.heap.Rules.{Setting, never, next, each}
 use Rattle.wb_model.specs.meaning.Operands.{number_of, within, not_negative}
-use Rattle.wb_model.specs.meaning.State.{Content, words, number, State, leaves, Process, ends, and_then, null, with_some}
+use Rattle.wb_model.specs.meaning.State.{words, number, State, leaves, Process, and_then, null, with_some}
 use Rattle.wb_model.specs.meaning.Statements.{all, done, drop_newest, newest, item_pointer, index_in, in_range, at_least_one, plain, set_setting, new_object, realloc_text, Context, Meaning, Layer, trapped, statement}
 use Rattle.wb_model.specs.runs.SameButNumbers.{Names, Renaming, IsRenaming, AllBeside, none_beside, one_beside, IsSamePointer, IsSameContent, same_words, same_fields, same_units, IsSameCell, IsSameHeap, IsSameItem, same_free, same_delete, same_call, IsSameValue, same_pointer, same_number, IsSameWay, same_plain, same_return, same_leave, same_statements, same_turns, same_items}
-use Rattle.wb_model.specs.runs.Follows.{IsLate, IsBeside, Follows, both_end, both_note}
+use Rattle.wb_model.specs.runs.Follows.{IsBeside, Follows, both_end, both_note}
 use Rattle.wb_model.proofs.AlikeLemmas.{AlikeAll}
 use Rattle.wb_model.proofs.AlikeFrames.{trapped-alike}
 use Rattle.wb_model.proofs.SameNumbers.{ap_two, null-test, pointer-test, length-beside, take-beside, BothSome, get-beside}

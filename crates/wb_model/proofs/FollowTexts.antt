@@ -1,5 +1,5 @@
 -- One process follows another through pushes, releases and texts, from states that are the same but for numbers.
-use Rattle.std.proofs.Common.{◌≡◌, ℕ, ℤ, ◌+◌, ◌-◌, ◌*◌, Bool, true, false, List, [], ◌∷◌, ◌++◌, length, drop, refl, ap, Option, Some, None, Result, Ok, Err}
+use Rattle.std.proofs.Common.{◌≡◌, ℕ, ℤ, ◌+◌, ◌-◌, ◌*◌, Bool, true, false, List, [], ◌∷◌, ◌++◌, drop, refl, ap, Option, Result, Ok, Err}
 use Rattle.std.specs.Prelude.{nat_eq}
 use Rattle.wb_model.specs.declared.heap.TheConstants.{KERR_NO_MEMORY}
 use Rattle.wb_model.specs.declared.heap.Item.{Item}
@@ -10,7 +10,6 @@ use Rattle.wb_model.specs.declared.script.Readable.TheVariants.{Of, ViewOf, Quot
 use Rattle.wb_model.specs.declared.script.Writable.{Writable}
 use Rattle.wb_model.specs.declared.script.Writable.TheVariants.{OwnBuffer, InCell}
 use Rattle.wb_model.specs.declared.text.Base.{Base}
-use Rattle.wb_model.specs.declared.text.Base.TheVariants as B
 use Rattle.wb_model.specs.declared.text.View.{View}
 use Rattle.wb_model.specs.heap.Heap.{is_cleanup}
 use Rattle.wb_model.specs.heap.Row.{Cell, cell_at}
@@ -19,7 +18,7 @@ use Rattle.wb_model.specs.meaning.Reading.{Source, whole, part, base_of, positio
 use Rattle.wb_model.specs.meaning.State.{Content, Value, State, goes_on, Process, ends, local_of}
 use Rattle.wb_model.specs.meaning.Statements.{class_of, is_null, of_script, release, released, with_class, with_words}
 use Rattle.wb_model.specs.meaning.Texts.{Edited, Part, exactly}
-use Rattle.wb_model.specs.runs.SameButNumbers.{Names, Renaming, IsRenaming, AllBeside, none_beside, one_beside, IsSamePointer, IsSameContent, same_words, same_fields, same_units, same_none, IsSameCell, IsSameItem, IsSameBase, same_nothing, same_literal, same_local, same_cell, IsSameView, IsSameValue, same_pointer, same_number, same_buffer, same_view, same_plain, same_leave}
+use Rattle.wb_model.specs.runs.SameButNumbers.{Names, Renaming, IsRenaming, none_beside, one_beside, IsSamePointer, IsSameContent, same_words, same_fields, same_units, same_none, IsSameCell, IsSameItem, IsSameBase, same_nothing, same_literal, same_local, same_cell, IsSameView, IsSameValue, same_pointer, same_number, same_buffer, same_view, same_plain, same_leave}
 use Rattle.wb_model.specs.runs.Follows.{IsBeside, Follows, both_end, both_stop}
 use Rattle.wb_model.proofs.SameNumbers.{ap_two, cond-beside, null-test, pointer-test, length-beside, append-beside, BothSome, neither, both_some}
 use Rattle.wb_model.proofs.SameHeaps.{with_row-beside, cell_at-beside, without-beside}

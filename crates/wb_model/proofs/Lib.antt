@@ -50,6 +50,7 @@ pub mod LengthLemmas
 pub mod LengthTables
 pub mod RuleLemmas
 pub mod SameExamples
+pub mod SameForks
 pub mod SameHeaps
 pub mod SameNumbers
 pub mod SameRuns

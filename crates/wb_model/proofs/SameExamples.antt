@@ -6,7 +6,7 @@ use Rattle.wb_model.specs.declared.heap.Ptr.{Ptr}
 use Rattle.wb_model.specs.heap.Row.{Cell}
 use Rattle.wb_model.specs.heap.Rules.{never}
 use Rattle.wb_model.specs.meaning.State.{Content, words, none, pointer, State, null}
-use Rattle.wb_model.specs.runs.SameButNumbers.{Names, Renames, Renaming, IsRenaming, AllBeside, none_beside, one_beside, IsSamePointer, IsSameHeader, IsSameCell, same_words, same_none, IsSameValue, same_pointer, IsSameState}
+use Rattle.wb_model.specs.runs.SameButNumbers.{Names, Renames, Renaming, IsRenaming, AllBeside, none_beside, one_beside, IsSamePointer, same_words, same_none, IsSameValue, same_pointer, IsSameState}
 
 -- the cleanup stack's cell, and a Raw cell after it with this number and level
 abbrev cells : ℕ → ℕ → List (Cell Content)

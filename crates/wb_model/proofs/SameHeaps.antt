@@ -1,7 +1,6 @@
 -- Heaps that are the same but for numbers: what they are asked is the same, and so is what an answer, a release or a mark leaves.
 use Rattle.std.proofs.Common.{◌≡◌, ℕ, ◌+◌, ◌-◌, Bool, not, ◌&&◌, ◌||◌, List, inr, refl, ap, cond, Option, Some, None}
 use Rattle.std.specs.Prelude.{nat_eq, nat_lt, nat_le}
-use Rattle.wb_model.specs.declared.heap.TheConstants.Panic.{NO_OPEN_MARK}
 use Rattle.wb_model.specs.declared.heap.Answer.{Answer}
 use Rattle.wb_model.specs.declared.heap.Answer.TheVariants.{Granted, Simulated, Refused}
 use Rattle.wb_model.specs.declared.heap.Header.{Header}
@@ -10,7 +9,7 @@ use Rattle.wb_model.specs.declared.heap.Panic.{Panic}
 use Rattle.wb_model.specs.declared.heap.Panic.TheVariants.{Alloc}
 use Rattle.wb_model.specs.declared.heap.Ptr.{Ptr}
 use Rattle.wb_model.specs.heap.Heap.{Heap, attempt_counted, alloc_request, after_alloc, fits_in_place, realloc_place, realloc_request, moved, after_realloc, shortened, is_cleanup, cells_of_level, cells_of_all_levels, lowest, checked, lower, lowered, after_mark, after_mark_end, mark_end_refusal}
-use Rattle.wb_model.specs.heap.Row.{Cell, headers, end_of, is_at, pointer_to, cell_at, without, inserted, changed, place_from, cell_length}
+use Rattle.wb_model.specs.heap.Row.{Cell, headers, end_of, pointer_to, cell_at, without, inserted, changed, place_from, cell_length}
 use Rattle.wb_model.specs.heap.Rules.{Request, is_due, after_attempt}
 use Rattle.wb_model.specs.meaning.State.{Content}
 use Rattle.wb_model.specs.runs.SameButNumbers.{Names, Renames, Renaming, IsRenaming, one_more, AllBeside, none_beside, one_beside, IsSamePointer, IsSameHeader, IsSameContent, IsSameCell, IsSameHeap}

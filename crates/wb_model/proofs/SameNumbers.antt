@@ -1,5 +1,5 @@
 -- Pointers, headers, contents and lists that are the same but for numbers, and what doesn't depend on the numbers.
-use Rattle.std.proofs.Common.{◌≡◌, ℕ, zero, suc, ◌+◌, ◌≤◌, Bool, true, false, ◌&&◌, List, [], ◌∷◌, ◌++◌, length, take, inl, inr, refl, sym, ◌∙◌, ap, subst, arith, cond, filter, Option, Some, None}
+use Rattle.std.proofs.Common.{◌≡◌, ℕ, zero, suc, ◌+◌, ◌≤◌, Bool, true, false, ◌&&◌, List, ◌++◌, length, take, inl, inr, refl, sym, ◌∙◌, ap, subst, arith, cond, filter, Option, Some, None}
 use Rattle.std.specs.Prelude.{nat_eq, slice_get, slice_set, unwrap_or}
 use Rattle.wb_model.specs.declared.heap.Header.{Header}
 use Rattle.wb_model.specs.declared.heap.Item.{Item}

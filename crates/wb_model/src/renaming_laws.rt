@@ -1,14 +1,15 @@
 //! Laws of runs that have come to states which are the same but for allocation numbers. Each is the contract of a function that
 //! does nothing, so that the gate proves it.
 
-ghost use Rattle.std.specs.Prelude.{◌≡◌, ◌≢◌, ℕ, ◌≤◌};
+ghost use Rattle.std.specs.Prelude.{◌≡◌, ◌≢◌, ℕ, ◌≤◌, ◌↔◌};
 ghost use Rattle.wb_model.specs.runs.Account.{Account};
 ghost use Rattle.wb_model.specs.runs.Follows.{steps_of, AreBeside, Follows, IsSameOutcome};
 ghost use Rattle.wb_model.specs.runs.Follows.{reached, Reached, RefusesAlike, RestsAgree};
 ghost use Rattle.wb_model.specs.runs.Rest.{Progress, left_to_do, rest};
 ghost use Rattle.wb_model.specs.runs.Run.{is_bad};
 ghost use Rattle.wb_model.specs.runs.RunEnds.{end_of};
-ghost use Rattle.wb_model.specs.runs.SameButNumbers.{IsRenaming, IsSameProgress, Renaming, turned};
+ghost use Rattle.wb_model.specs.runs.SameButNumbers.{up_to, since_fork, turned, AreAddedSince, IsRenaming};
+ghost use Rattle.wb_model.specs.runs.SameButNumbers.{IsSameProgress, Names, Renames, Renaming};
 ghost use Rattle.wb_model.specs.runs.Sweeps.{is_fine};
 ghost use Rattle.wb_model.specs.declared.heap.Rule.{Rule};
 ghost use Rattle.wb_model.specs.declared.heap.Rule.TheVariants.{Number, Pair};
@@ -30,9 +31,9 @@ pub fn renamed_runs_follow()
         IsRenaming (turned w) × IsSameProgress (turned w).names other p }
 {}
 
-/// Where the rules of two such runs say the same of the attempts that are still to be made, the second comes to what the first comes
-/// to: with as many steps and attempts from there on, if the budget allows these steps. If not, it is cut by the budget. That holds
-/// where the second has counted no fewer steps, and where the budget doesn't cut the first.
+/// Let the rules of two such runs say the same of the attempts that are still to be made. Then the second comes to what the first
+/// comes to, with as many steps and attempts from there on. Only where the budget doesn't allow it these steps, it is cut by the budget.
+/// That holds where the second has counted no fewer steps, and where the budget doesn't cut the first.
 pub fn renamed_runs_agree()
     ensures further { (script : Script) (budget further : ℕ) (shape other_shape : Shape)
         (r s : Rule) (w : Renaming) (p other : Progress) (a b : Account) →
@@ -67,4 +68,14 @@ pub fn failures_lie_behind()
     ensures pairs { (here there : Reached) (i j k : ℕ) →
         i ≤ here.attempts → j ≤ there.attempts → k ≤ there.attempts →
         RefusesAlike (Number i) (Pair j k) here there }
+{}
+
+/// Two runs were one run up to an attempt. Then the numbers up to that one stand for themselves, and pairs of later ones may be added,
+/// each of which is new on both sides.
+pub fn forked_runs_are_renamed()
+    ensures renamed { (since made other_made : ℕ) (added : Names) →
+        AreAddedSince since added made other_made →
+        IsRenaming (since_fork since added made other_made) }
+    ensures shared { (since a b : ℕ) →
+        (Renames (up_to since) a b) ↔ ((a ≡ b) × (a ≤ since)) }
 {}

@@ -1,5 +1,6 @@
--- What it means that one process follows another, whose states are the same but for allocation numbers and which has counted fewer
--- steps: both ask the same and come to the same, whatever is answered, until the budget cuts the one that follows.
+-- What it means that one process follows another: both begin in states that are the same but for allocation numbers, and the one that
+-- follows has counted more steps, or as many. Both ask the same and come to the same, whatever is answered, until the budget cuts the
+-- one that follows.
 use Rattle.std.specs.Prelude.{◌≡◌, ℕ, ℤ, ◌+◌, ◌<◌, ◌≤◌, List, Option}
 use Rattle.wb_model.specs.declared.heap.Answer.{Answer}
 use Rattle.wb_model.specs.declared.heap.Panic.{Panic}
@@ -16,7 +17,7 @@ use Rattle.wb_model.specs.runs.Rest.{Progress, not_begun, going, has_stopped}
 use Rattle.wb_model.specs.runs.Run.{WholeRun}
 use Rattle.wb_model.specs.runs.SameButNumbers.{Renaming, IsRenaming, one_more, AllBeside, IsSameState, IsSameWay, IsSameProgress}
 
--- so many steps that the budget would be passed with as many more
+-- so many steps that with some further ones the budget would be passed
 pub record IsLate (budget further : ℕ) (st : State) : Type 0 where
   pub past : budget < st.steps + further
   pub within : st.steps ≤ budget
@@ -35,8 +36,8 @@ pub record IsBeside (budget further : ℕ) (w : Renaming) (st other : State) : T
   pub steps : other.steps ≡ st.steps + further
   pub within : other.steps ≤ budget
 
--- Both end, or stop, or ask, or make a note; the attempts that they ask for are the same, number by number from those made so far on, and
--- whatever is answered, they go on so. Or the budget cuts the second, and the first takes more further steps than are left to that.
+-- Both end, or stop, or ask for an attempt, or make a note. They ask for the same attempts, number by number from those made so far on,
+-- and whatever is answered, they go on so. Or the budget cuts the second, and the first takes more further steps than were left to it.
 pub data Follows (budget further : ℕ) : Renaming → Process → Process → Type 0 where
   both_end : {w : Renaming} {way other_way : Way} {st other : State} → IsSameWay w.names way other_way → IsBeside budget further w st other →
       Follows budget further w (ends way st) (ends other_way other)

@@ -1,6 +1,6 @@
 -- What it means that two states are the same but for allocation numbers: a one-to-one map carries the numbers that the first holds
 -- to those that the second holds. What each has printed and how many steps it has counted isn't compared.
-use Rattle.std.specs.Prelude.{◌≡◌, ℕ, ℤ, ◌+◌, ◌≤◌, ◌⊎◌, List, [], ◌∷◌}
+use Rattle.std.specs.Prelude.{◌≡◌, ℕ, ℤ, zero, suc, ◌+◌, ◌<◌, ◌≤◌, ◌⊎◌, List, [], ◌∷◌, ◌++◌}
 use Rattle.wb_model.specs.declared.heap.Header.{Header}
 use Rattle.wb_model.specs.declared.heap.Item.{Item}
 use Rattle.wb_model.specs.declared.heap.Item.TheVariants as I
@@ -45,6 +45,24 @@ one_more w = record {
   made = w.made + 1;
   other_made = w.other_made + 1;
 }
+
+-- each number up to this one, for itself
+abbrev pub up_to : ℕ → Names
+up_to zero = (0, 0) ∷ []
+up_to (suc n) = (suc n, suc n) ∷ up_to n
+
+-- Pairs that two runs add which were one run up to the attempt with this number: all that they share stands for itself, and what is
+-- added is of later attempts of either.
+pub record AreAddedSince (since : ℕ) (added : Names) (made other_made : ℕ) : Type 0 where
+  pub once : (a b c : ℕ) → Renames added a b → Renames added a c → b ≡ c
+  pub apart : (a b c : ℕ) → Renames added a c → Renames added b c → a ≡ b
+  pub later : (a b : ℕ) → Renames added a b → (since < a) × (since < b)
+  pub made_before : (a b : ℕ) → Renames added a b → (a ≤ made) × (b ≤ other_made)
+  pub shared : (since ≤ made) × (since ≤ other_made)
+
+-- the map of two such runs
+abbrev pub since_fork : ℕ → Names → ℕ → ℕ → Renaming
+since_fork since added made other_made = record { names = added ++ up_to since; made = made; other_made = other_made }
 
 -- the map read backwards
 abbrev pub turned_names : Names → Names
