@@ -88,7 +88,7 @@ module _ (budget further : ℕ) (script : Script) where
   unfolding meaning_of
   meaning-follows = within-follows (suc budget)
 
-  meaning-late : AlikeAll (lateness script budget further) (meaning_of script budget) (meaning_of script budget)
+  pub meaning-late : AlikeAll (lateness script budget further) (meaning_of script budget) (meaning_of script budget)
   unfolding meaning_of
   meaning-late = within-late script budget further (suc budget)
 

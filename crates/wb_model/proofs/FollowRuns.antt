@@ -19,7 +19,7 @@ use Rattle.wb_model.proofs.SameHeaps.{headers-beside, all_levels-beside}
 use Rattle.wb_model.proofs.FollowPieces.{left_to_do-follows}
 
 -- what the rules say of later attempts, by the attempts made in either
-abbrev SaysAlike : Rule → Rule → Renaming → Type 0
+abbrev pub SaysAlike : Rule → Rule → Renaming → Type 0
 SaysAlike r s w = (n end : ℕ) → 1 ≤ n → refusal_of s (w.other_made + n) end ≡ refusal_of r (w.made + n) end
 
 -- the same end but for numbers
@@ -28,20 +28,20 @@ pub data IsSameEnd (names : Names) : End → End → Type 0 where
   same_stopped : {stop other_stop : Stop} → other_stop ≡ stop → IsSameEnd names (stopped stop) (stopped other_stop)
 
 -- the two have settled alike, after as many attempts
-record SettlesAlike (budget further : ℕ) (w : Renaming) (x y : Settled) : Type 0 where
-  v : Renaming
-  end : IsSameEnd v.names x.end y.end
-  beside : IsBeside budget further v x.state y.state
-  made : x.account.attempts ≡ v.made
-  other_made : y.account.attempts ≡ v.other_made
-  as_many : v.other_made + w.made ≡ v.made + w.other_made
+pub record SettlesAlike (budget further : ℕ) (w : Renaming) (x y : Settled) : Type 0 where
+  pub v : Renaming
+  pub end : IsSameEnd v.names x.end y.end
+  pub beside : IsBeside budget further v x.state y.state
+  pub made : x.account.attempts ≡ v.made
+  pub other_made : y.account.attempts ≡ v.other_made
+  pub as_many : v.other_made + w.made ≡ v.made + w.other_made
 
 -- the first has gone on past the budget of the second, which is cut
-record IsCutFirst (budget further : ℕ) (x y : Settled) : Type 0 where
-  late : IsLate budget further x.state
-  cut : y.end ≡ stopped (is_cut Budget)
+pub record IsCutFirst (budget further : ℕ) (x y : Settled) : Type 0 where
+  pub late : IsLate budget further x.state
+  pub cut : y.end ≡ stopped (is_cut Budget)
 
-abbrev Settles : ℕ → ℕ → Renaming → Settled → Settled → Type 0
+abbrev pub Settles : ℕ → ℕ → Renaming → Settled → Settled → Type 0
 Settles budget further w x y = SettlesAlike budget further w x y ⊎ IsCutFirst budget further x y
 
 -- a note makes no attempt
@@ -93,7 +93,7 @@ module _ (budget further : ℕ) (r s : Rule) (space other_space : Space) where
       let two : w.other_made + 1 + n ≡ w.other_made + (n + 1) = omega arith in
       ap (λ m. refusal_of s m end) two ∙ alike (n + 1) end (omega arith) ∙ sym (ap (λ m. refusal_of r m end) one)
 
-  settles : {w : Renaming} {p q : Process} → Follows budget further w p q → (a b : Account) → a.attempts ≡ w.made → b.attempts ≡ w.other_made → SaysAlike r s w →
+  pub settles : {w : Renaming} {p q : Process} → Follows budget further w p q → (a b : Account) → a.attempts ≡ w.made → b.attempts ≡ w.other_made → SaysAlike r s w →
       Settles budget further w (settled r space p a) (settled s other_space q b)
   settles {w = w} (both_end same beside) a b ea eb alike =
       inl (record { v = w; end = same_over same; beside = beside; made = ea; other_made = eb; as_many = omega arith })

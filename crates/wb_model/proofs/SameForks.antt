@@ -29,7 +29,7 @@ shared-same (suc n) a b (inl here) =
     (omega arith, omega arith)
 shared-same (suc n) a b (inr later) = let is = shared-same n a b later in (is.0, omega (arith, is.1))
 
-shared-named : (n a b : ℕ) → a ≡ b → a ≤ n → Renames (up_to n) a b
+pub shared-named : (n a b : ℕ) → a ≡ b → a ≤ n → Renames (up_to n) a b
 shared-named zero a b e le = inl (omega arith, omega arith)
 shared-named (suc n) a b e le = by (nat_lt n a) refl (λ below. shared-named n a b e below)
   where

@@ -2,14 +2,19 @@
 //! does nothing, so that the gate proves it.
 
 ghost use Rattle.std.specs.Prelude.{◌≡◌, ◌≢◌, ℕ, ◌≤◌, ◌↔◌};
-ghost use Rattle.wb_model.specs.runs.Account.{Account};
+ghost use Rattle.wb_model.specs.heap.Space.{Space};
+ghost use Rattle.wb_model.specs.meaning.Meaning.{meaning_of};
+ghost use Rattle.wb_model.specs.meaning.State.{State};
+ghost use Rattle.wb_model.specs.meaning.Statements.{statement, Context, Layer};
+ghost use Rattle.wb_model.specs.runs.Account.{settled, Account};
 ghost use Rattle.wb_model.specs.runs.Follows.{steps_of, AreBeside, Follows, IsSameOutcome};
 ghost use Rattle.wb_model.specs.runs.Follows.{reached, Reached, RefusesAlike, RestsAgree};
 ghost use Rattle.wb_model.specs.runs.Rest.{Progress, left_to_do, rest};
 ghost use Rattle.wb_model.specs.runs.Run.{is_bad};
 ghost use Rattle.wb_model.specs.runs.RunEnds.{end_of};
 ghost use Rattle.wb_model.specs.runs.SameButNumbers.{up_to, since_fork, turned, AreAddedSince, IsRenaming};
-ghost use Rattle.wb_model.specs.runs.SameButNumbers.{IsSameProgress, Names, Renames, Renaming};
+ghost use Rattle.wb_model.specs.runs.SameButNumbers.{HoldsMadeNumbers, IsSameProgress, Names, Renames};
+ghost use Rattle.wb_model.specs.runs.SameButNumbers.{Renaming};
 ghost use Rattle.wb_model.specs.runs.Sweeps.{is_fine};
 ghost use Rattle.wb_model.specs.declared.heap.Rule.{Rule};
 ghost use Rattle.wb_model.specs.declared.heap.Rule.TheVariants.{Number, Pair};
@@ -78,4 +83,19 @@ pub fn forked_runs_are_renamed()
         IsRenaming (since_fork since added made other_made) }
     ensures shared { (since a b : ℕ) →
         (Renames (up_to since) a b) ↔ ((a ≡ b) × (a ≤ since)) }
+{}
+
+/// What holds only numbers of attempts that were made, a run or a statement that begins, comes to a state that does so too. So an
+/// invariant that no number passes the attempts made can be carried from turn to turn.
+pub fn held_numbers_were_made()
+    ensures runs { (script : Script) (budget : ℕ) (r : Rule) (space : Space) (p : Progress)
+        (a : Account) → IsSameProgress (up_to a.attempts) p p → steps_of p ≤ budget →
+        HoldsMadeNumbers (settled r space (left_to_do script budget p) a).account.attempts
+        (settled r space (left_to_do script budget p) a).state }
+    ensures statements { (script : Script) (budget : ℕ) (r : Rule) (space : Space) (at : Context)
+        (s : Layer) (st : State) (a : Account) →
+        HoldsMadeNumbers a.attempts st → st.steps ≤ budget →
+        HoldsMadeNumbers
+        (settled r space (statement script (meaning_of script budget) at s st) a).account.attempts
+        (settled r space (statement script (meaning_of script budget) at s st) a).state }
 {}

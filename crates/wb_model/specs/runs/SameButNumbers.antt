@@ -138,6 +138,10 @@ pub record IsSameState (names : Names) (st other : State) : Type 0 where
   pub slots : other.slots ≡ st.slots
   pub frame : IsSameFrame names st.frame other.frame
 
+-- each number that a state holds is of an attempt made: it is the same as itself where these numbers alone stand for themselves
+abbrev pub HoldsMadeNumbers : ℕ → State → Type 0
+HoldsMadeNumbers made st = IsSameState (up_to made) st st
+
 -- how the piece above ended
 pub data IsSameWay (names : Names) : Way → Way → Type 0 where
   same_plain : IsSameWay names goes_on goes_on
