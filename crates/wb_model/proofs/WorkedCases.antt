@@ -17,6 +17,7 @@ pub mod ExamplesSToT
 pub mod Files
 pub mod FirstPath
 pub mod Guide
+pub mod Idioms
 pub mod Json
 pub mod LanguageCToM
 pub mod LanguageNToU
