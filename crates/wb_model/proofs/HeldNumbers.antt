@@ -1,5 +1,5 @@
 -- Each number that a state beside another holds is of an attempt made; so a run that begins so goes on so.
-use Rattle.std.proofs.Common.{◌≡◌, ℕ, ◌≤◌, ◌⊎◌, inl, inr, List, [], refl, subst, sym, arith}
+use Rattle.std.proofs.Common.{ℕ, ◌≤◌, ◌⊎◌, inl, inr, List, [], refl, subst, sym, arith}
 use Rattle.wb_model.specs.declared.heap.Header.{Header}
 use Rattle.wb_model.specs.declared.heap.Item.{Item}
 use Rattle.wb_model.specs.declared.heap.Ptr.{Ptr}

@@ -1,5 +1,5 @@
 -- Of all lengths whose run leaks or panics there is one least.
-use Rattle.std.proofs.Common.{◌≡◌, inl, inr, ◌⊎◌, ℕ, ◌<◌, true, false, sym, ◌∙◌, ap}
+use Rattle.std.proofs.Common.{◌≡◌, inl, inr, ◌⊎◌, ℕ, ◌<◌, sym, ◌∙◌, ap}
 use Rattle.std.proofs.lemmas.Bool.{cases_order, false≢true}
 use Rattle.wb_model.specs.declared.heap.Shape.{Shape}
 use Rattle.wb_model.specs.declared.run.RunResult.{RunResult}

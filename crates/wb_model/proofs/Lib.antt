@@ -14,8 +14,16 @@ pub mod FreeRuns
 pub mod LimitedHeaps
 pub mod ObjectCells
 pub mod NewCells
+pub mod OneAnswer
 pub mod OnceFound
+pub mod OnceInPart
 pub mod Onward
+pub mod FailureOrder
+pub mod FirstBad
+pub mod PartAnswers
+pub mod PartExamples
+pub mod PartLines
+pub mod PartsTogether
 pub mod PairLemmas
 pub mod PairSearch
 pub mod Parts

@@ -76,7 +76,7 @@ module _ (failures : Failures) (script : Script) (budget : ℕ) (shape : Shape) 
   pub all_fine : AreFineBelow (runs_of failures script budget shape) (length (runs_of failures script budget shape 0).trace + 1) → AreAllFine (runs_of failures script budget shape)
   all_fine below = fine_all (runs_of failures script budget shape) (length (runs_of failures script budget shape 0).trace) (past (below 0 (omega arith))) below
 
-  unfine_within : (number : ℕ) → IsLeastUnfine (runs_of failures script budget shape) number → number ≤ length (runs_of failures script budget shape 0).trace
+  pub unfine_within : (number : ℕ) → IsLeastUnfine (runs_of failures script budget shape) number → number ≤ length (runs_of failures script budget shape 0).trace
   unfine_within number is =
       elim (cases_lt (length (runs_of failures script budget shape 0).trace) number) [
         | inl lt ↦

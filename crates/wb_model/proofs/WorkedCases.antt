@@ -1,4 +1,5 @@
 pub mod Shorthands
+pub mod AllAndParts
 pub mod Budget
 pub mod Calls
 pub mod ClassesAToM

@@ -1,10 +1,12 @@
 -- Whole runs under a rule, and what sizes and sweeps say of them.
 pub mod Account
 pub mod Agreement
+pub mod AllNumbers
 pub mod Follows
 pub mod FreeSlots
 pub mod Lengths
 pub mod Pairs
+pub mod Parts
 pub mod Rest
 pub mod Rises
 pub mod Run

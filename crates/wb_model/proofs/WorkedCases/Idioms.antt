@@ -17,8 +17,20 @@ use Rattle.wb_model.specs.declared.script.Refusal.TheVariants.{GivesNull, Leaves
 use Rattle.wb_model.specs.declared.script.Statement.TheOpen.{Statement-F}
 use Rattle.wb_model.specs.runs.Run.{run, required, rises}
 use Rattle.wb_model.specs.runs.Sweeps.{runs_of, least_bad_or_cut}
-use Rattle.wb_model.proofs.WorkedCases.Shorthands.{everything, on, script, class_of, procedure, operation, body, result, leak, shaped, line,
-    rise}
+use Rattle.wb_model.proofs.WorkedCases.Shorthands.{
+  everything,
+  on,
+  script,
+  class_of,
+  procedure,
+  operation,
+  body,
+  result,
+  leak,
+  shaped,
+  line,
+  rise,
+}
 
 abbrev script_base_construct_check : Script
 script_base_construct_check = script ((class_of 2 4 (None ∷ None ∷ []) (Some (body [] ((on 6 (Statement-F.Call 0 ((Passed (Held H.This)) ∷

@@ -4,6 +4,9 @@ use Rattle.std.specs.Fmt.{digits}
 use Rattle.wb_model.specs.declared.heap.Shape.{Shape}
 use Rattle.wb_model.specs.declared.heap.Answer.{Answer}
 use Rattle.wb_model.specs.declared.heap.Attempt.{Attempt}
+use Rattle.wb_model.specs.declared.number_ends.NumberEnd.{NumberEnd}
+use Rattle.wb_model.specs.declared.part.Part.{Part}
+use Rattle.wb_model.specs.declared.run_end.RunEnd.{RunEnd}
 use Rattle.wb_model.specs.declared.run.Leak.{Leak}
 use Rattle.wb_model.specs.declared.run.Note.{Note}
 use Rattle.wb_model.specs.declared.run.Outcome.{Outcome}
@@ -119,3 +122,9 @@ line number length place answer = record { number = number; length = length; pla
 
 abbrev pub rise : ℕ → ℕ → Rise
 rise number top = record { number = number; top = top }
+
+abbrev pub ending : ℕ → RunEnd → NumberEnd
+ending number end = record { number = number; end = end }
+
+abbrev pub part : ℕ → ℕ → Part
+part from to = record { from = from; to = to }
