@@ -1,19 +1,19 @@
 """Which crates' wrong bodies were all disproved, by a committed file that has a line for each.
 
 What the prover says of a wrong body follows from what its check reads: the toolchain, the crate and its wrong bodies, and
-what is seen of the crates below it. A line holds the checksum of these, so it stands only while all of them are the same. Of
-the toolchain its logic counts: kits of one logic prove the same statements, so a line stands in each of them. Of the wrong
-bodies their names and texts count, and not in which file each stands: so one can be moved."""
+what is seen of those files of the crates below it that the crate leads to. A line holds the checksum of these, so it is valid
+only while all of them are the same. Of the toolchain its logic counts: kits of one logic prove the same statements, so a line
+is valid in each of them. Of the wrong bodies their names and texts count, and not which file each is in: so one can be moved."""
 
 import hashlib
 import re
 from dataclasses import dataclass
 from datetime import date
-from functools import cache
 from pathlib import Path
 
 from tools.crates import FUNCTION_HEAD, Crates, without_comments
 from tools.kit import version
+from tools.reached import Reached
 from tools.wrong_body_files import WRONG_BODIES, written_edits
 
 FILE = "wrong-bodies.txt"
@@ -22,10 +22,9 @@ HEAD = """\
 # was, and the checksum of what it followed from. A line whose checksum is another's is no verdict any more.
 """
 LINE = re.compile(r"(\w+) (\d+) (\d{4}-\d\d-\d\d) ([0-9a-f]{64})")
-# theorems that no other file may use: worked cases, which are written anew where a case is new, and have further files in a folder
-USED_BY_NOTHING = (("proofs", "WorkedCases.antt"), ("proofs", "WorkedCases"))
-# the files of the proof of one function
-OF_ONE_FUNCTION = ("Answers.antt", "Invariants.antt", "Proof.antt")
+# a line that names a module, or that is a comment of definitions
+NAMES_MODULE = re.compile(r"\s*(?:pub )?mod \w+;?")
+COMMENT = re.compile(r"\s*--.*")
 FUNCTION = re.compile(FUNCTION_HEAD + r"\w+")
 # what `rt version` says of the logic
 LOGIC = re.compile(r"\blogic [0-9a-f]+")
@@ -51,6 +50,7 @@ class Verdicts:
 
     def __init__(self, root: Path, logic: str) -> None:
         self.crates = Crates(root)
+        self.reached = Reached(self.crates)
         self.logic = logic
         self.file = root / FILE
 
@@ -79,17 +79,8 @@ class Verdicts:
             add(whole, file.relative_to(self.crates.root), text_of(file))
         for it in written_edits(self.crates.folder(crate), [WRONG_BODIES]):
             whole.update(repr((it.name, it.functions, it.changes, it.fault)).encode())
-        for lower in self.crates.below(crate):
-            whole.update(self.seen(lower).encode())
-        return whole.hexdigest()
-
-    @cache
-    def seen(self, lower: str) -> str:
-        """The checksum of what a crate above sees of this one."""
-        whole = hashlib.sha256()
-        for file in self.crates.files(lower):
-            if (seen := seen_from_above(file, self.crates.folder(lower))) is not None:
-                add(whole, file.relative_to(self.crates.root), seen)
+        for lower in self.reached.below(crate):
+            add(whole, lower.relative_to(self.crates.root), seen_from_above(lower))
         return whole.hexdigest()
 
 
@@ -101,16 +92,17 @@ def add(whole: "hashlib._Hash", path: Path, text: str) -> None:
 def text_of(file: Path) -> str:
     """What a check reads of a file."""
     text = file.read_text(encoding="utf-8")
-    return without_comments(text) if file.suffix == ".rt" else text
+    if file.suffix == ".rt":
+        return without_comments(text)
+    return "\n".join(it for it in text.splitlines() if not COMMENT.fullmatch(it))
 
 
-def seen_from_above(file: Path, crate: Path) -> str | None:
-    """What a crate above sees of a file: of code all but the bodies of functions, each definition, and the lemmas right in
-    `proofs/`; None of a proof of one function, which is in a folder, and of the worked cases."""
-    place = file.relative_to(crate).parts
-    if place[:2] in USED_BY_NOTHING or (place[0] == "proofs" and place[-1] in OF_ONE_FUNCTION):
-        return None
-    return without_bodies(text_of(file)) if file.suffix == ".rt" else text_of(file)
+def seen_from_above(file: Path) -> str:
+    """What a crate above sees of a file: of code all but the bodies of functions, and all of definitions and lemmas; but no line that
+    only names a module, since those that count are read themselves."""
+    text = text_of(file)
+    lines = (without_bodies(text) if file.suffix == ".rt" else text).splitlines()
+    return "\n".join(it for it in lines if not NAMES_MODULE.fullmatch(it))
 
 
 def without_bodies(code: str) -> str:

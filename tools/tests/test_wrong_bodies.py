@@ -9,7 +9,7 @@ from pathlib import Path
 
 from tools.crates import Crates
 from tools.paths import ROOT, TOOLS
-from tools.verdicts import FILE, USED_BY_NOTHING, Verdicts, logic_of_toolchain, without_bodies
+from tools.verdicts import FILE, Verdicts, logic_of_toolchain, without_bodies
 from tools.wrong_body_files import MUST_FAIL, WRONG_BODIES, written_edits
 
 LOW = """\
@@ -132,6 +132,10 @@ class WhatLinesStand(TinyRepository):
 
     def setUp(self) -> None:
         super().setUp()
+        self.write_lines()
+
+    def write_lines(self) -> None:
+        """Gives both crates a line that is valid."""
         verdicts = self.verdicts()
         for crate in ("low", "high"):
             verdicts.write(crate, 1, verdicts.checksum(crate))
@@ -194,26 +198,36 @@ class WhatLinesStand(TinyRepository):
         self.replace("crates/low/src/lib.rt", "    n + 1\n", "    1 + n\n")
         self.assertEqual(self.standing(), ["high"])
 
-    def test_a_changed_definition_below(self) -> None:
-        self.write("crates/low/specs/Lib.antt", "pub mod Further\n")
+    def test_a_definition_below_that_is_named(self) -> None:
+        self.write_definition("n + 1")
+        self.assertEqual(self.standing(), ["low", "high"])
+        self.write("crates/low/specs/Numbers.antt", "-- the number after one\nabbrev pub after : ℕ → ℕ\nafter n = n + 2\n")
         self.assertEqual(self.standing(), [])
+
+    def test_a_comment_of_a_definition_below(self) -> None:
+        self.write_definition("n + 1")
+        self.write("crates/low/specs/Numbers.antt", "-- the next number\nabbrev pub after : ℕ → ℕ\nafter n = n + 1\n")
+        self.assertEqual(self.standing(), ["low", "high"])
+
+    def write_definition(self, value: str) -> None:
+        """Gives the lower crate a definition that the higher one names, and both a line."""
+        self.write("crates/low/specs/Lib.antt", "pub mod Numbers\n")
+        self.write("crates/low/specs/Numbers.antt", f"-- the number after one\nabbrev pub after : ℕ → ℕ\nafter n = {value}\n")
+        self.replace("crates/high/src/lib.rt", "use low::next;", "ghost use Rattle.low.specs.Numbers.{after};\nuse low::next;")
+        self.write_lines()
+
+    def test_a_definition_below_that_nothing_names(self) -> None:
+        self.write("crates/low/specs/Lib.antt", "pub mod Further\n")
+        self.write("crates/low/specs/Further.antt", "abbrev pub two : ℕ\ntwo = 2\n")
+        self.assertEqual(self.standing(), ["high"])
+
+    def test_a_law_below(self) -> None:
+        self.write("crates/low/src/laws.rt", "pub fn two_is()\n    ensures { 2 ≡ 2 }\n{}\n")
+        self.assertEqual(self.standing(), ["high"])
 
     def test_a_proof_of_one_function_below(self) -> None:
         self.write("crates/low/proofs/next/Answers.antt", "\n")
         self.assertEqual(self.standing(), ["high"])
-
-    def test_a_lemma_below(self) -> None:
-        self.write("crates/low/proofs/Lemmas.antt", "\n")
-        self.assertEqual(self.standing(), [])
-
-    def test_worked_cases_below(self) -> None:
-        self.write("crates/low/proofs/WorkedCases.antt", "\n")
-        self.write("crates/low/proofs/WorkedCases/Calls.antt", "\n")
-        self.assertEqual(self.standing(), ["high"])
-
-    def test_a_definition_with_the_name_of_worked_cases_below(self) -> None:
-        self.write("crates/low/specs/WorkedCases.antt", "\n")
-        self.assertEqual(self.standing(), [])
 
     def test_a_changed_comment(self) -> None:
         self.replace("crates/low/src/lib.rt", "/// The number after", "/// The number that follows")
@@ -230,22 +244,6 @@ class WhatLinesStand(TinyRepository):
     def test_the_bodies_that_nobody_above_sees(self) -> None:
         self.assertNotIn("n + 1\n}", without_bodies(LOW))
         self.assertIn("result ≡ n + 1", without_bodies(LOW))
-
-
-class WhatNothingUses(unittest.TestCase):
-    """What verdicts leave out of a crate, in this repository: no other file may use it."""
-
-    def test_worked_cases(self) -> None:
-        names = {".".join(it).removesuffix(".antt") for it in USED_BY_NOTHING}
-        folders = {it[-1].removesuffix(".antt") for it in USED_BY_NOTHING}
-        crates = Crates()
-        files = [it for crate in crates.lines for it in crates.files(crate)]
-        for place in USED_BY_NOTHING:
-            self.assertTrue(any(it.parts[-2:] == place or it.parts[-3:-1] == place for it in files), place)
-        others = [it for it in files if folders.isdisjoint((*it.parts, it.stem))]
-        self.assertLess(len(others), len(files))
-        uses = [it for it in others if any(f".{name}" in it.read_text(encoding="utf-8") for name in names)]
-        self.assertEqual(uses, [])
 
 
 class WhatThePageNames(unittest.TestCase):

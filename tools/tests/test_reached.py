@@ -1,0 +1,67 @@
+"""Which files of the crates below it a crate leads to, on a small repository of three crates."""
+
+import tempfile
+import unittest
+from pathlib import Path
+
+from tools.crates import Crates
+from tools.reached import Reached, gives_to_others
+
+CALLER = "ghost use Rattle.low.specs.heap.Row.{cells};\nuse low::heap::Cell;\n\npub fn first(cell: Cell) {}\n"
+
+
+class WhatIsReached(unittest.TestCase):
+    """The files that the highest crate leads to."""
+
+    def setUp(self) -> None:
+        self.folder = tempfile.TemporaryDirectory()
+        self.addCleanup(self.folder.cleanup)
+        self.root = Path(self.folder.name)
+        self.write("crates.txt", "lowest:\nlow: lowest\nhigh: low\n", "")
+        self.write("src/lib.rt", CALLER, "high")
+        self.write("src/lib.rt", "pub mod heap;\npub mod laws;\n", "low")
+        self.write("src/heap.rt", "use lowest::size::Size;\n\npub struct Cell {}\n\nimpl Cell {}\n", "low")
+        self.write("src/laws.rt", "pub fn cells_are()\n{}\n", "low")
+        self.write("specs/heap.antt", "pub mod Row\npub mod Debug\n", "low")
+        self.write("specs/heap/Row.antt", "use Rattle.lowest.specs.Words.{word}\n", "low")
+        self.write("specs/heap/Debug.antt", "\n", "low")
+        self.write("src/size.rt", "pub struct Size {}\n", "lowest")
+        self.write("src/further.rt", "pub struct Further {}\n", "lowest")
+        self.write("specs/Words.antt", "\n", "lowest")
+        self.write("specs/Further.antt", "\n", "lowest")
+
+    def write(self, name: str, text: str, crate: str) -> None:
+        """Writes a file of a crate, or of the repository."""
+        path = self.root / (f"crates/{crate}/{name}" if crate else name)
+        path.parent.mkdir(parents=True, exist_ok=True)
+        path.write_text(text, encoding="utf-8")
+
+    def reached(self, crate: str = "high") -> list[str]:
+        """The files that a crate leads to, each after its crate's name."""
+        crates = Crates(self.root)
+        return [it.relative_to(self.root / "crates").as_posix() for it in Reached(crates).below(crate)]
+
+    def test_files_that_are_named_and_those_that_these_name(self) -> None:
+        wanted = ["low/specs/heap/Row.antt", "low/specs/heap.antt", "low/src/heap.rt", "low/src/lib.rt"]
+        self.assertEqual(self.reached(), [*wanted, "lowest/specs/Words.antt", "lowest/src/size.rt"])
+
+    def test_nothing_below(self) -> None:
+        self.assertEqual(self.reached("lowest"), [])
+
+    def test_what_code_declares_is_in_its_file(self) -> None:
+        self.write("src/lib.rt", "ghost use Rattle.lowest.specs.declared.further.Further.{Further};\n", "high")
+        self.assertEqual(self.reached(), ["lowest/src/further.rt"])
+
+    def test_a_module_of_modules_leads_to_all_of_them(self) -> None:
+        self.write("src/lib.rt", "ghost use Rattle.low.specs.heap as heaps;\n", "high")
+        self.assertIn("low/specs/heap/Debug.antt", self.reached())
+
+    def test_methods_of_a_type_of_another_file_count(self) -> None:
+        self.write("src/more.rt", "use crate::heap::Cell;\n\nimpl Cell {}\n", "low")
+        self.assertIn("low/src/more.rt", self.reached())
+
+    def test_a_trait_for_a_type_of_another_file_counts(self) -> None:
+        self.assertTrue(gives_to_others("impl<'a> Model for Machine<'a> {}\n"))
+        self.assertTrue(gives_to_others("impl<W: Write> Messages for W {}\n"))
+        self.assertFalse(gives_to_others("pub struct Machine<'a> {}\n\nimpl<'a> Model for Machine<'a> {}\n"))
+        self.assertFalse(gives_to_others("pub fn machine() {}\n"))
