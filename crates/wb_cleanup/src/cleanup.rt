@@ -79,6 +79,20 @@ impl Cleanup {
         self.used
     }
 
+    /// The pointer to the cell in which the items are.
+    pub fn cell(&self) -> Ptr
+        ensures { result ≡ cell_of self.now }
+    {
+        self.cell
+    }
+
+    /// How many items the cell has room for.
+    pub fn slots(&self) -> u32
+        ensures { result ≡ slots_of self.now }
+    {
+        self.slots
+    }
+
     /// Whether no slot is free. A push always leaves one free but for a growth that was refused.
     pub fn is_full(&self) -> bool
         ensures { result ≡ nat_le (slots_of self.now) (count_of self.now) }

@@ -157,8 +157,20 @@ pub fn lower(heap: &mut Heap, level: u32, from: u32, n: u32)
     }
 }
 
-/// The live cells but the cleanup stack's, by place.
-pub fn leaks(alloc: Global, heap: &Heap) -> Result<Leaks, NoMemory>
+/// The live cells but the cleanup stack's, by place. Where the tally has none, the cells aren't gone over.
+pub fn leaks(alloc: Global, heap: &Heap, tally: &Tally) -> Result<Leaks, NoMemory>
+    requires { IsTally tally.now (headers heap.now.row) }
+    ensures { IfOk result (λ leaks.
+        leaks ≡ map leak_of (cells_of_all_levels (headers heap.now.row))) }
+{
+    if tally.total() == 0 {
+        return Ok(Items::new(alloc));
+    }
+    list_leaks(alloc, heap)
+}
+
+/// The same, from the cells.
+fn list_leaks(alloc: Global, heap: &Heap) -> Result<Leaks, NoMemory>
     ensures { IfOk result (λ leaks.
         leaks ≡ map leak_of (cells_of_all_levels (headers heap.now.row))) }
 {

@@ -122,7 +122,7 @@ impl DebugHeap {
     pub fn leaks(&self) -> Result<Leaks, NoMemory>
         ensures { IfOk result (λ leaks. leaks ≡ leaks_of_heap self.now) }
     {
-        checks::leaks(self.alloc, &self.heap)
+        checks::leaks(self.alloc, &self.heap, &self.tally)
     }
 
     /// How many attempts were made.

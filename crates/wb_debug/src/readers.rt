@@ -1,7 +1,7 @@
 //! Readers for those who watch a run: the live cells by place, what they come to, the committed length, and the marks that are
-//! open. Nothing here changes a heap.
+//! open, and the script's own setting. Nothing here changes a heap.
 
-ghost use Rattle.std.specs.Prelude.{◌≡◌, length};
+ghost use Rattle.std.specs.Prelude.{◌≡◌, ◌↔◌, true, length};
 ghost use Rattle.wb_model.specs.heap.LimitedHeap.{next_live_of};
 ghost use Rattle.wb_model.specs.heap.Row.{headers, total_length};
 
@@ -38,5 +38,13 @@ impl DebugHeap {
         ensures { result ≡ self.now.heap.level }
     {
         self.level
+    }
+
+    /// Whether the script's own setting is that of another heap, as what is left of it: the same attempts from here on fail in
+    /// both.
+    pub fn has_setting_of(&self, other: &DebugHeap) -> bool
+        ensures { (result ≡ true) ↔ (other.now.heap.setting ≡ self.now.heap.setting) }
+    {
+        other.setting == self.setting
     }
 }

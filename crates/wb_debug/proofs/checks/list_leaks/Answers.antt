@@ -3,8 +3,8 @@ use Rattle.wb_model.specs.declared.run.Leak.{Leak}
 use Rattle.wb_model.specs.heap.Row.{headers, end_of}
 use Rattle.wb_model.proofs.Onward.{onward, onward_zero, onward_next, onward_fewer}
 use Rattle.wb_debug.proofs.Leaks.{leaks_of, leaks_on, leaks_past, leaks_whole}
-use Rattle.wb_debug.proofs.checks.leaks.Goals.{then-has_level+in_ok-push, else-has_level}
-use Rattle.wb_debug.proofs.checks.leaks.Goals as goal
+use Rattle.wb_debug.proofs.checks.list_leaks.Goals.{then-has_level+in_ok-push, else-has_level}
+use Rattle.wb_debug.proofs.checks.list_leaks.Goals as goal
 
 pub loop-cell-init : goal.loop-cell-init
 loop-cell-init c =
