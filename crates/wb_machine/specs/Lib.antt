@@ -1,3 +1,4 @@
+pub mod Alike
 pub mod Asks
 pub mod AttemptRises
 pub mod BetweenTurns
@@ -12,12 +13,14 @@ pub mod Fault
 pub mod Flow
 pub mod InPlace
 pub mod RunState
+pub mod SamePieces
 pub mod StateView
 pub mod Seen
 pub mod SlotInvariant
 pub mod StackInvariant
 pub mod Steps
 pub mod LocalValues
+pub mod NamesView
 pub mod ObjectInvariant
 pub mod Owed
 pub mod PointerOperands

@@ -35,6 +35,7 @@ mod depths;
 mod destroying;
 mod heads;
 mod running;
+mod same;
 mod unwinding;
 
 use crate::pieces::{Context, Ending, IN_MAIN, PendingPiece, first_statement};

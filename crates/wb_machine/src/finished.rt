@@ -73,6 +73,20 @@ impl<'a> Machine<'a> {
         state.finish(control.ending(), leaks)
     }
 
+    /// Gives the run up. Returns its heap, whose memory a copy of another machine may take.
+    pub fn into_heap(self) -> Heap {
+        let Machine {
+            script: _,
+            budget: _,
+            begun: _,
+            control: _,
+            state,
+            leaks: _,
+            failed: _,
+        } = self;
+        state.into_heap()
+    }
+
     /// Returns the outcome, the rises and the steps of a run that is over, of a machine made by `new_rises`: those of what
     /// the definitions say of a whole run.
     pub fn rises_result(self) -> RisesResult

@@ -1,6 +1,7 @@
 //! A machine that runs a script one step at a time.
 #![tactic(auto)]
 
+mod alike;
 mod arguments;
 mod asks;
 mod bodies;

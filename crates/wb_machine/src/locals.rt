@@ -9,10 +9,12 @@ ghost use Rattle.wb_model.specs.meaning.Reading.{max_in};
 ghost use Rattle.wb_model.specs.meaning.State.{initial};
 ghost use Rattle.wb_machine.specs.RunState.{value_in};
 ghost use Rattle.wb_machine.specs.LocalValues.{is_small, value_of, value_of_buffer, values_stored, no_buffer};
-ghost use Rattle.wb_machine.specs.LocalValues.{stored_at, AreAscending, first_buffer, number_over, values_over, framed};
-ghost use Rattle.wb_machine.specs.LocalValues.{unframed, buffer_in, window_in};
+ghost use Rattle.wb_machine.specs.LocalValues.{stored_at, AreAscending, first_buffer, number_over};
+ghost use Rattle.wb_machine.specs.LocalValues.{values_over, framed, unframed, buffer_in, window_in};
 ghost use Rattle.wb_machine.specs.BufferEdits.{frames_edited, frames_put_back};
 ghost use Rattle.wb_machine.specs.PointerOperands.{holder_pointer_over, pointer_over};
+
+mod same;
 
 use crate::arguments::{CallArguments, hand, number_over};
 use crate::pointers::{ReadContext, holder_pointer_over, pointer_over};
@@ -67,11 +69,9 @@ pub struct Locals {
 }
 
 impl Model for Locals {
-    ghost use Rattle.wb_machine.specs.LocalValues.{Frames};
+    ghost use Rattle.wb_machine.specs.LocalValues.{Frames, frames_in, IsWithin};
 
     ghost Value = { Frames };
-
-    ghost use Rattle.wb_machine.specs.LocalValues.{frames_in, IsWithin};
 
     ghost view = { frames_in };
 

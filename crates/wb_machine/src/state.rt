@@ -270,6 +270,20 @@ impl State {
         }
     }
 
+    /// The heap, whose memory a copy of another may take.
+    pub fn into_heap(self) -> Heap {
+        let State {
+            heap,
+            cleanup: _,
+            this: _,
+            locals: _,
+            lines: _,
+            notes: _,
+            steps: _,
+        } = self;
+        heap.into_trace_and_heap().1
+    }
+
     /// What a run leaves, by how it ended and by its leaks.
     pub fn finish(self, ending: Ending, leaks: Leaks) -> Finished
         ensures { result.result ≡ run_result_by ending leaks self }

@@ -1,0 +1,91 @@
+-- Two machines between two turns whose states and pieces are the same but for numbers: the rest of one run is that of the other.
+use Rattle.std.proofs.Common.{◌≡◌, ◌≢◌, ◌≤◌, true, false, refl, sym, ◌∙◌, ap, subst, inl}
+use Rattle.wb_model.specs.declared.run.Outcome.TheVariants.{Cut}
+use Rattle.wb_model.specs.declared.run.Why.TheVariants.{Budget}
+use Rattle.wb_model.specs.declared.script.Script.{Script}
+use Rattle.wb_model.specs.runs.Rest.{rest}
+use Rattle.wb_model.specs.runs.Run.{WholeRun}
+use Rattle.wb_model.specs.runs.Follows.{steps_of, reached, RefusesAlike, RestsAgree}
+use Rattle.wb_model.specs.runs.SameButNumbers as numbers
+use Rattle.wb_model.specs.runs.SameButNumbers.{Renaming, IsRenaming, AllBeside, IsSamePointer, IsSameState, IsSameValue, IsSameProgress}
+use Rattle.wb_model.proofs.FollowEither.{rests-together}
+use Rattle.wb_machine.specs.declared.machine.Machine.TheInside.{Inside}
+use Rattle.wb_machine.specs.declared.pieces.Ending.TheVariants.{GoesOn}
+use Rattle.wb_machine.specs.Alike.{reached_by, GoesOnLike}
+use Rattle.wb_machine.specs.Flow.{pending_in, progress_of}
+use Rattle.wb_machine.specs.RunState.{state_of, account_of}
+use Rattle.wb_machine.specs.SamePieces.{ArePendingAlike}
+use Rattle.wb_machine.specs.Seen.{whole_run_of}
+use Rattle.wb_machine.specs.Whole.{seen, progress_in, rest_in, IsMachine}
+
+-- what the comparison of two machines finds
+pub record AreAlike (w : Renaming) (m other : Inside) : Type 0 where
+  pub renaming : IsRenaming w
+  pub made : m.state.debug.attempts ≡ w.made
+  pub other_made : other.state.debug.attempts ≡ w.other_made
+  pub budget : other.budget ≡ m.budget
+  pub begun : m.begun ≡ true
+  pub other_begun : other.begun ≡ true
+  pub well : m.failed ≡ false
+  pub other_well : other.failed ≡ false
+  pub ending : m.control.ending ≡ GoesOn
+  pub other_ending : other.control.ending ≡ GoesOn
+  pub callers : AllBeside (IsSameValue w.names) m.state.callers other.state.callers
+  pub state : (script : Script) → IsSameState w.names (state_of script m.state) (state_of script other.state)
+  pub pieces : ArePendingAlike w.names m.control.pieces.items other.control.pieces.items
+
+-- how far a run has come that goes on
+going-on : (m : Inside) → m.begun ≡ true → m.control.ending ≡ GoesOn →
+    progress_in m ≡ progress_of true GoesOn (pending_in m.state.callers m.control.pieces.items) (state_of m.script.now m.state)
+going-on m begun ending =
+    ap (λ b. progress_of b m.control.ending (pending_in m.state.callers m.control.pieces.items) (state_of m.script.now m.state)) begun
+    ∙ ap (λ e. progress_of true e (pending_in m.state.callers m.control.pieces.items) (state_of m.script.now m.state)) ending
+
+-- the rest of a run by its own rule is the whole run
+own-rest : (m : Inside) → IsMachine m → m.failed ≡ false → rest_in m.state.debug.rule m ≡ whole_run_of (seen m)
+own-rest m is well = is.keeps well m.state.debug.rule (inl refl)
+
+same-progress : (w : Renaming) (m other : Inside) → other.script.now ≡ m.script.now → AreAlike w m other → IsSameProgress w.names (progress_in m) (progress_in other)
+same-progress w m other script are =
+    subst (λ p. IsSameProgress w.names p (progress_in other)) (sym (going-on m are.begun are.ending))
+    (subst (λ p. IsSameProgress w.names (progress_of true GoesOn (pending_in m.state.callers m.control.pieces.items) (state_of m.script.now m.state)) p)
+    (sym (going-on other are.other_begun are.other_ending))
+    (numbers.same_going (are.pieces m.state.callers other.state.callers are.callers) numbers.same_plain
+    (subst (λ s. IsSameState w.names (state_of m.script.now m.state) (state_of s other.state)) (sym script) (are.state m.script.now))))
+
+steps-come : (m : Inside) → m.begun ≡ true → m.control.ending ≡ GoesOn → steps_of (progress_in m) ≡ m.state.steps
+steps-come m begun ending = ap steps_of (going-on m begun ending)
+
+reached-come : (m : Inside) → m.begun ≡ true → m.control.ending ≡ GoesOn → reached (progress_in m) (account_of m.state) ≡ reached_by (seen m)
+reached-come m begun ending = ap (λ n. record { attempts = m.state.debug.attempts; steps = n }) (steps-come m begun ending)
+
+-- the one that was compared first is `m`; the other goes on like it
+pub goes-on-like : (w : Renaming) (m other : Inside) → IsMachine m → IsMachine other → other.script.now ≡ m.script.now → AreAlike w m other →
+    GoesOnLike (seen other) (seen m)
+goes-on-like w m other is other_is script are uncut alike =
+    let p = progress_in m in
+    let q = progress_in other in
+    let x = rest_in m.state.debug.rule m in
+    let y = rest_in other.state.debug.rule other in
+    let here = reached-come m are.begun are.ending in
+    let there = reached-come other are.other_begun are.other_ending in
+    let within : steps_of p ≤ m.budget = subst (λ n. n ≤ m.budget) (sym (steps-come m are.begun are.ending)) (is.sound are.well).between.within in
+    let other_within : steps_of q ≤ m.budget =
+    subst (λ n. n ≤ m.budget) (sym (steps-come other are.other_begun are.other_ending))
+    (subst (λ b. other.state.steps ≤ b) are.budget (other_is.sound are.other_well).between.within) in
+    let rests : RestsAgree m.budget (reached p (account_of m.state)) (reached q (account_of other.state))
+    (rest m.script.now m.budget m.state.debug.shape m.state.debug.rule p (account_of m.state))
+    (rest m.script.now m.budget other.state.debug.shape other.state.debug.rule q (account_of other.state)) =
+    rests-together m.script.now m.budget m.state.debug.shape other.state.debug.shape m.state.debug.rule other.state.debug.rule w p q (account_of m.state) (account_of other.state)
+    are.renaming (same-progress w m other script are) within other_within are.made are.other_made
+    (subst (λ r. RefusesAlike m.state.debug.rule other.state.debug.rule r (reached q (account_of other.state))) (sym here)
+    (subst (λ r. RefusesAlike m.state.debug.rule other.state.debug.rule (reached_by (seen m)) r) (sym there) alike))
+    (subst (λ (z : WholeRun). z.result.outcome ≢ Cut Budget) (sym (own-rest m is are.well)) uncut) in
+    let second : rest m.script.now m.budget other.state.debug.shape other.state.debug.rule q (account_of other.state) ≡ y =
+    ap (λ s. rest s m.budget other.state.debug.shape other.state.debug.rule q (account_of other.state)) (sym script)
+    ∙ ap (λ b. rest other.script.now b other.state.debug.shape other.state.debug.rule q (account_of other.state)) (sym are.budget) in
+    subst (λ b. RestsAgree b (reached_by (seen m)) (reached_by (seen other)) (whole_run_of (seen m)) (whole_run_of (seen other))) (sym are.budget)
+    (subst (λ z. RestsAgree m.budget (reached_by (seen m)) (reached_by (seen other)) z (whole_run_of (seen other))) (own-rest m is are.well)
+    (subst (λ z. RestsAgree m.budget (reached_by (seen m)) (reached_by (seen other)) x z) (second ∙ own-rest other other_is are.other_well)
+    (subst (λ r. RestsAgree m.budget r (reached_by (seen other)) x (rest m.script.now m.budget other.state.debug.shape other.state.debug.rule q (account_of other.state))) here
+    (subst (λ r. RestsAgree m.budget (reached p (account_of m.state)) r x (rest m.script.now m.budget other.state.debug.shape other.state.debug.rule q (account_of other.state))) there rests))))

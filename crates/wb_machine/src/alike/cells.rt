@@ -1,0 +1,202 @@
+//! Cells and items of the cleanup stack that are the same but for allocation numbers. Cells are compared by place, and the first
+//! difference ends it.
+
+ghost use Rattle.std.specs.Prelude.{◌≡◌, ◌+◌, ◌^◌, ◌<◌, ℕ, List, true, Some, length, slice_index, IfSome, OnSome};
+ghost use Rattle.wb_model.specs.cells.CellRow.{payload_of};
+ghost use Rattle.wb_model.specs.declared.script.Script.{Script};
+ghost use Rattle.wb_model.specs.heap.Debug.{IsSoundDebug};
+ghost use Rattle.wb_model.specs.heap.Row.{cell_at, end_of, Cell};
+ghost use Rattle.wb_model.specs.runs.SameButNumbers.{AllBeside, IsSameCell, IsSameHeader, IsSameItem};
+ghost use Rattle.wb_cleanup.specs.Stacks.{items_of, IsStack};
+ghost use Rattle.wb_machine.specs.Alike.{ArePairsAlike, AreWordsAlike, IsGrown};
+ghost use Rattle.wb_machine.specs.RunState.{read_cell, read_row};
+
+use super::names::Names;
+use wb_cleanup::Cleanup;
+use wb_debug::DebugHeap;
+use wb_model::heap::{Header, Item, Kind, Ptr};
+
+fn same_header(names: &mut Names, header: Header, other: Header) -> bool
+    ensures same { result ≡ true → IsSameHeader names.new.names header other }
+    ensures grown { IsGrown names.old names.new }
+{
+    header.place == other.place
+        && header.length == other.length
+        && header.kind == other.kind
+        && header.level == other.level
+        && names.relate(header.number, other.number)
+}
+
+/// Whether two payloads of so many words are the same.
+fn same_words(heap: &DebugHeap, ptr: Ptr, other_heap: &DebugHeap, other: Ptr, count: u32) -> bool
+    requires words { length (payload_of ptr heap.now.heap.row) ≡ count }
+    requires others { length (payload_of other other_heap.now.heap.row) ≡ count }
+    ensures { result ≡ true →
+        payload_of other other_heap.now.heap.row ≡ payload_of ptr heap.now.heap.row }
+{
+    for i in 0..count {
+        if heap.payload(ptr, i) != other_heap.payload(other, i) {
+            return false;
+        }
+    }
+    true
+}
+
+/// The pointer in two words of a payload.
+fn pointer_at(heap: &DebugHeap, ptr: Ptr, at: u32) -> Ptr
+    requires within { at + 1 < length (payload_of ptr heap.now.heap.row) }
+    requires fits { at + 1 < 2 ^ 32 }
+    ensures { let words = payload_of ptr heap.now.heap.row in
+        result ≡ record { place = slice_index words at; number = slice_index words (at + 1) } }
+{
+    Ptr {
+        place: heap.payload(ptr, at),
+        number: heap.payload(ptr, at + 1),
+    }
+}
+
+/// Whether two payloads of so many words hold pointers from the third word on that are the same but for numbers, two words each:
+/// the fields of an object, and zeros after them.
+fn same_fields(
+    names: &mut Names,
+    heap: &DebugHeap,
+    ptr: Ptr,
+    other_heap: &DebugHeap,
+    other: Ptr,
+    count: u32,
+) -> bool
+    requires words { length (payload_of ptr heap.now.heap.row) ≡ count }
+    requires others { length (payload_of other other_heap.now.heap.row) ≡ count }
+    ensures same { result ≡ true → ArePairsAlike names.new.names
+        (payload_of ptr heap.now.heap.row) (payload_of other other_heap.now.heap.row) }
+    ensures grown { IsGrown names.old names.new }
+{
+    for i in 1..count / 2 {
+        let field = pointer_at(heap, ptr, 2 * i);
+        let other_field = pointer_at(other_heap, other, 2 * i);
+        if !names.relate_pointers(field, other_field) {
+            return false;
+        }
+    }
+    true
+}
+
+/// Whether two payloads of so many words hold the same but for numbers, as a kind of cell reads them. What the cleanup stack's cell
+/// holds are its items.
+fn same_content(
+    names: &mut Names,
+    kind: Kind,
+    heap: &DebugHeap,
+    ptr: Ptr,
+    other_heap: &DebugHeap,
+    other: Ptr,
+    count: u32,
+) -> bool
+    requires words { length (payload_of ptr heap.now.heap.row) ≡ count }
+    requires others { length (payload_of other other_heap.now.heap.row) ≡ count }
+    ensures same { result ≡ true → AreWordsAlike names.new.names kind
+        (payload_of ptr heap.now.heap.row) (payload_of other other_heap.now.heap.row) }
+    ensures grown { IsGrown names.old names.new }
+{
+    match kind {
+        Kind::Raw => same_words(heap, ptr, other_heap, other, count),
+        Kind::Text => same_words(heap, ptr, other_heap, other, count),
+        Kind::Object(_) => same_fields(names, heap, ptr, other_heap, other, count),
+        Kind::Cleanup => true,
+    }
+}
+
+/// Where a cell ends that is another but for numbers; `None` if it isn't.
+fn end_if_same(
+    names: &mut Names,
+    heap: &DebugHeap,
+    ptr: Ptr,
+    other_heap: &DebugHeap,
+    other: Ptr,
+) -> Option<u32>
+    ensures same { OnSome result ((script : Script) (c d : Cell (List ℕ)) →
+        cell_at ptr heap.now.heap.row ≡ Some c → cell_at other other_heap.now.heap.row ≡ Some d →
+        IsSameCell names.new.names (read_cell script c) (read_cell script d)) }
+    ensures end { IfSome result (λ end. (c : Cell (List ℕ)) → cell_at ptr heap.now.heap.row ≡ Some c →
+        end ≡ end_of c.head) }
+    ensures grown { IsGrown names.old names.new }
+{
+    let Some(cell) = heap.header(ptr) else {
+        return None;
+    };
+    let Some(other_cell) = other_heap.header(other) else {
+        return None;
+    };
+    if !same_header(names, cell, other_cell) {
+        return None;
+    }
+    if !same_content(names, cell.kind, heap, ptr, other_heap, other, cell.words()) {
+        return None;
+    }
+    Some(cell.end())
+}
+
+/// Whether two heaps have the same cells but for numbers.
+pub fn same_cells(names: &mut Names, heap: &DebugHeap, other: &DebugHeap) -> bool
+    requires sound { IsSoundDebug heap.now }
+    requires other_sound { IsSoundDebug other.now }
+    ensures same { result ≡ true → (script : Script) → AllBeside (IsSameCell names.new.names)
+        (read_row script heap.now.heap.row) (read_row script other.now.heap.row) }
+    ensures grown { IsGrown names.old names.new }
+{
+    let mut at = 0;
+    while let Some(cell) = heap.next_live(at) {
+        let Some(other_cell) = other.next_live(at) else {
+            return false;
+        };
+        let ends = end_if_same(names, heap, cell.pointer(), other, other_cell.pointer());
+        let Some(end) = ends else {
+            return false;
+        };
+        at = end;
+    }
+    match other.next_live(at) {
+        None => true,
+        Some(_) => false,
+    }
+}
+
+fn same_item(names: &mut Names, item: Item, other: Item) -> bool
+    ensures same { result ≡ true → IsSameItem names.new.names item other }
+    ensures grown { IsGrown names.old names.new }
+{
+    match (item, other) {
+        (Item::Free(ptr), Item::Free(other)) => names.relate_pointers(ptr, other),
+        (Item::Delete(ptr), Item::Delete(other)) => names.relate_pointers(ptr, other),
+        (Item::Call(ptr, operation), Item::Call(other, other_operation)) => {
+            operation == other_operation && names.relate_pointers(ptr, other)
+        }
+        _ => false,
+    }
+}
+
+/// Whether two stacks hold the same items but for numbers. The newest are compared first.
+pub fn same_items(
+    names: &mut Names,
+    stack: Cleanup,
+    heap: &DebugHeap,
+    other: Cleanup,
+    other_heap: &DebugHeap,
+) -> bool
+    requires stack { IsStack stack heap.now }
+    requires other { IsStack other other_heap.now }
+    ensures same { result ≡ true → AllBeside (IsSameItem names.new.names)
+        (items_of stack heap.now) (items_of other other_heap.now) }
+    ensures grown { IsGrown names.old names.new }
+{
+    let (mut left, mut other_left) = (stack, other);
+    while let Some(item) = left.take_top(heap, 0) {
+        let Some(other_item) = other_left.take_top(other_heap, 0) else {
+            return false;
+        };
+        if !same_item(names, item, other_item) {
+            return false;
+        }
+    }
+    other_left.used() == 0
+}

@@ -1,0 +1,94 @@
+//! Which allocation numbers of one run stand for which of another, found while the two are compared.
+
+ghost use Rattle.std.specs.Prelude.{◌≡◌, ◌≤◌, [], true};
+ghost use Rattle.wb_machine.specs.Alike.{pair_of, IsGrown};
+ghost use Rattle.wb_model.specs.runs.SameButNumbers.{since_fork, IsRenaming, IsSamePointer, Renames};
+
+use arrayvec::ArrayVec;
+use std::marker::Model;
+use wb_model::heap::Ptr;
+
+/// A number of one run, and the number of the other that stands for it.
+#[derive(Clone, Copy, Default)]
+pub struct Name {
+    pub here: u32,
+    pub there: u32,
+}
+
+/// A one-to-one map of the numbers of attempts that each of two runs has made. Up to the attempt `since` each number stands for
+/// itself. It takes no memory.
+#[derive(Drop)]
+pub struct Names {
+    since: u32,
+    /// How many attempts either run has made.
+    made: u32,
+    other_made: u32,
+    /// Pairs of later attempts. States that differ in more numbers aren't said to be the same.
+    added: ArrayVec<Name, 64>,
+}
+
+impl Model for Names {
+    ghost use Rattle.wb_model.specs.runs.SameButNumbers.{Renaming};
+
+    ghost Value = { Renaming };
+
+    ghost use Rattle.wb_machine.specs.NamesView.{renaming_of, AreAdded};
+
+    ghost view = { renaming_of };
+
+    ghost invariant = { AreAdded };
+}
+
+/// The first pair that one of two numbers is in.
+fn pair_of(pairs: &[Name], here: u32, there: u32) -> Option<Name>
+    ensures { result ≡ pair_of here there pairs.now }
+{
+    for pair in pairs {
+        if pair.here == here || pair.there == there {
+            return Some(*pair);
+        }
+    }
+    None
+}
+
+impl Names {
+    /// The map of numbers up to an attempt that both runs have made.
+    pub fn new(since: u32, made: u32, other_made: u32) -> Names
+        requires here { since ≤ made }
+        requires there { since ≤ other_made }
+        ensures map { result ≡ since_fork since [] made other_made }
+        ensures renaming { IsRenaming result }
+    {
+        Names {
+            since,
+            made,
+            other_made,
+            added: ArrayVec::new(),
+        }
+    }
+
+    /// Whether a number stands for another, or may do so from here on.
+    pub fn relate(&mut self, here: u32, there: u32) -> bool
+        ensures related { result ≡ true → Renames self.new.names here there }
+        ensures grown { IsGrown self.old self.new }
+    {
+        if here <= self.since || there <= self.since {
+            return here == there;
+        }
+        if let Some(pair) = pair_of(self.added.as_slice(), here, there) {
+            return pair.here == here && pair.there == there;
+        }
+        if self.made < here || self.other_made < there {
+            return false;
+        }
+        self.added.try_push(Name { here, there }).is_ok()
+    }
+
+    /// Whether two pointers are the same but for their numbers.
+    pub fn relate_pointers(&mut self, ptr: Ptr, other: Ptr) -> bool
+        ensures same { result ≡ true → IsSamePointer self.new.names ptr other }
+        ensures grown { IsGrown self.old self.new }
+    {
+        ptr.place == other.place && self.relate(ptr.number, other.number)
+    }
+}

@@ -1,0 +1,177 @@
+//! Pending pieces that are the same but for allocation numbers, and at the same place of the script.
+
+ghost use Rattle.std.specs.Prelude.{◌≡◌, ◌+◌, ◌<◌, ◌∷◌, drop, length, true};
+ghost use Rattle.wb_model.specs.runs.SameButNumbers.{AllBeside, IsSamePointer};
+ghost use Rattle.wb_model.specs.runs.SameButNumbers as numbers;
+ghost use Rattle.wb_machine.specs.declared.pieces.Ending.TheVariants.{GoesOn};
+ghost use Rattle.wb_machine.specs.Alike.{IsGrown};
+ghost use Rattle.wb_machine.specs.SamePieces.{is_of_trap, ArePendingAlike, IsSameAfter, IsSamePiece};
+
+use super::Control;
+use crate::alike::code::same_statements;
+use crate::alike::names::Names;
+use crate::pieces::{After, Context, Ending, PendingPiece, first_statement};
+use wb_model::heap::Ptr;
+
+/// Whether the piece above ended plainly.
+fn goes_on(ending: Ending) -> bool
+    ensures { result ≡ true → ending ≡ GoesOn }
+{
+    match ending {
+        Ending::GoesOn => true,
+        _ => false,
+    }
+}
+
+fn same_context(at: Context, other: Context) -> bool
+    ensures { result ≡ true → other ≡ at }
+{
+    at.depth == other.depth && at.floor == other.floor
+}
+
+fn same_after(names: &mut Names, after: After, other: After) -> bool
+    ensures same { result ≡ true → IsSameAfter names.new.names after other }
+    ensures grown { IsGrown names.old names.new }
+{
+    match (after, other) {
+        (After::Nothing, After::Nothing) => true,
+        (After::Gives(local), After::Gives(other)) => local == other,
+        (After::Releases(ptr), After::Releases(other)) => names.relate_pointers(ptr, other),
+        _ => false,
+    }
+}
+
+/// Whether as many turns are left at the same place.
+fn same_turns(at: Context, left: u32, other: Context, other_left: u32) -> bool
+    ensures at { result ≡ true → other ≡ at }
+    ensures left { result ≡ true → other_left ≡ left }
+{
+    same_context(at, other) && left == other_left
+}
+
+/// Whether two callers run a body of the same object, and the same follows.
+fn same_caller(
+    names: &mut Names,
+    this: Ptr,
+    after: After,
+    other_this: Ptr,
+    other_after: After,
+) -> bool
+    ensures this { result ≡ true → IsSamePointer names.new.names this other_this }
+    ensures after { result ≡ true → IsSameAfter names.new.names after other_after }
+    ensures grown { IsGrown names.old names.new }
+{
+    if !names.relate_pointers(this, other_this) {
+        return false;
+    }
+    same_after(names, after, other_after)
+}
+
+/// Whether two pieces begin with the same statements, or are the same turns of a `repeat`.
+fn same_code(piece: PendingPiece, other: PendingPiece) -> bool
+    ensures { result ≡ true → (names : numbers.Names) →
+        IsSamePiece names piece.entry other.entry }
+{
+    match (piece, other) {
+        (PendingPiece::Code(at, statements), PendingPiece::Code(other, others)) => {
+            same_context(at, other) && same_statements(statements, others)
+        }
+        (PendingPiece::Turns(at, left, body), PendingPiece::Turns(other, other_left, others)) => {
+            same_turns(at, left, other, other_left) && same_statements(body, others)
+        }
+        _ => false,
+    }
+}
+
+/// Whether two pieces are the same that end a TRAP, or follow its end.
+fn same_trap(piece: PendingPiece, other: PendingPiece) -> bool
+    ensures same { result ≡ true → other.entry ≡ piece.entry }
+    ensures trap { result ≡ true → is_of_trap piece.entry ≡ true }
+{
+    match (piece, other) {
+        (PendingPiece::Trap(at, local, entry), PendingPiece::Trap(other, gets, entered)) => {
+            same_context(at, other) && local == gets && entry == entered
+        }
+        (PendingPiece::Caught(local, code), PendingPiece::Caught(gets, other)) => {
+            local == gets && code == other
+        }
+        (PendingPiece::MainTrap, PendingPiece::MainTrap) => true,
+        (PendingPiece::MainCaught(code), PendingPiece::MainCaught(other)) => code == other,
+        _ => false,
+    }
+}
+
+/// Whether two pieces are the same but for numbers.
+fn same_piece(names: &mut Names, piece: PendingPiece, other: PendingPiece) -> bool
+    ensures same { result ≡ true → IsSamePiece names.new.names piece.entry other.entry }
+    ensures grown { IsGrown names.old names.new }
+{
+    match (piece, other) {
+        (PendingPiece::Items(at, left), PendingPiece::Items(other, other_left)) => {
+            same_context(at, other) && left == other_left
+        }
+        (PendingPiece::Object(at, ptr), PendingPiece::Object(other, other_ptr)) => {
+            same_context(at, other) && names.relate_pointers(ptr, other_ptr)
+        }
+        (
+            PendingPiece::Call(base, this, after),
+            PendingPiece::Call(other, other_this, other_after),
+        ) => { base == other && same_caller(names, this, after, other_this, other_after) }
+        (PendingPiece::Code(..), _) | (PendingPiece::Turns(..), _) => same_code(piece, other),
+        _ => same_trap(piece, other),
+    }
+}
+
+/// The piece at a place.
+fn piece_at<'a>(pieces: &[PendingPiece<'a>], at: usize) -> PendingPiece<'a>
+    requires { at < length pieces.now }
+    ensures { drop at pieces.now ≡ result ∷ drop (at + 1) pieces.now }
+{
+    pieces[at]
+}
+
+/// Whether all of them are.
+fn same_pieces(names: &mut Names, pieces: &[PendingPiece], others: &[PendingPiece]) -> bool
+    ensures same { result ≡ true → AllBeside (IsSamePiece names.new.names) pieces.now others.now }
+    ensures grown { IsGrown names.old names.new }
+{
+    let count = pieces.len();
+    if others.len() != count {
+        return false;
+    }
+    for i in 0..count {
+        let (piece, other) = (piece_at(pieces, i), piece_at(others, i));
+        if !same_piece(names, piece, other) {
+            return false;
+        }
+    }
+    true
+}
+
+impl<'a> Control<'a> {
+    /// The line of the statement that begins next; `None` if the piece on top begins with none.
+    fn next_line(&self) -> Option<u32> {
+        let first = first_statement(self.pieces.last()?)?;
+        Some(first.line)
+    }
+
+    /// Whether as much is pending as in another run, by the number of pieces and the line that comes next, and both go on.
+    pub fn is_at_place_of(&self, other: &Control) -> bool
+        ensures here { result ≡ true → self.now.ending ≡ GoesOn }
+        ensures there { result ≡ true → other.now.ending ≡ GoesOn }
+    {
+        self.pieces.len() == other.pieces.len()
+            && self.next_line() == other.next_line()
+            && goes_on(self.ending)
+            && goes_on(other.ending)
+    }
+
+    /// Whether what is pending is the same as in another run but for numbers.
+    pub fn is_like(&self, names: &mut Names, other: &Control) -> bool
+        ensures same { result ≡ true →
+            ArePendingAlike names.new.names self.now.pieces.items other.now.pieces.items }
+        ensures grown { IsGrown names.old names.new }
+    {
+        same_pieces(names, self.pieces.as_slice(), other.pieces.as_slice())
+    }
+}
