@@ -4,9 +4,10 @@ use Rattle.std.proofs.lemmas.Bool.{cases_lt}
 use Rattle.wb_machine.specs.Seen.{Seen}
 use Rattle.wb_model.specs.declared.heap.Shape.{Shape}
 use Rattle.wb_model.specs.declared.script.Script.{Script}
-use Rattle.wb_model.specs.runs.Sweeps.{is_fine, runs_under, AreFineBelow}
+use Rattle.wb_model.specs.runs.Sweeps.{is_fine, runs_under}
 use Rattle.wb_sweep.specs.declared.family.Family.{Family}
 use Rattle.wb_sweep.specs.Families.{failing_in, next_run, runs_beside}
+use Rattle.wb_sweep.specs.Stretches.{AreFineFrom}
 
 -- a lead is that of another's script, budget and shape
 pub record IsOfSameRun (old lead : Seen) : Type 0 where
@@ -26,12 +27,12 @@ same-runs family old lead n same =
     ∙ ap (λ (b : ℕ). runs_under (failing_in family) old.script b lead.shape n) same.budget
     ∙ ap (λ (s : Shape). runs_under (failing_in family) old.script old.budget s n) same.shape
 
-pub fine-further : (family : Family) (old lead next : Seen) → IsOfSameRun old lead → AreFineBelow (runs_beside family old) (lead.attempts + 1) →
-    next.attempts ≤ lead.attempts + 1 → (lead.asks ≡ false → next.attempts ≡ lead.attempts) → (lead.asks ≡ true → is_fine (next_run family lead) ≡ true) →
-    AreFineBelow (runs_beside family old) (next.attempts + 1)
-fine-further family old lead next same fine more unasked asked n lt =
+pub fine-further : (family : Family) (old lead next : Seen) (from : ℕ) → IsOfSameRun old lead → AreFineFrom (runs_beside family old) from (lead.attempts + 1) →
+    next.attempts ≤ lead.attempts + 1 → (lead.asks ≡ false → next.attempts ≡ lead.attempts) →
+    (lead.asks ≡ true → from ≤ lead.attempts + 1 → is_fine (next_run family lead) ≡ true) → AreFineFrom (runs_beside family old) from (next.attempts + 1)
+fine-further family old lead next from same fine more unasked asked n begun lt =
     elim (cases_lt n (lead.attempts + 1)) [
-      | inl less ↦ fine n less
+      | inl less ↦ fine n begun less
       | inr ge ↦ by lead.asks refl ge
     ]
   where
@@ -40,4 +41,4 @@ fine-further family old lead next same fine more unasked asked n lt =
     by true e ge =
         let last : lead.attempts + 1 ≡ n = omega (arith, ge, lt, more) in
         subst (λ k. is_fine (runs_beside family old k) ≡ true) last
-        (ap is_fine (sym (same-runs family old lead (lead.attempts + 1) same)) ∙ asked e)
+        (ap is_fine (sym (same-runs family old lead (lead.attempts + 1) same)) ∙ asked e (omega (arith, begun, last)))

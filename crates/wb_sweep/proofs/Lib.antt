@@ -2,4 +2,6 @@ mod AnswerLemmas
 mod FamilyLemmas
 mod FoundPairs
 mod Further
+mod PartFound
+mod TellLemmas
 mod PairsFurther

@@ -1,3 +1,5 @@
+pub mod AllOfAPart
 pub mod Families
 pub mod Fault
+pub mod Stretches
 pub mod Sweeping

@@ -4,8 +4,10 @@ use Rattle.wb_model.specs.declared.failures.Failing.{Failing}
 use Rattle.wb_model.specs.declared.failures.Failures.{Failures}
 use Rattle.wb_model.specs.declared.heap.Attempt.{Attempt}
 use Rattle.wb_model.specs.declared.heap.Shape.{Shape}
+use Rattle.wb_model.specs.declared.part.Part.{Part}
 use Rattle.wb_model.specs.declared.run.RunResult.{RunResult}
 use Rattle.wb_model.specs.declared.script.Script.{Script}
+use Rattle.wb_model.specs.runs.Parts.{last_attempt, IsFoundIn, IsNoneIn}
 use Rattle.wb_model.specs.runs.Run.{is_bad}
 use Rattle.wb_model.specs.runs.SweepAnswers.{IsFound, IsNoneFound}
 use Rattle.wb_model.specs.runs.Sweeps.{runs_of}
@@ -27,3 +29,9 @@ pub record IsSweep (failures : Failures) (script : Script) (budget : ℕ) (shape
   pub attempts : sweep.attempts ≡ length (runs_of failures script budget shape 0).trace
   pub found : IfSome sweep.found (λ found. IsFound failures script budget shape found.at found.result)
   pub none : sweep.found ≡ None → IsNoneFound failures script budget shape
+
+-- The same of a part: the failures of its numbers are spoken of, up to the last attempt.
+pub record IsSweepIn (failures : Failures) (part : Part) (script : Script) (budget : ℕ) (shape : Shape) (sweep : Sweep) : Type 0 where
+  pub attempts : sweep.attempts ≡ last_attempt failures script budget shape
+  pub found : IfSome sweep.found (λ found. IsFoundIn failures part script budget shape found.at found.result)
+  pub none : sweep.found ≡ None → IsNoneIn failures part script budget shape

@@ -1,6 +1,7 @@
 //! What a sweep finds.
 
 use wb_model::failures::Failing;
+use wb_model::number_ends::NumberEnds;
 use wb_model::run::RunResult;
 
 /// The least failure whose run is bad, and that run.
@@ -14,5 +15,18 @@ pub struct Found {
 #[derive(Debug, Drop)]
 pub struct Sweep {
     pub attempts: u32,
+    pub found: Option<Found>,
+}
+
+/// What a sweep tells that looks at each number of a part, up to the last attempt of the run without failure.
+#[derive(Debug, Drop)]
+pub struct AllNumbers {
+    /// How many attempts the run without failure makes.
+    pub attempts: u32,
+    /// The numbers whose run leaks, panics or is cut, each with the end of its run.
+    pub ends: NumberEnds,
+    /// How many of them leak or panic.
+    pub bad: usize,
+    /// The least of these, and its run.
     pub found: Option<Found>,
 }

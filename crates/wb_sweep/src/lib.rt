@@ -1,6 +1,8 @@
-//! The least number of an attempt, the least rate, or the least pair of attempts, whose failure shows a panic or a leak.
+//! The least number of an attempt, the least rate, or the least pair of attempts, whose failure shows a panic or a leak, of all or of
+//! a part; and what the failure of each number shows.
 #![tactic(auto)]
 
+mod all_numbers;
 mod family;
 pub mod fault;
 pub mod fork;
@@ -9,13 +11,15 @@ mod pairs;
 pub mod sweeping;
 mod walk;
 
+pub use all_numbers::sweep_all;
 pub use fault::SweepFault;
 pub use fork::result_under;
-pub use found::{Found, Sweep};
-pub use sweeping::sweep;
+pub use found::{AllNumbers, Found, Sweep};
+pub use sweeping::{sweep, sweep_part};
 pub use wb_machine::RunFault;
 pub use wb_model::failures::{Failing, Failures};
 pub use wb_model::heap::Shape;
+pub use wb_model::part::Part;
 pub use wb_model::progress::{Progress, Silent};
 pub use wb_model::run::{RunResult, Why};
 pub use wb_model::script::Script;

@@ -1,15 +1,16 @@
-//! A sweep over pairs of failures, once no single failure shows anything: a walk along the run without failure, and beside it
-//! one along each run in which an attempt fails.
+//! A sweep over the pairs of a part, once no single failure of it shows anything: a walk along the run without failure, and beside
+//! it one along each run in which an attempt of the part fails.
 
 ghost use Rattle.std.specs.Prelude.{◌≡◌, ◌≢◌, ◌+◌, ◌≤◌, None, true, false, length, IfOk, IfSome, IsTrue};
-ghost use Rattle.wb_model.specs.runs.Pairs.{failing_with, pair_run, AreAllPairsFine, ArePairsFineWith, IsCutPair};
-ghost use Rattle.wb_model.specs.runs.Pairs.{IsFoundPair};
+ghost use Rattle.wb_model.specs.runs.Pairs.{failing_with, pair_run, ArePairsFineWith};
+ghost use Rattle.wb_model.specs.runs.Parts.{last_attempt, IsFoundIn, IsLeastCutIn, IsUncut};
 ghost use Rattle.wb_model.specs.language.Sound.{is_script};
 ghost use Rattle.wb_model.specs.heap.Space.{is_shape};
-ghost use Rattle.wb_model.specs.runs.Sweeps.{runs_of, AreAllFine, IsCutAmong, IsFoundAmong};
-ghost use Rattle.wb_model.specs.declared.failures.Failures.TheVariants.{Single};
+ghost use Rattle.wb_model.specs.runs.Sweeps.{is_fine, runs_of, IsCutAmong, IsFoundAmong};
+ghost use Rattle.wb_model.specs.declared.failures.Failures.TheVariants.{Pairs, Single};
 ghost use Rattle.wb_model.specs.declared.heap.Rule.TheVariants as rules;
 ghost use Rattle.wb_model.specs.declared.run.Why.{Why};
+ghost use Rattle.wb_sweep.specs.Stretches.{AreNumbersFine, ArePairsFineOf};
 
 use crate::family::Family;
 use crate::fault::SweepFault;
@@ -22,6 +23,7 @@ use wb_model::failures::Failing;
 use wb_model::heap::{Rule, Shape};
 use wb_model::limits::LARGEST_BUDGET;
 use wb_model::memory::NoMemory;
+use wb_model::part::Part;
 use wb_model::progress::Progress;
 use wb_model::script::Script;
 
@@ -53,7 +55,8 @@ fn find_along<P: Progress>(
     requires lines { fork.old.keeps_rises ≡ false }
     requires last { last
         ≡ length (runs_of Single fork.old.script fork.old.budget fork.old.shape number).trace }
-    requires alone { AreAllFine (runs_of Single fork.old.script fork.old.budget fork.old.shape) }
+    requires alone { is_fine (runs_of Single fork.old.script fork.old.budget fork.old.shape number)
+        ≡ true }
     ensures fine { IfOk result (λ found. found ≡ None →
         ArePairsFineWith (pair_run fork.old.script fork.old.budget fork.old.shape) number) }
     ensures found { IfOk result (λ found. IfSome found (λ bad. IsFoundAmong (failing_with number)
@@ -63,14 +66,15 @@ fn find_along<P: Progress>(
     ensures shape { result ≢ Err SweepFault.BadShape }
 {
     fork.step()?;
-    find_among(fork, Family::With(number), last, spare, progress)
+    find_among(fork, Family::With(number), 0, last, spare, progress)
 }
 
 /// The least pair whose run is bad, of those of which the attempt that the lead makes next, of this number, is the first;
-/// `None` if the run of each is fine, and if the next turn makes no attempt. Each run under a pair takes the spare memory, and
-/// leaves its own.
+/// `None` if the run of each is fine, if the next turn makes no attempt, and if the number is less than `from`. Each run under a
+/// pair takes the spare memory, and leaves its own.
 fn find_with_next<P: Progress>(
     lead: &Machine,
+    from: u32,
     number: u32,
     spare: &mut Option<Heap>,
     progress: &mut P,
@@ -78,15 +82,21 @@ fn find_with_next<P: Progress>(
     requires number { number ≡ lead.now.attempts + 1 }
     requires rule { lead.now.rule ≡ rules.Number 0 }
     requires lines { lead.now.keeps_rises ≡ false }
-    requires alone { AreAllFine (runs_of Single lead.now.script lead.now.budget lead.now.shape) }
-    ensures fine { IfOk result (λ found. found ≡ None → lead.now.asks ≡ true → ArePairsFineWith
-        (pair_run lead.now.script lead.now.budget lead.now.shape) number) }
-    ensures found { IfOk result (λ found. IfSome found (λ bad. IsFoundAmong (failing_with number)
-        lead.now.script lead.now.budget lead.now.shape bad.at bad.result)) }
+    requires alone { from ≤ number →
+        is_fine (runs_of Single lead.now.script lead.now.budget lead.now.shape number) ≡ true }
+    ensures fine { IfOk result (λ found. found ≡ None → lead.now.asks ≡ true → from ≤ number →
+        ArePairsFineWith (pair_run lead.now.script lead.now.budget lead.now.shape) number) }
+    ensures found { IfOk result (λ found. IfSome found (λ bad. (from ≤ number)
+        × IsFoundAmong (failing_with number) lead.now.script lead.now.budget lead.now.shape bad.at
+        bad.result)) }
     ensures cut { (at : Failing) (why : Why) → result ≡ Err (SweepFault.Cut at why) →
-        IsCutAmong (failing_with number) lead.now.script lead.now.budget lead.now.shape at why }
+        (from ≤ number) × IsCutAmong (failing_with number) lead.now.script lead.now.budget
+        lead.now.shape at why }
     ensures shape { result ≢ Err SweepFault.BadShape }
 {
+    if number < from {
+        return Ok(None);
+    }
     if !lead.will_attempt() {
         return Ok(None);
     }
@@ -96,10 +106,11 @@ fn find_with_next<P: Progress>(
     find_along(&mut fork, number, last, spare, progress)
 }
 
-/// The least pair whose run is bad; `None` if the run of each pair is fine. No single failure shows anything, and the run
-/// without failure, which begins here, makes `last` attempts.
+/// The least pair of a part whose run is bad; `None` if the run of each is fine. No single failure of the part shows anything, and
+/// the run without failure, which begins here, makes `last` attempts.
 fn find_beside<P: Progress>(
     lead: &mut Machine,
+    part: Part,
     last: u32,
     progress: &mut P,
 ) -> Result<Option<Found>, SweepFault>
@@ -107,20 +118,24 @@ fn find_beside<P: Progress>(
     requires first { (lead.old.begun ≡ false) × (lead.old.attempts ≡ 0) × (lead.old.steps ≡ 0) }
     requires well { lead.old.failed ≡ false }
     requires lines { lead.old.keeps_rises ≡ false }
-    requires last { last ≡
-        length (runs_of Single lead.old.script lead.old.budget lead.old.shape 0).trace }
-    requires alone { AreAllFine (runs_of Single lead.old.script lead.old.budget lead.old.shape) }
-    ensures none { IfOk result (λ found. found ≡ None →
-        AreAllPairsFine (pair_run lead.old.script lead.old.budget lead.old.shape)) }
-    ensures found { IfOk result (λ found. IfSome found (λ bad.
-        IsFoundPair lead.old.script lead.old.budget lead.old.shape bad.at bad.result)) }
+    requires last { last ≡ last_attempt Pairs lead.old.script lead.old.budget lead.old.shape }
+    requires uncut { IsUncut Pairs lead.old.script lead.old.budget lead.old.shape }
+    requires alone { AreNumbersFine
+        (runs_of Single lead.old.script lead.old.budget lead.old.shape) part
+        (last_attempt Pairs lead.old.script lead.old.budget lead.old.shape) }
+    ensures none { IfOk result (λ found. found ≡ None → ArePairsFineOf
+        (pair_run lead.old.script lead.old.budget lead.old.shape) part
+        (last_attempt Pairs lead.old.script lead.old.budget lead.old.shape)) }
+    ensures found { IfOk result (λ found. IfSome found (λ bad. IsFoundIn Pairs part
+        lead.old.script lead.old.budget lead.old.shape bad.at bad.result)) }
     ensures cut { (at : Failing) (why : Why) → result ≡ Err (SweepFault.Cut at why) →
-        IsCutPair lead.old.script lead.old.budget lead.old.shape at why }
+        IsLeastCutIn Pairs part lead.old.script lead.old.budget lead.old.shape at why }
     ensures shape { result ≢ Err SweepFault.BadShape }
 {
+    let end = part.to.min(last);
     let mut spare = None;
-    while lead.attempts() < last {
-        let found = find_with_next(lead, lead.attempts() + 1, &mut spare, progress)?;
+    while lead.attempts() < end {
+        let found = find_with_next(lead, part.from, lead.attempts() + 1, &mut spare, progress)?;
         if found.is_some() {
             return Ok(found);
         }
@@ -129,11 +144,12 @@ fn find_beside<P: Progress>(
     Ok(None)
 }
 
-/// The least pair whose run is bad; `None` if the run of each pair is fine. No single failure shows anything, and the run
-/// without failure makes `last` attempts.
+/// The least pair of a part whose run is bad; `None` if the run of each is fine. No single failure of the part shows anything, and
+/// the run without failure makes `last` attempts.
 pub(crate) fn find_pair<P: Progress>(
     alloc: Global,
     script: &Script,
+    part: Part,
     budget: u32,
     shape: Shape,
     last: u32,
@@ -142,16 +158,19 @@ pub(crate) fn find_pair<P: Progress>(
     requires script { IsTrue (is_script script.now) }
     requires least { 1 ≤ budget }
     requires greatest { budget ≤ LARGEST_BUDGET }
-    requires last { last ≡ length (runs_of Single script.now budget shape 0).trace }
-    requires alone { AreAllFine (runs_of Single script.now budget shape) }
+    requires last { last ≡ last_attempt Pairs script.now budget shape }
+    requires uncut { IsUncut Pairs script.now budget shape }
+    requires alone { AreNumbersFine (runs_of Single script.now budget shape) part
+        (last_attempt Pairs script.now budget shape) }
     ensures none { IfOk result (λ found. found ≡ None →
-        AreAllPairsFine (pair_run script.now budget shape)) }
+        ArePairsFineOf (pair_run script.now budget shape) part
+        (last_attempt Pairs script.now budget shape)) }
     ensures found { IfOk result (λ found. IfSome found (λ bad.
-        IsFoundPair script.now budget shape bad.at bad.result)) }
+        IsFoundIn Pairs part script.now budget shape bad.at bad.result)) }
     ensures cut { (at : Failing) (why : Why) → result ≡ Err (SweepFault.Cut at why) →
-        IsCutPair script.now budget shape at why }
+        IsLeastCutIn Pairs part script.now budget shape at why }
     ensures shape { result ≡ Err SweepFault.BadShape → is_shape shape ≡ false }
 {
     let mut lead = Machine::new(alloc, script, Rule::Number(0), budget, shape)?;
-    find_beside(&mut lead, last, progress)
+    find_beside(&mut lead, part, last, progress)
 }

@@ -1,12 +1,15 @@
 //! A sweep over failures: one run without failure, which each of the others parts from at the first attempt that it lets fail.
 
-ghost use Rattle.std.specs.Prelude.{◌≡◌, ◌≤◌, ◌↔◌, None, true, false, length, IfOk, IfSome, IsTrue};
+ghost use Rattle.std.specs.Prelude.{◌≡◌, ◌^◌, ◌<◌, ◌≤◌, ◌↔◌, None, false, true, IfErr, IfOk, IfSome, IsTrue};
 ghost use Rattle.wb_model.specs.language.Sound.{is_script};
 ghost use Rattle.wb_model.specs.heap.Space.{is_shape};
-ghost use Rattle.wb_model.specs.runs.SweepAnswers.{IsCutShort, IsFound, IsNoneFound};
-ghost use Rattle.wb_model.specs.runs.Sweeps.{failing_at, is_fine, runs_of, AreAllFine, IsCutAmong, IsFoundAmong};
+ghost use Rattle.wb_model.specs.runs.Parts.{last_attempt, IsCutIn, IsFoundIn, IsLeastCutIn, IsNoneIn, IsUncut};
+ghost use Rattle.wb_model.specs.runs.SweepAnswers.{IsCutShort};
+ghost use Rattle.wb_model.specs.runs.Sweeps.{is_cut_outcome, is_fine, runs_of};
+ghost use Rattle.wb_model.specs.declared.run.Outcome.TheVariants as outcomes;
 ghost use Rattle.wb_model.specs.declared.run.Why.{Why};
-ghost use Rattle.wb_sweep.specs.Sweeping.{IsSweep};
+ghost use Rattle.wb_sweep.specs.Stretches.{AreNumbersFine};
+ghost use Rattle.wb_sweep.specs.Sweeping.{IsBadAt, IsSweep, IsSweepIn};
 
 use crate::family::Family;
 use crate::fault::SweepFault;
@@ -18,15 +21,33 @@ use wb_machine::{Machine, run};
 use wb_model::failures::{Failing, Failures};
 use wb_model::heap::Shape;
 use wb_model::limits::LARGEST_BUDGET;
+use wb_model::part::Part;
 use wb_model::progress::Progress;
+use wb_model::run::RunResult;
 use wb_model::script::Script;
 
-/// The least of the failures that are tried as 0, 1, 2 and so on whose run is bad, of pairs the least single failure; `None` if
-/// they are all fine. The run without failure is, and makes `last` attempts.
+/// What the run without failure amounts to: found where it is bad and the part has number 0, and `Cut` where it is cut.
+fn judge_first(part: Part, at: Failing, first: RunResult) -> Result<Option<Found>, SweepFault>
+    ensures fine { IfOk result (λ found. found ≡ None → part.from ≡ 0 → is_fine first ≡ true) }
+    ensures bad { IfOk result (λ found. IfSome found (λ bad. (part.from ≡ 0) × IsBadAt at first bad)) }
+    ensures uncut { IfOk result (λ found. is_cut_outcome first.outcome ≡ false) }
+    ensures cut { IfErr result (λ fault.
+        (why : Why) × (fault ≡ SweepFault.Cut at why) × (first.outcome ≡ outcomes.Cut why)) }
+{
+    let found = judge_run(at, first)?;
+    if part.from > 0 {
+        return Ok(None);
+    }
+    Ok(found)
+}
+
+/// The least failure of a part, of those that are tried as its numbers, whose run is bad, of pairs the least single one; `None` if
+/// they are all fine. The run without failure isn't cut, is fine where the part has number 0, and makes `last` attempts.
 fn find_in_order<P: Progress>(
     alloc: Global,
     script: &Script,
     failures: Failures,
+    part: Part,
     budget: u32,
     shape: Shape,
     last: u32,
@@ -35,26 +56,38 @@ fn find_in_order<P: Progress>(
     requires script { IsTrue (is_script script.now) }
     requires least { 1 ≤ budget }
     requires greatest { budget ≤ LARGEST_BUDGET }
-    requires fine { is_fine (runs_of failures script.now budget shape 0) ≡ true }
-    requires last { last ≡ length (runs_of failures script.now budget shape 0).trace }
+    requires uncut { IsUncut failures script.now budget shape }
+    requires fine { part.from ≡ 0 →
+        is_fine (runs_of failures script.now budget shape 0) ≡ true }
+    requires last { last ≡ last_attempt failures script.now budget shape }
     ensures fine { IfOk result (λ found. found ≡ None →
-        AreAllFine (runs_of failures script.now budget shape)) }
+        AreNumbersFine (runs_of failures script.now budget shape) part
+        (last_attempt failures script.now budget shape)) }
     ensures found { IfOk result (λ found. IfSome found (λ bad.
-        IsFoundAmong (failing_at failures) script.now budget shape bad.at bad.result)) }
+        IsFoundIn failures part script.now budget shape bad.at bad.result)) }
     ensures cut { (at : Failing) (why : Why) → result ≡ Err (SweepFault.Cut at why) →
-        IsCutAmong (failing_at failures) script.now budget shape at why }
+        IsLeastCutIn failures part script.now budget shape at why }
     ensures shape { result ≡ Err SweepFault.BadShape → is_shape shape ≡ false }
 {
     let mut lead = Machine::new(alloc, script, failures.at(0).rule(), budget, shape)?;
-    find_among(&mut lead, Family::Of(failures), last, &mut None, progress)
+    let end = part.to.min(last);
+    find_among(
+        &mut lead,
+        Family::Of(failures),
+        part.from,
+        end,
+        &mut None,
+        progress,
+    )
 }
 
-/// The least failure that makes a run bad; `None` if no failure does. The run without failure is fine, and makes `last`
-/// attempts.
+/// The least failure of a part that makes a run bad; `None` if none does. The run without failure isn't cut, is fine where the part
+/// has number 0, and makes `last` attempts.
 fn find_later<P: Progress>(
     alloc: Global,
     script: &Script,
     failures: Failures,
+    part: Part,
     budget: u32,
     shape: Shape,
     last: u32,
@@ -63,31 +96,36 @@ fn find_later<P: Progress>(
     requires script { IsTrue (is_script script.now) }
     requires least { 1 ≤ budget }
     requires greatest { budget ≤ LARGEST_BUDGET }
-    requires fine { is_fine (runs_of failures script.now budget shape 0) ≡ true }
-    requires last { last ≡ length (runs_of failures script.now budget shape 0).trace }
+    requires uncut { IsUncut failures script.now budget shape }
+    requires fine { part.from ≡ 0 →
+        is_fine (runs_of failures script.now budget shape 0) ≡ true }
+    requires last { last ≡ last_attempt failures script.now budget shape }
     ensures none { IfOk result (λ found. found ≡ None →
-        IsNoneFound failures script.now budget shape) }
+        IsNoneIn failures part script.now budget shape) }
     ensures found { IfOk result (λ found. IfSome found (λ bad.
-        IsFound failures script.now budget shape bad.at bad.result)) }
+        IsFoundIn failures part script.now budget shape bad.at bad.result)) }
     ensures cut { (at : Failing) (why : Why) → result ≡ Err (SweepFault.Cut at why) →
-        IsCutShort failures script.now budget shape at why }
+        IsLeastCutIn failures part script.now budget shape at why }
     ensures shape { result ≡ Err SweepFault.BadShape → is_shape shape ≡ false }
 {
-    if let Some(found) = find_in_order(alloc, script, failures, budget, shape, last, progress)? {
+    if let Some(found) = find_in_order(
+        alloc, script, failures, part, budget, shape, last, progress,
+    )? {
         return Ok(Some(found));
     }
     match failures {
         Failures::Single => Ok(None),
         Failures::Every => Ok(None),
-        Failures::Pairs => find_pair(alloc, script, budget, shape, last, progress),
+        Failures::Pairs => find_pair(alloc, script, part, budget, shape, last, progress),
     }
 }
 
-/// The sweep itself, of whose beginning and end `sweep` notifies.
+/// The sweep itself, of whose beginning and end the callers notify.
 fn find_least<P: Progress>(
     alloc: Global,
     script: &Script,
     failures: Failures,
+    part: Part,
     budget: u32,
     shape: Shape,
     progress: &mut P,
@@ -95,22 +133,27 @@ fn find_least<P: Progress>(
     requires script { IsTrue (is_script script.now) }
     requires least { 1 ≤ budget }
     requires greatest { budget ≤ LARGEST_BUDGET }
-    ensures swept { IfOk result (IsSweep failures script.now budget shape) }
+    ensures swept { IfOk result (IsSweepIn failures part script.now budget shape) }
     ensures cut { (at : Failing) (why : Why) → result ≡ Err (SweepFault.Cut at why) →
-        IsCutShort failures script.now budget shape at why }
+        IsCutIn failures part script.now budget shape at why }
+    ensures few { IfOk result (λ _. last_attempt failures script.now budget shape < 2 ^ 32) }
+    ensures few_cut { (at : Failing) (why : Why) → result ≡ Err (SweepFault.Cut at why) →
+        last_attempt failures script.now budget shape < 2 ^ 32 }
     ensures shape { (result ≡ Err SweepFault.BadShape) ↔ (is_shape shape ≡ false) }
 {
     let none = failures.at(0);
     let first = run(alloc, script, none.rule(), budget, shape)?;
     let attempts = attempts_in(first.trace.as_slice());
-    if let Some(found) = judge_run(none, first)? {
+    if let Some(found) = judge_first(part, none, first)? {
         return Ok(Sweep {
             attempts,
             found: Some(found),
         });
     }
-    progress.begin_failures(attempts);
-    match find_later(alloc, script, failures, budget, shape, attempts, progress) {
+    progress.begin_failures(part.to.min(attempts));
+    match find_later(
+        alloc, script, failures, part, budget, shape, attempts, progress,
+    ) {
         Ok(found) => Ok(Sweep { attempts, found }),
         Err(fault) => Err(fault),
     }
@@ -143,8 +186,40 @@ pub fn sweep<P: Progress>(
         IsCutShort failures script.now budget shape at why }
     ensures shape { (result ≡ Err SweepFault.BadShape) ↔ (is_shape shape ≡ false) }
 {
+    let all = Part {
+        from: 0,
+        to: u32::MAX,
+    };
     progress.begin();
-    let swept = find_least(alloc, script, failures, budget, shape, progress);
+    let swept = find_least(alloc, script, failures, all, budget, shape, progress);
+    progress.end();
+    swept
+}
+
+/// The same of a part: the least failure that makes the run bad, of those whose number, of pairs whose first number, is the part's
+/// and no greater than the last attempt of the run without failure.
+///
+/// The run without failure is made whatever the part is, and its attempts are counted. It is judged only where the part has number
+/// 0; but where it is cut, this is the answer. The run beside which failures are tried goes on to the part without any copy.
+pub fn sweep_part<P: Progress>(
+    alloc: Global,
+    script: &Script,
+    failures: Failures,
+    part: Part,
+    budget: u32,
+    shape: Shape,
+    progress: &mut P,
+) -> Result<Sweep, SweepFault>
+    requires script { IsTrue (is_script script.now) }
+    requires least { 1 ≤ budget }
+    requires greatest { budget ≤ LARGEST_BUDGET }
+    ensures swept { IfOk result (IsSweepIn failures part script.now budget shape) }
+    ensures cut { (at : Failing) (why : Why) → result ≡ Err (SweepFault.Cut at why) →
+        IsCutIn failures part script.now budget shape at why }
+    ensures shape { (result ≡ Err SweepFault.BadShape) ↔ (is_shape shape ≡ false) }
+{
+    progress.begin();
+    let swept = find_least(alloc, script, failures, part, budget, shape, progress);
     progress.end();
     swept
 }

@@ -1,10 +1,11 @@
 //! A walk along a run, from which copies part under failures: each before the attempt that is the first to fail in it.
 
 ghost use Rattle.std.specs.Prelude.{◌≡◌, ◌≢◌, ◌⊎◌, ◌+◌, ◌≤◌, None, true, false, length, IfOk, IfErr, IfSome};
-ghost use Rattle.wb_model.specs.runs.Sweeps.{is_fine, AreFineBelow, IsCutAmong, IsFoundAmong};
+ghost use Rattle.wb_model.specs.runs.Sweeps.{is_cut_outcome, is_fine};
 ghost use Rattle.wb_model.specs.declared.run.Outcome.TheVariants as outcomes;
 ghost use Rattle.wb_model.specs.declared.run.Why.{Why};
 ghost use Rattle.wb_sweep.specs.Families.{failing_in, next_failing, next_run, rule_in, runs_beside};
+ghost use Rattle.wb_sweep.specs.Stretches.{AreFineFrom, IsCutFrom, IsFoundFrom};
 ghost use Rattle.wb_sweep.specs.Sweeping.{IsBadAt, IsNumbered};
 
 use crate::family::Family;
@@ -22,6 +23,7 @@ use wb_model::run::{Outcome, RunResult};
 pub(crate) fn judge_run(at: Failing, run_result: RunResult) -> Result<Option<Found>, SweepFault>
     ensures fine { IfOk result (λ found. found ≡ None → is_fine run_result ≡ true) }
     ensures bad { IfOk result (λ found. IfSome found (IsBadAt at run_result)) }
+    ensures uncut { IfOk result (λ found. is_cut_outcome run_result.outcome ≡ false) }
     ensures cut { IfErr result (λ fault.
         (why : Why) × (fault ≡ SweepFault.Cut at why) × (run_result.outcome ≡ outcomes.Cut why)) }
 {
@@ -49,10 +51,12 @@ pub(crate) fn attempts_in(trace: &[Attempt]) -> u32
 }
 
 /// The run in which the attempt that the lead makes next, of this number, is the first to fail: found where it is bad; `None` if
-/// it is fine, and if the next turn makes no attempt. Its copy takes the spare memory, and leaves its own.
+/// it is fine, if the next turn makes no attempt, and if the number is less than `from`. Its copy takes the spare memory, and
+/// leaves its own.
 fn try_next<P: Progress>(
     lead: &Machine,
     family: Family,
+    from: u32,
     number: u32,
     spare: &mut Option<Heap>,
     progress: &mut P,
@@ -60,14 +64,17 @@ fn try_next<P: Progress>(
     requires number { number ≡ lead.now.attempts + 1 }
     requires rule { lead.now.rule ≡ rule_in family 0 }
     requires lines { lead.now.keeps_rises ≡ false }
-    ensures fine { IfOk result (λ found. found ≡ None → lead.now.asks ≡ true →
+    ensures fine { IfOk result (λ found. found ≡ None → lead.now.asks ≡ true → from ≤ number →
         is_fine (next_run family lead.now) ≡ true) }
-    ensures bad { IfOk result (λ found.
-        IfSome found (IsBadAt (next_failing family lead.now) (next_run family lead.now))) }
+    ensures bad { IfOk result (λ found. IfSome found (λ bad. (from ≤ number)
+        × IsBadAt (next_failing family lead.now) (next_run family lead.now) bad)) }
     ensures cut { IfErr result (λ fault. (fault ≡ SweepFault.NoMemory) ⊎ ((why : Why) ×
-        (fault ≡ SweepFault.Cut (next_failing family lead.now) why)
+        (from ≤ number) × (fault ≡ SweepFault.Cut (next_failing family lead.now) why)
         × ((next_run family lead.now).outcome ≡ outcomes.Cut why))) }
 {
+    if number < from {
+        return Ok(None);
+    }
     if !lead.will_attempt() {
         return Ok(None);
     }
@@ -77,12 +84,14 @@ fn try_next<P: Progress>(
     judge_run(failing, run_result)
 }
 
-/// The least failure of a family whose run is bad, among those up to the last attempt of the lead's own run, which is under
-/// the family's failure 0; `None` if they are all fine. Those up to the attempts that the lead has made are. Each copy takes the
-/// memory of the one before, the first the spare one.
+/// The least failure of a family whose run is bad, among those from one number on up to a last one, which is no greater than the
+/// last attempt of the lead's own run, under the family's failure 0; `None` if they are all fine. Those up to the attempts that the
+/// lead has made are, and lesser numbers than the first aren't looked at. Each copy takes the memory of the one before, the first
+/// the spare one.
 pub(crate) fn find_among<P: Progress>(
     lead: &mut Machine,
     family: Family,
+    from: u32,
     last: u32,
     spare: &mut Option<Heap>,
     progress: &mut P,
@@ -92,18 +101,19 @@ pub(crate) fn find_among<P: Progress>(
     requires within { lead.old.steps ≤ lead.old.budget }
     requires well { lead.old.failed ≡ false }
     requires lines { lead.old.keeps_rises ≡ false }
-    requires last { last ≡ length (runs_beside family lead.old 0).trace }
-    requires fine { AreFineBelow (runs_beside family lead.old) (lead.old.attempts + 1) }
+    requires last { last ≤ length (runs_beside family lead.old 0).trace }
+    requires fine { AreFineFrom (runs_beside family lead.old) from (lead.old.attempts + 1) }
     ensures fine { IfOk result (λ found. found ≡ None →
-        AreFineBelow (runs_beside family lead.old) (last + 1)) }
-    ensures found { IfOk result (λ found. IfSome found (λ bad. IsFoundAmong (failing_in family)
-        lead.old.script lead.old.budget lead.old.shape bad.at bad.result)) }
+        AreFineFrom (runs_beside family lead.old) from (last + 1)) }
+    ensures found { IfOk result (λ found. IfSome found (λ bad. IsFoundFrom (failing_in family) from
+        last lead.old.script lead.old.budget lead.old.shape bad.at bad.result)) }
     ensures cut { (at : Failing) (why : Why) → result ≡ Err (SweepFault.Cut at why) →
-        IsCutAmong (failing_in family) lead.old.script lead.old.budget lead.old.shape at why }
+        IsCutFrom (failing_in family) from last lead.old.script lead.old.budget lead.old.shape at
+        why }
     ensures shape { result ≢ Err SweepFault.BadShape }
 {
     while lead.attempts() < last {
-        let found = try_next(lead, family, lead.attempts() + 1, spare, progress)?;
+        let found = try_next(lead, family, from, lead.attempts() + 1, spare, progress)?;
         if found.is_some() {
             return Ok(found);
         }

@@ -4,9 +4,9 @@ use Rattle.wb_model.specs.runs.Pairs.{pair_run}
 use Rattle.wb_sweep.proofs.PairsFurther.{ArePairsFineUpTo}
 use Rattle.wb_sweep.proofs.pairs.find_beside.Given as goal
 
--- the run is the same, without failure, and the pairs whose first attempt was made so far are fine
-abbrev pub invariant-loop-lead : goal.invariant-loop-lead
-invariant-loop-lead g l =
+-- the run is the same, without failure, and the pairs of the part whose first attempt was made so far are fine
+abbrev pub invariant-loop-part : goal.invariant-loop-part
+invariant-loop-part g l =
     record {
       script : l.lead.script ≡ l.fn.lead.script;
       rule : l.lead.rule ≡ rules.Number 0;
@@ -16,9 +16,9 @@ invariant-loop-lead g l =
       first : l.lead.begun ≡ false → l.lead.steps ≡ 0;
       well : l.lead.failed ≡ false;
       lines : l.lead.keeps_rises ≡ false;
-      fine : ArePairsFineUpTo (pair_run l.fn.lead.script l.fn.lead.budget l.fn.lead.shape) l.lead.attempts;
+      fine : ArePairsFineUpTo (pair_run l.fn.lead.script l.fn.lead.budget l.fn.lead.shape) l.fn.part.from l.lead.attempts;
     }
 
 -- the steps that are left, the first turn, and the end
-abbrev pub decreases-loop-lead : goal.decreases-loop-lead
-decreases-loop-lead g l = cond l.lead.over 0 1 + (cond l.lead.begun 0 1 + (l.fn.lead.budget - l.lead.steps))
+abbrev pub decreases-loop-part : goal.decreases-loop-part
+decreases-loop-part g l = cond l.lead.over 0 1 + (cond l.lead.begun 0 1 + (l.fn.lead.budget - l.lead.steps))

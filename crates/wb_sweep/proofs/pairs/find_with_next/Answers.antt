@@ -1,5 +1,5 @@
 -- Proof: find_with_next. The fork is of the lead's own script, budget and shape.
-use Rattle.std.proofs.Common.{rules, ◌≡◌, ◌+◌, ℕ, None, IfOk, IfSome, sym, subst}
+use Rattle.std.proofs.Common.{rules, ◌≡◌, ◌+◌, ◌≤◌, ℕ, true, None, IfOk, IfSome, sym, subst}
 use Rattle.wb_model.specs.declared.failures.Failures.TheVariants.{Single}
 use Rattle.wb_model.specs.declared.heap.Rule.{Rule}
 use Rattle.wb_model.specs.declared.heap.Rule.TheVariants.{Number}
@@ -7,10 +7,10 @@ use Rattle.wb_model.specs.declared.heap.Shape.{Shape}
 use Rattle.wb_model.specs.declared.script.Script.{Script}
 use Rattle.wb_model.specs.runs.Pairs.{failing_with, pair_run, ArePairsFineWith}
 use Rattle.wb_model.specs.runs.Rest.{SameSoFar}
-use Rattle.wb_model.specs.runs.Sweeps.{runs_of, AreAllFine, IsCutAmong, IsFoundAmong}
+use Rattle.wb_model.specs.runs.Sweeps.{is_fine, runs_of, IsCutAmong, IsFoundAmong}
 use Rattle.wb_machine.specs.Seen.{Seen}
 use Rattle.wb_sweep.specs.declared.family.Family.TheVariants.{Of}
-use Rattle.wb_sweep.proofs.AnswerLemmas.{map_ok}
+use Rattle.wb_sweep.proofs.AnswerLemmas.{map_ok, map_some}
 use Rattle.wb_sweep.proofs.FamilyLemmas.{family-fits}
 use Rattle.wb_sweep.proofs.Further.{IsOfSameRun, of-same}
 use Rattle.wb_sweep.proofs.pairs.find_with_next.Goals as goal
@@ -29,14 +29,15 @@ find_along-requires-clause-alone g c =
     let lead = c.args.lead.now in
     let fork = c.set_rule.new.self in
     let same : IsOfSameRun fork lead = record { script = search rules; budget = search rules; shape = search rules } in
-    of-same fork lead same (λ (s : Script) (b : ℕ) (h : Shape). AreAllFine (runs_of Single s b h)) c.requires.alone
+    let begun : c.args.from ≤ c.args.number = search rules in
+    of-same fork lead same (λ (s : Script) (b : ℕ) (h : Shape). is_fine (runs_of Single s b h c.args.number) ≡ true) (c.requires.alone begun)
 
 pub returns-clause-fine : goal.returns-clause-fine
 returns-clause-fine g c =
     let lead = c.args.lead.now in
     let fork = c.set_rule.new.self in
     let same : IsOfSameRun lead fork = record { script = search rules; budget = search rules; shape = search rules } in
-    map_ok c.find_along.result (λ found fine none asks. fine none)
+    map_ok c.find_along.result (λ found fine none asks begun. fine none)
     (of-same lead fork same (λ (s : Script) (b : ℕ) (h : Shape).
     IfOk c.find_along.result (λ found. found ≡ None → ArePairsFineWith (pair_run s b h) c.args.number)) c.find_along.ensures.fine)
 
@@ -45,12 +46,15 @@ returns-clause-found g c =
     let lead = c.args.lead.now in
     let fork = c.set_rule.new.self in
     let same : IsOfSameRun lead fork = record { script = search rules; budget = search rules; shape = search rules } in
-    of-same lead fork same (λ (s : Script) (b : ℕ) (h : Shape).
-    IfOk c.find_along.result (λ found. IfSome found (λ bad. IsFoundAmong (failing_with c.args.number) s b h bad.at bad.result))) c.find_along.ensures.found
+    let begun : c.args.from ≤ c.args.number = search rules in
+    map_ok c.find_along.result (λ found. map_some found (λ bad is. (begun, is)))
+    (of-same lead fork same (λ (s : Script) (b : ℕ) (h : Shape).
+    IfOk c.find_along.result (λ found. IfSome found (λ bad. IsFoundAmong (failing_with c.args.number) s b h bad.at bad.result))) c.find_along.ensures.found)
 
 pub returns-clause-cut : goal.returns-clause-cut
 returns-clause-cut g c at why e =
     let lead = c.args.lead.now in
     let fork = c.set_rule.new.self in
     let same : IsOfSameRun lead fork = record { script = search rules; budget = search rules; shape = search rules } in
-    of-same lead fork same (λ (s : Script) (b : ℕ) (h : Shape). IsCutAmong (failing_with c.args.number) s b h at why) (c.find_along.ensures.cut at why e)
+    let begun : c.args.from ≤ c.args.number = search rules in
+    (begun, of-same lead fork same (λ (s : Script) (b : ℕ) (h : Shape). IsCutAmong (failing_with c.args.number) s b h at why) (c.find_along.ensures.cut at why e))

@@ -1,31 +1,61 @@
 -- Proof: find_later. Where nothing is found in order there is nothing, but for pairs, which come next.
-use Rattle.std.proofs.Common.{rules, ◌≡◌, None, subst, sym}
+use Rattle.std.proofs.Common.{rules, ◌≡◌, Err, None, subst, sym}
 use Rattle.wb_model.specs.declared.failures.Failures.{Failures}
-use Rattle.wb_model.specs.runs.SweepAnswers.{IsNoneFound}
-use Rattle.wb_model.specs.runs.Sweeps.{runs_of, AreAllFine}
-use Rattle.wb_sweep.proofs.AnswerLemmas.{map_ok}
+use Rattle.wb_model.specs.runs.Parts.{last_attempt, IsFoundIn, IsLeastCutIn, IsNoneIn, IsUncut}
+use Rattle.wb_model.specs.runs.Sweeps.{runs_of}
+use Rattle.wb_sweep.specs.declared.fault.SweepFault.TheVariants.{Cut}
+use Rattle.wb_sweep.specs.Stretches.{AreNumbersFine}
+use Rattle.wb_sweep.proofs.AnswerLemmas.{map_ok, map_some}
+use Rattle.wb_sweep.proofs.PartFound.{none-pairs, none-rates, none-single}
 use Rattle.wb_sweep.proofs.sweeping.find_later.Goals as goal
+
+pub returns-in_err-found-clause-cut : goal.returns-in_err-found-clause-cut
+returns-in_err-found-clause-cut g c at why e =
+    let is : c.find_in_order.result ≡ Err (Cut at why) = search rules in
+    c.find_in_order.ensures.cut at why is
+
+pub find_pair-requires-clause-uncut : goal.find_pair-requires-clause-uncut
+find_pair-requires-clause-uncut g c = subst (λ (f : Failures). IsUncut f c.args.script.now c.args.budget c.args.shape) c.in-Pairs.is c.requires.uncut
 
 pub find_pair-requires-clause-alone : goal.find_pair-requires-clause-alone
 find_pair-requires-clause-alone g c =
     let none : c.in_ok-found.field-0 ≡ None = search rules in
-    subst (λ (f : Failures). AreAllFine (runs_of f c.args.script.now c.args.budget c.args.shape)) c.in-Pairs.is (c.in_ok-found.ensures.fine none)
+    subst (λ (f : Failures). AreNumbersFine (runs_of f c.args.script.now c.args.budget c.args.shape) c.args.part (last_attempt f c.args.script.now c.args.budget c.args.shape))
+    c.in-Pairs.is (c.in_ok-found.ensures.fine none)
 
 pub returns-in-Single-clause-none : goal.returns-in-Single-clause-none
 returns-in-Single-clause-none g c e =
     let none : c.in_ok-found.field-0 ≡ None = search rules in
-    subst (λ (f : Failures). IsNoneFound f c.args.script.now c.args.budget c.args.shape) (sym c.in-Single.is)
-    (subst (λ (f : Failures). AreAllFine (runs_of f c.args.script.now c.args.budget c.args.shape)) c.in-Single.is (c.in_ok-found.ensures.fine none))
+    let uncut = subst (λ (f : Failures). IsUncut f c.args.script.now c.args.budget c.args.shape) c.in-Single.is c.requires.uncut in
+    let fine = subst (λ (f : Failures). AreNumbersFine (runs_of f c.args.script.now c.args.budget c.args.shape) c.args.part (last_attempt f c.args.script.now c.args.budget c.args.shape))
+    c.in-Single.is (c.in_ok-found.ensures.fine none) in
+    subst (λ (f : Failures). IsNoneIn f c.args.part c.args.script.now c.args.budget c.args.shape) (sym c.in-Single.is)
+    (none-single c.args.part c.args.script.now c.args.budget c.args.shape uncut fine)
 
 pub returns-in-Every-clause-none : goal.returns-in-Every-clause-none
 returns-in-Every-clause-none g c e =
     let none : c.in_ok-found.field-0 ≡ None = search rules in
-    subst (λ (f : Failures). IsNoneFound f c.args.script.now c.args.budget c.args.shape) (sym c.in-Every.is)
-    (subst (λ (f : Failures). AreAllFine (runs_of f c.args.script.now c.args.budget c.args.shape)) c.in-Every.is (c.in_ok-found.ensures.fine none))
+    let uncut = subst (λ (f : Failures). IsUncut f c.args.script.now c.args.budget c.args.shape) c.in-Every.is c.requires.uncut in
+    let fine = subst (λ (f : Failures). AreNumbersFine (runs_of f c.args.script.now c.args.budget c.args.shape) c.args.part (last_attempt f c.args.script.now c.args.budget c.args.shape))
+    c.in-Every.is (c.in_ok-found.ensures.fine none) in
+    subst (λ (f : Failures). IsNoneIn f c.args.part c.args.script.now c.args.budget c.args.shape) (sym c.in-Every.is)
+    (none-rates c.args.part c.args.script.now c.args.budget c.args.shape uncut fine)
 
 pub returns-in-Pairs-clause-none : goal.returns-in-Pairs-clause-none
 returns-in-Pairs-clause-none g c =
     let none : c.in_ok-found.field-0 ≡ None = search rules in
-    let alone = subst (λ (f : Failures). AreAllFine (runs_of f c.args.script.now c.args.budget c.args.shape)) c.in-Pairs.is (c.in_ok-found.ensures.fine none) in
+    let uncut = subst (λ (f : Failures). IsUncut f c.args.script.now c.args.budget c.args.shape) c.in-Pairs.is c.requires.uncut in
+    let fine = subst (λ (f : Failures). AreNumbersFine (runs_of f c.args.script.now c.args.budget c.args.shape) c.args.part (last_attempt f c.args.script.now c.args.budget c.args.shape))
+    c.in-Pairs.is (c.in_ok-found.ensures.fine none) in
     map_ok c.find_pair.result (λ found pairs nothing.
-    subst (λ (f : Failures). IsNoneFound f c.args.script.now c.args.budget c.args.shape) (sym c.in-Pairs.is) (alone, pairs nothing)) c.find_pair.ensures.none
+    subst (λ (f : Failures). IsNoneIn f c.args.part c.args.script.now c.args.budget c.args.shape) (sym c.in-Pairs.is)
+    (none-pairs c.args.part c.args.script.now c.args.budget c.args.shape uncut fine (pairs nothing))) c.find_pair.ensures.none
+
+pub returns-in-Pairs-clause-found : goal.returns-in-Pairs-clause-found
+returns-in-Pairs-clause-found g c =
+    map_ok c.find_pair.result (λ found. map_some found (λ bad is.
+    subst (λ (f : Failures). IsFoundIn f c.args.part c.args.script.now c.args.budget c.args.shape bad.at bad.result) (sym c.in-Pairs.is) is)) c.find_pair.ensures.found
+
+pub returns-in-Pairs-clause-cut : goal.returns-in-Pairs-clause-cut
+returns-in-Pairs-clause-cut g c at why e =
+    subst (λ (f : Failures). IsLeastCutIn f c.args.part c.args.script.now c.args.budget c.args.shape at why) (sym c.in-Pairs.is) (c.find_pair.ensures.cut at why e)

@@ -1,16 +1,17 @@
-use Rattle.std.proofs.Common.{rules, ◌≡◌, Option, Result, Err, IfErr, arith, length, subst, sym, ap, ◌∙◌}
+use Rattle.std.proofs.Common.{rules, ◌≡◌, Option, Result, Err, IfErr, inl, inr, true, length, subst, sym, ap, ◌∙◌}
 use Rattle.wb_model.specs.declared.heap.Rule.{Rule}
 use Rattle.wb_model.specs.declared.run.Outcome.TheVariants as outcomes
 use Rattle.wb_model.specs.declared.run.RunResult.{RunResult}
 use Rattle.wb_model.specs.declared.run.Why.{Why}
+use Rattle.wb_model.specs.runs.Parts.{last_attempt, IsFoundIn}
 use Rattle.wb_model.specs.runs.Run.{run, is_bad}
-use Rattle.wb_model.specs.runs.Sweeps.{rule_for, rule_of, runs_of, IsLeastBad}
+use Rattle.wb_model.specs.runs.Sweeps.{failing_at, rule_for, rule_of, runs_of}
 use Rattle.wb_model.proofs.TraceLemmas.{run-numbered}
 use Rattle.wb_sweep.specs.declared.fault.SweepFault.{SweepFault}
 use Rattle.wb_sweep.specs.declared.fault.SweepFault.TheVariants.{Cut}
 use Rattle.wb_sweep.specs.declared.found.Found.{Found}
 use Rattle.wb_sweep.specs.Sweeping.{IsBadAt, IsNumbered}
-use Rattle.wb_sweep.proofs.AnswerLemmas.{cut-first, found-first}
+use Rattle.wb_sweep.proofs.PartFound.{first-found}
 use Rattle.wb_sweep.proofs.sweeping.find_least.Goals as goal
 
 pub attempts_in-attempts-requires : goal.attempts_in-attempts-requires
@@ -26,11 +27,13 @@ returns-in-Some-clause-swept g c =
     let rule : c.rule.result ≡ rule_of failures 0 = c.rule.ensures ∙ ap rule_for c.at-none.ensures in
     let ran : c.in_ok-first.first ≡ runs_of failures script c.args.budget c.args.shape 0 =
     c.in_ok-first.ensures.ran ∙ ap (λ (r : Rule). run script r c.args.budget c.args.shape) rule in
-    let is : IsBadAt c.at-none.result c.in_ok-first.first found = search rules in
-    let least : IsLeastBad (runs_of failures script c.args.budget c.args.shape) 0 found.result = record { bad = ap is_bad (sym ran) ∙ is.bad; least = λ n lt. absurd (omega (arith, lt)); run_is = is.result ∙ ran } in
+    let is : (c.args.part.from ≡ 0) × IsBadAt c.at-none.result c.in_ok-first.first found = search rules in
+    let bad : is_bad (runs_of failures script c.args.budget c.args.shape 0) ≡ true = ap is_bad (sym ran) ∙ is.1.bad in
+    let least = first-found failures c.args.part script c.args.budget c.args.shape is.0 bad in
     record {
       attempts = c.attempts_in-attempts.ensures ∙ ap length (c.as_slice.ensures ∙ ap (λ r. r.trace) ran);
-      found = found-first script c.args.budget c.args.shape failures found.at found.result (0, is.failing ∙ c.at-none.ensures, least);
+      found = subst (λ f. IsFoundIn failures c.args.part script c.args.budget c.args.shape f found.result) (sym (is.1.failing ∙ c.at-none.ensures))
+          (subst (λ r. IsFoundIn failures c.args.part script c.args.budget c.args.shape (failing_at failures 0) r) (sym (is.1.result ∙ ran)) least);
       none = λ e. cc;
     }
 
@@ -41,28 +44,27 @@ returns-in-Ok-clause-swept g c =
     let rule : c.rule.result ≡ rule_of failures 0 = c.rule.ensures ∙ ap rule_for c.at-none.ensures in
     let ran = c.in_ok-first.ensures.ran ∙ ap (λ (r : Rule). run script r c.args.budget c.args.shape) rule in
     let traced = c.as_slice.ensures ∙ ap (λ r. r.trace) ran in
-    let attempts : c.attempts_in-attempts.result ≡ length (runs_of failures script c.args.budget c.args.shape 0).trace = c.attempts_in-attempts.ensures ∙ ap length traced in
+    let attempts : c.attempts_in-attempts.result ≡ last_attempt failures script c.args.budget c.args.shape = c.attempts_in-attempts.ensures ∙ ap length traced in
     record { attempts = attempts; found = c.in-Ok.ensures.found; none = c.in-Ok.ensures.none }
 
 pub returns-in-Err-clause-cut : goal.returns-in-Err-clause-cut
 returns-in-Err-clause-cut g c at why e =
     let cut : c.in-Err.fault ≡ Cut at why = cc in
-    c.find_later.ensures.cut at why (c.in-Err.is ∙ ap Err cut)
+    inr (c.find_later.ensures.cut at why (c.in-Err.is ∙ ap Err cut))
 
--- what is cut is the run without failure, and no failure is less
+-- what is cut is the run without failure
 pub returns-in_err-found-clause-cut : goal.returns-in_err-found-clause-cut
 returns-in_err-found-clause-cut g c at why e =
     let script = c.args.script.now in
     let failures = c.args.failures in
     let first = c.in_ok-first.first in
-    let is : c.judge_run.result ≡ Err (Cut at why) = search rules in
+    let is : c.judge_first.result ≡ Err (Cut at why) = search rules in
     let told : (met : Why) × (Cut at why ≡ Cut c.at-none.result met) × (first.outcome ≡ outcomes.Cut met) =
-    subst (λ (r : Result (Option Found) SweepFault). IfErr r (λ fault. (met : Why) × (fault ≡ Cut c.at-none.result met) × (first.outcome ≡ outcomes.Cut met))) is c.judge_run.ensures.cut in
+    subst (λ (r : Result (Option Found) SweepFault). IfErr r (λ fault. (met : Why) × (fault ≡ Cut c.at-none.result met) × (first.outcome ≡ outcomes.Cut met))) is c.judge_first.ensures.cut in
     let fault = told.1 in
     let failing : at ≡ c.at-none.result = cc in
     let same : why ≡ told.0 = cc in
     let rule : c.rule.result ≡ rule_of failures 0 = c.rule.ensures ∙ ap rule_for c.at-none.ensures in
     let ran : first ≡ runs_of failures script c.args.budget c.args.shape 0 =
     c.in_ok-first.ensures.ran ∙ ap (λ (r : Rule). run script r c.args.budget c.args.shape) rule in
-    cut-first script c.args.budget c.args.shape failures at why
-    (0, failing ∙ c.at-none.ensures, record { cut = ap (λ (r : RunResult). r.outcome) (sym ran) ∙ told.2 ∙ ap outcomes.Cut (sym same); least = λ n lt. absurd (omega (arith, lt)) })
+    inl (record { failing = failing ∙ c.at-none.ensures; cut = ap (λ (r : RunResult). r.outcome) (sym ran) ∙ told.2 ∙ ap outcomes.Cut (sym same) })

@@ -1,13 +1,24 @@
-use Rattle.std.proofs.Common.{arith, sym, ◌∙◌}
-use Rattle.wb_sweep.proofs.AnswerLemmas.{nothing}
-use Rattle.wb_sweep.proofs.Further.{IsOfSameRun, fine-further}
+-- Proof: find_among. What is found as the lead goes on is the least, since those before are fine.
+use Rattle.std.proofs.Common.{rules, ◌≡◌, ◌⊎◌, ◌+◌, ◌≤◌, Result, Option, Err, IfErr, inl, inr, arith, sym, ◌∙◌, ap, subst}
+use Rattle.wb_model.specs.declared.run.Outcome.TheVariants as outcomes
+use Rattle.wb_model.specs.declared.run.RunResult.{RunResult}
+use Rattle.wb_model.specs.declared.run.Why.{Why}
+use Rattle.wb_model.specs.runs.Run.{is_bad}
+use Rattle.wb_sweep.specs.declared.fault.SweepFault.{SweepFault}
+use Rattle.wb_sweep.specs.declared.fault.SweepFault.TheVariants.{Cut, NoMemory}
+use Rattle.wb_sweep.specs.declared.found.Found.{Found}
+use Rattle.wb_sweep.specs.Families.{next_failing, next_run}
+use Rattle.wb_sweep.proofs.AnswerLemmas.{map_some, nothing}
+use Rattle.wb_sweep.proofs.Further.{IsOfSameRun, fine-further, same-runs}
 use Rattle.wb_sweep.proofs.walk.find_among.Goals as goal
 
 pub loop-family-preserved : goal.loop-family-preserved
 loop-family-preserved g c =
     let before = c.loop-family.invariant in
     let after = c.in_ok-step.ensures in
+    let made = c.attempts-in-loop-family.ensures.so_far in
     let same : IsOfSameRun c.args.lead.now c.loop-family.lead = record { script = before.script; budget = before.budget; shape = before.shape } in
+    let none = nothing c.in_ok-found.found (sym c.is_some.ensures ∙ c.if-is_some.false) in
     record {
       script = after.same.script ∙ before.script;
       rule = after.same.rule ∙ before.rule;
@@ -17,6 +28,56 @@ loop-family-preserved g c =
       first = λ e. let begun = after.turned.begun in cc;
       well = after.turned.well;
       lines = after.same.keeps_rises ∙ before.lines;
-      fine = fine-further c.args.family c.args.lead.now c.loop-family.lead c.step.new.self same before.fine after.more after.turned.made.unasked
-          (c.in_ok-found.ensures.fine (nothing c.in_ok-found.found (sym c.is_some.ensures ∙ c.if-is_some.false)));
+      fine = fine-further c.args.family c.args.lead.now c.loop-family.lead c.step.new.self c.args.from same before.fine after.more after.turned.made.unasked
+          (λ asked begun. c.in_ok-found.ensures.fine none asked (omega (arith, begun, made)));
     }
+
+pub returns-then-is_some-clause-found : goal.returns-then-is_some-clause-found
+returns-then-is_some-clause-found g c =
+    let old = c.args.lead.now in
+    let lead = c.loop-family.lead in
+    let before = c.loop-family.invariant in
+    let made = c.attempts-in-loop-family.ensures.so_far in
+    let same : IsOfSameRun old lead = record { script = before.script; budget = before.budget; shape = before.shape } in
+    let ran = same-runs c.args.family old lead (lead.attempts + 1) same in
+    map_some c.in_ok-found.found (λ bad is. (
+      lead.attempts + 1,
+      is.1.failing,
+      record {
+        begun = omega (arith, is.0, made);
+        made = omega (arith, c.loop-family-test.true, c.attempts.ensures.so_far);
+        bad = ap is_bad (sym ran) ∙ is.1.bad;
+        least = before.fine;
+        run_is = is.1.result ∙ ran;
+      },
+    )) c.in_ok-found.ensures.bad
+
+pub returns-in_err-found-clause-cut : goal.returns-in_err-found-clause-cut
+returns-in_err-found-clause-cut g c at why e =
+    let old = c.args.lead.now in
+    let lead = c.loop-family.lead in
+    let before = c.loop-family.invariant in
+    let made = c.attempts-in-loop-family.ensures.so_far in
+    let same : IsOfSameRun old lead = record { script = before.script; budget = before.budget; shape = before.shape } in
+    let ran = same-runs c.args.family old lead (lead.attempts + 1) same in
+    let is : c.try_next.result ≡ Err (Cut at why) = search rules in
+    let told : (Cut at why ≡ NoMemory) ⊎ ((met : Why) × (c.args.from ≤ c.attempts-in-loop-family.result + 1) × (Cut at why ≡ Cut (next_failing c.args.family lead) met)
+    × ((next_run c.args.family lead).outcome ≡ outcomes.Cut met)) =
+    subst (λ (r : Result (Option Found) SweepFault). IfErr r (λ fault. (fault ≡ NoMemory) ⊎ ((met : Why) × (c.args.from ≤ c.attempts-in-loop-family.result + 1)
+    × (fault ≡ Cut (next_failing c.args.family lead) met) × ((next_run c.args.family lead).outcome ≡ outcomes.Cut met)))) is c.try_next.ensures.cut in
+    elim told [
+      | inl none ↦ cc
+      | inr w ↦
+          let fault = w.2 in
+          let failing : at ≡ next_failing c.args.family lead = cc in
+          let same_why : w.0 ≡ why = cc in (
+            lead.attempts + 1,
+            failing,
+            record {
+              begun = omega (arith, w.1, made);
+              made = omega (arith, c.loop-family-test.true, c.attempts.ensures.so_far);
+              cut = ap (λ (r : RunResult). r.outcome) (sym ran) ∙ w.3 ∙ ap outcomes.Cut same_why;
+              least = before.fine;
+            },
+          )
+    ]

@@ -1,6 +1,6 @@
 use Rattle.std.proofs.Common.{◌≡◌, ◌+◌, ◌-◌, ◌≤◌, false, cond}
-use Rattle.wb_model.specs.runs.Sweeps.{AreFineBelow}
 use Rattle.wb_sweep.specs.Families.{rule_in, runs_beside}
+use Rattle.wb_sweep.specs.Stretches.{AreFineFrom}
 use Rattle.wb_sweep.proofs.walk.find_among.Given as goal
 
 -- the run is the same, under the family's failure 0, and the failures up to the number of attempts made so far are fine
@@ -15,7 +15,7 @@ invariant-loop-family g l =
       first : l.lead.begun ≡ false → l.lead.steps ≡ 0;
       well : l.lead.failed ≡ false;
       lines : l.lead.keeps_rises ≡ false;
-      fine : AreFineBelow (runs_beside l.fn.family l.fn.lead) (l.lead.attempts + 1);
+      fine : AreFineFrom (runs_beside l.fn.family l.fn.lead) l.fn.from (l.lead.attempts + 1);
     }
 
 -- the steps that are left, the first turn, and the end

@@ -1,0 +1,14 @@
+-- Proof: find_first. The run of the first bad number is made once more.
+use Rattle.std.proofs.Common.{rules, ◌≡◌, Some, ap, ◌∙◌}
+use Rattle.wb_model.specs.declared.heap.Rule.{Rule}
+use Rattle.wb_model.specs.runs.AllNumbers.{first_bad}
+use Rattle.wb_model.specs.runs.Run.{run}
+use Rattle.wb_model.specs.runs.Sweeps.{rule_for}
+use Rattle.wb_sweep.proofs.all_numbers.find_first.Goals as goal
+
+pub returns-clause-found : goal.returns-clause-found
+returns-clause-found c =
+    let number = c.in-Some.number in
+    let first : first_bad c.args.ends.now ≡ Some number = search rules in
+    let rule = c.rule.ensures ∙ ap rule_for c.at-at.ensures in
+    (number, first, c.at-at.ensures, c.in_ok-result.ensures.ran ∙ ap (λ (r : Rule). run c.args.script.now r c.args.budget c.args.shape) rule)

@@ -1,0 +1,275 @@
+//! A sweep that looks at each number of a part: how its run ended, unless that is fine, and the least whose run leaks or panics.
+
+ghost use Rattle.std.specs.Prelude.{◌≡◌, ◌≢◌, ◌↔◌, ◌||◌, ◌++◌, ◌+◌, ◌-◌, ◌<◌, ◌≤◌, true, false, IfOk, IsTrue, OnOk};
+ghost use Rattle.wb_model.specs.language.Sound.{is_script};
+ghost use Rattle.wb_model.specs.heap.Space.{is_shape};
+ghost use Rattle.wb_model.specs.runs.AllNumbers.{bad_count, first_bad, unfine_in, unfine_numbers};
+ghost use Rattle.wb_model.specs.runs.Parts.{last_attempt, IsCutWithout};
+ghost use Rattle.wb_model.specs.runs.RunEnds.{is_bad_end, is_cut_end};
+ghost use Rattle.wb_model.specs.runs.Sweeps.{is_cut_outcome, rule_of, runs_of};
+ghost use Rattle.wb_model.specs.declared.run.Outcome.TheVariants as outcomes;
+ghost use Rattle.wb_model.specs.declared.run.Why.{Why};
+ghost use Rattle.wb_sweep.specs.AllOfAPart.{line_of, AreAllNumbers, IsFoundAsFirst};
+
+use crate::fault::SweepFault;
+use crate::fork::result_under;
+use crate::found::{AllNumbers, Found};
+use crate::walk::attempts_in;
+use std::alloc::Global;
+use wb_machine::{Heap, Machine, RunFault, run};
+use wb_model::failures::{Failing, Failures};
+use wb_model::heap::Shape;
+use wb_model::items::Items;
+use wb_model::limits::LARGEST_BUDGET;
+use wb_model::memory::NoMemory;
+use wb_model::number_ends::{NumberEnd, NumberEnds};
+use wb_model::part::Part;
+use wb_model::progress::Progress;
+use wb_model::run::{Outcome, RunResult};
+use wb_model::run_end::RunEnd;
+use wb_model::script::Script;
+
+/// Whether a number is told whose run ended so.
+fn is_told(end: RunEnd) -> bool
+    ensures { result ≡ (is_bad_end end || is_cut_end end) }
+{
+    end.is_bad() || end.is_cut()
+}
+
+/// Adds what is told of a number by its run: nothing where that is fine.
+fn tell(ends: &mut NumberEnds, number: u32, run_result: &RunResult) -> Result<(), NoMemory>
+    ensures { OnOk result (ends.new ≡ ends.old ++ line_of number run_result.now) }
+{
+    let end = RunEnd::of(&run_result.outcome);
+    if is_told(end) {
+        ends.push(NumberEnd { number, end })?;
+    }
+    Ok(())
+}
+
+/// Adds what is told of number 0 by its run, where the part has that number; `Cut` where the run is cut.
+fn tell_first(
+    ends: &mut NumberEnds,
+    part: Part,
+    at: Failing,
+    first: &RunResult,
+) -> Result<(), SweepFault>
+    ensures told { OnOk result (part.from ≡ 0 → ends.new ≡ ends.old ++ line_of 0 first.now) }
+    ensures later { OnOk result (1 ≤ part.from → ends.new ≡ ends.old) }
+    ensures uncut { OnOk result (is_cut_outcome first.now.outcome ≡ false) }
+    ensures cut { (other : Failing) (why : Why) → result ≡ Err (SweepFault.Cut other why) →
+        (other ≡ at) × (first.now.outcome ≡ outcomes.Cut why) }
+    ensures shape { result ≢ Err SweepFault.BadShape }
+{
+    if let Outcome::Cut(why) = &first.outcome {
+        return Err(SweepFault::Cut { at, why: *why });
+    }
+    if part.from == 0 {
+        tell(ends, 0, first)?;
+    }
+    Ok(())
+}
+
+/// Adds what is told of the attempt that the lead makes next, of this number, by the run in which it is the first to fail: nothing
+/// where the next turn makes none, and where the number is less than `from`. Its copy takes the spare memory, and leaves its own.
+fn tell_next<P: Progress>(
+    ends: &mut NumberEnds,
+    lead: &Machine,
+    failures: Failures,
+    from: u32,
+    number: u32,
+    spare: &mut Option<Heap>,
+    progress: &mut P,
+) -> Result<(), NoMemory>
+    requires number { number ≡ lead.now.attempts + 1 }
+    requires rule { lead.now.rule ≡ rule_of failures 0 }
+    requires lines { lead.now.keeps_rises ≡ false }
+    ensures told { OnOk result (lead.now.asks ≡ true → from ≤ number → ends.new ≡ ends.old
+        ++ line_of number
+        (runs_of failures lead.now.script lead.now.budget lead.now.shape number)) }
+    ensures unasked { OnOk result (lead.now.asks ≡ false → ends.new ≡ ends.old) }
+    ensures before { OnOk result (number < from → ends.new ≡ ends.old) }
+{
+    if number < from {
+        return Ok(());
+    }
+    if !lead.will_attempt() {
+        return Ok(());
+    }
+    let failing = failures.at(number);
+    progress.begin_failure(failing);
+    let run_result = result_under(lead, failing.rule(), spare)?;
+    tell(ends, number, &run_result)
+}
+
+/// Adds what is told of the numbers from `from` to `last`, which is no greater than the last attempt of the run without failure.
+/// The lead is that run, and begins; what is told of number 0 is there, where that is one of them.
+fn tell_along<P: Progress>(
+    ends: &mut NumberEnds,
+    lead: &mut Machine,
+    failures: Failures,
+    from: u32,
+    last: u32,
+    progress: &mut P,
+) -> Result<(), NoMemory>
+    requires rule { lead.old.rule ≡ rule_of failures 0 }
+    requires first { (lead.old.begun ≡ false) × (lead.old.attempts ≡ 0) × (lead.old.steps ≡ 0) }
+    requires well { lead.old.failed ≡ false }
+    requires lines { lead.old.keeps_rises ≡ false }
+    requires last { last
+        ≤ last_attempt failures lead.old.script lead.old.budget lead.old.shape }
+    requires told { ends.old ≡ unfine_numbers
+        (runs_of failures lead.old.script lead.old.budget lead.old.shape) from (1 - from) }
+    ensures { OnOk result (ends.new ≡ unfine_numbers
+        (runs_of failures lead.old.script lead.old.budget lead.old.shape) from (last + 1 - from)) }
+{
+    let mut spare = None;
+    let mut made = lead.attempts();
+    while made < last {
+        tell_next(ends, lead, failures, from, made + 1, &mut spare, progress)?;
+        lead.step()?;
+        made = lead.attempts();
+    }
+    Ok(())
+}
+
+/// How many of these numbers leak or panic.
+fn bad_count(ends: &NumberEnds) -> usize
+    ensures { result ≡ bad_count ends.now }
+{
+    let mut count = 0;
+    for told in ends.as_slice() {
+        if told.end.is_bad() {
+            count += 1;
+        }
+    }
+    count
+}
+
+/// The first of these numbers that leaks or panics; `None` if none does.
+fn first_bad(ends: &NumberEnds) -> Option<u32>
+    ensures { result ≡ first_bad ends.now }
+{
+    for told in ends.as_slice() {
+        if told.end.is_bad() {
+            return Some(told.number);
+        }
+    }
+    None
+}
+
+/// The first of these numbers that leaks or panics, and its run, which is made once more.
+fn find_first(
+    alloc: Global,
+    script: &Script,
+    failures: Failures,
+    budget: u32,
+    shape: Shape,
+    ends: &NumberEnds,
+) -> Result<Option<Found>, RunFault>
+    requires script { IsTrue (is_script script.now) }
+    requires least { 1 ≤ budget }
+    requires greatest { budget ≤ LARGEST_BUDGET }
+    ensures found { IfOk result (IsFoundAsFirst failures script.now budget shape ends.now) }
+    ensures shape { result ≡ Err RunFault.BadShape → is_shape shape ≡ false }
+{
+    let Some(number) = first_bad(ends) else {
+        return Ok(None);
+    };
+    let at = failures.at(number);
+    let result = run(alloc, script, at.rule(), budget, shape)?;
+    Ok(Some(Found { at, result }))
+}
+
+/// Adds what is told of the later numbers of a part. The run without failure makes `last` attempts; what is told of number 0 is
+/// there, where it is the part's.
+fn tell_later<P: Progress>(
+    ends: &mut NumberEnds,
+    alloc: Global,
+    script: &Script,
+    failures: Failures,
+    part: Part,
+    budget: u32,
+    shape: Shape,
+    last: u32,
+    progress: &mut P,
+) -> Result<(), RunFault>
+    requires script { IsTrue (is_script script.now) }
+    requires least { 1 ≤ budget }
+    requires greatest { budget ≤ LARGEST_BUDGET }
+    requires last { last ≡ last_attempt failures script.now budget shape }
+    requires told { ends.old ≡
+        unfine_numbers (runs_of failures script.now budget shape) part.from (1 - part.from) }
+    ensures told { OnOk result
+        (ends.new ≡ unfine_in (runs_of failures script.now budget shape) part) }
+    ensures shape { result ≡ Err RunFault.BadShape → is_shape shape ≡ false }
+{
+    let mut lead = Machine::new(alloc, script, failures.at(0).rule(), budget, shape)?;
+    let end = part.to.min(last);
+    tell_along(ends, &mut lead, failures, part.from, end, progress)?;
+    Ok(())
+}
+
+/// The sweep itself, of whose beginning and end `sweep_all` notifies.
+fn tell_all<P: Progress>(
+    alloc: Global,
+    script: &Script,
+    failures: Failures,
+    part: Part,
+    budget: u32,
+    shape: Shape,
+    progress: &mut P,
+) -> Result<AllNumbers, SweepFault>
+    requires script { IsTrue (is_script script.now) }
+    requires least { 1 ≤ budget }
+    requires greatest { budget ≤ LARGEST_BUDGET }
+    ensures told { IfOk result (AreAllNumbers failures part script.now budget shape) }
+    ensures cut { (at : Failing) (why : Why) → result ≡ Err (SweepFault.Cut at why) →
+        IsCutWithout failures script.now budget shape at why }
+    ensures shape { (result ≡ Err SweepFault.BadShape) ↔ (is_shape shape ≡ false) }
+{
+    let none = failures.at(0);
+    let first = run(alloc, script, none.rule(), budget, shape)?;
+    let attempts = attempts_in(first.trace.as_slice());
+    let mut ends = Items::new(alloc);
+    tell_first(&mut ends, part, none, &first)?;
+    progress.begin_failures(part.to.min(attempts));
+    tell_later(
+        &mut ends, alloc, script, failures, part, budget, shape, attempts, progress,
+    )?;
+    let found = find_first(alloc, script, failures, budget, shape, &ends)?;
+    Ok(AllNumbers {
+        attempts,
+        bad: bad_count(&ends),
+        ends,
+        found,
+    })
+}
+
+/// What is told of each number of a part, up to the last attempt of the run without failure: of those whose run leaks, panics or is
+/// cut how it ended, and of the least whose run leaks or panics that run. Of pairs only the single numbers are looked at.
+///
+/// `Cut` comes exactly where the run without failure is cut. That run is told of only where the part has number 0. `BadShape` comes
+/// exactly where the shape is none that a heap may have. `progress` is notified as by `sweep`.
+pub fn sweep_all<P: Progress>(
+    alloc: Global,
+    script: &Script,
+    failures: Failures,
+    part: Part,
+    budget: u32,
+    shape: Shape,
+    progress: &mut P,
+) -> Result<AllNumbers, SweepFault>
+    requires script { IsTrue (is_script script.now) }
+    requires least { 1 ≤ budget }
+    requires greatest { budget ≤ LARGEST_BUDGET }
+    ensures told { IfOk result (AreAllNumbers failures part script.now budget shape) }
+    ensures cut { (at : Failing) (why : Why) → result ≡ Err (SweepFault.Cut at why) →
+        IsCutWithout failures script.now budget shape at why }
+    ensures shape { (result ≡ Err SweepFault.BadShape) ↔ (is_shape shape ≡ false) }
+{
+    progress.begin();
+    let told = tell_all(alloc, script, failures, part, budget, shape, progress);
+    progress.end();
+    told
+}
