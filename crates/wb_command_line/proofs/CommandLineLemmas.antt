@@ -1,7 +1,7 @@
 -- What clap makes of words on this command line.
 use Rattle.std.proofs.Common.{◌≡◌, ◌∙◌, Bool, true, false, true≢false, refl, sym, ap, List, [], ◌∷◌, Option, Some, None, codes}
 use Rattle.std.specs.Str.{bytes_eq}
-use Rattle.std.specs.Prelude.{◌≢◌, IsSome, find, option_map}
+use Rattle.std.specs.Prelude.{◌≢◌, ◌==◌, IsSome, find, option_map}
 use Rattle.std.specs.Option.{option_map_or}
 use Rattle.std.proofs.lemmas.Slice.Eq.{bytes_eq-Decides}
 use Rattle.clap.specs.Lexer.{long_of}
@@ -15,10 +15,10 @@ use Rattle.clap.proofs.FaultLemmas.{stopped_fault}
 use Rattle.wb_command_line.specs.CommandLine.{command_line, level_of}
 use Rattle.wb_command_line.specs.Subcommands.{Subcommand, check_subcommand, lengths_subcommand, run_subcommand, size_subcommand, subcommand_named, sweep_subcommand}
 use Rattle.wb_command_line.specs.Passed.{RowsPass}
-use Rattle.wb_command_line.specs.Spelled.{doubles, gives_both_flags, gives_more_than_one}
+use Rattle.wb_command_line.specs.Spelled.{doubles, gives_more_than_one, gives_too_many}
 use Rattle.wb_command_line.proofs.LevelLemmas.{level_name, level_once, level_single}
 use Rattle.wb_command_line.proofs.PassedWords.{level_passed}
-use Rattle.wb_command_line.proofs.RefusalLemmas.{Fails, and_true, has_kind, level_fails, stopped_passes, turn_first, turn_second, word_fails}
+use Rattle.wb_command_line.proofs.RefusalLemmas.{Fails, and_true, has_kind, level_fails, stopped_passes, turn_first, turn_second, version_asks, word_fails}
 
 -- ---- the command line, built
 
@@ -138,7 +138,7 @@ separator_fails name word (next ∷ rest) is = rw is
 
 other_turn : (word : Text) → subcommand_met names idle word ≡ None → bytes_eq word (codes "--") ≡ false
     → Fails (turn_fault top names (walk_from nothing_held) word) (turn_passes top names (walk_from nothing_held) word)
-other_turn word met no_separator = rw met (word_fails top (λ name. false) (λ name _. refl) (λ x. refl) 1 refl word nothing_held no_separator (no_name (long_of word)))
+other_turn word met no_separator = rw met (word_fails top (λ name. false) (λ name _. version_asks (bytes_eq (codes "help") name) (bytes_eq (codes "version") name)) (λ x. version_asks (104 == x) (86 == x)) 1 refl word nothing_held no_separator (no_name (long_of word)))
   where
     no_name : (o : Option (Text × Option Text)) → option_map_or (λ p. false) o false ≡ false
     no_name None = refl
@@ -163,9 +163,9 @@ last_named name some no_run no_size no_lengths no_sweep =
     go false run false size false lengths false sweep true check = rw (run, size, lengths, sweep, check) refl
     go false run false size false lengths false sweep false check = absurd (true≢false (sym (rw (run, size, lengths, sweep, check) at some)))
 
--- which takes failures, so that both flags are too many
+-- which takes failures, so that flags that don't go together are too many
 pub last_doubled : (name : Text) (rows : List Row) → IsSome (subcommand_named name) → name ≢ codes "run" → name ≢ codes "size" → name ≢ codes "lengths" → name ≢ codes "sweep"
-    → gives_both_flags rows ≡ true → doubles name rows ≡ true
+    → gives_too_many rows ≡ true → doubles name rows ≡ true
 last_doubled name rows some no_run no_size no_lengths no_sweep both =
     ap (λ (o : Option Subcommand). option_map_or (λ s. gives_more_than_one s.takes rows) o false) (last_named name some no_run no_size no_lengths no_sweep) ∙ both
 

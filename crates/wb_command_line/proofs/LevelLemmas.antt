@@ -1,33 +1,36 @@
 -- The options of a subcommand, whatever its name and whatever it takes.
-use Rattle.std.proofs.Common.{◌≡◌, ◌||◌, ℕ, Bool, cond, inl, inr, true, false, refl, List, [], ◌∷◌, Some, None, codes, true≢false}
+use Rattle.std.proofs.Common.{◌≡◌, ◌||◌, ℕ, Bool, inl, inr, true, false, refl, List, [], ◌∷◌, None, codes, true≢false}
 use Rattle.std.specs.Prelude.{◌==◌}
 use Rattle.std.specs.Str.{bytes_eq}
 use Rattle.clap.specs.Simple.{filled}
 use Rattle.clap.specs.Walk.{Row, Rule, Text, arg_by_index, arg_by_long, arg_by_short}
-use Rattle.wb_command_line.specs.CommandLine.{also_option, budget_option, every_option, fail_option, joined_level, json_flag, level, limit_option, min_option, pairs_flag, rates_flag, step_option}
+use Rattle.wb_command_line.specs.CommandLine.{all_flag, also_option, budget_option, every_option, fail_option, from_option, joined_level, json_flag, level, limit_option, min_option, pairs_flag, rates_flag, step_option, to_option}
 use Rattle.wb_command_line.specs.Passed.{IsIn, RowsPass}
 use Rattle.wb_command_line.specs.declared.command_line.parser.Takes.{Takes}
 use Rattle.wb_command_line.specs.declared.command_line.parser.Takes.TheVariants as taking
 use Rattle.wb_command_line.specs.WordByWord.{is_option, option_names}
 use Rattle.wb_command_line.proofs.PassedRows.{are_single}
 use Rattle.wb_command_line.proofs.PassedValues.{IsOnly, only}
-use Rattle.wb_command_line.proofs.RefusalLemmas.{help}
+use Rattle.wb_command_line.proofs.RefusalLemmas.{IsAsking, help_asks}
 
 -- ---- settings
 
 pub level_name : (name : Text) (takes : Takes) → (level name takes).name ≡ name
 level_name name taking.Rule = refl
 level_name name taking.Failures = refl
+level_name name taking.Part = refl
 level_name name taking.Neither = refl
 
 pub level_single : (name : Text) (takes : Takes) → are_single (level name takes).rules ≡ true
 level_single name taking.Rule = refl
 level_single name taking.Failures = refl
+level_single name taking.Part = refl
 level_single name taking.Neither = refl
 
 pub level_once : (name : Text) (takes : Takes) → (level name takes).args_override_self ≡ false
 level_once name taking.Rule = refl
 level_once name taking.Failures = refl
+level_once name taking.Part = refl
 level_once name taking.Neither = refl
 
 -- ---- flags
@@ -39,7 +42,7 @@ first_false false b e = (refl, e)
 
 -- a name that is no option's is help's or none
 pub level_long : (called : Text) (takes : Takes) (name : Text) → is_option (option_names takes) name ≡ false
-    → arg_by_long (level called takes).rules name ≡ cond (bytes_eq (codes "help") name || false) (Some help) None
+    → IsAsking (arg_by_long (level called takes).rules name)
 level_long called taking.Rule name e =
     let limit = first_false (bytes_eq (codes "limit") name) _ e in
     let fail = first_false (bytes_eq (codes "fail") name) _ limit.1 in
@@ -50,33 +53,48 @@ level_long called taking.Rule name e =
     let step = first_false (bytes_eq (codes "step") name) _ min.1 in
     let json = first_false (bytes_eq (codes "json") name) _ step.1 in
     let picture = first_false (bytes_eq (codes "picture") name) _ json.1 in
-    rw (limit.0, fail.0, also.0, every.0, budget.0, min.0, step.0, json.0, picture.0) refl
+    rw (limit.0, fail.0, also.0, every.0, budget.0, min.0, step.0, json.0, picture.0) (help_asks (bytes_eq (codes "help") name))
 level_long called taking.Failures name e =
     let every = first_false (bytes_eq (codes "every") name) _ e in
     let pairs = first_false (bytes_eq (codes "pairs") name) _ every.1 in
-    let budget = first_false (bytes_eq (codes "budget") name) _ pairs.1 in
+    let all = first_false (bytes_eq (codes "all") name) _ pairs.1 in
+    let budget = first_false (bytes_eq (codes "budget") name) _ all.1 in
     let min = first_false (bytes_eq (codes "min") name) _ budget.1 in
     let step = first_false (bytes_eq (codes "step") name) _ min.1 in
     let json = first_false (bytes_eq (codes "json") name) _ step.1 in
     let picture = first_false (bytes_eq (codes "picture") name) _ json.1 in
-    rw (every.0, pairs.0, budget.0, min.0, step.0, json.0, picture.0) refl
+    rw (every.0, pairs.0, all.0, budget.0, min.0, step.0, json.0, picture.0) (help_asks (bytes_eq (codes "help") name))
+level_long called taking.Part name e =
+    let every = first_false (bytes_eq (codes "every") name) _ e in
+    let pairs = first_false (bytes_eq (codes "pairs") name) _ every.1 in
+    let all = first_false (bytes_eq (codes "all") name) _ pairs.1 in
+    let from = first_false (bytes_eq (codes "from") name) _ all.1 in
+    let to = first_false (bytes_eq (codes "to") name) _ from.1 in
+    let budget = first_false (bytes_eq (codes "budget") name) _ to.1 in
+    let min = first_false (bytes_eq (codes "min") name) _ budget.1 in
+    let step = first_false (bytes_eq (codes "step") name) _ min.1 in
+    let json = first_false (bytes_eq (codes "json") name) _ step.1 in
+    let picture = first_false (bytes_eq (codes "picture") name) _ json.1 in
+    rw (every.0, pairs.0, all.0, from.0, to.0, budget.0, min.0, step.0, json.0, picture.0) (help_asks (bytes_eq (codes "help") name))
 level_long called taking.Neither name e =
     let budget = first_false (bytes_eq (codes "budget") name) _ e in
     let min = first_false (bytes_eq (codes "min") name) _ budget.1 in
     let step = first_false (bytes_eq (codes "step") name) _ min.1 in
     let json = first_false (bytes_eq (codes "json") name) _ step.1 in
     let picture = first_false (bytes_eq (codes "picture") name) _ json.1 in
-    rw (budget.0, min.0, step.0, json.0, picture.0) refl
+    rw (budget.0, min.0, step.0, json.0, picture.0) (help_asks (bytes_eq (codes "help") name))
 
-pub level_short : (called : Text) (takes : Takes) (x : ℕ) → arg_by_short (level called takes).rules x ≡ cond ((104 == x) || false) (Some help) None
-level_short called taking.Rule x = refl
-level_short called taking.Failures x = refl
-level_short called taking.Neither x = refl
+pub level_short : (called : Text) (takes : Takes) (x : ℕ) → IsAsking (arg_by_short (level called takes).rules x)
+level_short called taking.Rule x = help_asks (104 == x)
+level_short called taking.Failures x = help_asks (104 == x)
+level_short called taking.Part x = help_asks (104 == x)
+level_short called taking.Neither x = help_asks (104 == x)
 
 -- a file, and no second one
 pub level_second : (called : Text) (takes : Takes) → arg_by_index (level called takes).rules 2 ≡ None
 level_second called taking.Rule = refl
 level_second called taking.Failures = refl
+level_second called taking.Part = refl
 level_second called taking.Neither = refl
 
 -- ---- rows that passed
@@ -88,15 +106,22 @@ own_rule_in a (inr (inl limit)) = inr (inl limit)
 own_rule_in a (inr (inr (inl fail))) = inr (inr (inl fail))
 own_rule_in a (inr (inr (inr (inl also)))) = inr (inr (inr (inl also)))
 own_rule_in a (inr (inr (inr (inr (inl every))))) = inr (inr (inr (inr (inl every))))
-own_rule_in a (inr (inr (inr (inr (inr shared))))) = inr (inr (inr (inr (inr (inr (inr shared))))))
+own_rule_in a (inr (inr (inr (inr (inr shared))))) = inr (inr (inr (inr (inr (inr (inr (inr (inr (inr shared)))))))))
+
+part_in : (a : Rule) → IsIn a (level [] taking.Part).rules → IsIn a joined_level.rules
+part_in a (inl file) = inl file
+part_in a (inr rest) = inr (inr (inr (inr (inr rest))))
 
 failures_in : (a : Rule) → IsIn a (level [] taking.Failures).rules → IsIn a joined_level.rules
 failures_in a (inl file) = inl file
-failures_in a (inr rest) = inr (inr (inr (inr (inr rest))))
+failures_in a (inr (inl rates)) = inr (inr (inr (inr (inr (inl rates)))))
+failures_in a (inr (inr (inl pairs))) = inr (inr (inr (inr (inr (inr (inl pairs))))))
+failures_in a (inr (inr (inr (inl all)))) = inr (inr (inr (inr (inr (inr (inr (inl all)))))))
+failures_in a (inr (inr (inr (inr shared)))) = inr (inr (inr (inr (inr (inr (inr (inr (inr (inr shared)))))))))
 
 shared_in : (a : Rule) → IsIn a (level [] taking.Neither).rules → IsIn a joined_level.rules
 shared_in a (inl file) = inl file
-shared_in a (inr shared) = inr (inr (inr (inr (inr (inr (inr shared))))))
+shared_in a (inr shared) = inr (inr (inr (inr (inr (inr (inr (inr (inr (inr shared)))))))))
 
 wider_rows : (c d : List Rule) → ((a : Rule) → IsIn a c → IsIn a d) → (rows : List Row) → RowsPass c rows → RowsPass d rows
 wider_rows c d wide [] passed = tt
@@ -105,6 +130,7 @@ wider_rows c d wide (r ∷ rs) passed = ((passed.0.0, wide passed.0.0 passed.0.1
 pub level_wide : (called : Text) (takes : Takes) (rows : List Row) → RowsPass (level called takes).rules rows → RowsPass joined_level.rules rows
 level_wide called taking.Rule rows passed = wider_rows (level [] taking.Rule).rules joined_level.rules own_rule_in rows passed
 level_wide called taking.Failures rows passed = wider_rows (level [] taking.Failures).rules joined_level.rules failures_in rows passed
+level_wide called taking.Part rows passed = wider_rows (level [] taking.Part).rules joined_level.rules part_in rows passed
 level_wide called taking.Neither rows passed = wider_rows (level [] taking.Neither).rules joined_level.rules shared_in rows passed
 
 -- ---- the options of all levels
@@ -126,6 +152,15 @@ rates_rule = filled rates_flag
 
 abbrev pub pairs_rule : Rule
 pairs_rule = filled pairs_flag
+
+abbrev pub all_rule : Rule
+all_rule = filled all_flag
+
+abbrev pub from_rule : Rule
+from_rule = filled from_option
+
+abbrev pub to_rule : Rule
+to_rule = filled to_option
 
 abbrev pub budget_rule : Rule
 budget_rule = filled budget_option
@@ -157,6 +192,15 @@ only_rates = only joined_level.rules (codes "rates") rates_rule refl
 
 pub only_pairs : IsOnly joined_level.rules (codes "pairs") pairs_rule
 only_pairs = only joined_level.rules (codes "pairs") pairs_rule refl
+
+pub only_all : IsOnly joined_level.rules (codes "all") all_rule
+only_all = only joined_level.rules (codes "all") all_rule refl
+
+pub only_from : IsOnly joined_level.rules (codes "from") from_rule
+only_from = only joined_level.rules (codes "from") from_rule refl
+
+pub only_to : IsOnly joined_level.rules (codes "to") to_rule
+only_to = only joined_level.rules (codes "to") to_rule refl
 
 pub only_budget : IsOnly joined_level.rules (codes "budget") budget_rule
 only_budget = only joined_level.rules (codes "budget") budget_rule refl

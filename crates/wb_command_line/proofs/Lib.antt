@@ -10,4 +10,5 @@ pub mod RefusalLemmas
 pub mod RuleLemmas
 pub mod WordLemmas
 pub mod WorkedPairs
+pub mod WorkedParts
 pub mod WorkedWords

@@ -29,10 +29,10 @@ use Rattle.wb_command_line.specs.Spelled.{IsMeantBy, IsSpelledBy, are_several, c
 use Rattle.wb_command_line.specs.Subcommands.{Subcommand, subcommand_named}
 use Rattle.wb_command_line.specs.declared.command.Command.{Command}
 use Rattle.wb_command_line.specs.declared.command.CommandFault.{CommandFault}
-use Rattle.wb_command_line.specs.declared.command.CommandFault.TheVariants.{Usage, Both, Also, NoMemory}
+use Rattle.wb_command_line.specs.declared.command.CommandFault.TheVariants.{Usage, Both, Also, Range, NoMemory}
 use Rattle.wb_command_line.specs.declared.command.CommandFault.TheVariants as F
 use Rattle.wb_command_line.proofs.CommandLineLemmas.{one_is_met, text_is}
-use Rattle.wb_command_line.proofs.LevelLemmas.{also_rule, budget_rule, every_rule, fail_rule, json_rule, level_wide, limit_rule, min_rule, only_also, only_budget, only_every, only_fail, only_json, only_limit, only_min, only_pairs, only_rates, only_step, pairs_rule, rates_rule, step_rule}
+use Rattle.wb_command_line.proofs.LevelLemmas.{all_rule, also_rule, budget_rule, every_rule, fail_rule, from_rule, json_rule, level_wide, limit_rule, min_rule, only_all, only_also, only_budget, only_every, only_fail, only_from, only_json, only_limit, only_min, only_pairs, only_rates, only_step, only_to, pairs_rule, rates_rule, step_rule, to_rule}
 use Rattle.wb_command_line.specs.Passed.{RowsPass}
 use Rattle.wb_command_line.proofs.PassedValues.{IsOnly, PassedAs, first_passed}
 
@@ -112,6 +112,7 @@ module _ (words : List Text) (m : ArgMatches) (name : Text) (rows : List Row) (m
   fault_by Both doubled = record { faultless = met.faultless; doubled = met.doubled ∙ doubled }
   fault_by Also bad = record { faultless = met.faultless; one_rule = met.doubled ∙ bad.one_rule; disordered = met.disordered ∙ bad.disordered }
   fault_by F.Shape bad = record { command = bad.command; spelled = spelled_by bad.command bad.meant; misshapen = bad.misshapen }
+  fault_by Range bad = record { command = bad.command; spelled = spelled_by bad.command bad.meant; shapely = bad.shapely; empty = bad.empty }
   fault_by NoMemory want = tt
 
   pub after_usage : (fault : CommandFault) → IsFaultOfOptions name rows fault → IsAfterUsage fault
@@ -119,7 +120,8 @@ module _ (words : List Text) (m : ArgMatches) (name : Text) (rows : List Row) (m
   after_usage Both doubled = inl refl
   after_usage Also bad = inr (inl refl)
   after_usage F.Shape bad = inr (inr (inl refl))
-  after_usage NoMemory want = inr (inr (inr refl))
+  after_usage Range bad = inr (inr (inr (inl refl)))
+  after_usage NoMemory want = inr (inr (inr (inr refl)))
 
 -- ---- numbers
 
@@ -179,6 +181,12 @@ module _ (E : Type 0) (G : List ℕ → Result ℕ E → Type 0) (parses : (u : 
 
   pub every_is : OptionRead (codes "every") 0 CEILING
   every_is f r passed = number_is joined_level.rules (codes "every") every_rule 0 CEILING f r refl (omega arith) only_every passed
+
+  pub from_is : OptionRead (codes "from") 0 CEILING
+  from_is f r passed = number_is joined_level.rules (codes "from") from_rule 0 CEILING f r refl (omega arith) only_from passed
+
+  pub to_is : OptionRead (codes "to") 0 CEILING
+  to_is f r passed = number_is joined_level.rules (codes "to") to_rule 0 CEILING f r refl (omega arith) only_to passed
 
   pub budget_is : OptionRead (codes "budget") 1 LARGEST_BUDGET
   budget_is f r passed = number_is joined_level.rules (codes "budget") budget_rule 1 LARGEST_BUDGET f r refl (omega arith) only_budget passed
@@ -246,6 +254,9 @@ rates_is = flag_is (codes "rates") rates_rule only_rates (λ t passed. passed) r
 
 pub pairs_is : FlagRead (codes "pairs")
 pairs_is = flag_is (codes "pairs") pairs_rule only_pairs (λ t passed. passed) refl
+
+pub all_is : FlagRead (codes "all")
+all_is = flag_is (codes "all") all_rule only_all (λ t passed. passed) refl
 
 -- the number of an option, or the default, in its range
 pub record IsGivenOr (id : Text) (rows : List Row) (low high default n : ℕ) : Type 0 where

@@ -1,11 +1,11 @@
--- Words that clap refuses, of a command whose only flag is help, beside options that the words don't name.
-use Rattle.std.proofs.Common.{◌≡◌, ◌&&◌, ◌||◌, ℕ, Bool, cond, true, false, refl, sym, subst, List, [], ◌∷◌, ◌++◌, length, Option, Some, None, codes}
-use Rattle.std.specs.Prelude.{◌==◌, encode_utf8, slice_get, drop}
+-- Words that clap refuses, of a command whose only flags are help and the version, beside options that the words don't name.
+use Rattle.std.proofs.Common.{◌≡◌, ◌&&◌, ◌||◌, ◌⊎◌, ℕ, Bool, cond, inl, inr, true, false, refl, sym, subst, List, [], ◌∷◌, ◌++◌, length, Option, Some, None, codes}
+use Rattle.std.specs.Prelude.{encode_utf8, slice_get, drop}
 use Rattle.std.specs.Str.{bytes_eq, chars}
 use Rattle.std.specs.Option.{option_map_or}
 use Rattle.clap.specs.Lexer.{long_of, short_of}
 use Rattle.clap.specs.Walk.{after_flag, Held, Names, Rule, Step, Text, Walk, idle, arg_by_index, arg_by_long, arg_by_short, bundle_met, bundle_step, long_or_other, nothing_held, plain, reacted, settled, short_or_plain, short_word, subcommand_or_other, value, walk_from, walked}
-use Rattle.clap.specs.Simple.{Shape, filled, help_rule}
+use Rattle.clap.specs.Simple.{Shape, filled, help_rule, version_rule}
 use Rattle.clap.specs.Kinds.{Kinds, or_else}
 use Rattle.clap.specs.Faults.{bundle_fault, bundle_step_fault, flag_word_fault, flags_fault, level_fault, long_fault, other_fault, react_fault, settle_fault, short_fault, step_fault, turn_fault, use_fault, walk_fault}
 use Rattle.clap.specs.Takes.{level_passes, bundle_passes, bundle_step_passes, flag_word_passes, flags_pass, long_passes, other_passes, react_passes, settle_passes, short_passes, step_passes, turn_passes, use_passes, walk_passes}
@@ -36,16 +36,34 @@ fails_second [] b false q f = record { fault = f.fault; test = refl }
 fails_second (k ∷ ks) b true q f = record { fault = has_kind k ks; test = f.test }
 fails_second (k ∷ ks) b false q f = record { fault = has_kind k ks; test = refl }
 
--- ---- one word of a level whose only flag beside its options is help
+-- ---- one word of a level whose only flags beside its options are help and the version
 
 abbrev pub help : Rule
 help = filled help_rule
 
+abbrev pub version : Rule
+version = filled version_rule
+
+-- no argument, or a flag that asks for a text
+abbrev pub IsAsking : Option Rule → Type 0
+IsAsking found = (found ≡ None) ⊎ ((found ≡ Some help) ⊎ (found ≡ Some version))
+
+-- of a level that has no version
+pub help_asks : (is_help : Bool) → IsAsking (cond (is_help || false) (Some help) None)
+help_asks true = inr (inl refl)
+help_asks false = inl refl
+
+-- of one that has
+pub version_asks : (is_help is_version : Bool) → IsAsking (cond (is_help || false) (Some help) (cond (is_version || false) (Some version) None))
+version_asks true is_version = inr (inl refl)
+version_asks false true = inr (inr refl)
+version_asks false false = inl refl
+
 abbrev pub unskipped : Held → Held
 unskipped h = record h { skip = 0 }
 
-module _ (s : Shape) (is_option : Text → Bool) (is_help_long : (name : Text) → is_option name ≡ false → arg_by_long s.rules name ≡ cond (bytes_eq (codes "help") name || false) (Some help) None)
-    (is_help_short : (x : ℕ) → arg_by_short s.rules x ≡ cond ((104 == x) || false) (Some help) None) where
+module _ (s : Shape) (is_option : Text → Bool) (long_asks : (name : Text) → is_option name ≡ false → IsAsking (arg_by_long s.rules name))
+    (short_asks : (x : ℕ) → IsAsking (arg_by_short s.rules x)) where
   abbrev again : Bool
   again = s.args_override_self
 
@@ -53,21 +71,28 @@ module _ (s : Shape) (is_option : Text → Bool) (is_help_long : (name : Text) �
   help_fails h = fails_second (settle_fault s.rules again h) (use_fault again help [] (settled s.rules h).rows)
       (settle_passes s.rules again h) (use_passes again help [] (settled s.rules h).rows) (record { fault = has_kind _ _; test = refl })
 
+  version_fails : (h : Held) → Fails (react_fault s.rules again version [] h) (react_passes s.rules again version [] h)
+  version_fails h = fails_second (settle_fault s.rules again h) (use_fault again version [] (settled s.rules h).rows)
+      (settle_passes s.rules again h) (use_passes again version [] (settled s.rules h).rows) (record { fault = has_kind _ _; test = refl })
+
   long_fails : (p : Text × Option Text) (word : Text) (h : Held) → is_option p.0 ≡ false → Fails (flag_word_fault s.rules again (Some p) word h) (flag_word_passes s.rules again (Some p) word h)
-  long_fails p word h no_option = rw (is_help_long p.0 no_option) (go (bytes_eq (codes "help") p.0) p.1)
+  long_fails p word h no_option = go (arg_by_long s.rules p.0) (long_asks p.0 no_option) p.1
     where
-      go : (b : Bool) (v : Option Text) → Fails (long_fault s.rules again (cond (b || false) (Some help) None) v h) (long_passes s.rules again (cond (b || false) (Some help) None) v h)
-      go true (Some v) = record { fault = has_kind _ _; test = refl }
-      go true None = help_fails h
-      go false v = record { fault = has_kind _ _; test = refl }
+      go : (o : Option Rule) → IsAsking o → (v : Option Text) → Fails (long_fault s.rules again o v h) (long_passes s.rules again o v h)
+      go o (inl is) v = rw is (record { fault = has_kind _ _; test = refl })
+      go o (inr (inl is)) (Some v) = rw is (record { fault = has_kind _ _; test = refl })
+      go o (inr (inl is)) None = rw is (help_fails h)
+      go o (inr (inr is)) (Some v) = rw is (record { fault = has_kind _ _; test = refl })
+      go o (inr (inr is)) None = rw is (version_fails h)
 
   short_fails : (x : ℕ) (rest : Text) (h : Held) (next : Held → Kinds) (passes : Held → Bool)
       → Fails (short_fault s.rules again (arg_by_short s.rules x) rest h next) (short_passes s.rules again (arg_by_short s.rules x) rest h passes)
-  short_fails x rest h next passes = rw is_help_short (go (104 == x))
+  short_fails x rest h next passes = go (arg_by_short s.rules x) (short_asks x)
     where
-      go : (b : Bool) → Fails (short_fault s.rules again (cond (b || false) (Some help) None) rest h next) (short_passes s.rules again (cond (b || false) (Some help) None) rest h passes)
-      go true = fails_first (react_fault s.rules again help [] h) (next (reacted s.rules help [] h)) (react_passes s.rules again help [] h) (passes (reacted s.rules help [] h)) (help_fails h)
-      go false = record { fault = has_kind _ _; test = refl }
+      go : (o : Option Rule) → IsAsking o → Fails (short_fault s.rules again o rest h next) (short_passes s.rules again o rest h passes)
+      go o (inl is) = rw is (record { fault = has_kind _ _; test = refl })
+      go o (inr (inl is)) = rw is (fails_first (react_fault s.rules again help [] h) (next (reacted s.rules help [] h)) (react_passes s.rules again help [] h) (passes (reacted s.rules help [] h)) (help_fails h))
+      go o (inr (inr is)) = rw is (fails_first (react_fault s.rules again version [] h) (next (reacted s.rules version [] h)) (react_passes s.rules again version [] h) (passes (reacted s.rules version [] h)) (version_fails h))
 
   -- `-abc`
   bundle_fails : (flags : Text) (h : Held) (x : ℕ) → slice_get (chars flags) 0 ≡ Some x → Fails (bundle_fault s.rules again flags (unskipped h)) (bundle_passes s.rules again flags (unskipped h))

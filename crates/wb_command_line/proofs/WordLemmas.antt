@@ -10,17 +10,15 @@ use Rattle.clap.specs.Walk.{Held, Row, Text, Walk, idle, nothing_held, rows_afte
 use Rattle.clap.specs.Kinds.{Kinds}
 use Rattle.clap.specs.Faults.{defaults_fault, level_fault, turn_fault, walk_fault}
 use Rattle.clap.specs.Takes.{level_passes, turn_passes, walk_passes}
-use Rattle.wb_model.specs.declared.failures.Failures.{Failures}
-use Rattle.wb_model.specs.declared.failures.Failures.TheVariants.{Single}
 use Rattle.wb_model.specs.declared.heap.Rule.{Rule}
 use Rattle.wb_model.specs.declared.heap.Rule.TheVariants.{Unlimited}
 use Rattle.wb_command_line.specs.CommandLine.{level, level_of}
-use Rattle.wb_command_line.specs.Spelled.{command_of, command_with, disorders, doubles, failures_of, gives_disorder, gives_more_than_one, rule_of, takes_rule, task_of}
-use Rattle.wb_command_line.specs.Subcommands.{Subcommand, subcommand_named}
+use Rattle.wb_command_line.specs.Spelled.{command_of, command_with, disorders, doubles, gives_disorder, gives_more_than_one, rule_of, takes_rule, task_of, trial_of}
+use Rattle.wb_command_line.specs.Subcommands.{Subcommand, Trial, subcommand_named}
 use Rattle.wb_command_line.specs.declared.command.Task.{Task}
 use Rattle.wb_command_line.specs.declared.command_line.parser.Takes.{Takes}
 use Rattle.wb_command_line.specs.declared.command_line.parser.Takes.TheVariants as taking
-use Rattle.wb_command_line.specs.WordByWord.{AreRead, AreReadAfter, AreRefused, AreTaken, file_named, has_no_option, is_flag, is_option, is_separator, names_option, option_names, plain_command}
+use Rattle.wb_command_line.specs.WordByWord.{AreRead, AreReadAfter, AreRefused, AreTaken, file_named, has_no_option, is_flag, is_option, is_separator, names_option, option_names, plain_command, plain_trial}
 use Rattle.wb_command_line.proofs.CommandLineLemmas.{IsSubcommand, help_command, level_faults, level_meaning, level_takes, name_fails, named_by, names, no_words_fail, none_named_fails, one, other, text_is, trailing_walk}
 use Rattle.wb_command_line.proofs.LevelLemmas.{level_long, level_second, level_short}
 use Rattle.wb_command_line.proofs.RefusalLemmas.{Fails, TurnFails, and_false, has_kind, level_fails, long_turn, short_turn, turn_first, turn_second, unskipped, word_fails}
@@ -66,7 +64,7 @@ record Reads (called : Text) (b : Takes) (rest : List Text) (file : Option Text)
   one_rule : gives_more_than_one b (rows_after (level called b).rules [] rest) ≡ false
   in_order : gives_disorder (rows_after (level called b).rules [] rest) ≡ false
   rule : rule_of (rows_after (level called b).rules [] rest) ≡ Unlimited
-  failures : failures_of (rows_after (level called b).rules [] rest) ≡ Single
+  trial : trial_of (rows_after (level called b).rules [] rest) ≡ plain_trial
   meaning : (task : Task) → command_with (rows_after (level called b).rules [] rest) task ≡ plain_command task file
 
 -- they are refused
@@ -79,21 +77,24 @@ below_fails called b rest f = level_fails (level called b) [] rest false [] true
 
 reads_none : (called : Text) (b : Takes) → Reads called b [] None
 unfolding defaults_fault walk_fault walk_passes walked
-reads_none called taking.Rule = record { taken = refl; faultless = refl; one_rule = refl; in_order = refl; rule = refl; failures = refl; meaning = λ task. refl }
-reads_none called taking.Failures = record { taken = refl; faultless = refl; one_rule = refl; in_order = refl; rule = refl; failures = refl; meaning = λ task. refl }
-reads_none called taking.Neither = record { taken = refl; faultless = refl; one_rule = refl; in_order = refl; rule = refl; failures = refl; meaning = λ task. refl }
+reads_none called taking.Rule = record { taken = refl; faultless = refl; one_rule = refl; in_order = refl; rule = refl; trial = refl; meaning = λ task. refl }
+reads_none called taking.Failures = record { taken = refl; faultless = refl; one_rule = refl; in_order = refl; rule = refl; trial = refl; meaning = λ task. refl }
+reads_none called taking.Part = record { taken = refl; faultless = refl; one_rule = refl; in_order = refl; rule = refl; trial = refl; meaning = λ task. refl }
+reads_none called taking.Neither = record { taken = refl; faultless = refl; one_rule = refl; in_order = refl; rule = refl; trial = refl; meaning = λ task. refl }
 
 reads_separator : (called : Text) (b : Takes) → Reads called b (codes "--" ∷ []) None
 unfolding defaults_fault walk_fault walk_passes walked
-reads_separator called taking.Rule = record { taken = refl; faultless = refl; one_rule = refl; in_order = refl; rule = refl; failures = refl; meaning = λ task. refl }
-reads_separator called taking.Failures = record { taken = refl; faultless = refl; one_rule = refl; in_order = refl; rule = refl; failures = refl; meaning = λ task. refl }
-reads_separator called taking.Neither = record { taken = refl; faultless = refl; one_rule = refl; in_order = refl; rule = refl; failures = refl; meaning = λ task. refl }
+reads_separator called taking.Rule = record { taken = refl; faultless = refl; one_rule = refl; in_order = refl; rule = refl; trial = refl; meaning = λ task. refl }
+reads_separator called taking.Failures = record { taken = refl; faultless = refl; one_rule = refl; in_order = refl; rule = refl; trial = refl; meaning = λ task. refl }
+reads_separator called taking.Part = record { taken = refl; faultless = refl; one_rule = refl; in_order = refl; rule = refl; trial = refl; meaning = λ task. refl }
+reads_separator called taking.Neither = record { taken = refl; faultless = refl; one_rule = refl; in_order = refl; rule = refl; trial = refl; meaning = λ task. refl }
 
 reads_after_separator : (called : Text) (b : Takes) (f : Text) → Reads called b (codes "--" ∷ f ∷ []) (Some f)
 unfolding defaults_fault walk_fault walk_passes walked
-reads_after_separator called taking.Rule f = record { taken = refl; faultless = refl; one_rule = refl; in_order = refl; rule = refl; failures = refl; meaning = λ task. refl }
-reads_after_separator called taking.Failures f = record { taken = refl; faultless = refl; one_rule = refl; in_order = refl; rule = refl; failures = refl; meaning = λ task. refl }
-reads_after_separator called taking.Neither f = record { taken = refl; faultless = refl; one_rule = refl; in_order = refl; rule = refl; failures = refl; meaning = λ task. refl }
+reads_after_separator called taking.Rule f = record { taken = refl; faultless = refl; one_rule = refl; in_order = refl; rule = refl; trial = refl; meaning = λ task. refl }
+reads_after_separator called taking.Failures f = record { taken = refl; faultless = refl; one_rule = refl; in_order = refl; rule = refl; trial = refl; meaning = λ task. refl }
+reads_after_separator called taking.Part f = record { taken = refl; faultless = refl; one_rule = refl; in_order = refl; rule = refl; trial = refl; meaning = λ task. refl }
+reads_after_separator called taking.Neither f = record { taken = refl; faultless = refl; one_rule = refl; in_order = refl; rule = refl; trial = refl; meaning = λ task. refl }
 
 abbrev none_found : Kinds
 none_found = []
@@ -107,7 +108,7 @@ reads_file called taking.Rule f no_separator is_plain =
       one_rule = rw (no_separator, none.0, none.1) (refl {a = false});
       in_order = rw (no_separator, none.0, none.1) (refl {a = false});
       rule = rw (no_separator, none.0, none.1) (refl {a = Unlimited});
-      failures = rw (no_separator, none.0, none.1) (refl {a = Single});
+      trial = rw (no_separator, none.0, none.1) (refl {a = plain_trial});
       meaning = λ task. rw (no_separator, none.0, none.1) (refl {a = plain_command task (Some f)});
     }
 reads_file called taking.Failures f no_separator is_plain =
@@ -117,7 +118,17 @@ reads_file called taking.Failures f no_separator is_plain =
       one_rule = rw (no_separator, none.0, none.1) (refl {a = false});
       in_order = rw (no_separator, none.0, none.1) (refl {a = false});
       rule = rw (no_separator, none.0, none.1) (refl {a = Unlimited});
-      failures = rw (no_separator, none.0, none.1) (refl {a = Single});
+      trial = rw (no_separator, none.0, none.1) (refl {a = plain_trial});
+      meaning = λ task. rw (no_separator, none.0, none.1) (refl {a = plain_command task (Some f)});
+    }
+reads_file called taking.Part f no_separator is_plain =
+    let none = no_flag f is_plain in record {
+      taken = rw (no_separator, none.0, none.1) (refl {a = true});
+      faultless = rw (no_separator, none.0, none.1) (refl {a = none_found});
+      one_rule = rw (no_separator, none.0, none.1) (refl {a = false});
+      in_order = rw (no_separator, none.0, none.1) (refl {a = false});
+      rule = rw (no_separator, none.0, none.1) (refl {a = Unlimited});
+      trial = rw (no_separator, none.0, none.1) (refl {a = plain_trial});
       meaning = λ task. rw (no_separator, none.0, none.1) (refl {a = plain_command task (Some f)});
     }
 reads_file called taking.Neither f no_separator is_plain =
@@ -127,7 +138,7 @@ reads_file called taking.Neither f no_separator is_plain =
       one_rule = refl;
       in_order = rw (no_separator, none.0, none.1) (refl {a = false});
       rule = rw (no_separator, none.0, none.1) (refl {a = Unlimited});
-      failures = rw (no_separator, none.0, none.1) (refl {a = Single});
+      trial = rw (no_separator, none.0, none.1) (refl {a = plain_trial});
       meaning = λ task. rw (no_separator, none.0, none.1) (refl {a = plain_command task (Some f)});
     }
 
@@ -140,7 +151,7 @@ reads_before_separator called taking.Rule f no_separator is_plain =
       one_rule = rw (no_separator, none.0, none.1) (refl {a = false});
       in_order = rw (no_separator, none.0, none.1) (refl {a = false});
       rule = rw (no_separator, none.0, none.1) (refl {a = Unlimited});
-      failures = rw (no_separator, none.0, none.1) (refl {a = Single});
+      trial = rw (no_separator, none.0, none.1) (refl {a = plain_trial});
       meaning = λ task. rw (no_separator, none.0, none.1) (refl {a = plain_command task (Some f)});
     }
 reads_before_separator called taking.Failures f no_separator is_plain =
@@ -150,7 +161,17 @@ reads_before_separator called taking.Failures f no_separator is_plain =
       one_rule = rw (no_separator, none.0, none.1) (refl {a = false});
       in_order = rw (no_separator, none.0, none.1) (refl {a = false});
       rule = rw (no_separator, none.0, none.1) (refl {a = Unlimited});
-      failures = rw (no_separator, none.0, none.1) (refl {a = Single});
+      trial = rw (no_separator, none.0, none.1) (refl {a = plain_trial});
+      meaning = λ task. rw (no_separator, none.0, none.1) (refl {a = plain_command task (Some f)});
+    }
+reads_before_separator called taking.Part f no_separator is_plain =
+    let none = no_flag f is_plain in record {
+      taken = rw (no_separator, none.0, none.1) (refl {a = true});
+      faultless = rw (no_separator, none.0, none.1) (refl {a = none_found});
+      one_rule = rw (no_separator, none.0, none.1) (refl {a = false});
+      in_order = rw (no_separator, none.0, none.1) (refl {a = false});
+      rule = rw (no_separator, none.0, none.1) (refl {a = Unlimited});
+      trial = rw (no_separator, none.0, none.1) (refl {a = plain_trial});
       meaning = λ task. rw (no_separator, none.0, none.1) (refl {a = plain_command task (Some f)});
     }
 reads_before_separator called taking.Neither f no_separator is_plain =
@@ -160,7 +181,7 @@ reads_before_separator called taking.Neither f no_separator is_plain =
       one_rule = refl;
       in_order = rw (no_separator, none.0, none.1) (refl {a = false});
       rule = rw (no_separator, none.0, none.1) (refl {a = Unlimited});
-      failures = rw (no_separator, none.0, none.1) (refl {a = Single});
+      trial = rw (no_separator, none.0, none.1) (refl {a = plain_trial});
       meaning = λ task. rw (no_separator, none.0, none.1) (refl {a = plain_command task (Some f)});
     }
 
@@ -178,12 +199,14 @@ file_walk : (called : Text) (b : Takes) (f : Text) → is_separator f ≡ false 
 unfolding walked
 file_walk called taking.Rule f no_separator is_plain = let none = no_flag f is_plain in rw (no_separator, none.0, none.1) refl
 file_walk called taking.Failures f no_separator is_plain = let none = no_flag f is_plain in rw (no_separator, none.0, none.1) refl
+file_walk called taking.Part f no_separator is_plain = let none = no_flag f is_plain in rw (no_separator, none.0, none.1) refl
 file_walk called taking.Neither f no_separator is_plain = let none = no_flag f is_plain in rw (no_separator, none.0, none.1) refl
 
 trailing_walked : (called : Text) (b : Takes) (f : Text) → walked (level called b).rules [] trailing_walk f ≡ given f true
 unfolding walked
 trailing_walked called taking.Rule f = refl
 trailing_walked called taking.Failures f = refl
+trailing_walked called taking.Part f = refl
 trailing_walked called taking.Neither f = refl
 
 flag_fails : (called : Text) (b : Takes) (f : Text) (rest : List Text) → IsUtf8 f → is_separator f ≡ false → is_flag f ≡ true → names_option (option_names b) f ≡ false → FailsAt called b (f ∷ rest)
@@ -200,6 +223,7 @@ second_file called b f g rest no_separator is_plain file no_option = below_fails
 third_turn : (called : Text) (b : Takes) (f k : Text) → Fails (turn_fault (level called b) [] (given f true) k) (turn_passes (level called b) [] (given f true) k)
 third_turn called taking.Rule f k = record { fault = has_kind _ _; test = refl }
 third_turn called taking.Failures f k = record { fault = has_kind _ _; test = refl }
+third_turn called taking.Part f k = record { fault = has_kind _ _; test = refl }
 third_turn called taking.Neither f k = record { fault = has_kind _ _; test = refl }
 
 after_separator_file : (called : Text) (b : Takes) (f k : Text) (rest : List Text) → FailsAt called b (codes "--" ∷ f ∷ k ∷ rest)
@@ -264,11 +288,11 @@ module _ (s : Subcommand) (is : IsSubcommand s) (name word : Text) (rest : List 
   abbrev rows : List Row
   rows = rows_after (level_of s).rules [] rest
 
-  spelled_task : rule_of rows ≡ Unlimited → failures_of rows ≡ Single → task_of s.name rows ≡ Some (s.task Unlimited Single)
-  spelled_task unlimited single = ap (option_map (λ (x : Subcommand). x.task (rule_of rows) (failures_of rows))) is.named
-      ∙ ap₂ (λ (rule : Rule) (failures : Failures). Some (s.task rule failures)) unlimited single
+  spelled_task : rule_of rows ≡ Unlimited → trial_of rows ≡ plain_trial → task_of s.name rows ≡ Some (s.task Unlimited plain_trial)
+  spelled_task unlimited plain = ap (option_map (λ (x : Subcommand). x.task (rule_of rows) (trial_of rows))) is.named
+      ∙ ap₂ (λ (rule : Rule) (trial : Trial). Some (s.task rule trial)) unlimited plain
 
-  taken_words : (file : Option Text) → Reads s.name s.takes rest file → AreTaken all_words (plain_command (s.task Unlimited Single) file)
+  taken_words : (file : Option Text) → Reads s.name s.takes rest file → AreTaken all_words (plain_command (s.task Unlimited plain_trial) file)
   taken_words file r = record {
     taken = level_takes s name word rest is met ∙ r.taken;
     spell = record {
@@ -277,8 +301,8 @@ module _ (s : Subcommand) (is : IsSubcommand s) (name word : Text) (rest : List 
           ∙ ap (λ (o : Option Subcommand). option_map_or (λ x. gives_more_than_one x.takes rows) o false) is.named ∙ r.one_rule;
       in_order = ap (λ (o : Option (Text × List Row)). option_map_or (λ p. disorders p.0 p.1) o false) (level_meaning s name word rest is met)
           ∙ ap (λ disordered. option_map_or (λ x. takes_rule x.takes) (subcommand_named s.name) false && disordered) r.in_order ∙ and_false _;
-      meaning = ap (option_and_then command_of) (level_meaning s name word rest is met) ∙ ap (option_map (command_with rows)) (spelled_task r.rule r.failures)
-          ∙ ap (λ x. Some x) (r.meaning (s.task Unlimited Single));
+      meaning = ap (option_and_then command_of) (level_meaning s name word rest is met) ∙ ap (option_map (command_with rows)) (spelled_task r.rule r.trial)
+          ∙ ap (λ x. Some x) (r.meaning (s.task Unlimited plain_trial));
     };
   }
 
@@ -289,7 +313,7 @@ module _ (s : Subcommand) (is : IsSubcommand s) (name word : Text) (rest : List 
   read_after texts none = go (file_named rest) (level_reads s.name s.takes rest texts none)
     where
       go : (o : Option (Option Text)) → MatchOption o (FailsAt s.name s.takes rest) (Reads s.name s.takes rest)
-          → MatchOption o (AreRefused all_words) (λ file. AreTaken all_words (plain_command (s.task Unlimited Single) file))
+          → MatchOption o (AreRefused all_words) (λ file. AreTaken all_words (plain_command (s.task Unlimited plain_trial) file))
       go None f = refused_words f
       go (Some file) r = taken_words file r
 

@@ -7,6 +7,7 @@ use Rattle.clap.specs.Walk.{bundle_met, walked}
 use Rattle.clap.specs.declared.error.kind.ErrorKind.TheVariants.{ArgumentConflict, InvalidValue, TooManyValues, UnknownArgument, ValueValidation}
 use Rattle.wb_model.specs.declared.failures.Failures.TheVariants.{Pairs, Single}
 use Rattle.wb_model.specs.declared.heap.Rule.TheVariants.{Pair, Unlimited}
+use Rattle.wb_command_line.specs.Spelled.{whole}
 use Rattle.wb_command_line.specs.declared.command.Task.TheVariants.{Run, Sweep, Check}
 use Rattle.wb_command_line.proofs.WorkedWords.{Disorder, Double, Fail, Spell, command_with, run_with}
 
@@ -36,7 +37,7 @@ second-number-as-a-file : Spell (codes "run" ∷ codes "--" ∷ codes "--also" �
 unfolding walked walk_passes walk_fault defaults_fault
 second-number-as-a-file = record { taken = refl; faultless = refl; one_rule = refl; in_order = refl; meaning = refl }
 
-sweep-of-pairs : Spell (codes "sweep" ∷ codes "--pairs" ∷ []) (command_with (Sweep Pairs) 10000 4096 4096 None)
+sweep-of-pairs : Spell (codes "sweep" ∷ codes "--pairs" ∷ []) (command_with (Sweep Pairs whole) 10000 4096 4096 None)
 unfolding walked walk_passes walk_fault defaults_fault
 sweep-of-pairs = record { taken = refl; faultless = refl; one_rule = refl; in_order = refl; meaning = refl }
 
@@ -44,7 +45,7 @@ check-of-pairs : Spell (codes "check" ∷ codes "--pairs" ∷ []) (command_with 
 unfolding walked walk_passes walk_fault defaults_fault
 check-of-pairs = record { taken = refl; faultless = refl; one_rule = refl; in_order = refl; meaning = refl }
 
-sweep-of-pairs-on-a-file : Spell (codes "sweep" ∷ codes "--pairs" ∷ codes "3" ∷ []) (command_with (Sweep Pairs) 10000 4096 4096 (Some (codes "3")))
+sweep-of-pairs-on-a-file : Spell (codes "sweep" ∷ codes "--pairs" ∷ codes "3" ∷ []) (command_with (Sweep Pairs whole) 10000 4096 4096 (Some (codes "3")))
 unfolding walked walk_passes walk_fault defaults_fault
 sweep-of-pairs-on-a-file = record { taken = refl; faultless = refl; one_rule = refl; in_order = refl; meaning = refl }
 
@@ -52,11 +53,11 @@ check-of-pairs-with-all : Spell (codes "check" ∷ codes "--budget=500" ∷ code
 unfolding walked walk_passes walk_fault defaults_fault
 check-of-pairs-with-all = record { taken = refl; faultless = refl; one_rule = refl; in_order = refl; meaning = refl }
 
-pairs-as-a-file : Spell (codes "sweep" ∷ codes "--" ∷ codes "--pairs" ∷ []) (command_with (Sweep Single) 10000 4096 4096 (Some (codes "--pairs")))
+pairs-as-a-file : Spell (codes "sweep" ∷ codes "--" ∷ codes "--pairs" ∷ []) (command_with (Sweep Single whole) 10000 4096 4096 (Some (codes "--pairs")))
 unfolding walked walk_passes walk_fault defaults_fault
 pairs-as-a-file = record { taken = refl; faultless = refl; one_rule = refl; in_order = refl; meaning = refl }
 
--- ---- words that give more than one of a limit, a number and a rate, or both flags of failures
+-- ---- words that give more than one of a limit, a number and a rate, or flags that don't go together
 
 limit-beside-a-pair : Double (codes "run" ∷ codes "--limit" ∷ codes "9" ∷ codes "--fail" ∷ codes "3" ∷ codes "--also" ∷ codes "4" ∷ [])
 unfolding walked walk_passes walk_fault defaults_fault

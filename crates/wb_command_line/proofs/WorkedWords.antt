@@ -11,7 +11,7 @@ use Rattle.wb_model.specs.declared.failures.Failures.TheVariants as failures
 use Rattle.wb_model.specs.declared.heap.Rule.{Rule}
 use Rattle.wb_model.specs.declared.heap.Rule.TheVariants.{Every, Limit, Number, Unlimited}
 use Rattle.wb_command_line.specs.CommandLine.{command_line}
-use Rattle.wb_command_line.specs.Spelled.{spell_both, spell_disorder, spelled}
+use Rattle.wb_command_line.specs.Spelled.{spell_both, spell_disorder, spelled, whole}
 use Rattle.wb_command_line.specs.declared.command.Command.{Command}
 use Rattle.wb_command_line.specs.declared.command.Task.{Task}
 use Rattle.wb_command_line.specs.declared.command.Task.TheVariants.{Run, Size, Lengths, Sweep, Check}
@@ -34,7 +34,7 @@ pub record Spell (words : List Text) (command : Command) : Type 0 where
   pub in_order : spell_disorder (all_words words) ≡ false
   pub meaning : spelled (all_words words) ≡ Some command
 
--- clap takes them, but they give more than one of a limit, a number and a rate, or both flags of failures
+-- clap takes them, but they give more than one of a limit, a number and a rate, or flags that don't go together
 pub record Double (words : List Text) : Type 0 where
   pub taken : takes command_line (all_words words) ≡ true
   pub faultless : fault_of command_line (all_words words) ≡ []
@@ -123,7 +123,7 @@ lengths-with-all : Spell (codes "lengths" ∷ codes "--step=32" ∷ codes "--jso
 unfolding walked walk_passes walk_fault defaults_fault
 lengths-with-all = record { taken = refl; faultless = refl; one_rule = refl; in_order = refl; meaning = refl }
 
-sweep-with-a-budget : Spell (codes "sweep" ∷ codes "--budget" ∷ codes "+0500" ∷ []) (command_with (Sweep Single) 500 4096 4096 None)
+sweep-with-a-budget : Spell (codes "sweep" ∷ codes "--budget" ∷ codes "+0500" ∷ []) (command_with (Sweep Single whole) 500 4096 4096 None)
 unfolding walked walk_passes walk_fault defaults_fault
 sweep-with-a-budget = record { taken = refl; faultless = refl; one_rule = refl; in_order = refl; meaning = refl }
 
@@ -171,7 +171,7 @@ rate-around-a-file : Spell (codes "run" ∷ codes "--step=32" ∷ codes "a.oom" 
 unfolding walked walk_passes walk_fault defaults_fault
 rate-around-a-file = record { taken = refl; faultless = refl; one_rule = refl; in_order = refl; meaning = refl }
 
-sweep-of-one-attempt : Spell (codes "sweep" ∷ []) (command_with (Sweep Single) 10000 4096 4096 None)
+sweep-of-one-attempt : Spell (codes "sweep" ∷ []) (command_with (Sweep Single whole) 10000 4096 4096 None)
 unfolding walked walk_passes walk_fault defaults_fault
 sweep-of-one-attempt = record { taken = refl; faultless = refl; one_rule = refl; in_order = refl; meaning = refl }
 
@@ -179,7 +179,7 @@ check-of-one-attempt : Spell (codes "check" ∷ []) (command_with (Check Single)
 unfolding walked walk_passes walk_fault defaults_fault
 check-of-one-attempt = record { taken = refl; faultless = refl; one_rule = refl; in_order = refl; meaning = refl }
 
-sweep-of-rates : Spell (codes "sweep" ∷ codes "--every" ∷ []) (command_with (Sweep failures.Every) 10000 4096 4096 None)
+sweep-of-rates : Spell (codes "sweep" ∷ codes "--every" ∷ []) (command_with (Sweep failures.Every whole) 10000 4096 4096 None)
 unfolding walked walk_passes walk_fault defaults_fault
 sweep-of-rates = record { taken = refl; faultless = refl; one_rule = refl; in_order = refl; meaning = refl }
 
@@ -187,7 +187,7 @@ check-of-rates : Spell (codes "check" ∷ codes "--every" ∷ []) (command_with 
 unfolding walked walk_passes walk_fault defaults_fault
 check-of-rates = record { taken = refl; faultless = refl; one_rule = refl; in_order = refl; meaning = refl }
 
-sweep-of-rates-on-a-file : Spell (codes "sweep" ∷ codes "--every" ∷ codes "3" ∷ []) (command_with (Sweep failures.Every) 10000 4096 4096 (Some (codes "3")))
+sweep-of-rates-on-a-file : Spell (codes "sweep" ∷ codes "--every" ∷ codes "3" ∷ []) (command_with (Sweep failures.Every whole) 10000 4096 4096 (Some (codes "3")))
 unfolding walked walk_passes walk_fault defaults_fault
 sweep-of-rates-on-a-file = record { taken = refl; faultless = refl; one_rule = refl; in_order = refl; meaning = refl }
 
@@ -195,7 +195,7 @@ check-of-rates-with-all : Spell (codes "check" ∷ codes "--budget=500" ∷ code
 unfolding walked walk_passes walk_fault defaults_fault
 check-of-rates-with-all = record { taken = refl; faultless = refl; one_rule = refl; in_order = refl; meaning = refl }
 
-rates-as-a-file : Spell (codes "sweep" ∷ codes "--" ∷ codes "--every" ∷ []) (command_with (Sweep Single) 10000 4096 4096 (Some (codes "--every")))
+rates-as-a-file : Spell (codes "sweep" ∷ codes "--" ∷ codes "--every" ∷ []) (command_with (Sweep Single whole) 10000 4096 4096 (Some (codes "--every")))
 unfolding walked walk_passes walk_fault defaults_fault
 rates-as-a-file = record { taken = refl; faultless = refl; one_rule = refl; in_order = refl; meaning = refl }
 

@@ -58,10 +58,26 @@ rates_flag = flag (codes "rates") (codes "every")
 abbrev pub pairs_flag : Rule
 pairs_flag = flag (codes "pairs") (codes "pairs")
 
+abbrev pub all_flag : Rule
+all_flag = flag (codes "all") (codes "all")
+
+abbrev pub from_option : Rule
+from_option = number_option (codes "from") 0 CEILING
+
+abbrev pub to_option : Rule
+to_option = number_option (codes "to") 0 CEILING
+
+abbrev pub failure_flags : List Rule
+failure_flags = rates_flag ∷ pairs_flag ∷ all_flag ∷ []
+
+abbrev pub part_options : List Rule
+part_options = from_option ∷ to_option ∷ []
+
 -- the options that a subcommand has beside those of all
 abbrev pub own_options : Takes → List Rule
 own_options taking.Rule = limit_option ∷ fail_option ∷ also_option ∷ every_option ∷ []
-own_options taking.Failures = rates_flag ∷ pairs_flag ∷ []
+own_options taking.Failures = failure_flags
+own_options taking.Part = failure_flags ++ part_options
 own_options taking.Neither = []
 
 -- those that every subcommand has and that take a number
@@ -80,7 +96,8 @@ abbrev pub line_with : Text → List Rule → App
 line_with name options = with_rules (new_app name) (file_argument ∷ options ++ shared_options)
 
 -- `NAME [--limit L] [--fail N] [--also J] [--every N] [--budget B] [--min M] [--step G] [--json] [--picture FILE] [FILE]`,
--- the same with flags `--every` and `--pairs` in the place of a rule, or with none of them
+-- the same with flags `--every`, `--pairs` and `--all` in the place of a rule, with these and `[--from I] [--to J]`, or with none
+-- of them
 abbrev pub subcommand_line : Text → Takes → App
 subcommand_line name takes = line_with name (own_options takes)
 
@@ -94,11 +111,11 @@ level_of s = level s.name s.takes
 -- a level that has the options of all subcommands, which none of them is: each id is there once
 abbrev pub joined_level : Shape
 joined_level =
-    built_leaf (line_with [] (own_options taking.Rule ++ own_options taking.Failures)).top
+    built_leaf (line_with [] (own_options taking.Rule ++ own_options taking.Part)).top
 
--- `workbench`, which wants a subcommand
+-- `workbench`, which wants a subcommand, and has a version
 abbrev pub bare_line : App
-bare_line = let line = new_app (codes "workbench") in record line { top = record line.top { subcommand_required = true } }
+bare_line = let line = new_app (codes "workbench") in record line { top = record line.top { subcommand_required = true; has_version = true } }
 
 abbrev pub command_line : App
 command_line = fold (λ line s. with_subcommand line (subcommand_line s.name s.takes).top) bare_line subcommands

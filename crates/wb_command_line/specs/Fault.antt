@@ -5,11 +5,11 @@ use Rattle.clap.specs.declared.error.Error.{Error}
 use Rattle.clap.specs.declared.error.kind.ErrorKind.{ErrorKind}
 use Rattle.clap.specs.declared.error.kind.ErrorKind.TheVariants.{OutOfMemory}
 use Rattle.wb_command_line.specs.CommandLine.{command_line}
-use Rattle.wb_command_line.specs.Command.{is_sixteenfold}
+use Rattle.wb_command_line.specs.Command.{is_filled, is_sixteenfold}
 use Rattle.wb_command_line.specs.Spelled.{IsMeantBy, IsSpelledBy, disorders, doubles, gives_disorder, gives_several, spell_both, spell_disorder}
 use Rattle.wb_command_line.specs.declared.command.Command.{Command}
 use Rattle.wb_command_line.specs.declared.command.CommandFault.{CommandFault}
-use Rattle.wb_command_line.specs.declared.command.CommandFault.TheVariants.{Usage, Both, Also, Shape, NoMemory}
+use Rattle.wb_command_line.specs.declared.command.CommandFault.TheVariants.{Usage, Both, Also, Shape, Range, NoMemory}
 
 abbrev pub is_want_of_memory : ErrorKind → Bool
 is_want_of_memory OutOfMemory = true
@@ -19,8 +19,8 @@ is_want_of_memory _ = false
 abbrev pub fault_of_error : Error → CommandFault
 fault_of_error e = if is_want_of_memory (kind_of e) then NoMemory else Usage e
 
--- clap takes the words, but they give more than one of a limit, the number of an attempt and a rate, or ask for rates and
--- for pairs
+-- clap takes the words, but they give more than one of a limit, the number of an attempt and a rate, or ask for pairs together with
+-- rates or with all that is found
 pub record IsDoubled (words : List Text) : Type 0 where
   pub faultless : fault_of command_line words ≡ []
   pub doubled : spell_both words ≡ true
@@ -37,13 +37,21 @@ pub record IsMisshapen (words : List Text) : Type 0 where
   pub spelled : IsSpelledBy words command
   pub misshapen : is_sixteenfold command.shape ≡ false
 
--- the fault is one that clap's meaning finds in the words; where it finds none, of the rules that they spell or the kinds of
--- failures, then of the second number, and then of the shape; memory that ran out says nothing of them
+-- clap takes the words, and they have none of these faults, but the part that they spell ends before it begins
+pub record IsReversed (words : List Text) : Type 0 where
+  pub command : Command
+  pub spelled : IsSpelledBy words command
+  pub shapely : is_sixteenfold command.shape ≡ true
+  pub empty : is_filled command.task ≡ false
+
+-- the fault is one that clap's meaning finds in the words; where it finds none, of the rules that they spell or of what is to be
+-- tried, then of the second number, then of the shape, and then of the part; memory that ran out says nothing of them
 abbrev pub IsFaultOf : List Text → CommandFault → Type 0
 IsFaultOf words (Usage e) = (kind_of e ≢ OutOfMemory) × IsAmong (kind_of e) (fault_of command_line words)
 IsFaultOf words Both = IsDoubled words
 IsFaultOf words Also = IsDisordered words
 IsFaultOf words Shape = IsMisshapen words
+IsFaultOf words Range = IsReversed words
 IsFaultOf words NoMemory = ⊤
 
 -- what is given doubles nothing, but a second number doesn't come after a first
@@ -57,12 +65,20 @@ pub record AreMisshapen (name : Text) (rows : List Row) : Type 0 where
   pub meant : IsMeantBy name rows command
   pub misshapen : is_sixteenfold command.shape ≡ false
 
+-- what is given is a command's, and its shape is right, but its part ends before it begins
+pub record AreReversed (name : Text) (rows : List Row) : Type 0 where
+  pub command : Command
+  pub meant : IsMeantBy name rows command
+  pub shapely : is_sixteenfold command.shape ≡ true
+  pub empty : is_filled command.task ≡ false
+
 -- the fault is one of a subcommand's options, which clap has taken, or memory ran out
 abbrev pub IsFaultOfOptions : Text → List Row → CommandFault → Type 0
 IsFaultOfOptions name rows (Usage e) = ⊥
 IsFaultOfOptions name rows Both = doubles name rows ≡ true
 IsFaultOfOptions name rows Also = AreDisordered name rows
 IsFaultOfOptions name rows Shape = AreMisshapen name rows
+IsFaultOfOptions name rows Range = AreReversed name rows
 IsFaultOfOptions name rows NoMemory = ⊤
 
 -- the fault is one of the rule or the failures that a subcommand is given, which clap has taken
@@ -80,7 +96,7 @@ IsFaultOfRule rows _ = ⊥
 -- no fault of usage
 abbrev pub IsAfterUsage : CommandFault → Type 0
 IsAfterUsage fault =
-    (fault ≡ Both) ⊎ ((fault ≡ Also) ⊎ ((fault ≡ Shape) ⊎ (fault ≡ NoMemory)))
+    (fault ≡ Both) ⊎ ((fault ≡ Also) ⊎ ((fault ≡ Shape) ⊎ ((fault ≡ Range) ⊎ (fault ≡ NoMemory))))
 
 -- the exit status of a program that got no command
 abbrev pub refusal_status : CommandFault → ℕ
@@ -88,4 +104,5 @@ refusal_status (Usage e) = 6
 refusal_status Both = 6
 refusal_status Also = 6
 refusal_status Shape = 6
+refusal_status Range = 6
 refusal_status NoMemory = 4

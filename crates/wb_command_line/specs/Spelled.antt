@@ -10,10 +10,11 @@ use Rattle.wb_model.specs.declared.failures.Failures.TheVariants as failures
 use Rattle.wb_model.specs.declared.heap.Rule.{Rule}
 use Rattle.wb_model.specs.declared.heap.Rule.TheVariants.{Every, Limit, Number, Pair, Unlimited}
 use Rattle.wb_model.specs.declared.heap.Shape.{Shape}
-use Rattle.wb_model.specs.declared.limits.TheConstants.{DEFAULT_BUDGET, DEFAULT_MINIMUM, DEFAULT_STEP}
+use Rattle.wb_model.specs.declared.part.Part.{Part}
+use Rattle.wb_model.specs.declared.limits.TheConstants.{CEILING, DEFAULT_BUDGET, DEFAULT_MINIMUM, DEFAULT_STEP}
 use Rattle.wb_command_line.specs.Command.{are_in_order}
 use Rattle.wb_command_line.specs.CommandLine.{command_line}
-use Rattle.wb_command_line.specs.Subcommands.{subcommand_named}
+use Rattle.wb_command_line.specs.Subcommands.{Trial, subcommand_named}
 use Rattle.wb_command_line.specs.declared.command.Command.{Command}
 use Rattle.wb_command_line.specs.declared.command.Task.{Task}
 use Rattle.wb_command_line.specs.declared.command_line.parser.Takes.{Takes}
@@ -98,9 +99,13 @@ budget_of rows = unwrap_or (number_of (codes "budget") rows) DEFAULT_BUDGET
 abbrev pub flag_of : Text → List Row → Bool
 flag_of option rows = option_map_or (bytes_eq (codes "true")) (one_of option rows) false
 
--- both flags are given of a subcommand that tries failures
-abbrev pub gives_both_flags : List Row → Bool
-gives_both_flags rows = flag_of (codes "rates") rows && flag_of (codes "pairs") rows
+-- pairs are asked for together with rates, or with all that is found
+abbrev pub are_too_many : Bool → Bool → Bool → Bool
+are_too_many rates pairs all = pairs && (rates || all)
+
+-- the flags of a subcommand that tries failures ask for that
+abbrev pub gives_too_many : List Row → Bool
+gives_too_many rows = are_too_many (flag_of (codes "rates") rows) (flag_of (codes "pairs") rows) (flag_of (codes "all") rows)
 
 -- the failures that are to be tried: rates with the flag `--every`, pairs of attempts with `--pairs`, and single attempts
 -- with neither
@@ -111,10 +116,24 @@ failures_by rates pairs =
 abbrev pub failures_of : List Row → Failures
 failures_of rows = failures_by (flag_of (codes "rates") rows) (flag_of (codes "pairs") rows)
 
+-- all numbers
+abbrev pub whole : Part
+whole = record { from = 0; to = CEILING }
+
+-- the numbers that are to be tried
+abbrev pub part_of : List Row → Part
+part_of rows = record {
+  from = unwrap_or (number_of (codes "from") rows) whole.from;
+  to = unwrap_or (number_of (codes "to") rows) whole.to;
+}
+
+abbrev pub trial_of : List Row → Trial
+trial_of rows = record { failures = failures_of rows; part = part_of rows; all = flag_of (codes "all") rows }
+
 -- what a subcommand asks for, by its name and matches
 abbrev pub task_of : Text → List Row → Option Task
 task_of name rows =
-    option_map (λ s. s.task (rule_of rows) (failures_of rows)) (subcommand_named name)
+    option_map (λ s. s.task (rule_of rows) (trial_of rows)) (subcommand_named name)
 
 -- the command of a task, by the matches of its subcommand
 abbrev pub command_with : List Row → Task → Command
@@ -134,16 +153,18 @@ command_of p = option_map (command_with p.1) (task_of p.0 p.1)
 abbrev pub takes_rule : Takes → Bool
 takes_rule taking.Rule = true
 takes_rule taking.Failures = false
+takes_rule taking.Part = false
 takes_rule taking.Neither = false
 
--- more is given than one rule, or one kind of failures, by what a subcommand takes
+-- more is given than one rule, or than goes together of what is to be tried, by what a subcommand takes
 abbrev pub gives_more_than_one : Takes → List Row → Bool
 gives_more_than_one taking.Rule rows = gives_several rows
-gives_more_than_one taking.Failures rows = gives_both_flags rows
+gives_more_than_one taking.Failures rows = gives_too_many rows
+gives_more_than_one taking.Part rows = gives_too_many rows
 gives_more_than_one taking.Neither rows = false
 
--- the subcommand takes a rule, and more than one of a limit, a number and a rate is given to it; or failures, and both
--- flags are
+-- the subcommand takes a rule, and more than one of a limit, a number and a rate is given to it; or failures, and pairs are asked for
+-- together with rates or with all that is found
 abbrev pub doubles : Text → List Row → Bool
 doubles name rows =
     option_map_or (λ s. gives_more_than_one s.takes rows) (subcommand_named name) false
@@ -153,7 +174,7 @@ abbrev pub disorders : Text → List Row → Bool
 disorders name rows =
     option_map_or (λ s. takes_rule s.takes) (subcommand_named name) false && gives_disorder rows
 
--- no more than one rule is given, or one kind of failures, and a second number only after a first, and this is the command
+-- no more than one rule is given, or than goes together of what is to be tried, and a second number only after a first, and this is the command
 pub record IsMeantBy (name : Text) (rows : List Row) (command : Command) : Type 0 where
   pub one_rule : doubles name rows ≡ false
   pub in_order : disorders name rows ≡ false
@@ -163,7 +184,7 @@ pub record IsMeantBy (name : Text) (rows : List Row) (command : Command) : Type 
 abbrev pub spelled : List Text → Option Command
 spelled words = option_and_then command_of (subcommand_of command_line words)
 
--- the words give more than one of a limit, a number and a rate, or both flags of failures
+-- the words give more than one of a limit, a number and a rate, or flags that don't go together
 abbrev pub spell_both : List Text → Bool
 spell_both words = option_map_or (λ p. doubles p.0 p.1) (subcommand_of command_line words) false
 
@@ -172,7 +193,7 @@ abbrev pub spell_disorder : List Text → Bool
 spell_disorder words =
     option_map_or (λ p. disorders p.0 p.1) (subcommand_of command_line words) false
 
--- clap finds no fault in the words, no more than one rule or one kind of failures is there, a second number only after a
+-- clap finds no fault in the words, no more than one rule is there, nor flags that don't go together, a second number only after a
 -- first, and this is what they spell
 pub record IsSpelledBy (words : List Text) (command : Command) : Type 0 where
   pub faultless : fault_of command_line words ≡ []

@@ -1,20 +1,35 @@
 -- The subcommands: how each is called, which failures may be named, and what it asks for.
-use Rattle.std.specs.Prelude.{List, [], ◌∷◌, Option, codes, find}
+use Rattle.std.specs.Prelude.{Bool, List, [], ◌∷◌, Option, codes, find, if◌then◌else◌}
 use Rattle.std.specs.Str.{bytes_eq}
 use Rattle.clap.specs.Words.{Text}
 use Rattle.wb_model.specs.declared.failures.Failures.{Failures}
 use Rattle.wb_model.specs.declared.heap.Rule.{Rule}
+use Rattle.wb_model.specs.declared.part.Part.{Part}
 use Rattle.wb_command_line.specs.declared.command.Task.{Task}
-use Rattle.wb_command_line.specs.declared.command.Task.TheVariants.{Run, Size, Lengths, Sweep, Check}
+use Rattle.wb_command_line.specs.declared.command.Task.TheVariants.{Run, Size, Lengths, Sweep, All, Check, CheckAll}
 use Rattle.wb_command_line.specs.declared.command_line.parser.Takes.{Takes}
 use Rattle.wb_command_line.specs.declared.command_line.parser.Takes.TheVariants as taking
+
+-- what is to be tried: which failures, which of their numbers, and whether the run under each is told of, or the least alone that
+-- leaks or panics
+pub record Trial : Type 0 where
+  pub failures : Failures
+  pub part : Part
+  pub all : Bool
+
+abbrev pub sweep_task : Trial → Task
+sweep_task trial = if trial.all then All trial.failures trial.part else Sweep trial.failures trial.part
+
+-- both of all their numbers
+abbrev pub check_task : Trial → Task
+check_task trial = if trial.all then CheckAll trial.failures else Check trial.failures
 
 pub record Subcommand : Type 0 where
   pub name : Text
   -- which options it has beside those of all
   pub takes : Takes
-  -- by its rule, or by the failures that it tries, where it takes them
-  pub task : Rule → Failures → Task
+  -- by its rule, or by what it tries, where it takes them
+  pub task : Rule → Trial → Task
 
 abbrev pub run_subcommand : Subcommand
 run_subcommand = record { name = codes "run"; takes = taking.Rule; task = λ rule _. Run rule }
@@ -26,18 +41,10 @@ abbrev pub lengths_subcommand : Subcommand
 lengths_subcommand = record { name = codes "lengths"; takes = taking.Neither; task = λ _ _. Lengths }
 
 abbrev pub sweep_subcommand : Subcommand
-sweep_subcommand = record {
-  name = codes "sweep";
-  takes = taking.Failures;
-  task = λ _ failures. Sweep failures;
-}
+sweep_subcommand = record { name = codes "sweep"; takes = taking.Part; task = λ _ trial. sweep_task trial }
 
 abbrev pub check_subcommand : Subcommand
-check_subcommand = record {
-  name = codes "check";
-  takes = taking.Failures;
-  task = λ _ failures. Check failures;
-}
+check_subcommand = record { name = codes "check"; takes = taking.Failures; task = λ _ trial. check_task trial }
 
 abbrev pub subcommands : List Subcommand
 subcommands =

@@ -9,8 +9,8 @@ use Rattle.wb_model.specs.declared.failures.Failures.TheVariants.{Single}
 use Rattle.wb_model.specs.declared.heap.Rule.TheVariants.{Unlimited}
 use Rattle.wb_model.specs.declared.limits.TheConstants.{DEFAULT_BUDGET}
 use Rattle.wb_command_line.specs.CommandLine.{command_line}
-use Rattle.wb_command_line.specs.Subcommands.{Subcommand, subcommand_named}
-use Rattle.wb_command_line.specs.Spelled.{IsSpelledBy, default_shape}
+use Rattle.wb_command_line.specs.Subcommands.{Subcommand, Trial, subcommand_named}
+use Rattle.wb_command_line.specs.Spelled.{IsSpelledBy, default_shape, whole}
 use Rattle.wb_command_line.specs.declared.command.Command.{Command}
 use Rattle.wb_command_line.specs.declared.command.Task.{Task}
 use Rattle.wb_command_line.specs.declared.command_line.parser.Takes.{Takes}
@@ -32,7 +32,8 @@ shared_names = codes "budget" ∷ codes "min" ∷ codes "step" ∷ codes "json" 
 -- those that a subcommand has beside them
 abbrev pub own_names : Takes → List Text
 own_names taking.Rule = codes "limit" ∷ codes "fail" ∷ codes "also" ∷ codes "every" ∷ []
-own_names taking.Failures = codes "every" ∷ codes "pairs" ∷ []
+own_names taking.Failures = codes "every" ∷ codes "pairs" ∷ codes "all" ∷ []
+own_names taking.Part = codes "every" ∷ codes "pairs" ∷ codes "all" ∷ codes "from" ∷ codes "to" ∷ []
 own_names taking.Neither = []
 
 -- the options of a subcommand, by what it takes
@@ -60,6 +61,10 @@ file_named (f ∷ g ∷ []) =
     if is_separator f then Some (Some g) else if not (is_flag f) && is_separator g then Some (Some f) else None
 file_named _ = None
 
+-- one attempt at a time is tried, of all that there are
+abbrev pub plain_trial : Trial
+plain_trial = record { failures = Single; part = whole; all = false }
+
 -- a task on the file, or on standard input, with the default budget and shape, as lines and without a picture
 abbrev pub plain_command : Task → Option Text → Command
 plain_command task file = record {
@@ -80,11 +85,11 @@ pub record AreRefused (words : List Text) : Type 0 where
   pub faulty : fault_of command_line words ≢ []
 
 -- where no word after the subcommand is an option of it, clap takes just these, and they spell its task, without a limit,
--- a number or a rate, where one attempt fails at a time, on the file that they name
+-- a number or a rate, where each attempt fails once, on the file that they name
 abbrev pub AreReadAfter : Subcommand → List Text → List Text → Type 0
 AreReadAfter s words rest = has_no_option (option_names s.takes) rest ≡ true
     → MatchOption (file_named rest) (AreRefused words)
-    (λ file. AreTaken words (plain_command (s.task Unlimited Single) file))
+    (λ file. AreTaken words (plain_command (s.task Unlimited plain_trial) file))
 
 -- any name of the program, then a subcommand's, then the words after it; clap refuses all others
 abbrev pub AreRead : List Text → Type 0

@@ -10,6 +10,7 @@ use std::alloc::AllocError;
 use thiserror::Error;
 use wb_model::failures::Failures;
 use wb_model::heap::{Rule, Shape};
+use wb_model::part::Part;
 
 /// What is to be done with the script.
 #[derive(Clone, Copy, Debug, PartialEq, Eq)]
@@ -21,10 +22,15 @@ pub enum Task {
     /// How the run ends in a heap of every length, and the least length whose run leaks or panics.
     Lengths,
     /// The least of these failures that leaks or panics, and the run in which it does: the number of an attempt that
-    /// fails, the rate at which attempts fail, or the numbers of two that do.
-    Sweep(Failures),
-    /// `Size`, and then `Sweep` with these failures.
+    /// fails, the rate at which attempts fail, or the numbers of two that do. Those are tried that the part has.
+    Sweep(Failures, Part),
+    /// How the run ends under each of these failures, of those that the part has, where it leaks, panics or is cut; and the
+    /// run under the least that leaks or panics.
+    All(Failures, Part),
+    /// `Size`, and then `Sweep` with all these failures.
     Check(Failures),
+    /// `Size`, and then `All` with all these failures.
+    CheckAll(Failures),
 }
 
 /// A command: what is to be done, and with what.
@@ -50,16 +56,19 @@ pub enum CommandFault {
     #[error("{0}")]
     Usage(clap::Error),
     /// `clap` takes the words, but they give more than one of a limit, the number of an attempt and a rate, or ask for
-    /// rates and for pairs to be tried. It comes before `Also`.
-    #[error("error: give one of '--limit', '--fail' and '--every', or one of '--every' and '--pairs'\n")]
+    /// pairs to be tried and for rates, or for each failure to be told of. It comes before `Also`.
+    #[error("error: two of these options don't go together\n")]
     Both,
     /// `clap` takes the words, but they give the number of a second attempt that fails, and not that of a first, or a first
     /// that is 0 or not less than the second. It comes before `Shape`.
     #[error("error: give '--also' with '--fail', and a number greater than that of '--fail', which is at least 1\n")]
     Also,
-    /// `clap` takes the words, but the heap's minimum length or step is no multiple of 16 bytes.
+    /// `clap` takes the words, but the heap's minimum length or step is no multiple of 16 bytes. It comes before `Range`.
     #[error("error: the values of '--min' and '--step' are multiples of 16\n")]
     Shape,
+    /// `clap` takes the words, but the part that is to be tried ends before it begins.
+    #[error("error: give '--from' a number that is not greater than that of '--to'\n")]
+    Range,
     /// The workbench's own memory ran out, or `clap` found none; it says nothing of the words.
     #[error("error: no memory\n")]
     NoMemory,

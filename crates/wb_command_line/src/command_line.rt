@@ -1,21 +1,24 @@
 //! How the words of a command line are read: `workbench run [--limit L | --fail N [--also J] | --every N] [--budget B]
-//! [--min M] [--step G] [--json] [--picture FILE] [FILE]`, the same with a flag `--every` or `--pairs` in the place of a rule after `sweep` and
-//! `check`, and with none of them after `size` and `lengths`. Nothing is opened or run here.
+//! [--min M] [--step G] [--json] [--picture FILE] [FILE]`, the same with flags `--every`, `--pairs` and `--all` in the place of a rule after
+//! `sweep` and `check`, after `sweep` with `[--from I] [--to J]` too, and with none of them after `size` and `lengths`. Nothing is
+//! opened or run here.
 ghost use Rattle.std.specs.Prelude.{◌≡◌, ◌≤◌, All, IfErr, IfOk, IsSome, IsTrue, List, Some, OnErr, OnOk, codes, false};
-ghost use Rattle.std.specs.Prelude.{map, true};
+ghost use Rattle.std.specs.Prelude.{if◌then◌else◌, map, true};
 ghost use Rattle.std.specs.Str.{IsUtf8};
 ghost use Rattle.clap.specs.Words.{Text, first_of, found_of, rows_of, takes};
 ghost use Rattle.wb_model.specs.heap.Space.{is_shape};
-ghost use Rattle.wb_command_line.specs.Command.{is_answerable, is_in_range, is_sixteenfold};
+ghost use Rattle.wb_command_line.specs.Command.{has_number, is_answerable, is_filled, is_in_range, is_sixteenfold};
 ghost use Rattle.wb_command_line.specs.CommandLine.{command_line, joined_level};
 ghost use Rattle.wb_command_line.specs.Fault.{IsAfterUsage, IsFaultOf, IsFaultOfOptions, IsFaultOfRule, IsFaultOfTask};
 ghost use Rattle.wb_command_line.specs.Passed.{RowsPass};
 ghost use Rattle.wb_command_line.specs.Spelled.{IsMeantBy, IsPairOf, IsSpelledBy, budget_of as spelled_budget};
-ghost use Rattle.wb_command_line.specs.Spelled.{comes_before, disorders, doubles, failures_of as spelled_failures};
-ghost use Rattle.wb_command_line.specs.Spelled.{first_rule_of, flag_of, gives_both_flags, gives_disorder};
-ghost use Rattle.wb_command_line.specs.Spelled.{gives_several, rule_of as spelled_rule, shape_of as spelled_shape};
-ghost use Rattle.wb_command_line.specs.Spelled.{task_of};
-ghost use Rattle.wb_command_line.specs.Subcommands.{subcommand_named};
+ghost use Rattle.wb_command_line.specs.Spelled.{are_too_many, comes_before, disorders, doubles};
+ghost use Rattle.wb_command_line.specs.Spelled.{failures_by, failures_of as spelled_failures};
+ghost use Rattle.wb_command_line.specs.Spelled.{first_rule_of, flag_of, gives_disorder};
+ghost use Rattle.wb_command_line.specs.Spelled.{gives_several, gives_too_many, part_of as spelled_part};
+ghost use Rattle.wb_command_line.specs.Spelled.{rule_of as spelled_rule, shape_of as spelled_shape};
+ghost use Rattle.wb_command_line.specs.Spelled.{task_of, trial_of as spelled_trial};
+ghost use Rattle.wb_command_line.specs.Subcommands.{check_task, subcommand_named, sweep_task};
 ghost use Rattle.wb_command_line.specs.WordByWord.{AreRead};
 
 mod long_help;
@@ -31,7 +34,8 @@ use std::alloc::{AllocError, Global};
 use std::convert::AsStr;
 use wb_model::failures::Failures;
 use wb_model::heap::{Rule, Shape};
-use wb_model::limits::{DEFAULT_BUDGET, DEFAULT_MINIMUM, DEFAULT_STEP, LARGEST_BUDGET};
+use wb_model::limits::{CEILING, DEFAULT_BUDGET, DEFAULT_MINIMUM, DEFAULT_STEP, LARGEST_BUDGET};
+use wb_model::part::Part;
 
 /// The granule of a heap's lengths, in bytes.
 const GRANULE: u32 = 16;
@@ -39,10 +43,11 @@ const GRANULE: u32 = 16;
 /// The command that the words spell; the first of them is the program's name, and is not looked at. What the
 /// words don't say has its default, and the numbers are in their ranges.
 ///
-/// Words that `clap` doesn't take, and calls for help, are `Usage`. Where it takes them, more than one of a limit, the
-/// number of an attempt and a rate is `Both`, and so are rates together with pairs. Else the number of a second attempt
-/// is `Also` where that of a first is missing, 0 or not less; and else a minimum length or a step that is no multiple of 16
-/// is `Shape`. `NoMemory` comes where a growth was refused, of the workbench or of `clap`, and says nothing of the words.
+/// Words that `clap` doesn't take, and calls for help or the version, are `Usage`. Where it takes them, more than one of a
+/// limit, the number of an attempt and a rate is `Both`, and so are pairs together with rates or with all that is found. Else
+/// the number of a second attempt is `Also` where that of a first is missing, 0 or not less; else a minimum length or a step
+/// that is no multiple of 16 is `Shape`; and else a part that ends before it begins is `Range`. `NoMemory` comes where a growth
+/// was refused, of the workbench or of `clap`, and says nothing of the words.
 pub fn command<'a, S: AsStr>(alloc: Global, words: &'a [S]) -> Result<Command, CommandFault>
     ensures spelled { IfOk result (IsSpelledBy (map S.text words.now)) }
     ensures numbers { IfOk result (λ command. IsTrue (is_answerable command)) }
@@ -57,7 +62,7 @@ pub fn command<'a, S: AsStr>(alloc: Global, words: &'a [S]) -> Result<Command, C
     command_in(alloc, name, options)
 }
 
-/// The command of a subcommand with these options, or `Both`, `Also` or `Shape`.
+/// The command of a subcommand with these options, or `Both`, `Also`, `Shape` or `Range`.
 fn command_in(alloc: Global, name: &str, options: &ArgMatches) -> Result<Command, CommandFault>
     requires named { IsSome (subcommand_named name.now) }
     requires passed { RowsPass joined_level.rules (rows_of (found_of options.now)) }
@@ -67,6 +72,7 @@ fn command_in(alloc: Global, name: &str, options: &ArgMatches) -> Result<Command
 {
     let task = task_in(name, options)?;
     let shape = shape_in(options)?;
+    check_part_of(task)?;
     Ok(Command {
         task,
         file: file_in(alloc, options)?,
@@ -93,9 +99,34 @@ fn task_in(name: &str, options: &ArgMatches) -> Result<Task, CommandFault>
         "run" => Ok(Task::Run(rule_in(options)?)),
         "size" => Ok(Task::Size),
         "lengths" => Ok(Task::Lengths),
-        "sweep" => Ok(Task::Sweep(failures_in(options)?)),
+        "sweep" => Ok(sweep_in(options)?),
         // There is no other.
-        _ => Ok(Task::Check(failures_in(options)?)),
+        _ => Ok(check_in(options)?),
+    }
+}
+
+/// Nothing if the part that a task names, if it names one, has a number; else `Range`.
+fn check_part_of(task: Task) -> Result<(), CommandFault>
+    ensures ok { OnOk result (IsTrue (is_filled task)) }
+    ensures fault { IfErr result (λ fault. fault ≡ CommandFault.Range) }
+    ensures empty { OnErr result (is_filled task ≡ false) }
+{
+    match task {
+        Task::Sweep(_, part) | Task::All(_, part) => check_part(part),
+        Task::Run(_) | Task::Size | Task::Lengths | Task::Check(_) | Task::CheckAll(_) => Ok(()),
+    }
+}
+
+/// Nothing if the part has a number; else `Range`.
+fn check_part(part: Part) -> Result<(), CommandFault>
+    ensures ok { OnOk result (IsTrue (has_number part)) }
+    ensures fault { IfErr result (λ fault. fault ≡ CommandFault.Range) }
+    ensures empty { OnErr result (has_number part ≡ false) }
+{
+    if part.from <= part.to {
+        Ok(())
+    } else {
+        Err(CommandFault::Range)
     }
 }
 
@@ -151,21 +182,107 @@ fn with_second(first: Rule, second: u32) -> Result<Rule, CommandFault>
     }
 }
 
+/// What the options of `sweep` ask for, or `Both`.
+fn sweep_in(options: &ArgMatches) -> Result<Task, CommandFault>
+    requires { RowsPass joined_level.rules (rows_of (found_of options.now)) }
+    ensures ok { IfOk result
+        (λ task. task ≡ sweep_task (spelled_trial (rows_of (found_of options.now)))) }
+    ensures range { IfOk result (λ task. IsTrue (is_in_range task)) }
+    ensures alone { OnOk result (gives_too_many (rows_of (found_of options.now)) ≡ false) }
+    ensures fault { IfErr result (λ fault. fault ≡ CommandFault.Both) }
+    ensures both { OnErr result (gives_too_many (rows_of (found_of options.now)) ≡ true) }
+{
+    let failures = failures_in(options)?;
+    Ok(sweep_by(failures, part_in(options), all_in(options)))
+}
+
+/// A sweep over the numbers of a part, of the least failure or of all that are found.
+fn sweep_by(failures: Failures, part: Part, all: bool) -> Task
+    requires { part.to ≤ CEILING }
+    ensures is { result ≡ if all then Task.All failures part else Task.Sweep failures part }
+    ensures range { IsTrue (is_in_range result) }
+{
+    if all {
+        Task::All(failures, part)
+    } else {
+        Task::Sweep(failures, part)
+    }
+}
+
+/// What the options of `check` ask for, or `Both`.
+fn check_in(options: &ArgMatches) -> Result<Task, CommandFault>
+    requires { RowsPass joined_level.rules (rows_of (found_of options.now)) }
+    ensures ok { IfOk result
+        (λ task. task ≡ check_task (spelled_trial (rows_of (found_of options.now)))) }
+    ensures range { IfOk result (λ task. IsTrue (is_in_range task)) }
+    ensures alone { OnOk result (gives_too_many (rows_of (found_of options.now)) ≡ false) }
+    ensures fault { IfErr result (λ fault. fault ≡ CommandFault.Both) }
+    ensures both { OnErr result (gives_too_many (rows_of (found_of options.now)) ≡ true) }
+{
+    let failures = failures_in(options)?;
+    Ok(check_by(failures, all_in(options)))
+}
+
+/// A check of the least failure, or of all that are found.
+fn check_by(failures: Failures, all: bool) -> Task
+    ensures is { result ≡ if all then Task.CheckAll failures else Task.Check failures }
+    ensures range { IsTrue (is_in_range result) }
+{
+    if all {
+        Task::CheckAll(failures)
+    } else {
+        Task::Check(failures)
+    }
+}
+
 /// The failures that the options of `sweep` and `check` ask to be tried, or `Both`.
 fn failures_in(options: &ArgMatches) -> Result<Failures, CommandFault>
     requires { RowsPass joined_level.rules (rows_of (found_of options.now)) }
     ensures ok { IfOk result
         (λ failures. failures ≡ spelled_failures (rows_of (found_of options.now))) }
-    ensures alone { OnOk result (gives_both_flags (rows_of (found_of options.now)) ≡ false) }
+    ensures alone { OnOk result (gives_too_many (rows_of (found_of options.now)) ≡ false) }
     ensures fault { IfErr result (λ fault. fault ≡ CommandFault.Both) }
-    ensures both { OnErr result (gives_both_flags (rows_of (found_of options.now)) ≡ true) }
+    ensures both { OnErr result (gives_too_many (rows_of (found_of options.now)) ≡ true) }
 {
-    match (options.get_flag("rates"), options.get_flag("pairs")) {
-        (false, false) => Ok(Failures::Single),
-        (true, false) => Ok(Failures::Every),
-        (false, true) => Ok(Failures::Pairs),
-        (true, true) => Err(CommandFault::Both),
+    let rates = options.get_flag("rates");
+    let pairs = options.get_flag("pairs");
+    let all = options.get_flag("all");
+    failures_by(rates, pairs, all)
+}
+
+/// The failures that these flags ask to be tried, or `Both`.
+fn failures_by(rates: bool, pairs: bool, all: bool) -> Result<Failures, CommandFault>
+    ensures ok { IfOk result (λ failures. failures ≡ failures_by rates pairs) }
+    ensures alone { OnOk result (are_too_many rates pairs all ≡ false) }
+    ensures fault { IfErr result (λ fault. fault ≡ CommandFault.Both) }
+    ensures both { OnErr result (are_too_many rates pairs all ≡ true) }
+{
+    match (rates, pairs, all) {
+        (false, false, _) => Ok(Failures::Single),
+        (true, false, _) => Ok(Failures::Every),
+        (false, true, false) => Ok(Failures::Pairs),
+        (false, true, true) => Err(CommandFault::Both),
+        (true, true, _) => Err(CommandFault::Both),
     }
+}
+
+/// The numbers that the options ask to be tried.
+fn part_in(options: &ArgMatches) -> Part
+    requires { RowsPass joined_level.rules (rows_of (found_of options.now)) }
+    ensures is { result ≡ spelled_part (rows_of (found_of options.now)) }
+    ensures most { result.to ≤ CEILING }
+{
+    let from = options.get_one("from").unwrap_or(Part::WHOLE.from);
+    let to = options.get_one("to").unwrap_or(Part::WHOLE.to);
+    Part { from, to }
+}
+
+/// Whether they ask for all that is found.
+fn all_in(options: &ArgMatches) -> bool
+    requires { RowsPass joined_level.rules (rows_of (found_of options.now)) }
+    ensures { result ≡ flag_of (codes "all") (rows_of (found_of options.now)) }
+{
+    options.get_flag("all")
 }
 
 /// The greatest number of steps that the options spell.
@@ -229,7 +346,7 @@ fn picture_in(alloc: Global, options: &ArgMatches) -> Result<Option<FileName>, A
 /// Law: which words the command line takes, and what they spell, word by word. After the program's name and that of a
 /// subcommand comes one FILE or none, and one `--` or none before or after it. FILE begins with no hyphen or is `-`, but
 /// after `--` it is any word. What is an option of another subcommand is a word that begins with a hyphen. `sweep` and `check`
-/// then try failures of one attempt at a time.
+/// then try the failure of each attempt alone.
 pub fn words_are_read()
     ensures { (words : List Text) → All IsUtf8 words → AreRead words }
 {}

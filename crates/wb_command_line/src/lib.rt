@@ -4,3 +4,4 @@
 pub mod command;
 pub mod command_line;
 pub mod file_name;
+pub mod messages;

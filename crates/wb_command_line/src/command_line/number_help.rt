@@ -18,6 +18,8 @@ pub(crate) struct NumberHelp {
     pub fail: String,
     pub also: String,
     pub every: String,
+    pub from: String,
+    pub to: String,
     pub budget: String,
     pub min: String,
     pub step: String,
@@ -37,6 +39,14 @@ impl NumberHelp {
             )?,
             every: format!(in alloc;
                 "Makes every N-th attempt fail, N from 0 to {CEILING}; with 0 none fails"
+            )?,
+            from: format!(in alloc;
+                "Tries numbers from I on, I from 0 to {CEILING}; of pairs those with such a first number \
+                 [default: 0]"
+            )?,
+            to: format!(in alloc;
+                "Tries numbers up to J, J from 0 to {CEILING}; of pairs those with such a first number \
+                 [default: {CEILING}]"
             )?,
             budget: format!(in alloc;
                 "Most steps that a run may take, from 1 to {LARGEST_BUDGET} \

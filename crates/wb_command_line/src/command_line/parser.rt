@@ -3,8 +3,9 @@
 ghost use Rattle.std.specs.Prelude.{◌≡◌, IfOk, false, fold};
 ghost use Rattle.clap.specs.Words.{app_of, rule_of, with_rule, with_subcommand};
 ghost use Rattle.clap.specs.declared.builder.command.Command.TheViews.{out-Command as fields_of};
-ghost use Rattle.wb_command_line.specs.CommandLine.{command_line, file_argument, json_flag, line_of, number_option};
-ghost use Rattle.wb_command_line.specs.CommandLine.{option_rule, own_options, pairs_flag, picture_option, rates_flag};
+ghost use Rattle.wb_command_line.specs.CommandLine.{all_flag, command_line, file_argument, json_flag, line_of};
+ghost use Rattle.wb_command_line.specs.CommandLine.{number_option, option_rule, own_options, pairs_flag, part_options};
+ghost use Rattle.wb_command_line.specs.CommandLine.{picture_option, rates_flag};
 ghost use Rattle.wb_command_line.specs.CommandLine.{shared_options, with_level, with_option, with_rules};
 
 use crate::command_line::long_help::{BEGIN, long_about};
@@ -18,8 +19,11 @@ use wb_model::limits::{CEILING, LARGEST_BUDGET, LARGEST_MINIMUM, LARGEST_STEP, S
 enum Takes {
     /// Those that give a rule: a limit, the number of an attempt and of a second one, or a rate.
     Rule,
-    /// The flags that ask for rates to be tried, or pairs of attempts, and not single attempts alone.
+    /// The flags that ask for rates to be tried, or pairs of attempts, and not single attempts alone, and that which asks for
+    /// all that is found.
     Failures,
+    /// The same, and the first and the last number that is tried.
+    Part,
     Neither,
 }
 
@@ -56,6 +60,9 @@ impl<'a> NumberOption<'a> {
     }
 }
 
+/// The version of the program.
+const VERSION: &str = "0.4.0";
+
 /// The words that `clap` is to read.
 pub(super) fn parser<'a>(
     alloc: Global,
@@ -66,6 +73,7 @@ pub(super) fn parser<'a>(
     let line = clap::Command::new(alloc, "workbench")
         .about("Runs scripts against a simulated heap whose allocations may fail")
         .long_about(BEGIN)
+        .version(VERSION)
         .subcommand_required(true);
     with_levels(
         alloc,
@@ -89,7 +97,7 @@ pub(super) fn parser<'a>(
             Level {
                 name: "sweep",
                 about: "Finds the first attempt whose failure leaks or panics",
-                takes: Takes::Failures,
+                takes: Takes::Part,
             },
             Level {
                 name: "check",
@@ -148,7 +156,8 @@ fn with_own_options<'a>(
 {
     match takes {
         Takes::Rule => with_rule_options(alloc, line, help),
-        Takes::Failures => with_argument(with_argument(line, rates(alloc))?, pairs(alloc)),
+        Takes::Failures => with_failures(alloc, line),
+        Takes::Part => with_part_options(alloc, with_failures(alloc, line)?, help),
         Takes::Neither => Ok(line),
     }
 }
@@ -172,6 +181,42 @@ fn with_rule_options<'a>(
             NumberOption::up_to_ceiling("fail", "N", help.fail.as_str()),
             NumberOption::up_to_ceiling("also", "J", help.also.as_str()),
             NumberOption::up_to_ceiling("every", "N", help.every.as_str()),
+        ],
+    )
+}
+
+/// The subcommand with the flags that say which failures are tried, and whether all that are found are told of.
+fn with_failures<'a>(
+    alloc: Global,
+    line: clap::Command<'a>,
+) -> Result<clap::Command<'a>, AllocError>
+    ensures added { IfOk result
+        (λ more. app_of more ≡ with_rules (app_of line.entry) (own_options Takes.Failures)) }
+    ensures own { IfOk result
+        (λ more. (fields_of more).has_globals ≡ (fields_of line.entry).has_globals) }
+{
+    let line = with_argument(line, rates(alloc))?;
+    let line = with_argument(line, pairs(alloc))?;
+    with_argument(line, all(alloc))
+}
+
+/// The subcommand with the options that say which numbers are tried.
+fn with_part_options<'a>(
+    alloc: Global,
+    line: clap::Command<'a>,
+    help: &'a NumberHelp,
+) -> Result<clap::Command<'a>, AllocError>
+    ensures added { IfOk result
+        (λ more. app_of more ≡ with_rules (app_of line.entry) part_options) }
+    ensures own { IfOk result
+        (λ more. (fields_of more).has_globals ≡ (fields_of line.entry).has_globals) }
+{
+    with_numbers(
+        alloc,
+        line,
+        &[
+            NumberOption::up_to_ceiling("from", "I", help.from.as_str()),
+            NumberOption::up_to_ceiling("to", "J", help.to.as_str()),
         ],
     )
 }
@@ -303,6 +348,17 @@ fn pairs<'a>(alloc: Global) -> Arg<'a>
         .help(
             "If no single failure leaks or panics, makes two attempts fail, and finds the least pair that does",
         )
+}
+
+/// The flag that asks for all that is found.
+fn all<'a>(alloc: Global) -> Arg<'a>
+    ensures rule { rule_of result ≡ all_flag }
+    ensures own { result.global ≡ false }
+{
+    Arg::new(alloc, "all")
+        .long("all")
+        .action(ArgAction::SetTrue)
+        .help("Tells of every number whose run leaks, panics or is cut, and not of the least alone")
 }
 
 /// The command with one argument more.

@@ -13,7 +13,7 @@ returns-in_err-matches-clause-taken g c = λ takes_words.
     let words = map g.S.AsStr.text c.args.words.now in
     let line : app_of c.in_ok-parser.field-0 ≡ command_line = search rules in
     let want = c.in_err-matches.ensures.passes (ap (λ a. takes a words) line ∙ takes_words) in
-    passed_up c.from_residual-in_err-matches.result _ IsAfterUsage c.from_residual-in_err-matches.ensures.1 (inr (inr (inr (want_of_memory c.in_err-matches.field-0.0 want))))
+    passed_up c.from_residual-in_err-matches.result _ IsAfterUsage c.from_residual-in_err-matches.ensures.1 (inr (inr (inr (inr (want_of_memory c.in_err-matches.field-0.0 want)))))
 
 pub returns-in_err-matches-clause-fault : goal.returns-in_err-matches-clause-fault
 returns-in_err-matches-clause-fault g c =

@@ -2,10 +2,11 @@ use Rattle.std.proofs.Common.{◌≡◌, ◌∙◌, Some, ap, subst, sym}
 use Rattle.std.specs.Prelude.{option_map}
 use Rattle.clap.specs.Words.{found_of, rows_of}
 use Rattle.clap.proofs.TakesLemmas.{passed_up}
-use Rattle.wb_command_line.specs.Fault.{AreMisshapen, IsFaultOfOptions}
-use Rattle.wb_command_line.specs.Spelled.{command_with}
+use Rattle.wb_command_line.specs.Fault.{AreMisshapen, AreReversed, IsFaultOfOptions}
+use Rattle.wb_command_line.specs.Command.{is_sixteenfold}
+use Rattle.wb_command_line.specs.Spelled.{command_with, shape_of}
 use Rattle.wb_command_line.specs.declared.command.Command.{Command}
-use Rattle.wb_command_line.proofs.FaultLemmas.{task_fault}
+use Rattle.wb_command_line.proofs.FaultLemmas.{shapely, task_fault}
 use Rattle.wb_command_line.proofs.command_line.command_in.Goals as goal
 
 pub returns-in_err-task-clause-fault : goal.returns-in_err-task-clause-fault
@@ -24,6 +25,20 @@ returns-in_err-shape-clause-fault c =
     } in
     passed_up c.from_residual-in_err-shape.result _ (IsFaultOfOptions c.args.name.now rows) c.from_residual-in_err-shape.ensures.1
     (subst (IsFaultOfOptions c.args.name.now rows) (sym c.in_err-shape.ensures.fault) misshapen)
+
+pub returns-in_err-check_part_of-clause-fault : goal.returns-in_err-check_part_of-clause-fault
+returns-in_err-check_part_of-clause-fault c =
+    let rows = rows_of (found_of c.args.options.now) in
+    let task = c.in_ok-task.task in
+    let shape : shape_of rows ≡ c.in_ok-shape.shape = sym c.in_ok-shape.ensures.ok in
+    let reversed : AreReversed c.args.name.now rows = record {
+      command = command_with rows task;
+      meant = record { one_rule = c.in_ok-task.ensures.alone; in_order = c.in_ok-task.ensures.ordered; meaning = ap (option_map (command_with rows)) c.in_ok-task.ensures.ok };
+      shapely = ap is_sixteenfold shape ∙ shapely c.in_ok-shape.shape c.in_ok-shape.ensures.range;
+      empty = c.in_err-check_part_of.ensures.empty;
+    } in
+    passed_up c.from_residual-in_err-check_part_of.result _ (IsFaultOfOptions c.args.name.now rows) c.from_residual-in_err-check_part_of.ensures.1
+    (subst (IsFaultOfOptions c.args.name.now rows) (sym c.in_err-check_part_of.ensures.fault) reversed)
 
 pub returns-clause-meant : goal.returns-clause-meant
 returns-clause-meant c =

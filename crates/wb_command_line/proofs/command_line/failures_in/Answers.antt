@@ -1,47 +1,21 @@
-use Rattle.std.proofs.Common.{◌&&◌, true, false, ap₂, sym}
-use Rattle.clap.specs.Words.{found_of}
-use Rattle.wb_command_line.specs.Spelled.{failures_by}
-use Rattle.wb_command_line.proofs.MatchesLemmas.{pairs_is, rates_is}
+use Rattle.std.proofs.Common.{◌≡◌, Bool, ap₂, subst, true, false}
+use Rattle.std.specs.Prelude.{IfOk, OnErr, OnOk}
+use Rattle.clap.specs.Words.{found_of, rows_of}
+use Rattle.wb_model.specs.declared.failures.Failures.{Failures}
+use Rattle.wb_command_line.specs.Spelled.{are_too_many, failures_by, gives_too_many}
+use Rattle.wb_command_line.proofs.MatchesLemmas.{all_is, pairs_is, rates_is}
 use Rattle.wb_command_line.proofs.command_line.failures_in.Goals as goal
 
-pub returns-in-true-true-clause-both : goal.returns-in-true-true-clause-both
-returns-in-true-true-clause-both c =
-    let rates = rates_is (found_of c.args.options.now) true c.requires c.in-true-true.ensures.none c.in-true-true.ensures.value c.in-true-true.ensures.other in
-    let pairs = pairs_is (found_of c.args.options.now) true c.requires c.in-true-true.ensures'.none c.in-true-true.ensures'.value c.in-true-true.ensures'.other in
-    sym (ap₂ (λ a b. a && b) rates pairs)
-
-pub returns-in-true-false-clause-ok : goal.returns-in-true-false-clause-ok
-returns-in-true-false-clause-ok c =
-    let rates = rates_is (found_of c.args.options.now) true c.requires c.in-true-false.ensures.none c.in-true-false.ensures.value c.in-true-false.ensures.other in
-    let pairs = pairs_is (found_of c.args.options.now) false c.requires c.in-true-false.ensures'.none c.in-true-false.ensures'.value c.in-true-false.ensures'.other in
-    ap₂ failures_by rates pairs
-
-pub returns-in-true-false-clause-alone : goal.returns-in-true-false-clause-alone
-returns-in-true-false-clause-alone c =
-    let rates = rates_is (found_of c.args.options.now) true c.requires c.in-true-false.ensures.none c.in-true-false.ensures.value c.in-true-false.ensures.other in
-    let pairs = pairs_is (found_of c.args.options.now) false c.requires c.in-true-false.ensures'.none c.in-true-false.ensures'.value c.in-true-false.ensures'.other in
-    sym (ap₂ (λ a b. a && b) rates pairs)
-
-pub returns-in-false-true-clause-ok : goal.returns-in-false-true-clause-ok
-returns-in-false-true-clause-ok c =
-    let rates = rates_is (found_of c.args.options.now) false c.requires c.in-false-true.ensures.none c.in-false-true.ensures.value c.in-false-true.ensures.other in
-    let pairs = pairs_is (found_of c.args.options.now) true c.requires c.in-false-true.ensures'.none c.in-false-true.ensures'.value c.in-false-true.ensures'.other in
-    ap₂ failures_by rates pairs
-
-pub returns-in-false-true-clause-alone : goal.returns-in-false-true-clause-alone
-returns-in-false-true-clause-alone c =
-    let rates = rates_is (found_of c.args.options.now) false c.requires c.in-false-true.ensures.none c.in-false-true.ensures.value c.in-false-true.ensures.other in
-    let pairs = pairs_is (found_of c.args.options.now) true c.requires c.in-false-true.ensures'.none c.in-false-true.ensures'.value c.in-false-true.ensures'.other in
-    sym (ap₂ (λ a b. a && b) rates pairs)
-
-pub returns-in-false-false-clause-ok : goal.returns-in-false-false-clause-ok
-returns-in-false-false-clause-ok c =
-    let rates = rates_is (found_of c.args.options.now) false c.requires c.in-false-false.ensures.none c.in-false-false.ensures.value c.in-false-false.ensures.other in
-    let pairs = pairs_is (found_of c.args.options.now) false c.requires c.in-false-false.ensures'.none c.in-false-false.ensures'.value c.in-false-false.ensures'.other in
-    ap₂ failures_by rates pairs
-
-pub returns-in-false-false-clause-alone : goal.returns-in-false-false-clause-alone
-returns-in-false-false-clause-alone c =
-    let rates = rates_is (found_of c.args.options.now) false c.requires c.in-false-false.ensures.none c.in-false-false.ensures.value c.in-false-false.ensures.other in
-    let pairs = pairs_is (found_of c.args.options.now) false c.requires c.in-false-false.ensures'.none c.in-false-false.ensures'.value c.in-false-false.ensures'.other in
-    sym (ap₂ (λ a b. a && b) rates pairs)
+pub returns : goal.returns
+returns c =
+    let found = found_of c.args.options.now in
+    let rates = rates_is found c.get_flag-rates.result c.requires c.get_flag-rates.ensures.none c.get_flag-rates.ensures.value c.get_flag-rates.ensures.other in
+    let pairs = pairs_is found c.get_flag-pairs.result c.requires c.get_flag-pairs.ensures.none c.get_flag-pairs.ensures.value c.get_flag-pairs.ensures.other in
+    let all = all_is found c.get_flag-all.result c.requires c.get_flag-all.ensures.none c.get_flag-all.ensures.value c.get_flag-all.ensures.other in
+    let many : are_too_many c.get_flag-rates.result c.get_flag-pairs.result c.get_flag-all.result ≡ gives_too_many (rows_of found) = λ i. are_too_many (rates i) (pairs i) (all i) in
+    record {
+      ok = subst (λ (f : Failures). IfOk c.failures_by.result (λ failures. failures ≡ f)) (ap₂ failures_by rates pairs) c.failures_by.ensures.ok;
+      alone = subst (λ (b : Bool). OnOk c.failures_by.result (b ≡ false)) many c.failures_by.ensures.alone;
+      fault = c.failures_by.ensures.fault;
+      both = subst (λ (b : Bool). OnErr c.failures_by.result (b ≡ true)) many c.failures_by.ensures.both;
+    }

@@ -10,6 +10,7 @@ use Rattle.wb_command_line.proofs.command_line.parser.subcommand.Goals as goal
 together : (line : App) (takes : Takes) → with_rules (with_rules line (own_options takes)) shared_options ≡ with_rules line (own_options takes ++ shared_options)
 together line taking.Rule = refl
 together line taking.Failures = refl
+together line taking.Part = refl
 together line taking.Neither = refl
 
 pub returns-clause-words : goal.returns-clause-words

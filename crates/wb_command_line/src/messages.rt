@@ -1,0 +1,172 @@
+//! What is said of words that are no command: the text of their fault, with a tip where `clap` has none that helps. No contract
+//! mentions it.
+
+use crate::command::CommandFault;
+use clap::error::ErrorKind;
+use std::alloc::{AllocError, Global};
+use std::convert::AsStr;
+
+/// Returns the text of a fault that these words have, whose first is the program's name. The only error is that memory ran out.
+pub fn message_of<S: AsStr>(
+    alloc: Global,
+    words: &[S],
+    fault: &CommandFault,
+) -> Result<String, AllocError> {
+    match fault {
+        CommandFault::Usage(error) => {
+            let text = format!(in alloc; "{error}")?;
+            match tip_for(alloc, words, error.kind(), text.as_str())? {
+                Some(tip) => with_tip(alloc, text.as_str(), tip.as_str()),
+                None => Ok(text),
+            }
+        }
+        CommandFault::Both => String::from_str(alloc, too_many(word_at(words, 1))),
+        _ => format!(in alloc; "{fault}"),
+    }
+}
+
+/// Which options of a subcommand don't go together.
+fn too_many(subcommand: &str) -> &'static str {
+    match subcommand {
+        "run" => "error: give one of '--limit', '--fail' and '--every'\n",
+        _ => "error: give '--pairs' without '--every' and without '--all'\n",
+    }
+}
+
+/// The text of an error of `clap`, with this tip in the place of its own.
+fn with_tip(alloc: Global, text: &str, tip: &str) -> Result<String, AllocError> {
+    let Some((error, rest)) = text.split_once('\n') else {
+        return String::from_str(alloc, text);
+    };
+    let mut message = format!(in alloc; "{error}\n\n  tip: {tip}\n\n")?;
+    let mut is_past_tips = false;
+    for line in rest.lines() {
+        if !line.is_empty() && !line.starts_with(' ') {
+            is_past_tips = true;
+        }
+        if is_past_tips {
+            message.push_str(line)?;
+            message.push_str("\n")?;
+        }
+    }
+    Ok(message)
+}
+
+/// A tip for words that `clap` refuses with this text; `None` if there is none that helps more than its own.
+fn tip_for<S: AsStr>(
+    alloc: Global,
+    words: &[S],
+    kind: ErrorKind,
+    text: &str,
+) -> Result<Option<String>, AllocError> {
+    let subcommand = word_at(words, 1);
+    match kind {
+        ErrorKind::InvalidSubcommand => script_tip(alloc, subcommand),
+        ErrorKind::UnknownArgument => argument_tip(alloc, words, subcommand, quoted_in(text)),
+        ErrorKind::TooManyValues => flag_tip(alloc, words, subcommand),
+        _ => Ok(None),
+    }
+}
+
+/// The word at a place; empty if there is none.
+fn word_at<S: AsStr>(words: &[S], place: usize) -> &str {
+    match words.get(place) {
+        Some(word) => word.as_str(),
+        None => "",
+    }
+}
+
+/// The first text between quotes, which is the refused word; empty if there is none.
+fn quoted_in(text: &str) -> &str {
+    let Some((_, rest)) = text.split_once('\'') else {
+        return "";
+    };
+    match rest.split_once('\'') {
+        Some((word, _)) => word,
+        None => "",
+    }
+}
+
+/// Of a script's name in the place of a subcommand.
+fn script_tip(alloc: Global, word: &str) -> Result<Option<String>, AllocError> {
+    if !word.contains('.') && !word.contains('/') {
+        return Ok(None);
+    }
+    let tip = format!(in alloc; "a subcommand comes first, as in 'workbench check {word}'")?;
+    Ok(Some(tip))
+}
+
+/// Of an option of another subcommand, or of a second file.
+fn argument_tip<S: AsStr>(
+    alloc: Global,
+    words: &[S],
+    subcommand: &str,
+    refused: &str,
+) -> Result<Option<String>, AllocError> {
+    if let Some(name) = refused.strip_prefix("--") {
+        let owners = subcommands_with(name);
+        if owners.is_empty() {
+            return Ok(None);
+        }
+        let tip = format!(in alloc; "'--{name}' is an option of {owners}")?;
+        return Ok(Some(tip));
+    }
+    if refused.starts_with('-') {
+        return Ok(None);
+    }
+    match flag_tip(alloc, words, subcommand)? {
+        Some(tip) => Ok(Some(tip)),
+        None => {
+            let tip = "a command reads one script; docs/CI.md says how to check many";
+            Ok(Some(String::from_str(alloc, tip)?))
+        }
+    }
+}
+
+/// The subcommands that have an option which some have and others don't; empty if there is no such option.
+fn subcommands_with(name: &str) -> &'static str {
+    match name {
+        "limit" | "fail" | "also" => "run",
+        "every" => "run, sweep and check",
+        "pairs" | "all" => "sweep and check",
+        "from" | "to" => "sweep",
+        _ => "",
+    }
+}
+
+/// Of a number after the flag `--every` of a sweep.
+fn flag_tip<S: AsStr>(
+    alloc: Global,
+    words: &[S],
+    subcommand: &str,
+) -> Result<Option<String>, AllocError> {
+    let number = number_of_flag(words);
+    if number.is_empty() || (subcommand != "sweep" && subcommand != "check") {
+        return Ok(None);
+    }
+    let tip = format!(in alloc;
+        "'--every' of {subcommand} takes no number, and tries each; \
+         'workbench run --every {number}' takes one"
+    )?;
+    Ok(Some(tip))
+}
+
+/// The number that is given to `--every`; empty if none is.
+fn number_of_flag<S: AsStr>(words: &[S]) -> &str {
+    let mut is_after = false;
+    for word in words {
+        let word = word.as_str();
+        if is_after && is_number(word) {
+            return word;
+        }
+        if let Some(number) = word.strip_prefix("--every=") {
+            return number;
+        }
+        is_after = word == "--every";
+    }
+    ""
+}
+
+fn is_number(word: &str) -> bool {
+    !word.is_empty() && word.as_bytes().iter().all(|byte| byte.is_ascii_digit())
+}
