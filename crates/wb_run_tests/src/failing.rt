@@ -8,6 +8,7 @@ use std::test::Fail;
 use wb_machine::run;
 use wb_model::failures::{Failing, Failures};
 use wb_model::heap::{Answer, Rule, Shape};
+use wb_model::part::Part;
 use wb_script::read;
 use wb_sweep::fault::SweepFault;
 use wb_sweep::sweeping::sweep;
@@ -84,7 +85,7 @@ fn command_of(wanted: &Wanted) -> Command
         task: if wanted.is_check {
             Task::Check(failures)
         } else {
-            Task::Sweep(failures)
+            Task::Sweep(failures, Part::WHOLE)
         },
         file: None,
         budget: 10_000,

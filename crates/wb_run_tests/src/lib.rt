@@ -17,6 +17,8 @@ mod notes;
 #[cfg(test)]
 mod pairs;
 #[cfg(test)]
+mod parts;
+#[cfg(test)]
 mod programs;
 #[cfg(test)]
 mod progress;

@@ -4,6 +4,7 @@ use std::alloc::Global;
 use std::test::Fail;
 use wb_model::failures::Failures;
 use wb_model::heap::{Rule, Shape};
+use wb_model::part::Part;
 use workbench::{Command, CommandFault, FileName, Task, command};
 
 const DEFAULT_SHAPE: Shape = Shape {
@@ -16,7 +17,7 @@ static SUBCOMMANDS: [(&str, Task); 5] = [
     ("run", Task::Run(Rule::Unlimited)),
     ("size", Task::Size),
     ("lengths", Task::Lengths),
-    ("sweep", Task::Sweep(Failures::Single)),
+    ("sweep", Task::Sweep(Failures::Single, Part::WHOLE)),
     ("check", Task::Check(Failures::Single)),
 ];
 
@@ -269,11 +270,21 @@ static RUNS: [(&[&str], Rule, Shape, Option<&str>); 25] = [
     ),
 ];
 
-/// The subcommands that take the flags `--every` and `--pairs`, and what each asks for with one of them.
-static WITH_A_FLAG: [(&str, &str, Task); 4] = [
-    ("sweep", "--every", Task::Sweep(Failures::Every)),
+/// The subcommands that take the flags `--every`, `--pairs` and `--all`, and what each asks for with one of them.
+static WITH_A_FLAG: [(&str, &str, Task); 6] = [
+    ("sweep", "--all", Task::All(Failures::Single, Part::WHOLE)),
+    ("check", "--all", Task::CheckAll(Failures::Single)),
+    (
+        "sweep",
+        "--every",
+        Task::Sweep(Failures::Every, Part::WHOLE),
+    ),
     ("check", "--every", Task::Check(Failures::Every)),
-    ("sweep", "--pairs", Task::Sweep(Failures::Pairs)),
+    (
+        "sweep",
+        "--pairs",
+        Task::Sweep(Failures::Pairs, Part::WHOLE),
+    ),
     ("check", "--pairs", Task::Check(Failures::Pairs)),
 ];
 

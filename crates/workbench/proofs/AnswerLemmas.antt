@@ -5,6 +5,8 @@ use Rattle.wb_model.specs.declared.run.Outcome.{Outcome}
 use Rattle.wb_model.specs.declared.run.Outcome.TheVariants.{Ended, Panicked, NoCleanup, Cut}
 use Rattle.wb_model.specs.declared.failures.Failures.{Failures}
 use Rattle.wb_model.specs.declared.heap.Shape.{Shape}
+use Rattle.wb_model.specs.declared.number_ends.NumberEnd.{NumberEnd}
+use Rattle.wb_model.specs.declared.part.Part.{Part}
 use Rattle.wb_model.specs.declared.script.Script.{Script}
 use Rattle.wb_model.specs.declared.limits.TheConstants.{LONGEST_SCRIPT}
 use Rattle.wb_model.specs.runs.Run.{run}
@@ -15,7 +17,10 @@ use Rattle.workbench.specs.declared.findings.Findings.{Findings}
 use Rattle.workbench.specs.declared.answer.Answered.{Answered}
 use Rattle.workbench.specs.declared.report_values.ReportValues.{ReportValues}
 use Rattle.workbench.specs.Answer.{AreFindings, AreFirst, IsAnswer, IsAnyMessage, IsMessage, IsPartWritten, IsReportOf, IsReported, IsReportWritten, IsSaid}
+use Rattle.wb_command_line.specs.Spelled.{whole}
+use Rattle.workbench.specs.AllReport.{IsAllReport, IsCheckAllReport, fine_status}
 use Rattle.workbench.specs.JsonReport.{laid_out}
+use Rattle.workbench.specs.PartReport.{IsReportOver, is_whole}
 use Rattle.workbench.specs.Report.{IsReport, IsTaskReport, no_memory}
 use Rattle.workbench.specs.LengthsReport.{IsFineStatus, IsLengthsReport}
 use Rattle.workbench.specs.RunText.{outcome_status}
@@ -41,6 +46,28 @@ sweep_status_le failures script budget shape text values status (inl r) = omega 
 sweep_status_le failures script budget shape text values status (inr (inl r)) = omega (arith, r.1)
 sweep_status_le failures script budget shape text values status (inr (inr r)) = omega (arith, r.1)
 
+part_status_le : (whole : Bool) (failures : Failures) (part : Part) (script : Script) (budget : ℕ) (shape : Shape) (text : List ℕ) (values : ReportValues)
+    (status : ℕ) → IsReportOver whole failures part script budget shape text values status → status ≤ 3
+part_status_le true failures part script budget shape text values status r = sweep_status_le failures script budget shape text values status r
+part_status_le false failures part script budget shape text values status (inl r) = omega (arith, r.1)
+part_status_le false failures part script budget shape text values status (inr (inl r)) = omega (arith, r.1)
+part_status_le false failures part script budget shape text values status (inr (inr r)) = omega (arith, r.1)
+
+fine_status_le : (ends : List NumberEnd) → fine_status ends ≤ 3
+fine_status_le [] = lit≤ tt
+fine_status_le (told ∷ ends) = lit≤ tt
+
+all_status_le : (failures : Failures) (part : Part) (script : Script) (budget : ℕ) (shape : Shape) (text : List ℕ) (values : ReportValues)
+    (status : ℕ) → IsAllReport failures part script budget shape text values status → status ≤ 3
+all_status_le failures part script budget shape text values status (inl r) = omega (arith, r.1)
+all_status_le failures part script budget shape text values status (inr (inl r)) = subst (λ n. n ≤ 3) (sym r.status_is) (fine_status_le _)
+all_status_le failures part script budget shape text values status (inr (inr r)) = omega (arith, r.1)
+
+check_all_status_le : (failures : Failures) (script : Script) (budget : ℕ) (shape : Shape) (text : List ℕ) (values : ReportValues)
+    (status : ℕ) → IsCheckAllReport failures script budget shape text values status → status ≤ 3
+check_all_status_le failures script budget shape text values status (inl r) = all_status_le failures whole script budget shape r.second r.sweep status r.told
+check_all_status_le failures script budget shape text values status (inr r) = omega (arith, r.1)
+
 check_status_le : (failures : Failures) (script : Script) (budget : ℕ) (shape : Shape) (text : List ℕ) (values : ReportValues)
     (status : ℕ) → IsCheckReport failures script budget shape text values status → status ≤ 3
 check_status_le failures script budget shape text values status (inl r) =
@@ -59,8 +86,12 @@ task_status_le : (task : Task) (script : Script) (budget : ℕ) (shape : Shape) 
 task_status_le (T.Run rule) script budget shape text values status r = subst (λ n. n ≤ 3) (sym r.status_is) (outcome_status_le (run script rule budget shape).outcome)
 task_status_le T.Size script budget shape text values status r = size_status_le script budget shape text values status r
 task_status_le T.Lengths script budget shape text values status r = lengths_status_le script budget shape text values status r
-task_status_le (T.Sweep failures) script budget shape text values status r =
-    sweep_status_le failures script budget shape text values status r
+task_status_le (T.Sweep failures part) script budget shape text values status r =
+    part_status_le (is_whole part) failures part script budget shape text values status r
+task_status_le (T.All failures part) script budget shape text values status r =
+    all_status_le failures part script budget shape text values status r
+task_status_le (T.CheckAll failures) script budget shape text values status r =
+    check_all_status_le failures script budget shape text values status r
 task_status_le (T.Check failures) script budget shape text values status r =
     check_status_le failures script budget shape text values status r
 

@@ -1,11 +1,8 @@
 -- Reports are printable ASCII: each line of theirs is made of words, numbers and what a script printed.
-use Rattle.std.proofs.Common.{◌≡◌, ℕ, ◌-◌, ◌==◌, Bool, true, false, List, [], ◌∷◌, ◌++◌, ℤ, Option, Some, None, inl, inr, true≢false, eq-eqb, refl, sym, ◌∙◌, subst, arith, length, replicate, codes, decimal, flat_map, All, IsAscii}
+use Rattle.std.proofs.Common.{◌≡◌, ℕ, ◌-◌, Bool, true, false, List, [], ◌∷◌, ◌++◌, ℤ, Option, Some, None, inl, inr, refl, sym, subst, arith, length, replicate, codes, decimal, flat_map, All}
 use Rattle.std.specs.Fmt.{digits, signed_decimal}
 use Rattle.std.specs.List.{list_all}
-use Rattle.std.specs.Str.Lossy.{utf8_lossy}
-use Rattle.std.proofs.lemmas.List.Elements.{All-nil, All-cons, All-head, All-tail, All-append, All-push, All-replicate, All-weaker}
-use Rattle.std.proofs.lemmas.Str.{IsUtf8-from_ascii, utf8_lossy-IsUtf8}
-use Rattle.std.proofs.lemmas.Str.Ascii.{IsAscii-cons, IsAscii-nil}
+use Rattle.std.proofs.lemmas.List.Elements.{All-nil, All-head, All-tail, All-append, All-push, All-replicate, All-weaker}
 use Rattle.wb_model.specs.declared.fault.ScriptFault.{ScriptFault}
 use Rattle.wb_model.specs.declared.fault.ScriptFault.TheVariants.{TooLong, NotAscii, Grammar, UnknownName, DoubleName, WrongKind, MayLeave, NoMain, TooMany, NoMemory}
 use Rattle.wb_model.specs.declared.failures.Failing.{Failing}
@@ -22,6 +19,8 @@ use Rattle.wb_model.specs.declared.heap.Rule.{Rule}
 use Rattle.wb_model.specs.declared.heap.Shape.{Shape}
 use Rattle.wb_model.specs.declared.heap.Rule.TheVariants.{Limit}
 use Rattle.wb_model.specs.declared.lengths.LengthRange.{LengthRange}
+use Rattle.wb_model.specs.declared.number_ends.NumberEnd.{NumberEnd}
+use Rattle.wb_model.specs.declared.part.Part.{Part}
 use Rattle.wb_model.specs.declared.run.Leak.{Leak}
 use Rattle.wb_model.specs.declared.run.Note.{Note}
 use Rattle.wb_model.specs.declared.run.Note.TheVariants.{Heap, Available, Compress}
@@ -34,10 +33,10 @@ use Rattle.wb_model.specs.declared.run_end.RunEnd.{RunEnd}
 use Rattle.wb_model.specs.declared.run_end.RunEnd.TheVariants as ends
 use Rattle.wb_model.specs.declared.script.Script.{Script}
 use Rattle.wb_model.specs.declared.size.Rise.{Rise}
-use Rattle.wb_model.specs.language.Lines.{ends_line, onto_first, pieces_from, quoted_after}
 use Rattle.wb_model.specs.meaning.Printable.{IsPrintable, ArePrintable}
 use Rattle.wb_model.specs.runs.Run.{run}
-use Rattle.wb_model.specs.runs.Sweeps.{rule_for}
+use Rattle.wb_model.specs.runs.AllNumbers.{bad_count}
+use Rattle.wb_model.specs.runs.Sweeps.{failing_at, rule_for}
 use Rattle.wb_model.proofs.OnceFound.{found-run}
 use Rattle.wb_model.proofs.PrintableLemmas.{is_printable, printable_by_test, decimal-printable, hexadecimal-printable, signed_decimal-printable}
 use Rattle.wb_model.proofs.ThroughoutLemmas.{run-prints}
@@ -45,12 +44,15 @@ use Rattle.wb_command_line.specs.declared.command.Command.{Command}
 use Rattle.wb_command_line.specs.declared.command.Task.{Task}
 use Rattle.wb_command_line.specs.declared.command.Task.TheVariants as T
 use Rattle.workbench.specs.declared.report_values.ReportValues.{ReportValues}
-use Rattle.workbench.specs.Ascii.{HasPrintableLines, IsPrintableText, IsTextByte}
+use Rattle.workbench.specs.Ascii.{IsPrintableText, IsTextByte}
 use Rattle.workbench.specs.Report.{IsReport, IsTaskReport, fault_line, no_memory, read_fault, refused, refused_at}
 use Rattle.workbench.specs.EndWords.{cut_words, eight_digits, end_words, panic_words}
+use Rattle.wb_command_line.specs.Spelled.{whole}
+use Rattle.workbench.specs.AllReport.{IsAllReport, IsCheckAllReport, all_text, bad_line, number_word, told_line, told_lines, told_of}
+use Rattle.workbench.specs.PartReport.{IsFailingIn, IsReportOver, is_whole}
 use Rattle.workbench.specs.LengthsReport.{IsLengthsReport, bad_length_text, range_line, table_lines}
 use Rattle.workbench.specs.RunText.{answer_word, attempt_line, end_line, leak_line, leaks_text, line, note_line, outcome_text, print_line, run_text}
-use Rattle.workbench.specs.TwoNumbers.{IsCheckReport, IsFailing, IsSized, IsSizeReport, IsSweepReport, attempts_line, cut_at_line, failing_line, failing_text, found_text, none_line, refuses_line, size_text, table_text}
+use Rattle.workbench.specs.TwoNumbers.{IsCheckReport, IsFailing, IsSized, IsSizeReport, IsSweepReport, attempts_line, attempts_of, cut_at_line, failing_line, failing_text, found_text, none_line, refuses_line, size_text, table_text}
 
 -- ---- words and numbers
 
@@ -227,6 +229,26 @@ of_none Single = of_word (codes "number none") refl
 of_none Every = of_word (codes "every none") refl
 of_none Pairs = of_word (codes "pair none") refl
 
+-- ---- all numbers
+
+number_word-printable : (failures : Failures) → ArePrintable (number_word failures)
+number_word-printable Single = printable_by_test (codes "number ") refl
+number_word-printable Every = printable_by_test (codes "every ") refl
+number_word-printable Pairs = printable_by_test (codes "number ") refl
+
+of_told : (failures : Failures) (told : NumberEnd) → IsPrintableText (told_line failures told)
+unfolding told_line
+of_told failures told =
+    let before = number_word failures ++ decimal told.number in
+    of_line (before ++ codes " " ++ end_words told.end) (All-append IsPrintable (before ++ codes " ") (end_words told.end)
+    (and_word before (codes " ") (and_number (number_word failures) told.number (number_word-printable failures)) refl) (printable_end_words told.end))
+
+of_all_text : (failures : Failures) (attempts : ℕ) (ends : List NumberEnd) → IsPrintableText (all_text failures attempts ends)
+of_all_text failures attempts ends =
+    both (attempts_line attempts ++ told_lines failures ends) (bad_line (bad_count ends))
+    (both (attempts_line attempts) (told_lines failures ends) (of_attempts attempts) (of_each (told_line failures) (of_told failures) ends))
+    (of_number (codes "bad ") (bad_count ends) refl)
+
 -- ---- all lengths
 
 of_range : (range : LengthRange) → IsPrintableText (range_line range)
@@ -301,6 +323,41 @@ module _ (script : Script) (budget : ℕ) (shape : Shape) where
       (both is.first is.second (of_sized is.first is.size is.sized) (of_sweep_report failures is.second is.sweep status is.swept))
   of_check_report failures text values status (inr is) = subst IsPrintableText (sym is.0.text_is) (of_cut_at (Number 0) is.0.why)
 
+  of_failing_in : (failures : Failures) (part : Part) (text : List ℕ) (values : ReportValues) → IsFailingIn failures part script budget shape text values
+      → IsPrintableText text
+  of_failing_in failures part text values is =
+      let lines : All ArePrintable is.result.lines =
+      subst (λ (r : RunResult). All ArePrintable r.lines) (sym is.found.run_is) (run_lines (rule_for is.at)) in
+      subst IsPrintableText (sym is.text_is)
+      (both (attempts_line _) (found_text is.at is.result) (of_attempts _) (of_found is.at is.result lines))
+
+  of_report_over : (whole : Bool) (failures : Failures) (part : Part) (text : List ℕ) (values : ReportValues) (status : ℕ)
+      → IsReportOver whole failures part script budget shape text values status → IsPrintableText text
+  of_report_over true failures part text values status is = of_sweep_report failures text values status is
+  of_report_over false failures part text values status (inl is) = of_failing_in failures part text values is.0
+  of_report_over false failures part text values status (inr (inl is)) =
+      subst IsPrintableText (sym is.0.text_is) (both (attempts_line _) (none_line failures) (of_attempts _) (of_none failures))
+  of_report_over false failures part text values status (inr (inr is)) = subst IsPrintableText (sym is.0.text_is) (of_cut_at is.0.at is.0.why)
+
+  of_all_report : (failures : Failures) (part : Part) (text : List ℕ) (values : ReportValues) (status : ℕ)
+      → IsAllReport failures part script budget shape text values status → IsPrintableText text
+  of_all_report failures part text values status (inl is) =
+      let lines : All ArePrintable is.0.result.lines =
+      subst (λ (r : RunResult). All ArePrintable r.lines) (sym is.0.least.run_is) (run_lines (rule_for (failing_at failures is.0.number))) in
+      let attempts = attempts_of failures script budget shape in
+      let ends = told_of failures part script budget shape in
+      subst IsPrintableText (sym is.0.text_is)
+      (both (all_text failures attempts ends) (run_text is.0.result) (of_all_text failures attempts ends) (of_run is.0.result lines))
+  of_all_report failures part text values status (inr (inl is)) = subst IsPrintableText (sym is.text_is) (of_all_text failures _ _)
+  of_all_report failures part text values status (inr (inr is)) = subst IsPrintableText (sym is.0.text_is) (of_cut_at (failing_at failures 0) is.0.why)
+
+  of_check_all_report : (failures : Failures) (text : List ℕ) (values : ReportValues) (status : ℕ)
+      → IsCheckAllReport failures script budget shape text values status → IsPrintableText text
+  of_check_all_report failures text values status (inl is) =
+      subst IsPrintableText (sym is.text_is)
+      (both is.first is.second (of_sized is.first is.size is.sized) (of_all_report failures whole is.second is.sweep status is.told))
+  of_check_all_report failures text values status (inr is) = subst IsPrintableText (sym is.0.text_is) (of_cut_at (Number 0) is.0.why)
+
   of_lengths_report : (text : List ℕ) (values : ReportValues) (status : ℕ) → IsLengthsReport script budget shape text values status → IsPrintableText text
   of_lengths_report text values status (inl is) =
       let lines : All ArePrintable is.0.result.lines =
@@ -315,44 +372,11 @@ module _ (script : Script) (budget : ℕ) (shape : Shape) where
   of_task (T.Run rule) text values status is = subst IsPrintableText (sym is.text_is) (of_run (run script rule budget shape) (run_lines rule))
   of_task T.Size text values status is = of_size_report text values status is
   of_task T.Lengths text values status is = of_lengths_report text values status is
-  of_task (T.Sweep failures) text values status is = of_sweep_report failures text values status is
+  of_task (T.Sweep failures part) text values status is = of_report_over (is_whole part) failures part text values status is
+  of_task (T.All failures part) text values status is = of_all_report failures part text values status is
+  of_task (T.CheckAll failures) text values status is = of_check_all_report failures text values status is
   of_task (T.Check failures) text values status is = of_check_report failures text values status is
 
 pub report-printable : (command : Command) (bytes text : List ℕ) (values : ReportValues) (status : ℕ) → IsReport command bytes text values status → IsPrintableText text
 report-printable command bytes text values status (inl is) = of_task is.script command.budget command.shape command.task text values status is.task_report
 report-printable command bytes text values status (inr is) = subst IsPrintableText (sym is.text_is) (of_fault is.fault)
-
--- ---- the lines of a text
-
-printable_unless : (byte : ℕ) → IsTextByte byte → (byte == 10) ≡ false → IsPrintable byte
-printable_unless byte (inl is) isnt = is
-printable_unless byte (inr e) isnt = absurd (true≢false (sym (eq-eqb byte 10 e) ∙ isnt))
-
-one_more : (byte : ℕ) (pieces : List (List ℕ)) → IsPrintable byte → All ArePrintable pieces → All ArePrintable (onto_first byte pieces)
-one_more byte [] is are = All-cons ArePrintable (byte ∷ []) [] (All-cons IsPrintable byte [] is (All-nil IsPrintable)) (All-nil ArePrintable)
-one_more byte (piece ∷ pieces) is are =
-    All-cons ArePrintable (byte ∷ piece) pieces (All-cons IsPrintable byte piece is (All-head ArePrintable piece pieces are)) (All-tail ArePrintable piece pieces are)
-
-lines_from : (quoted : Bool) (text : List ℕ) → IsPrintableText text → All ArePrintable (pieces_from ends_line quoted text)
-lines_from quoted [] are = All-nil ArePrintable
-lines_from quoted (byte ∷ text) are =
-    let rest = All-tail IsTextByte byte text are in
-    by (byte == 10) refl (lines_from false text rest) (lines_from (quoted_after quoted byte) text rest)
-  where
-    by : (b : Bool) → (byte == 10) ≡ b → All ArePrintable (pieces_from ends_line false text) → All ArePrintable (pieces_from ends_line (quoted_after quoted byte) text) →
-        All ArePrintable (elim b [ true ↦ [] ∷ pieces_from ends_line false text | false ↦ onto_first byte (pieces_from ends_line (quoted_after quoted byte) text) ])
-    by true is lines more = All-cons ArePrintable [] (pieces_from ends_line false text) (All-nil IsPrintable) lines
-    by false isnt lines more = one_more byte (pieces_from ends_line (quoted_after quoted byte) text) (printable_unless byte (All-head IsTextByte byte text are) isnt) more
-
-pub report_lines : (command : Command) (bytes text : List ℕ) (values : ReportValues) (status : ℕ) → IsReport command bytes text values status → HasPrintableLines text
-unfolding HasPrintableLines
-report_lines command bytes text values status is = lines_from false text (report-printable command bytes text values status is)
-
--- ---- the lossy reading of such a line is the line itself
-
-ascii : (bytes : List ℕ) → ArePrintable bytes → IsAscii bytes
-ascii [] are = IsAscii-nil
-ascii (byte ∷ bytes) are = let is = All-head IsPrintable byte bytes are in IsAscii-cons byte bytes (omega (arith, is.1)) (ascii bytes (All-tail IsPrintable byte bytes are))
-
-pub lossless : (bytes : List ℕ) → ArePrintable bytes → utf8_lossy bytes ≡ bytes
-lossless bytes are = utf8_lossy-IsUtf8 bytes (IsUtf8-from_ascii bytes (ascii bytes are))

@@ -11,12 +11,13 @@ use Rattle.wb_model.specs.declared.failures.Failing.TheVariants as failings
 use Rattle.wb_model.specs.declared.failures.Failures.{Failures}
 use Rattle.wb_model.specs.declared.failures.Failures.TheVariants.{Single, Every, Pairs}
 use Rattle.wb_model.specs.declared.lengths.LengthRange.{LengthRange}
+use Rattle.wb_model.specs.declared.number_ends.NumberEnd.{NumberEnd}
 use Rattle.wb_model.specs.declared.size.Rise.{Rise}
 use Rattle.wb_model.specs.language.Lines.{ends_line, lines_of, onto_first, pieces_from, quoted_after}
 use Rattle.workbench.specs.declared.report_values.FailingNumber.{FailingNumber}
 use Rattle.workbench.specs.declared.report_values.FailingNumber.TheVariants.{At, Length, Never}
 use Rattle.workbench.specs.declared.report_values.ReportValues.{ReportValues}
-use Rattle.workbench.specs.JsonReport.{count_or_null, failing_number, failures_kind, line_string, line_strings, common_members, range_pair, range_pairs, report_object, rise_pair, rise_pairs}
+use Rattle.workbench.specs.JsonReport.{count_or_null, failing_number, failures_kind, line_string, line_strings, common_members, range_pair, range_pairs, report_object, rise_pair, rise_pairs, told_pair, told_pairs}
 
 -- ---- no fractions
 
@@ -52,6 +53,10 @@ ranges_have_none : (ranges : Option (List LengthRange)) → has_float (range_pai
 ranges_have_none None = refl
 ranges_have_none (Some table) = each_has_none range_pair (λ range. refl) table
 
+told_have_none : (ends : Option (List NumberEnd)) → has_float (told_pairs ends) ≡ false
+told_have_none None = refl
+told_have_none (Some ends) = each_has_none told_pair (λ told. refl) ends
+
 pub report_has_none : (task : Task) (text : List ℕ) (values : ReportValues) (status : ℕ)
     → has_float (report_object task text values status) ≡ false
 unfolding report_object common_members
@@ -68,8 +73,18 @@ report_has_none (T.Run rule) text values status =
     rw (count_has_none values.attempts, lines_have_none text, number_has_none values.number, count_has_none values.required, rises_have_none values.rises) refl
 report_has_none T.Size text values status =
     rw (count_has_none values.attempts, lines_have_none text, number_has_none values.number, count_has_none values.required, rises_have_none values.rises) refl
-report_has_none (T.Sweep failures) text values status =
+report_has_none (T.Sweep failures part) text values status =
     rw (
+      count_has_none values.attempts,
+      failures_have_none failures,
+      lines_have_none text,
+      number_has_none values.number,
+      count_has_none values.required,
+      rises_have_none values.rises,
+    ) refl
+report_has_none (T.All failures part) text values status =
+    rw (
+      told_have_none values.all,
       count_has_none values.attempts,
       failures_have_none failures,
       lines_have_none text,
@@ -79,6 +94,16 @@ report_has_none (T.Sweep failures) text values status =
     ) refl
 report_has_none (T.Check failures) text values status =
     rw (
+      count_has_none values.attempts,
+      failures_have_none failures,
+      lines_have_none text,
+      number_has_none values.number,
+      count_has_none values.required,
+      rises_have_none values.rises,
+    ) refl
+report_has_none (T.CheckAll failures) text values status =
+    rw (
+      told_have_none values.all,
       count_has_none values.attempts,
       failures_have_none failures,
       lines_have_none text,

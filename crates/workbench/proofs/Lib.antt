@@ -1,3 +1,4 @@
+pub mod AllLemmas
 pub mod AnswerLemmas
 pub mod AsciiLemmas
 pub mod Hexadecimal
@@ -5,6 +6,7 @@ pub mod JsonLemmas
 pub mod KnownBytesLemmas
 pub mod LineLemmas
 pub mod OneReport
+pub mod PrintableLines
 pub mod ProgramLemmas
 pub mod RiseLemmas
 pub mod WordsLemmas

@@ -4,29 +4,38 @@ use Rattle.std.specs.Prelude.{IsSome}
 use Rattle.std.proofs.lemmas.Bool.{cases_order, false≢true}
 use Rattle.wb_model.specs.declared.failures.Failing.TheVariants.{Number}
 use Rattle.wb_model.specs.declared.failures.Failures.{Failures}
+use Rattle.wb_model.specs.declared.number_ends.NumberEnd.{NumberEnd}
+use Rattle.wb_model.specs.declared.part.Part.{Part}
 use Rattle.wb_model.specs.declared.heap.Shape.{Shape}
 use Rattle.wb_model.specs.declared.run.Outcome.{Outcome}
 use Rattle.wb_model.specs.declared.run.Outcome.TheVariants.{Cut}
 use Rattle.wb_model.specs.declared.run.Why.{Why}
 use Rattle.wb_model.specs.declared.script.Script.{Script}
 use Rattle.wb_model.specs.declared.size.Rise.{Rise}
+use Rattle.wb_model.specs.runs.Parts.{IsNoneIn}
 use Rattle.wb_model.specs.runs.Sizes.{IsHeapLength}
 use Rattle.wb_model.specs.runs.SweepAnswers.{IsNoneFound}
+use Rattle.wb_model.specs.runs.Sweeps.{failing_at}
 use Rattle.wb_model.specs.declared.lengths.LengthRange.{LengthRange}
 use Rattle.wb_model.specs.declared.limits.TheConstants.{CEILING}
 use Rattle.wb_model.specs.runs.Lengths.{end_in, IsLengthTable}
 use Rattle.wb_model.proofs.LengthAnswers.{bad-length-some, once-bad-length}
 use Rattle.wb_model.proofs.LengthTables.{one-table}
 use Rattle.wb_model.proofs.OnceFound.{cut-some, found-some, found-uncut, once-cut, once-found}
+use Rattle.wb_model.proofs.OnceInPart.{cut_or_uncut, cut-some-in, found-some-in, found-uncut-in, least-bad-some, once-cut-in, once-found-in, once-least-bad}
 use Rattle.wb_command_line.specs.declared.command.Command.{Command}
 use Rattle.wb_command_line.specs.declared.command.Task.{Task}
 use Rattle.wb_command_line.specs.declared.command.Task.TheVariants as T
+use Rattle.wb_command_line.specs.Spelled.{whole}
 use Rattle.wb_script.proofs.one_script.FaultLaws.{fault_once, no_fault}
 use Rattle.wb_script.proofs.one_script.ScriptLaws.{script_once}
 use Rattle.workbench.specs.declared.report_values.ReportValues.{ReportValues}
 use Rattle.workbench.specs.declared.report_values.FailingNumber.TheVariants.{At, Length, Never}
+use Rattle.workbench.specs.AllReport.{IsAllReport, IsCheckAllReport, IsSizedAndTold, IsToldWithBad, all_text, told_of}
 use Rattle.workbench.specs.LengthsReport.{IsBadLengthFound, IsFineStatus, IsLengthsReport, IsNoBadLengthFound, bad_length_text, found_length_text, table_lines}
-use Rattle.workbench.specs.ReportValues.{both_values, cut_values, lengths_values, size_values, sweep_values}
+use Rattle.workbench.specs.PartReport.{IsFailingIn, IsPartReport, IsReportOver, IsUnsweptIn, is_whole}
+use Rattle.workbench.specs.RunText.{run_text}
+use Rattle.workbench.specs.ReportValues.{all_values, both_values, cut_values, lengths_values, size_values, sweep_values}
 use Rattle.workbench.specs.Report.{IsReport, IsReportOfFault, IsReportOfScript, IsTaskReport, fault_line}
 use Rattle.workbench.specs.TwoNumbers.{IsBoth, IsCheckReport, IsFailing, IsSized, IsSizeReport, IsSweepReport, IsUnsized, IsUnswept, attempts_line, attempts_of, cut_at_line, found_text, size_text}
 
@@ -117,7 +126,99 @@ module _ (failures : Failures) (script : Script) (budget : ℕ) (shape : Shape) 
   one_sweep text text' values figures' status status' (inr (inr (s, e))) (inr (inl (t, f))) = absurd (cut_or_none text values s t.none)
   one_sweep text text' values figures' status status' (inr (inr (s, e))) (inr (inr (t, f))) = (one_unswept text text' values figures' s t, e ∙ sym f)
 
+  -- ---- of a part of its numbers
+
+  module _ (part : Part) where
+    one_failing_in : (text text' : List ℕ) (values figures' : ReportValues) → IsFailingIn failures part script budget shape text values
+        → IsFailingIn failures part script budget shape text' figures' → Alike text values text' figures'
+    one_failing_in text text' values figures' s t =
+        let (same, results) = once-found-in failures part script budget shape s.at t.at s.result t.result s.found t.found in
+        let words : found_text s.at s.result ≡ found_text t.at t.result = ap (λ f. found_text f s.result) same ∙ ap (found_text t.at) results in
+        let attempts : ℕ = attempts_of failures script budget shape in (
+          s.text_is ∙ ap (λ l. attempts_line attempts ++ l) words ∙ sym t.text_is,
+          s.values_are ∙ ap (λ f. sweep_values attempts (At f)) same ∙ sym t.values_are,
+        )
+
+    one_unswept_in : (text text' : List ℕ) (values figures' : ReportValues) → IsUnsweptIn failures part script budget shape text values
+        → IsUnsweptIn failures part script budget shape text' figures' → Alike text values text' figures'
+    one_unswept_in text text' values figures' s t =
+        let (same, why) = once-cut-in failures part script budget shape s.at t.at s.why t.why s.cut t.cut in
+        (s.text_is ∙ ap (λ f. cut_at_line f s.why) same ∙ ap (cut_at_line t.at) why ∙ sym t.text_is, s.values_are ∙ ap cut_values same ∙ sym t.values_are)
+
+    failing_or_cut_in : (text text' : List ℕ) (values figures' : ReportValues) → IsFailingIn failures part script budget shape text values
+        → IsUnsweptIn failures part script budget shape text' figures' → ⊥
+    failing_or_cut_in text text' values figures' s t = found-uncut-in failures part script budget shape s.at t.at s.result t.why s.found t.cut
+
+    failing_or_none_in : (text : List ℕ) (values : ReportValues) → IsFailingIn failures part script budget shape text values → IsNoneIn failures part script budget shape → ⊥
+    failing_or_none_in text values s none = found-some-in failures part script budget shape s.at s.result s.found none
+
+    cut_or_none_in : (text : List ℕ) (values : ReportValues) → IsUnsweptIn failures part script budget shape text values → IsNoneIn failures part script budget shape → ⊥
+    cut_or_none_in text values s none = cut-some-in failures part script budget shape s.at s.why s.cut none
+
+    one_part : (text text' : List ℕ) (values figures' : ReportValues) (status status' : ℕ) → IsPartReport failures part script budget shape text values status
+        → IsPartReport failures part script budget shape text' figures' status' → Alike text values text' figures' × (status ≡ status')
+    one_part text text' values figures' status status' (inl (s, e)) (inl (t, f)) = (one_failing_in text text' values figures' s t, e ∙ sym f)
+    one_part text text' values figures' status status' (inl (s, e)) (inr (inl (t, f))) = absurd (failing_or_none_in text values s t.none)
+    one_part text text' values figures' status status' (inl (s, e)) (inr (inr (t, f))) = absurd (failing_or_cut_in text text' values figures' s t)
+    one_part text text' values figures' status status' (inr (inl (s, e))) (inl (t, f)) = absurd (failing_or_none_in text' figures' t s.none)
+    one_part text text' values figures' status status' (inr (inl (s, e))) (inr (inl (t, f))) =
+        ((s.text_is ∙ sym t.text_is, s.values_are ∙ sym t.values_are), e ∙ sym f)
+    one_part text text' values figures' status status' (inr (inl (s, e))) (inr (inr (t, f))) = absurd (cut_or_none_in text' figures' t s.none)
+    one_part text text' values figures' status status' (inr (inr (s, e))) (inl (t, f)) = absurd (failing_or_cut_in text' text figures' values t s)
+    one_part text text' values figures' status status' (inr (inr (s, e))) (inr (inl (t, f))) = absurd (cut_or_none_in text values s t.none)
+    one_part text text' values figures' status status' (inr (inr (s, e))) (inr (inr (t, f))) = (one_unswept_in text text' values figures' s t, e ∙ sym f)
+
+    one_over : (whole : Bool) (text text' : List ℕ) (values figures' : ReportValues) (status status' : ℕ) → IsReportOver whole failures part script budget shape text values status
+        → IsReportOver whole failures part script budget shape text' figures' status' → Alike text values text' figures' × (status ≡ status')
+    one_over true text text' values figures' status status' s t = one_sweep text text' values figures' status status' s t
+    one_over false text text' values figures' status status' s t = one_part text text' values figures' status status' s t
+
+    -- ---- all numbers
+
+    one_told : (text text' : List ℕ) (values figures' : ReportValues) → IsToldWithBad failures part script budget shape text values
+        → IsToldWithBad failures part script budget shape text' figures' → Alike text values text' figures'
+    one_told text text' values figures' s t =
+        let (same, results) = once-least-bad failures part script budget shape s.number t.number s.result t.result s.least t.least in
+        let attempts : ℕ = attempts_of failures script budget shape in
+        let ends : List NumberEnd = told_of failures part script budget shape in (
+          s.text_is ∙ ap (λ r. all_text failures attempts ends ++ run_text r) results ∙ sym t.text_is,
+          s.values_are ∙ ap (λ n. all_values attempts ends (At (failing_at failures n))) same ∙ sym t.values_are,
+        )
+
+    one_all : (text text' : List ℕ) (values figures' : ReportValues) (status status' : ℕ) → IsAllReport failures part script budget shape text values status
+        → IsAllReport failures part script budget shape text' figures' status' → Alike text values text' figures' × (status ≡ status')
+    one_all text text' values figures' status status' (inl (s, e)) (inl (t, f)) = (one_told text text' values figures' s t, e ∙ sym f)
+    one_all text text' values figures' status status' (inl (s, e)) (inr (inl t)) = absurd (least-bad-some failures part script budget shape s.number s.result s.least t.none)
+    one_all text text' values figures' status status' (inl (s, e)) (inr (inr (t, f))) = absurd (cut_or_uncut failures part script budget shape t.why t.cut s.uncut)
+    one_all text text' values figures' status status' (inr (inl s)) (inl (t, f)) = absurd (least-bad-some failures part script budget shape t.number t.result t.least s.none)
+    one_all text text' values figures' status status' (inr (inl s)) (inr (inl t)) = ((s.text_is ∙ sym t.text_is, s.values_are ∙ sym t.values_are), s.status_is ∙ sym t.status_is)
+    one_all text text' values figures' status status' (inr (inl s)) (inr (inr (t, f))) = absurd (cut_or_uncut failures part script budget shape t.why t.cut s.uncut)
+    one_all text text' values figures' status status' (inr (inr (s, e))) (inl (t, f)) = absurd (cut_or_uncut failures part script budget shape s.why s.cut t.uncut)
+    one_all text text' values figures' status status' (inr (inr (s, e))) (inr (inl t)) = absurd (cut_or_uncut failures part script budget shape s.why s.cut t.uncut)
+    one_all text text' values figures' status status' (inr (inr (s, e))) (inr (inr (t, f))) =
+        let why = one_why s.why t.why _ s.cut t.cut in
+        ((s.text_is ∙ ap (cut_at_line (failing_at failures 0)) why ∙ sym t.text_is, s.values_are ∙ sym t.values_are), e ∙ sym f)
+
   -- ---- both
+
+  one_sized_and_told : (text text' : List ℕ) (values figures' : ReportValues) (status status' : ℕ) → IsSizedAndTold failures script budget shape text values status
+      → IsSizedAndTold failures script budget shape text' figures' status' → Alike text values text' figures' × (status ≡ status')
+  one_sized_and_told text text' values figures' status status' s t =
+      let (first, size) = one_size script budget shape s.first t.first s.size t.size s.sized t.sized in
+      let ((second, sweep), same) = one_all whole s.second t.second s.sweep t.sweep status status' s.told t.told in (
+        (
+          s.text_is ∙ ap (λ l. l ++ s.second) first ∙ ap (λ l. t.first ++ l) second ∙ sym t.text_is,
+          s.values_are ∙ ap (λ f. both_values f s.sweep) size ∙ ap (both_values t.size) sweep ∙ sym t.values_are,
+        ),
+        same,
+      )
+
+  one_check_all : (text text' : List ℕ) (values figures' : ReportValues) (status status' : ℕ) → IsCheckAllReport failures script budget shape text values status
+      → IsCheckAllReport failures script budget shape text' figures' status' → Alike text values text' figures' × (status ≡ status')
+  one_check_all text text' values figures' status status' (inl s) (inl t) = one_sized_and_told text text' values figures' status status' s t
+  one_check_all text text' values figures' status status' (inl s) (inr (t, f)) = absurd (never_both script budget shape s.first text' s.size figures' s.sized t)
+  one_check_all text text' values figures' status status' (inr (s, e)) (inl t) = absurd (never_both script budget shape t.first text t.size values t.sized s)
+  one_check_all text text' values figures' status status' (inr (s, e)) (inr (t, f)) = (one_cut script budget shape text text' values figures' s t, e ∙ sym f)
 
   one_both : (text text' : List ℕ) (values figures' : ReportValues) (status status' : ℕ) → IsBoth failures script budget shape text values status
       → IsBoth failures script budget shape text' figures' status' → Alike text values text' figures' × (status ≡ status')
@@ -190,10 +291,14 @@ module _ (script : Script) (budget : ℕ) (shape : Shape) where
       one_sizing script budget shape text text' values figures' status status' s t
   one_task T.Lengths text text' values figures' status status' s t =
       one_lengths script budget shape text text' values figures' status status' s t
-  one_task (T.Sweep failures) text text' values figures' status status' s t =
-      one_sweep failures script budget shape text text' values figures' status status' s t
+  one_task (T.Sweep failures part) text text' values figures' status status' s t =
+      one_over failures script budget shape part (is_whole part) text text' values figures' status status' s t
+  one_task (T.All failures part) text text' values figures' status status' s t =
+      one_all failures script budget shape part text text' values figures' status status' s t
   one_task (T.Check failures) text text' values figures' status status' s t =
       one_check failures script budget shape text text' values figures' status status' s t
+  one_task (T.CheckAll failures) text text' values figures' status status' s t =
+      one_check_all failures script budget shape text text' values figures' status status' s t
 
 -- ---- of a script, or of a fault
 

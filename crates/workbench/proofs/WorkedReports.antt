@@ -1,5 +1,5 @@
 -- The definitions of the report, computed on worked runs. Each text is written out by hand, line by line.
-use Rattle.std.proofs.Common.{◌≡◌, [], ◌∷◌, Some, None, pos, negsuc, codes, refl}
+use Rattle.std.proofs.Common.{◌≡◌, List, [], ◌∷◌, Some, None, pos, negsuc, codes, refl}
 use Rattle.std.specs.Fmt.{digits}
 use Rattle.std.specs.Prelude.{map}
 use Rattle.serde_json.proofs.OnLiterals.{serde_json_on_literals}
@@ -12,12 +12,16 @@ use Rattle.wb_model.specs.declared.fault.ScriptFault.TheVariants as F
 use Rattle.wb_model.specs.declared.heap.Answer.TheVariants.{Granted, Simulated, Refused}
 use Rattle.wb_model.specs.declared.heap.Panic.TheVariants.{User, Alloc, Workbench}
 use Rattle.wb_model.specs.declared.heap.Rule.TheVariants.{Unlimited}
+use Rattle.wb_model.specs.declared.number_ends.NumberEnd.{NumberEnd}
+use Rattle.wb_model.specs.declared.run_end.RunEnd.TheVariants as ends
 use Rattle.wb_model.specs.declared.run.Note.TheVariants.{Heap, Available, Compress}
 use Rattle.wb_model.specs.declared.run.Outcome.TheVariants.{Ended, Panicked, NoCleanup, Cut}
 use Rattle.wb_model.specs.declared.run.RunResult.{RunResult}
 use Rattle.wb_model.specs.declared.run.Why.TheVariants.{Budget, Ceiling}
 use Rattle.workbench.specs.declared.report_values.FailingNumber.TheVariants.{At, Never}
-use Rattle.workbench.specs.ReportValues.{both_values, cut_values, no_values, size_values, sweep_values}
+use Rattle.wb_command_line.specs.Spelled.{whole}
+use Rattle.workbench.specs.AllReport.{all_text, fine_status, told_line, told_text}
+use Rattle.workbench.specs.ReportValues.{all_values, both_values, cut_values, no_values, size_values, sweep_values}
 use Rattle.workbench.specs.JsonReport.{json_text, line_string, line_strings, common_members, report_object}
 use Rattle.workbench.specs.Report.{fault_line}
 use Rattle.workbench.specs.RunText.{run_text, run_status, outcome_text, outcome_status, note_line, attempt_line, leak_line}
@@ -180,17 +184,17 @@ unfolding serde_json_on_literals digits report_object common_members
 check-json = refl
 
 -- those of sweeps that found a number and a rate
-sweep-json : json_text (T.Sweep Single) [] (sweep_values 3 (At (failings.Number 0))) 1
+sweep-json : json_text (T.Sweep Single whole) [] (sweep_values 3 (At (failings.Number 0))) 1
     ≡ codes "{\"attempts\":3,\"kind\":\"single\",\"lines\":[],\"number\":0,\"required\":null,\"rises\":null,\"status\":1,\"version\":2}\n"
 unfolding serde_json_on_literals digits report_object common_members
 sweep-json = refl
 
-rate-json : json_text (T.Sweep Every) [] (sweep_values 4 (At (failings.Every 2))) 1
+rate-json : json_text (T.Sweep Every whole) [] (sweep_values 4 (At (failings.Every 2))) 1
     ≡ codes "{\"attempts\":4,\"kind\":\"every\",\"lines\":[],\"number\":2,\"required\":null,\"rises\":null,\"status\":1,\"version\":2}\n"
 unfolding serde_json_on_literals digits report_object common_members
 rate-json = refl
 
-pair-json : json_text (T.Sweep Pairs) [] (sweep_values 4 (At (failings.Pair 2 4))) 1
+pair-json : json_text (T.Sweep Pairs whole) [] (sweep_values 4 (At (failings.Pair 2 4))) 1
     ≡ codes "{\"attempts\":4,\"kind\":\"pairs\",\"lines\":[],\"number\":[2,4],\"required\":null,\"rises\":null,\"status\":1,\"version\":2}\n"
 unfolding serde_json_on_literals digits report_object common_members
 pair-json = refl
@@ -205,3 +209,41 @@ cut-json : json_text (T.Check Every) [] (cut_values (failings.Every 2)) 3
     ≡ codes "{\"attempts\":null,\"kind\":\"every\",\"lines\":[],\"number\":null,\"required\":null,\"rises\":null,\"status\":3,\"version\":2}\n"
 unfolding serde_json_on_literals digits report_object common_members
 cut-json = refl
+
+-- ---- all that a sweep finds
+
+-- a rate whose run leaks, between two that are cut or panic
+abbrev three_ends : List NumberEnd
+three_ends = record { number = 2; end = ends.Cut Ceiling } ∷ record { number = 3; end = ends.Leaked 2 } ∷ record { number = 12; end = ends.Panicked (User 42) } ∷ []
+
+numbers-text : told_text Single (record { attempts = 12; ends = three_ends; bad = 2; found = Some (record { at = failings.Number 3; result = forgotten_cell }) })
+    ≡ codes "attempts 12\nnumber 2 cut ceiling\nnumber 3 leaks 2\nnumber 12 panic USER 42\nbad 2\nattempt 1 length 144 place 0 granted\nattempt 2 length 32 place 144 granted\nended\nleaks 1\nleak 2 length 32 place 144\nsteps 1\n"
+unfolding digits note_line attempt_line leak_line told_line
+numbers-text = refl
+
+rates-text : all_text Every 3 (record { number = 2; end = ends.Cut Budget } ∷ []) ≡ codes "attempts 3\nevery 2 cut budget\nbad 0\n"
+unfolding digits note_line attempt_line leak_line told_line
+rates-text = refl
+
+nothing-text : all_text Single 1 [] ≡ codes "attempts 1\nbad 0\n"
+unfolding digits note_line attempt_line leak_line told_line
+nothing-text = refl
+
+told-statuses : (fine_status [] ≡ 0) × (fine_status (record { number = 2; end = ends.Cut Budget } ∷ []) ≡ 3)
+told-statuses = (refl, refl)
+
+-- their key comes first, and the version is a later one, whatever was found
+all-json : json_text (T.All Single whole) [] (all_values 12 three_ends (At (failings.Number 3))) 1
+    ≡ codes "{\"all\":[[2,\"cut ceiling\"],[3,\"leaks 2\"],[12,\"panic USER 42\"]],\"attempts\":12,\"kind\":\"single\",\"lines\":[],\"number\":3,\"required\":null,\"rises\":null,\"status\":1,\"version\":3}\n"
+unfolding serde_json_on_literals digits report_object common_members
+all-json = refl
+
+check_all-json : json_text (T.CheckAll Every) [] (both_values (size_values 144 (record { number = 1; top = 144 } ∷ [])) (all_values 1 [] Never)) 0
+    ≡ codes "{\"all\":[],\"attempts\":1,\"kind\":\"every\",\"lines\":[],\"number\":\"none\",\"required\":144,\"rises\":[[1,144]],\"status\":0,\"version\":3}\n"
+unfolding serde_json_on_literals digits report_object common_members
+check_all-json = refl
+
+untold-json : json_text (T.All Every whole) [] (cut_values (failings.Every 0)) 3
+    ≡ codes "{\"all\":null,\"attempts\":null,\"kind\":\"every\",\"lines\":[],\"number\":null,\"required\":null,\"rises\":null,\"status\":3,\"version\":3}\n"
+unfolding serde_json_on_literals digits report_object common_members
+untold-json = refl

@@ -1,5 +1,5 @@
 -- The report as one JSON object: its lines and its values, and which failures were tried, under
--- the keys that version 2 of this form has, or version 3 of the report of all lengths.
+-- the keys that version 2 of this form has, or version 3 of the reports of all lengths and of all that a sweep finds.
 use Rattle.std.specs.Prelude.{ℕ, List, Option, Some, None, codes, if◌then◌else◌, map}
 use Rattle.serde_json.specs.Data.{Data, Members, null, number, string, array, object, item, no_items, member, no_members, put, unsigned}
 use Rattle.serde_json.specs.View.{items_of}
@@ -13,6 +13,8 @@ use Rattle.wb_model.specs.declared.failures.Failing.TheVariants as failings
 use Rattle.wb_model.specs.declared.failures.Failures.{Failures}
 use Rattle.wb_model.specs.declared.failures.Failures.TheVariants.{Single, Every, Pairs}
 use Rattle.wb_model.specs.declared.lengths.LengthRange.{LengthRange}
+use Rattle.wb_model.specs.declared.number_ends.NumberEnd.{NumberEnd}
+use Rattle.wb_model.specs.declared.run_end.RunEnd.{RunEnd}
 use Rattle.wb_model.specs.declared.size.Rise.{Rise}
 use Rattle.wb_model.specs.language.Lines.{lines_of}
 use Rattle.workbench.specs.declared.report_values.FailingNumber.{FailingNumber}
@@ -43,8 +45,10 @@ abbrev pub kind_of : Task → Data
 kind_of (T.Run rule) = null
 kind_of T.Size = null
 kind_of T.Lengths = string (codes "lengths")
-kind_of (T.Sweep failures) = failures_kind failures
+kind_of (T.Sweep failures part) = failures_kind failures
+kind_of (T.All failures part) = failures_kind failures
 kind_of (T.Check failures) = failures_kind failures
+kind_of (T.CheckAll failures) = failures_kind failures
 
 abbrev pub line_string : List ℕ → Data
 line_string text = string text
@@ -73,9 +77,13 @@ abbrev pub rise_pairs : Option (List Rise) → Data
 rise_pairs None = null
 rise_pairs (Some rises) = array (items_of (map rise_pair rises))
 
+-- a number, and how a run ends
+abbrev pub words_pair : ℕ → RunEnd → Data
+words_pair n end = array (item (count n) (item (line_string (end_words end)) no_items))
+
 -- `[from, words]`
 abbrev pub range_pair : LengthRange → Data
-range_pair range = array (item (count range.from) (item (line_string (end_words range.end)) no_items))
+range_pair range = words_pair range.from range.end
 
 abbrev pub range_pairs : Option (List LengthRange) → Data
 range_pairs None = null
@@ -86,8 +94,24 @@ abbrev pub with_ranges : Task → Option (List LengthRange) → Members → Memb
 with_ranges T.Lengths ranges members = put (codes "ranges") (range_pairs ranges) members
 with_ranges _ ranges members = members
 
+-- `[number, words]`
+abbrev pub told_pair : NumberEnd → Data
+told_pair told = words_pair told.number told.end
+
+abbrev pub told_pairs : Option (List NumberEnd) → Data
+told_pairs None = null
+told_pairs (Some ends) = array (items_of (map told_pair ends))
+
+-- the reports of all that a sweep finds alone have them; by its letters their key comes first
+abbrev pub with_all : Task → Option (List NumberEnd) → Members → Members
+with_all (T.All failures part) ends members = put (codes "all") (told_pairs ends) members
+with_all (T.CheckAll failures) ends members = put (codes "all") (told_pairs ends) members
+with_all _ ends members = members
+
 abbrev pub version_of : Task → ℕ
 version_of T.Lengths = 3
+version_of (T.All failures part) = 3
+version_of (T.CheckAll failures) = 3
 version_of _ = 2
 
 -- what each object has, by the task, the text report, its values and its status
@@ -104,7 +128,8 @@ common_members task text values status =
 
 -- the object
 unfoldable pub report_object : Task → List ℕ → ReportValues → ℕ → Data
-report_object task text values status = object (with_ranges task values.ranges (common_members task text values status))
+report_object task text values status =
+    object (with_all task values.all (with_ranges task values.ranges (common_members task text values status)))
 
 -- the object as `serde_json` writes it, without blanks, and a line feed
 abbrev pub json_text : Task → List ℕ → ReportValues → ℕ → List ℕ

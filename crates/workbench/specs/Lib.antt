@@ -1,9 +1,11 @@
+pub mod AllReport
 pub mod Answer
 pub mod Ascii
 pub mod EndWords
 pub mod ReportValues
 pub mod JsonReport
 pub mod LengthsReport
+pub mod PartReport
 pub mod Program
 pub mod Report
 pub mod Rises

@@ -13,10 +13,12 @@ use Rattle.wb_command_line.specs.declared.command.Command.{Command}
 use Rattle.wb_command_line.specs.declared.command.Task.{Task}
 use Rattle.wb_command_line.specs.declared.command.Task.TheVariants as T
 use Rattle.workbench.specs.declared.report_values.ReportValues.{ReportValues}
+use Rattle.workbench.specs.AllReport.{IsAllReport, IsCheckAllReport}
 use Rattle.workbench.specs.LengthsReport.{IsLengthsReport}
+use Rattle.workbench.specs.PartReport.{IsReportOver, is_whole}
 use Rattle.workbench.specs.ReportValues.{no_values, run_values}
 use Rattle.workbench.specs.RunText.{line, run_text, run_status}
-use Rattle.workbench.specs.TwoNumbers.{IsSizeReport, IsSweepReport, IsCheckReport}
+use Rattle.workbench.specs.TwoNumbers.{IsSizeReport, IsCheckReport}
 
 abbrev pub refused : ℕ → List ℕ
 refused fault = line (codes "refused " ++ decimal fault)
@@ -59,10 +61,14 @@ IsTaskReport T.Size script budget shape text values status =
     IsSizeReport script budget shape text values status
 IsTaskReport T.Lengths script budget shape text values status =
     IsLengthsReport script budget shape text values status
-IsTaskReport (T.Sweep failures) script budget shape text values status =
-    IsSweepReport failures script budget shape text values status
+IsTaskReport (T.Sweep failures part) script budget shape text values status =
+    IsReportOver (is_whole part) failures part script budget shape text values status
+IsTaskReport (T.All failures part) script budget shape text values status =
+    IsAllReport failures part script budget shape text values status
 IsTaskReport (T.Check failures) script budget shape text values status =
     IsCheckReport failures script budget shape text values status
+IsTaskReport (T.CheckAll failures) script budget shape text values status =
+    IsCheckAllReport failures script budget shape text values status
 
 -- the bytes spell a script, and this is what the command's task comes to on it
 pub record IsReportOfScript (command : Command) (bytes text : List ℕ) (values : ReportValues) (status : ℕ) : Type 0 where

@@ -2,6 +2,7 @@
 use Rattle.std.specs.Prelude.{ℕ, List, Option, Some, None, length}
 use Rattle.wb_model.specs.declared.failures.Failing.{Failing}
 use Rattle.wb_model.specs.declared.lengths.LengthRange.{LengthRange}
+use Rattle.wb_model.specs.declared.number_ends.NumberEnd.{NumberEnd}
 use Rattle.wb_model.specs.declared.run.RunResult.{RunResult}
 use Rattle.wb_model.specs.declared.size.Rise.{Rise}
 use Rattle.workbench.specs.declared.report_values.FailingNumber.{FailingNumber}
@@ -10,7 +11,7 @@ use Rattle.workbench.specs.declared.report_values.ReportValues.{ReportValues}
 
 -- of a refused script
 abbrev pub no_values : ReportValues
-no_values = record { attempts = None; number = None; required = None; rises = None; ranges = None; named = None }
+no_values = record { attempts = None; number = None; required = None; rises = None; ranges = None; all = None; named = None }
 
 -- of a run that was cut under this failure
 abbrev pub cut_values : Failing → ReportValues
@@ -35,6 +36,10 @@ abbrev pub sweep_values : ℕ → FailingNumber → ReportValues
 sweep_values attempts number =
     record no_values { attempts = Some attempts; number = Some number; named = found_failing number }
 
+-- of a sweep that told of all that it found
+abbrev pub all_values : ℕ → List NumberEnd → FailingNumber → ReportValues
+all_values attempts ends number = record (sweep_values attempts number) { all = Some ends }
+
 -- of a size, and of the sweep after it
 abbrev pub both_values : ReportValues → ReportValues → ReportValues
 both_values first second = record {
@@ -43,6 +48,7 @@ both_values first second = record {
   required = first.required;
   rises = first.rises;
   ranges = None;
+  all = second.all;
   named = second.named;
 }
 

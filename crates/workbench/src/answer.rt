@@ -169,7 +169,7 @@ struct Message {
 }
 
 /// The report of the command on the first bytes that the reader gives, as the command wants it.
-#[tactic(auto, using(crate::proofs::AsciiLemmas::report_lines))]
+#[tactic(auto, using(crate::proofs::PrintableLines::report_lines))]
 fn read_and_report<R: Source, P: Progress>(
     alloc: Global,
     command: &Command,
@@ -219,6 +219,7 @@ fn lay_out(
             at: values.named,
             rises: values.rises,
             ranges: values.ranges,
+            all: values.all,
         },
     })
 }

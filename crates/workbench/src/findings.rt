@@ -2,6 +2,7 @@
 
 use wb_model::failures::Failing;
 use wb_model::lengths::LengthTable;
+use wb_model::number_ends::NumberEnds;
 use wb_size::Rises;
 
 /// What a report was made of.
@@ -15,4 +16,7 @@ pub struct Findings {
     pub rises: Option<Rises>,
     /// How the run ends in heaps of every length; `None` if that wasn't asked for, or the script is refused.
     pub ranges: Option<LengthTable>,
+    /// How the runs of all numbers ended that leak, panic or are cut; `None` if that wasn't asked for, if the script is
+    /// refused, and if the run without failure is cut.
+    pub all: Option<NumberEnds>,
 }

@@ -8,8 +8,8 @@ ghost use Rattle.workbench.specs.Ascii.{HasPrintableLines};
 ghost use Rattle.workbench.specs.JsonReport.{common_members, count_or_null, count_pair, failing_number};
 ghost use Rattle.workbench.specs.JsonReport.{failing_value, failures_kind};
 ghost use Rattle.workbench.specs.JsonReport.{json_text, kind_of, line_string, line_strings, range_pair, range_pairs};
-ghost use Rattle.workbench.specs.JsonReport.{report_object, rise_pair, rise_pairs, version_of};
-ghost use Rattle.workbench.specs.JsonReport.{with_ranges};
+ghost use Rattle.workbench.specs.JsonReport.{report_object, rise_pair, rise_pairs, told_pair, told_pairs};
+ghost use Rattle.workbench.specs.JsonReport.{version_of, with_all, with_ranges, words_pair};
 
 use crate::end_text::put_end_words;
 use crate::report::Report;
@@ -20,14 +20,16 @@ use wb_command_line::command::Task;
 use wb_lengths::{LengthRange, LengthTable};
 use wb_model::failures::{Failing, Failures};
 use wb_model::memory::NoMemory;
+use wb_model::number_ends::{NumberEnd, NumberEnds};
+use wb_model::run_end::RunEnd;
 use wb_model::size::Rise;
 use wb_size::Rises;
 
 /// The version of the form that a JSON report has.
 const VERSION: u32 = 2;
 
-/// That of the report of all lengths, which has a key more.
-const VERSION_OF_LENGTHS: u32 = 3;
+/// That of the reports of all lengths and of all that a sweep finds, each of which has a key more.
+const LATER_VERSION: u32 = 3;
 
 /// The report of a task as a JSON object without blanks, and a line feed. The only error is that memory ran out.
 #[tactic(auto, using(crate::proofs::JsonLemmas::report_has_none))]
@@ -50,6 +52,7 @@ fn report_object(alloc: Global, task: Task, report: &Report) -> Result<Value, Al
 {
     let mut members = common_members(alloc, task, report)?;
     put_ranges(&mut members, alloc, task, &report.values.ranges)?;
+    put_told(&mut members, alloc, task, &report.values.all)?;
     Ok(Value::Object(members))
 }
 
@@ -103,7 +106,27 @@ fn put_ranges(
             let pairs = range_pairs(alloc, ranges)?;
             put(members, alloc, "ranges", pairs)
         }
-        Task::Run(_) | Task::Size | Task::Sweep(_) | Task::Check(_) => Ok(()),
+        Task::Run(_) | Task::Size => Ok(()),
+        Task::Sweep(..) | Task::All(..) | Task::Check(_) | Task::CheckAll(_) => Ok(()),
+    }
+}
+
+/// Puts all that a sweep found in its place, where the task's report has it.
+fn put_told(
+    members: &mut Map<String, Value>,
+    alloc: Global,
+    task: Task,
+    ends: &Option<NumberEnds>,
+) -> Result<(), AllocError>
+    ensures { OnOk result (members_view members.new.entries
+        ≡ with_all task ends.now (members_view members.old.entries)) }
+{
+    match task {
+        Task::All(..) | Task::CheckAll(_) => {
+            let pairs = told_pairs(alloc, ends)?;
+            put(members, alloc, "all", pairs)
+        }
+        Task::Run(_) | Task::Size | Task::Lengths | Task::Sweep(..) | Task::Check(_) => Ok(()),
     }
 }
 
@@ -112,8 +135,8 @@ fn version_of(task: Task) -> u32
     ensures { result ≡ version_of task }
 {
     match task {
-        Task::Lengths => VERSION_OF_LENGTHS,
-        Task::Run(_) | Task::Size | Task::Sweep(_) | Task::Check(_) => VERSION,
+        Task::Lengths | Task::All(..) | Task::CheckAll(_) => LATER_VERSION,
+        Task::Run(_) | Task::Size | Task::Sweep(..) | Task::Check(_) => VERSION,
     }
 }
 
@@ -122,7 +145,8 @@ fn kind_of(alloc: Global, task: Task) -> Result<Value, AllocError>
     ensures { IfOk result (λ value. view value ≡ kind_of task) }
 {
     match task {
-        Task::Sweep(failures) | Task::Check(failures) => failures_kind(alloc, failures),
+        Task::Sweep(failures, _) | Task::All(failures, _) => failures_kind(alloc, failures),
+        Task::Check(failures) | Task::CheckAll(failures) => failures_kind(alloc, failures),
         Task::Lengths => Value::try_from_str(alloc, "lengths"),
         Task::Run(_) | Task::Size => Ok(Value::Null),
     }
@@ -251,20 +275,40 @@ fn all_ranges(alloc: Global, ranges: &[LengthRange]) -> Result<Vec<Value>, Alloc
 {
     let mut pairs = Vec::new(alloc);
     for range in ranges {
-        pairs.push(range_pair(alloc, *range)?)?;
+        pairs.push(words_pair(alloc, range.from, range.end)?)?;
     }
     Ok(pairs)
 }
 
-/// Where a range begins, and how the run ends there, as a list.
-fn range_pair(alloc: Global, range: LengthRange) -> Result<Value, AllocError>
-    ensures { IfOk result (λ pair. view pair ≡ range_pair range) }
+/// All that a sweep found, or `null` where it found nothing out.
+fn told_pairs(alloc: Global, ends: &Option<NumberEnds>) -> Result<Value, AllocError>
+    ensures { IfOk result (λ pairs. view pairs ≡ told_pairs ends.now) }
+{
+    match ends {
+        Some(ends) => Ok(Value::Array(all_told(alloc, ends.as_slice())?)),
+        None => Ok(Value::Null),
+    }
+}
+
+fn all_told(alloc: Global, ends: &[NumberEnd]) -> Result<Vec<Value>, AllocError>
+    ensures { IfOk result (λ pairs. map view pairs.items ≡ map told_pair ends.now) }
+{
+    let mut pairs = Vec::new(alloc);
+    for told in ends {
+        pairs.push(words_pair(alloc, told.number, told.end)?)?;
+    }
+    Ok(pairs)
+}
+
+/// A number, and how a run ends, as a list.
+fn words_pair(alloc: Global, number: u32, end: RunEnd) -> Result<Value, AllocError>
+    ensures { IfOk result (λ pair. view pair ≡ words_pair number end) }
 {
     let mut words = Vec::new(alloc);
-    match put_end_words(&mut words, range.end) {
+    match put_end_words(&mut words, end) {
         Ok(()) => {
             let words = line_string(alloc, words.as_slice())?;
-            let pair = vec![in alloc; Value::from(range.from), words]?;
+            let pair = vec![in alloc; Value::from(number), words]?;
             Ok(Value::Array(pair))
         }
         Err(NoMemory) => Err(AllocError),

@@ -3,6 +3,7 @@
 //! The program is `wb_main`, which hands the process's own words, files and streams to `program`.
 #![tactic(auto)]
 
+mod all_text;
 pub mod answer;
 mod appending;
 mod end_text;
@@ -14,6 +15,7 @@ pub mod laws;
 mod lengths_text;
 mod line;
 mod numbers_text;
+mod parts;
 pub mod program;
 mod report;
 mod report_values;
@@ -26,6 +28,7 @@ pub use wb_command_line::file_name::FileName;
 pub use wb_model::failures::Failures;
 pub use wb_model::heap::{Rule, Shape};
 pub use wb_model::memory::NoMemory;
+pub use wb_model::part::Part;
 pub use wb_model::run::RunResult;
 pub use wb_streams::{Sink, Source, StreamFault};
 pub use wb_sweep::{Progress, Silent};

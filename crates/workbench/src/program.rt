@@ -140,7 +140,11 @@ fn status_of(fault: &WordsFault) -> u8
         WordsFault::Refused(CommandFault::NoMemory) => WANT_OF_MEMORY,
         WordsFault::NotUtf8
         | WordsFault::Refused(
-            CommandFault::Usage(_) | CommandFault::Both | CommandFault::Also | CommandFault::Shape,
+            CommandFault::Usage(_)
+            | CommandFault::Both
+            | CommandFault::Also
+            | CommandFault::Shape
+            | CommandFault::Range,
         ) => COMMAND_LINE_FAULT,
     }
 }

@@ -2,11 +2,12 @@
 //! names.
 
 ghost use Rattle.std.specs.Prelude.{◌≡◌};
-ghost use Rattle.workbench.specs.ReportValues.{both_values, cut_values, found_failing, lengths_values};
+ghost use Rattle.workbench.specs.ReportValues.{all_values, both_values, cut_values, found_failing, lengths_values};
 ghost use Rattle.workbench.specs.ReportValues.{no_values, run_values, size_values, sweep_values};
 
 use wb_model::failures::Failing;
 use wb_model::lengths::LengthTable;
+use wb_model::number_ends::NumberEnds;
 use wb_model::run::RunResult;
 use wb_size::{Rises, Sizing};
 
@@ -46,6 +47,8 @@ pub struct ReportValues {
     pub rises: Option<Rises>,
     /// How the run ends in heaps of every length.
     pub ranges: Option<LengthTable>,
+    /// How the run ended under each number that is told of.
+    pub all: Option<NumberEnds>,
     /// The failure that its lines name: whose run they show, or under which a run was cut. `None` if they name none.
     pub named: Option<Failing>,
 }
@@ -61,6 +64,7 @@ impl ReportValues {
             required: None,
             rises: None,
             ranges: None,
+            all: None,
             named: None,
         }
     }
@@ -108,6 +112,16 @@ impl ReportValues {
         }
     }
 
+    /// Those of a sweep that told of all that it found.
+    pub fn of_all(attempts: u32, ends: NumberEnds, number: FailingNumber) -> ReportValues
+        ensures { result ≡ all_values attempts ends number }
+    {
+        ReportValues {
+            all: Some(ends),
+            ..ReportValues::of_sweep(attempts, number)
+        }
+    }
+
     /// Those of a size, and of the sweep that was made after it.
     pub fn of_both(size: ReportValues, sweep: ReportValues) -> ReportValues
         ensures { result ≡ both_values size sweep }
@@ -118,6 +132,7 @@ impl ReportValues {
             required: size.required,
             rises: size.rises,
             ranges: None,
+            all: sweep.all,
             named: sweep.named,
         }
     }

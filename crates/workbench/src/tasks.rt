@@ -1,4 +1,5 @@
-//! What each task comes to on a script: the text, its values, and the exit status. Nothing is read or written here.
+//! What each task comes to on a script: the text, its values, and the exit status. Nothing is read or written here. Sweeps over
+//! parts, and those that tell of all that they find, are in `parts`.
 
 ghost use Rattle.std.specs.Prelude.{◌≡◌, ◌≤◌, IfOk, IsTrue, if◌then◌else◌};
 ghost use Rattle.wb_model.specs.runs.Run.{run};
@@ -14,6 +15,7 @@ ghost use Rattle.workbench.specs.TwoNumbers.{IsSizeReport, IsSweepReport, IsChec
 use crate::exit_status::{CUT, FOUND, NOTHING_FOUND};
 use crate::lengths_text::put_lengths;
 use crate::numbers_text::{put_cut_at, put_sizing, put_sweep};
+use crate::parts::{all_report, check_all_report, report_over};
 use crate::report::Report;
 use crate::report_values::{FailingNumber, ReportValues};
 use crate::run_text::put_run;
@@ -48,8 +50,16 @@ pub fn carry_out<P: Progress>(
         Task::Run(rule) => run_report(alloc, script, rule, budget, shape),
         Task::Size => size_report(alloc, script, budget, shape),
         Task::Lengths => lengths_report(alloc, script, budget, shape, progress),
-        Task::Sweep(failures) => sweep_report(alloc, script, failures, budget, shape, progress),
+        Task::Sweep(failures, part) => {
+            report_over(alloc, script, failures, part, budget, shape, progress)
+        }
+        Task::All(failures, part) => {
+            all_report(alloc, script, failures, part, budget, shape, progress)
+        }
         Task::Check(failures) => check_report(alloc, script, failures, budget, shape, progress),
+        Task::CheckAll(failures) => {
+            check_all_report(alloc, script, failures, budget, shape, progress)
+        }
     }
 }
 
@@ -97,7 +107,7 @@ fn status_of(outcome: &Outcome) -> u8
 }
 
 /// How long the heap must be, or the line of a run that was cut.
-fn size_report(
+pub fn size_report(
     alloc: Global,
     script: &Script,
     budget: u32,
@@ -173,7 +183,7 @@ fn fine_status(is_cut: bool) -> u8
 }
 
 /// Which of these failures leaks or panics, or the line of a run that was cut.
-fn sweep_report<P: Progress>(
+pub fn sweep_report<P: Progress>(
     alloc: Global,
     script: &Script,
     failures: Failures,
@@ -213,7 +223,7 @@ fn sweep_report<P: Progress>(
 }
 
 /// The report of a run that was cut under a failure, whose line is the text.
-fn cut_report(text: Vec<u8>, at: Failing) -> Report
+pub fn cut_report(text: Vec<u8>, at: Failing) -> Report
     ensures text { result.text ≡ text }
     ensures values { result.values ≡ cut_values at }
     ensures status { result.status ≡ 3 }

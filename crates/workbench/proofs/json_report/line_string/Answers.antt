@@ -3,7 +3,7 @@ use Rattle.std.proofs.Common.{◌≡◌, rules, ap, ◌∙◌, string_bytes}
 use Rattle.serde_json.specs.View.{view}
 use Rattle.serde_json.specs.Data.{string}
 use Rattle.serde_json.specs.declared.value.Value.{String, the_lemmas}
-use Rattle.workbench.proofs.AsciiLemmas.{lossless}
+use Rattle.workbench.proofs.PrintableLines.{lossless}
 use Rattle.workbench.proofs.json_report.line_string.Goals as goal
 
 pub returns : goal.returns

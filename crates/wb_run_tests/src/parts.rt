@@ -1,0 +1,260 @@
+//! Sweeps over parts of the numbers, and over each of them.
+
+use std::test::Fail;
+use wb_model::failures::{Failing, Failures};
+use wb_model::heap::{Panic, Shape};
+use wb_model::limits::{CEILING, DEFAULT_BUDGET};
+use wb_model::number_ends::NumberEnd;
+use wb_model::part::Part;
+use wb_model::progress::Silent;
+use wb_model::run::Why;
+use wb_model::run_end::RunEnd;
+use wb_script::read;
+use wb_sweep::fault::SweepFault;
+use wb_sweep::{sweep_all, sweep_part};
+
+const SHAPE: Shape = Shape {
+    min: 4096,
+    step: 4096,
+};
+
+/// Three cells by lines that leave: the third attempt leaks one, and the fourth two.
+const THREE_CELLS: &[u8] =
+    b"proc main\nptr a\nptr b\nptr c\nallocl a 16\nallocl b 16\nallocl c 16\nfree a\nfree b\nfree c\nend\n";
+
+/// A cell for which the run waits, and then one by a line that leaves.
+const WAITS_AND_LEAKS: &[u8] =
+    b"proc main\nptr a\nptr b\nalloc a 16\nif null a\nrepeat 20000\nend\nend\nallocl b 16\nfree a\nfree b\nend\n";
+
+/// A cell that is never freed.
+const LEAKS: &[u8] = b"proc main\nptr a\nalloc a 16\nend\n";
+
+/// A run that waits past its budget.
+const WAITS: &[u8] = b"proc main\nrepeat 20000\nend\nend\n";
+
+/// A second try, after which the run is left: it leaks where attempts 3 and 4 fail.
+const SECOND_TRY: &[u8] =
+    b"proc main\nptr a\nptr b\nalloc b 16\nalloc a 16\nif null a\nalloc a 16\nif null a\nleave -4\nend\nend\nfree a\nfree b\nend\n";
+
+/// The script fails its third attempt itself.
+const FAILS_ONE: &[u8] =
+    b"proc main\nptr a\nptr b\nptr c\nallocl c 16\nfailnext 1\nalloc a 16\nallocl b 16\nfree a\nfree b\nfree c\nend\n";
+
+/// Each number from 2 to 5 shows something else.
+const EACH_IN_ITS_WAY: &[u8] =
+    b"proc main\nptr a\nptr b\nptr c\nptr d\nalloc a 16\nstore a 0 1\nallocl b 16\nalloc c 16\nif null c\nfree b\nfree b\nend\nalloc d 16\nif null d\ncheck 9\nend\nfree a\nfree b\nfree c\nfree d\nend\n";
+
+/// A script, the failures, and the least and the greatest number that are tried.
+type Asked = (&'static [u8], Failures, u32, u32);
+
+/// What sweeps over parts find: how many attempts the run without failure makes, and the least failure.
+static PARTS: [(Asked, Result<(u32, Option<Failing>), SweepFault>); 15] = [
+    (
+        (THREE_CELLS, Failures::Single, 0, CEILING),
+        Ok((4, Some(Failing::Number(3)))),
+    ),
+    ((THREE_CELLS, Failures::Single, 0, 2), Ok((4, None))),
+    (
+        (THREE_CELLS, Failures::Single, 3, 3),
+        Ok((4, Some(Failing::Number(3)))),
+    ),
+    (
+        (THREE_CELLS, Failures::Single, 4, CEILING),
+        Ok((4, Some(Failing::Number(4)))),
+    ),
+    ((THREE_CELLS, Failures::Single, 5, 9), Ok((4, None))),
+    (
+        (THREE_CELLS, Failures::Every, 3, CEILING),
+        Ok((4, Some(Failing::Every(3)))),
+    ),
+    // The run that is cut is no number of the part.
+    (
+        (WAITS_AND_LEAKS, Failures::Single, 3, CEILING),
+        Ok((3, Some(Failing::Number(3)))),
+    ),
+    (
+        (WAITS_AND_LEAKS, Failures::Single, 0, 2),
+        Err(SweepFault::Cut {
+            at: Failing::Number(2),
+            why: Why::Budget,
+        }),
+    ),
+    // The run without failure leaks, and isn't judged; so isn't a number past its last attempt.
+    (
+        (LEAKS, Failures::Single, 0, CEILING),
+        Ok((2, Some(Failing::Number(0)))),
+    ),
+    ((LEAKS, Failures::Single, 1, CEILING), Ok((2, None))),
+    (
+        (WAITS, Failures::Single, 1, CEILING),
+        Err(SweepFault::Cut {
+            at: Failing::Number(0),
+            why: Why::Budget,
+        }),
+    ),
+    // Of pairs the first number is the part's, and the second any.
+    (
+        (SECOND_TRY, Failures::Pairs, 3, 3),
+        Ok((3, Some(Failing::Pair(3, 4)))),
+    ),
+    ((SECOND_TRY, Failures::Pairs, 0, 2), Ok((3, None))),
+    // Number 4 alone leaks, but isn't the part's.
+    (
+        (FAILS_ONE, Failures::Pairs, 3, 3),
+        Ok((4, Some(Failing::Pair(3, 4)))),
+    ),
+    (
+        (FAILS_ONE, Failures::Pairs, 3, 4),
+        Ok((4, Some(Failing::Number(4)))),
+    ),
+];
+
+#[test]
+fn parts_find_their_least(rt: HostRuntime) -> Result<(), Fail> {
+    for (row, ((text, failures, from, to), wanted)) in PARTS.iter().enumerate() {
+        let script = read(rt.alloc(), text)?;
+        let part = Part {
+            from: *from,
+            to: *to,
+        };
+        let told = sweep_part(
+            rt.alloc(),
+            &script,
+            *failures,
+            part,
+            DEFAULT_BUDGET,
+            SHAPE,
+            &mut Silent,
+        );
+        let told = match told {
+            Ok(swept) => Ok((swept.attempts, swept.found.as_ref().map(|found| found.at))),
+            Err(fault) => Err(fault),
+        };
+        assert_eq!(rt; told, *wanted, "part {row}");
+    }
+    Ok(())
+}
+
+/// What is told of each number of a part: those that aren't fine, how many leak or panic, and the least of these.
+static NUMBERS: [(Asked, &[NumberEnd], usize, Option<Failing>); 6] = [
+    (
+        (THREE_CELLS, Failures::Single, 0, CEILING),
+        &[
+            NumberEnd {
+                number: 3,
+                end: RunEnd::Leaked(1),
+            },
+            NumberEnd {
+                number: 4,
+                end: RunEnd::Leaked(2),
+            },
+        ],
+        2,
+        Some(Failing::Number(3)),
+    ),
+    (
+        (THREE_CELLS, Failures::Single, 4, CEILING),
+        &[NumberEnd {
+            number: 4,
+            end: RunEnd::Leaked(2),
+        }],
+        1,
+        Some(Failing::Number(4)),
+    ),
+    ((THREE_CELLS, Failures::Single, 5, CEILING), &[], 0, None),
+    (
+        (WAITS_AND_LEAKS, Failures::Single, 0, CEILING),
+        &[
+            NumberEnd {
+                number: 2,
+                end: RunEnd::Cut(Why::Budget),
+            },
+            NumberEnd {
+                number: 3,
+                end: RunEnd::Leaked(1),
+            },
+        ],
+        1,
+        Some(Failing::Number(3)),
+    ),
+    (
+        (LEAKS, Failures::Single, 0, CEILING),
+        &[NumberEnd {
+            number: 0,
+            end: RunEnd::Leaked(1),
+        }],
+        1,
+        Some(Failing::Number(0)),
+    ),
+    (
+        (EACH_IN_ITS_WAY, Failures::Every, 0, CEILING),
+        &[
+            NumberEnd {
+                number: 2,
+                end: RunEnd::Panicked(Panic::NULL_OR_STALE),
+            },
+            NumberEnd {
+                number: 3,
+                end: RunEnd::Leaked(1),
+            },
+            NumberEnd {
+                number: 4,
+                end: RunEnd::Panicked(Panic::BAD_CELL),
+            },
+            NumberEnd {
+                number: 5,
+                end: RunEnd::Panicked(Panic::Alloc(144)),
+            },
+        ],
+        4,
+        Some(Failing::Every(2)),
+    ),
+];
+
+#[test]
+fn each_number_is_told(rt: HostRuntime) -> Result<(), Fail> {
+    for (row, ((text, failures, from, to), ends, bad, least)) in NUMBERS.iter().enumerate() {
+        let script = read(rt.alloc(), text)?;
+        let part = Part {
+            from: *from,
+            to: *to,
+        };
+        let told = sweep_all(
+            rt.alloc(),
+            &script,
+            *failures,
+            part,
+            DEFAULT_BUDGET,
+            SHAPE,
+            &mut Silent,
+        )?;
+        assert!(rt; told.ends.as_slice() == *ends, "ends {row}");
+        assert_eq!(rt; told.bad, *bad, "bad {row}");
+        assert_eq!(rt;
+            told.found.as_ref().map(|found| found.at),
+            *least,
+            "least {row}"
+        );
+    }
+    Ok(())
+}
+
+#[test]
+fn a_run_that_is_cut_tells_nothing(rt: HostRuntime) -> Result<(), Fail> {
+    let script = read(rt.alloc(), WAITS)?;
+    let told = sweep_all(
+        rt.alloc(),
+        &script,
+        Failures::Single,
+        Part::WHOLE,
+        DEFAULT_BUDGET,
+        SHAPE,
+        &mut Silent,
+    );
+    let cut = SweepFault::Cut {
+        at: Failing::Number(0),
+        why: Why::Budget,
+    };
+    assert_eq!(rt; told.err(), Some(cut));
+    Ok(())
+}
