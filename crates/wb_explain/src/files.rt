@@ -3,6 +3,10 @@
 use std::alloc::{AllocError, Global};
 use std::io::ErrorKind;
 
+/// What is said of a file called `-`, which elsewhere stands for standard input.
+const INPUT_TIP: &str =
+    "workbench: the script is read from standard input where no file is named\n";
+
 /// What was done to a file when it failed.
 #[derive(Clone, Copy, Debug, PartialEq, Eq)]
 pub enum Deed {
@@ -24,7 +28,8 @@ pub fn file_fault(
         return format!(in alloc; "workbench: {file}: {what} failed\n");
     }
     let to = purpose(deed, kind);
-    format!(in alloc; "workbench: {file}: {why}{to}\n")
+    let tip = if file == "-" { INPUT_TIP } else { "" };
+    format!(in alloc; "workbench: {file}: {why}{to}\n{tip}")
 }
 
 /// What is wrong, in words; empty where there are none for it.

@@ -18,6 +18,7 @@ mod failures;
 mod heaps;
 mod lengths;
 mod makers;
+mod numbers;
 mod pairs;
 mod panics;
 mod rates;
@@ -32,14 +33,17 @@ mod watch;
 use crate::runs::ends::put_findings;
 use crate::runs::heaps::{put_heaps, put_warning};
 use crate::runs::lengths::put_lengths;
+use crate::runs::numbers::put_numbers;
 use crate::runs::script_page::ScriptPage;
 use crate::runs::watch::watch_run;
 pub use script_page::ScriptFile;
 use std::alloc::Global;
+use wb_model::failures::Failures;
 use wb_model::heap::{Rule, Shape};
 use wb_model::lengths::LengthRange;
 use wb_model::limits::LARGEST_BUDGET;
 use wb_model::memory::NoMemory;
+use wb_model::number_ends::NumberEnd;
 use wb_model::script::Script;
 use wb_model::size::Rise;
 
@@ -104,6 +108,27 @@ pub fn heaps_found(
 {
     let mut page = ScriptPage::new(alloc, file);
     put_heaps(&mut page, alloc, script, budget, shape, ranges)?;
+    Ok(page.whole_text()?)
+}
+
+/// Returns at which lines a failed attempt leads to a leak or a panic, by all that a sweep found; empty if none does. The only error
+/// is that memory ran out.
+pub fn numbers_found(
+    alloc: Global,
+    file: ScriptFile<'_>,
+    script: &Script,
+    setting: Setting,
+    failures: Failures,
+    ends: &[NumberEnd],
+) -> Result<String, NoMemory>
+    requires script { IsTrue (is_script script.now) }
+    requires least { 1 ≤ setting.budget }
+    requires greatest { setting.budget ≤ LARGEST_BUDGET }
+{
+    let mut page = ScriptPage::new(alloc, file);
+    if let Some(seen) = watch_run(alloc, script, setting)? {
+        put_numbers(&mut page, alloc, &seen, failures, ends)?;
+    }
     Ok(page.whole_text()?)
 }
 

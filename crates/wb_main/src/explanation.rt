@@ -7,11 +7,14 @@ use crate::asked::{budget_of, least_bad_length, script_name, source_name};
 use crate::recorded::FirstFault;
 use std::alloc::Global;
 use wb_explain::files::{Deed, file_fault};
-use wb_explain::runs::{ScriptFile, Setting, heaps_found, heaps_warning, lengths_found, run_found};
+use wb_explain::runs::{
+    ScriptFile, Setting, heaps_found, heaps_warning, lengths_found, numbers_found, run_found,
+};
 use wb_mistakes::refused_script;
 use wb_model::heap::Rule;
 use wb_model::limits::LARGEST_BUDGET;
 use wb_model::memory::NoMemory;
+use wb_model::number_ends::NumberEnd;
 use wb_model::script::Script;
 use workbench::exit_status::{NOTHING_FOUND, READ_OR_WRITE_FAULT};
 use workbench::findings::Findings;
@@ -39,8 +42,8 @@ pub fn explain_answer(alloc: Global, exit: &Exit, first: FirstFault) -> Result<S
 /// script isn't read once more.
 fn has_nothing_to_say(task: Task, findings: &Findings, status: u8) -> bool {
     match task {
-        Task::Size | Task::Check(_) => false,
-        Task::Run(_) | Task::Lengths | Task::Sweep(_) => {
+        Task::Size | Task::Check(_) | Task::CheckAll(_) => false,
+        Task::Run(_) | Task::Lengths | Task::Sweep(..) | Task::All(..) => {
             status == NOTHING_FOUND && rule_to_explain(task, findings, status).is_none()
         }
     }
@@ -91,11 +94,13 @@ fn explain_runs(
     let name = script_name(command);
     let file = ScriptFile { name, text };
     let mut found = explain_lengths(alloc, command, findings, script, file)?;
+    let numbers = explain_numbers(alloc, command, findings, script, file)?;
+    found.push_str(numbers.as_str())?;
     if let Some(rule) = rule_to_explain(command.task, findings, status) {
         let run = run_found(alloc, file, script, setting_of(command, rule))?;
         found.push_str(run.as_str())?;
     }
-    if let Task::Check(_) = command.task
+    if let Task::Check(_) | Task::CheckAll(_) = command.task
         && status == NOTHING_FOUND
     {
         let warning = heaps_warning(alloc, file, script, budget_of(command), command.shape)?;
@@ -124,6 +129,44 @@ fn explain_lengths(
     }
 }
 
+/// What all the numbers show that are told of; empty if fewer than two leak or panic, since the run of one is explained anyway.
+fn explain_numbers(
+    alloc: Global,
+    command: &Command,
+    findings: &Findings,
+    script: &Script,
+    file: ScriptFile<'_>,
+) -> Result<String, NoMemory>
+    requires { IsTrue (is_script script.now) }
+{
+    let failures = match command.task {
+        Task::All(failures, _) | Task::CheckAll(failures) => failures,
+        _ => return Ok(String::new(alloc)),
+    };
+    let Some(ends) = &findings.all else {
+        return Ok(String::new(alloc));
+    };
+    if !has_two_bad(ends.as_slice()) {
+        return Ok(String::new(alloc));
+    }
+    let setting = setting_of(command, Rule::Unlimited);
+    numbers_found(alloc, file, script, setting, failures, ends.as_slice())
+}
+
+/// Whether the runs of two numbers leak or panic.
+fn has_two_bad(ends: &[NumberEnd]) -> bool {
+    let mut has_one = false;
+    for told in ends {
+        if told.end.is_bad() {
+            if has_one {
+                return true;
+            }
+            has_one = true;
+        }
+    }
+    false
+}
+
 /// Returns the rule of the run to explain; `None` if it found nothing and nothing was to fail, and if the report names no
 /// failure and no length.
 fn rule_to_explain(task: Task, findings: &Findings, status: u8) -> Option<Rule> {
@@ -131,7 +174,9 @@ fn rule_to_explain(task: Task, findings: &Findings, status: u8) -> Option<Rule> 
         Task::Run(Rule::Unlimited) if status == NOTHING_FOUND => None,
         Task::Run(rule) => Some(rule),
         Task::Lengths => least_bad_length(findings.ranges.as_ref()?).map(Rule::Limit),
-        Task::Size | Task::Sweep(_) | Task::Check(_) => findings.at.map(|it| it.rule()),
+        Task::Size | Task::Sweep(..) | Task::All(..) | Task::Check(_) | Task::CheckAll(_) => {
+            findings.at.map(|it| it.rule())
+        }
     }
 }
 

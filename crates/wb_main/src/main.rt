@@ -4,12 +4,15 @@
 
 mod asked;
 mod explanation;
+mod messages;
 mod picture;
 mod picture_file;
 mod progress_line;
 mod recorded;
+mod work;
 
 use crate::explanation::explain_answer;
+use crate::messages::ProcessMessages;
 use crate::picture::put_picture;
 use crate::picture_file::ProcessFiles;
 use crate::progress_line::ProgressLine;
@@ -34,7 +37,7 @@ fn main(rt: HostRuntime) -> ExitCode {
             stream: io::writer(&rt),
             first: &first,
         },
-        &mut rt.stderr(),
+        &mut ProcessMessages { rt: &rt },
         &mut ProgressLine::new(&rt),
     );
     explain(&rt, &first, &exit);

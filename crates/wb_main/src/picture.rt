@@ -109,7 +109,11 @@ fn draw_runs(
             }
             None => Ok(String::new(alloc)),
         },
-        Task::Sweep(_) => picture_of_sweep(alloc, file, script, budget, shape, at),
-        Task::Check(_) => picture_of_check(alloc, file, script, budget, shape, at),
+        Task::Sweep(..) | Task::All(..) => {
+            picture_of_sweep(alloc, file, script, budget, shape, at)
+        }
+        Task::Check(_) | Task::CheckAll(_) => {
+            picture_of_check(alloc, file, script, budget, shape, at)
+        }
     }
 }

@@ -1,7 +1,9 @@
 //! The line on a terminal that says which failure a sweep tries, or which length of heap. Where standard error is no terminal,
-//! nothing is said.
+//! nothing is said. How much of the work is done is found in `work`.
 
+use crate::work::{Estimate, Work};
 use arrayvec::ArrayString;
+use std::fmt;
 use std::fmt::Write as _;
 use std::io::{IsTerminal, Write};
 use std::time::{Duration, Instant};
@@ -26,6 +28,10 @@ pub struct ProgressLine<'a> {
     due: Option<Instant>,
     /// The greatest number that is tried.
     last: u32,
+    /// How many failures were tried.
+    work: Work,
+    /// When the first of them was; `None` where nothing is said of it.
+    since: Option<Instant>,
     /// How many columns the line takes that is shown; 0 where none is.
     width: usize,
 }
@@ -37,6 +43,8 @@ impl<'a> ProgressLine<'a> {
             rt,
             due: None,
             last: 0,
+            work: Work::new(0),
+            since: None,
             width: 0,
         }
     }
@@ -53,6 +61,12 @@ impl<'a> ProgressLine<'a> {
     fn after(&self, pause: u64) -> Option<Instant> {
         let now = Instant::now(self.rt).ok()?;
         now.checked_add(Duration::from_millis(pause))
+    }
+
+    /// What is left as a failure is tried; `None` if that isn't known.
+    fn estimate(&self, at: Failing) -> Option<Estimate> {
+        let elapsed = self.since?.elapsed(self.rt).ok()?;
+        self.work.estimate(at, elapsed)
     }
 
     /// Begins to wait, where standard error is a terminal.
@@ -87,11 +101,18 @@ impl<'a> Progress for ProgressLine<'a> {
 
     fn begin_failures(&mut self, last: u32) {
         self.last = last;
+        self.work = Work::new(last);
     }
 
     fn begin_failure(&mut self, at: Failing) {
+        if self.due.is_none() {
+            return;
+        }
+        if self.work.begin(at) {
+            self.since = Instant::now(self.rt).ok();
+        }
         if self.is_due() {
-            self.show(line_of(at, self.last));
+            self.show(line_of(at, self.last, self.estimate(at)));
         }
     }
 
@@ -114,10 +135,18 @@ impl<'a> Progress for ProgressLine<'a> {
     }
 }
 
-/// The line of a failure that is tried, with the last that will be; `None` if it is too long.
-fn line_of(at: Failing, last: u32) -> Option<ArrayString<WIDEST>> {
+/// The line of a failure that is tried, with the last that will be and what is left; `None` if it is too long.
+fn line_of(at: Failing, last: u32, estimate: Option<Estimate>) -> Option<ArrayString<WIDEST>> {
     let mut line = ArrayString::new();
-    let put = match at {
+    put_failing(&mut line, at, last).ok()?;
+    if let Some(estimate) = estimate {
+        put_estimate(&mut line, estimate).ok()?;
+    }
+    Some(line)
+}
+
+fn put_failing(line: &mut ArrayString<WIDEST>, at: Failing, last: u32) -> fmt::Result {
+    match at {
         Failing::Number(number) => write!(line, "trying attempt {number} of {last}"),
         Failing::Every(rate) => write!(line, "trying rate {rate} of {last}"),
         Failing::Pair(first, other) => {
@@ -126,8 +155,21 @@ fn line_of(at: Failing, last: u32) -> Option<ArrayString<WIDEST>> {
                 "trying attempt {first} of {last} with attempt {other}"
             )
         }
+    }
+}
+
+/// Appends how much is done, and how long the rest takes: up to 99 seconds, then up to 99 minutes, then hours.
+fn put_estimate(line: &mut ArrayString<WIDEST>, estimate: Estimate) -> fmt::Result {
+    let Estimate { percent, seconds } = estimate;
+    let minutes = seconds.div_ceil(60);
+    let (time, unit) = if seconds < 100 {
+        (seconds, "s")
+    } else if minutes < 100 {
+        (minutes, "min")
+    } else {
+        (minutes.div_ceil(60), "h")
     };
-    put.ok().map(|()| line)
+    write!(line, ", {percent}% done, {time} {unit} left")
 }
 
 /// The line of a length of heap that is tried, in bytes.

@@ -3,6 +3,7 @@
 
 ghost use Rattle.std.specs.Prelude.{⊤};
 
+use crate::messages::say_if_typed;
 use std::cell::RefCell;
 use std::fs::File;
 use std::io;
@@ -90,6 +91,7 @@ impl<'a> Host for RecordedHost<'a> {
     }
 
     fn standard_input(&mut self) -> Recorded<'a, StdinLock<'static>> {
+        say_if_typed(self.rt);
         Recorded {
             stream: self.rt.reader(),
             first: self.first,

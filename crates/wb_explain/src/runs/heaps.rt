@@ -194,7 +194,7 @@ fn put_lengths(page: &mut ScriptPage<'_>, spread: Spread) {
 }
 
 /// How a run ends that leaks or panics.
-fn put_end(page: &mut ScriptPage<'_>, end: RunEnd) {
+pub fn put_end(page: &mut ScriptPage<'_>, end: RunEnd) {
     match end {
         RunEnd::Leaked(count) => {
             let cell = if count == 1 { " cell" } else { " cells" };
