@@ -30,6 +30,16 @@ pub(crate) fn begins_with(line_kind: LineKind, word: &[u8]) -> bool {
     text_of(line_kind) == word
 }
 
+/// Whether some form begins with a word.
+pub(crate) fn begins_statement(word: &[u8]) -> bool {
+    for line_kind in line_kinds() {
+        if begins_with(*line_kind, word) {
+            return true;
+        }
+    }
+    false
+}
+
 fn fits_at(line_kind: LineKind, place: usize, word: &[u8]) -> bool {
     match operand_place_at(line_kind, place) {
         Some(operand_place) => operand_of(operand_place, word).is_some(),
@@ -98,5 +108,15 @@ pub(crate) fn write_forms(page: &mut Page, word: &[u8]) {
             write_form(page, *line_kind);
             is_first = false;
         }
+    }
+}
+
+/// Writes these forms, with `or` between them.
+pub(crate) fn write_form_list(page: &mut Page, line_kinds: &[LineKind]) {
+    for (index, line_kind) in line_kinds.iter().enumerate() {
+        if index > 0 {
+            page.write_text(" or ");
+        }
+        write_form(page, *line_kind);
     }
 }

@@ -5,6 +5,8 @@
 
 mod arguments;
 mod blocks;
+mod counterparts;
+mod cpp_lines;
 mod double;
 mod elsewhere;
 mod forms;

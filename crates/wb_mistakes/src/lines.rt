@@ -98,6 +98,14 @@ impl<'a> Line<'a> {
         }
     }
 
+    /// The text of the last word; empty if the line has none.
+    pub(crate) fn last_text(&self) -> &'a [u8] {
+        match self.words.last() {
+            Some(word) => word.text,
+            None => &[],
+        }
+    }
+
     /// The first word; `None` if the line has none or is a comment.
     pub(crate) fn first(&self) -> Option<Word<'a>> {
         match self.word(0) {

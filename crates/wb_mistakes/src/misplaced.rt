@@ -1,10 +1,11 @@
 //! A line that is not allowed where it is, and a file that ends too early.
 
 use crate::blocks::{Block, BlockState, Blocks, ClosedBlock, indent_at, role, role_at};
+use crate::counterparts::EXTRA_BYTES;
 use crate::further_lines::mark_line;
 use crate::lines::Line;
 use crate::spaces::is_statement;
-use wb_model::script_lines::Role;
+use wb_model::script_lines::{LineKind, Role};
 use wb_pages::{Fragment, Page};
 
 fn is_further_left(lines: &[Line], closed: ClosedBlock) -> bool {
@@ -99,6 +100,9 @@ fn explain_in_class(page: &mut Page, lines: &[Line], blocks: &Blocks, block: Blo
     mark_line(page, lines, block.line, "this class is still open");
     if !matches!(block.state, BlockState::Fields) {
         mark_closed(page, lines, blocks);
+    }
+    if let Some(LineKind::Int | LineKind::Buf) = line.line_kind() {
+        page.write_help_text(EXTRA_BYTES);
     }
     page.write_help_text("a class has its fields, then `construct`, then `destroy`, then `end`");
 }

@@ -1,12 +1,17 @@
 //! A line that is of no form: no such statement, too few or too many words, or a word that doesn't fit.
 
+use crate::counterparts::{NUMBER_RETURNED, WORDS_APART};
+use crate::cpp_lines::{
+    begins_cpp_comment, cpp_word, cpp_word_of, help_with_cpp, help_with_hint, name_in,
+};
 use crate::forms::{
-    admits_count, begins_with, first_wrong_word, operand_place_at, write_form, write_forms,
+    admits_count, begins_statement, begins_with, first_wrong_word, operand_place_at, write_form,
+    write_forms,
 };
 use crate::lines::Line;
 use crate::nearest::{Candidate, Search};
-use crate::words::is_field;
-use crate::wrong_words::{complaint_of, expectation_of};
+use crate::words::{has_byte, is_field};
+use crate::wrong_words::{complaint_of, expectation_of, hint_at_end};
 use wb_lines::forms::begins_comment;
 use wb_lines::line_kinds::{line_kinds, operand_places_of, text_of};
 use wb_lines::words::text_of_keyword;
@@ -27,7 +32,7 @@ fn spot_from<'a>(line: &Line<'a>, word: Word<'a>) -> Spot<'a> {
 
 fn first_comment<'a>(line: &Line<'a>) -> Option<Word<'a>> {
     for word in &line.words {
-        if begins_comment(word.text) {
+        if begins_comment(word.text) || begins_cpp_comment(word.text) {
             return Some(*word);
         }
     }
@@ -68,15 +73,6 @@ fn nearest_condition(word: &[u8]) -> Option<Candidate<'static>> {
     search.found
 }
 
-fn begins_statement(word: &[u8]) -> bool {
-    for line_kind in line_kinds() {
-        if begins_with(*line_kind, word) {
-            return true;
-        }
-    }
-    false
-}
-
 fn is_condition(word: &[u8]) -> bool {
     for condition in &CONDITIONS {
         if text_of_keyword(*condition) == word {
@@ -94,18 +90,34 @@ fn help_with_forms(page: &mut Page, word: &[u8]) {
     page.end_line();
 }
 
-fn explain_statement(page: &mut Page, spot: Spot) {
-    page.mark_word(spot, "no such statement: `", "`");
-    match nearest_statement(spot.word) {
+/// Says what may be meant by a first word that is neither a statement nor C++.
+fn help_with_statement(page: &mut Page, line: &Line) {
+    match nearest_statement(line.text_at(0)) {
         Some(near) => {
             page.begin_help();
             page.write_word("did you mean `", near.word, "`? its form is ");
             write_forms(page, near.word);
             page.end_line();
         }
-        None => page.write_help_text(
-            "docs/LANGUAGE.md lists the statements; a comment begins with `#`",
-        ),
+        None => {
+            help_with_hint(page, hint_at_end(line.last_text(), ""));
+            page.write_help_text(
+                "docs/LANGUAGE.md lists the statements; a comment begins with `#`",
+            );
+        }
+    }
+}
+
+fn explain_statement(page: &mut Page, line: &Line) {
+    page.mark_word(line.spot(0), "no such statement: `", "`");
+    let name = name_in(line.text_at(0));
+    if let Some(found) = cpp_word_of(line) {
+        help_with_cpp(page, found);
+    } else if begins_statement(name) {
+        page.write_help_text(WORDS_APART);
+        help_with_forms(page, name);
+    } else {
+        help_with_statement(page, line);
     }
 }
 
@@ -113,6 +125,9 @@ fn explain_condition(page: &mut Page, spot: Spot) {
     page.mark_word(spot, "no such condition: `", "`");
     if let Some(near) = nearest_condition(spot.word) {
         page.write_help_word("did you mean `", near.word, "`?");
+    }
+    if let [b'(', ..] = spot.word {
+        page.write_help_text("in a script `if (p)` is `if some p`, and `if (!p)` is `if null p`");
     }
     help_with_forms(page, b"if");
 }
@@ -164,6 +179,22 @@ fn spot_of_count<'a>(line: &Line<'a>, line_kind: LineKind, is_more: bool) -> Spo
     }
 }
 
+/// The first word that doesn't fit a form; empty if all fit.
+fn first_wrong_text<'a>(line: &Line<'a>, line_kind: LineKind) -> &'a [u8] {
+    match first_wrong_word(line_kind, &line.words) {
+        Some(place) => line.text_at(place),
+        None => &[],
+    }
+}
+
+/// Says what a script has in the place of a wrong word of C++, or else a hint, which may be empty.
+fn help_with_wrong_word(page: &mut Page, word: &[u8], hint: &str) {
+    match cpp_word(word) {
+        Some(found) => help_with_cpp(page, found),
+        None => help_with_hint(page, hint),
+    }
+}
+
 /// Says that a line has too few words, or too many.
 fn explain_word_count(page: &mut Page, line: &Line, line_kind: LineKind) {
     let is_more = line.words.len() > operand_places_of(line_kind).len();
@@ -176,6 +207,8 @@ fn explain_word_count(page: &mut Page, line: &Line, line_kind: LineKind) {
     if is_else_if(line) {
         page.write_help_text("write the `if` on the next line, with an `end` of its own");
     }
+    let wrong = first_wrong_text(line, line_kind);
+    help_with_wrong_word(page, wrong, hint_at_end(wrong, ""));
     help_with_forms(page, line.text_at(0));
 }
 
@@ -188,6 +221,9 @@ fn help_with_place(page: &mut Page, line_kind: LineKind, operand_place: OperandP
     ]);
     write_form(page, line_kind);
     page.end_line();
+    if let LineKind::ReturnPointer = line_kind {
+        page.write_help_text(NUMBER_RETURNED);
+    }
 }
 
 /// The same of a line, if it has a form.
@@ -209,15 +245,13 @@ fn explain_word(page: &mut Page, line_kind: LineKind, operand_place: OperandPlac
             Fragment::Text("`"),
         ],
     );
-    if !found.hint.is_empty() {
-        page.write_help_text(found.hint);
-    }
+    help_with_wrong_word(page, spot.word, found.hint);
     help_with_place(page, line_kind, operand_place);
 }
 
 fn explain_late_comment(page: &mut Page, spot: Spot) {
     page.mark_text(spot, "a comment can't follow a statement");
-    page.write_help_text("give the comment a line of its own");
+    help_with_wrong_word(page, spot.word, "give the comment a line of its own");
 }
 
 fn explain_open_quote(page: &mut Page, spot: Spot) {
@@ -227,8 +261,27 @@ fn explain_open_quote(page: &mut Page, spot: Spot) {
     );
 }
 
+/// The word of a class's first line that names a base class, or comes before one; `None` if there is none.
+fn first_of_base<'a>(line: &Line<'a>, line_kind: LineKind) -> Option<Word<'a>> {
+    for word in &line.words {
+        if matches!(line_kind, LineKind::Class) && has_byte(b':', word.text) {
+            return Some(*word);
+        }
+    }
+    None
+}
+
+fn explain_base(page: &mut Page, spot: Spot) {
+    page.mark_text(spot, "a class has no base class: there is no inheritance");
+    page.write_help_text("it has the fields of its base too: \"BaseConstructL\" in docs/IDIOMS.md");
+    help_with_forms(page, b"class");
+}
+
 /// Says what is wrong with the words of a line that begins as some form does.
 fn explain_words(page: &mut Page, line: &Line, line_kind: LineKind) {
+    if let Some(word) = first_of_base(line, line_kind) {
+        return explain_base(page, spot_from(line, word));
+    }
     match first_wrong_word(line_kind, &line.words) {
         Some(place) if admits_count(line_kind, line.words.len()) => {
             let operand_place = operand_place_at(line_kind, place).unwrap_or(
@@ -246,7 +299,7 @@ pub(crate) fn explain_misspelled(page: &mut Page, line: &Line) {
         return;
     }
     if !begins_statement(line.text_at(0)) {
-        explain_statement(page, line.spot(0));
+        explain_statement(page, line);
     } else if let Some(word) = first_comment(line) {
         explain_late_comment(page, spot_from(line, word));
     } else if let Some(word) = open_quote(line) {

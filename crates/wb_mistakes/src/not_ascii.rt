@@ -1,4 +1,4 @@
-//! A byte outside printable ASCII.
+//! A byte outside printable ASCII, or a whole file in another encoding.
 
 use crate::lines::Line;
 use wb_lines::bytes::is_foreign;
@@ -8,6 +8,9 @@ use wb_pages::{Fragment, Page, Span};
 static DIGITS: [&str; 16] = [
     "0", "1", "2", "3", "4", "5", "6", "7", "8", "9", "a", "b", "c", "d", "e", "f",
 ];
+
+/// What to do about a file in another encoding.
+const SAVED_AS: &str = "save it as ASCII, or as UTF-8 without a byte order mark";
 
 fn hex_digit(value: u8) -> &'static str {
     DIGITS.get(value as usize).copied().unwrap_or("?")
@@ -23,11 +26,58 @@ fn first_foreign_byte(line: &[u8]) -> Option<(usize, u8)> {
     None
 }
 
-/// Says which byte of a line is outside printable ASCII, and in which column it is, counted from 1.
+/// What a file is by the bytes that it begins with.
+#[derive(Clone, Copy)]
+enum Beginning {
+    /// A byte order mark in UTF-8.
+    Mark,
+    /// A byte order mark in UTF-16, or two characters of ASCII in two bytes each.
+    Wide,
+    Other,
+}
+
+/// What a file is, by its first line without the blanks around it.
+fn beginning_of(text: &[u8]) -> Beginning {
+    match text {
+        [0xef, 0xbb, 0xbf, ..] => Beginning::Mark,
+        [0xff, 0xfe, ..] | [0xfe, 0xff, ..] => Beginning::Wide,
+        [0, _, 0, _, ..] | [_, 0, _, 0, ..] => Beginning::Wide,
+        _ => Beginning::Other,
+    }
+}
+
+/// Says that a line has a byte outside printable ASCII: of the file's first line, in which encoding the file seems to be.
 pub(crate) fn explain_not_ascii(page: &mut Page, lines: &[Line], index: usize) {
     let Some(line) = lines.get(index) else {
         return;
     };
+    match beginning_of(line.text) {
+        Beginning::Mark if index == 0 => {
+            page.mark_text(
+                line.spot_of(
+                    Span {
+                        column: 0,
+                        length: 3,
+                    },
+                    &[],
+                ),
+                "a byte order mark, 0xef 0xbb 0xbf, comes before the first line",
+            );
+            page.write_help_text(SAVED_AS);
+        }
+        Beginning::Wide if index == 0 => {
+            page.write_message(
+                line.number,
+                "the script seems to be UTF-16, with two bytes for each character",
+            );
+            page.write_help_text(SAVED_AS);
+        }
+        _ => explain_byte(page, line),
+    }
+}
+
+/// Says which byte of a line is outside printable ASCII, and in which column it is, counted from 1.
+fn explain_byte(page: &mut Page, line: &Line) {
     let Some((column, byte)) = first_foreign_byte(line.text) else {
         return;
     };

@@ -1,5 +1,6 @@
 //! A name that is declared nowhere: in which space it was looked for, and what is nearest there.
 
+use crate::counterparts::{CODE_AS_NUMBER, EXTRA_BYTES, NUMBER_RETURNED};
 use crate::elsewhere::{Elsewhere, elsewhere_of_item, elsewhere_of_local, explain_elsewhere};
 use crate::forms::operand_place_of;
 use crate::further_lines::mark_line;
@@ -10,7 +11,7 @@ use crate::nearest::Candidate;
 use crate::spaces::{body_of, class_of_holder, find_field, find_item, find_local, has_self};
 use crate::words::{is_field, is_parameter};
 use wb_lines::words::{after_first_of, before_first, is_name, is_reserved, parameter_type_of_word};
-use wb_model::script_lines::{ItemKind, OperandPlace, ParameterType};
+use wb_model::script_lines::{ItemKind, LineKind, OperandPlace, ParameterType};
 use wb_pages::{Fragment, Page, Span, Spot};
 
 /// Where a name was looked for.
@@ -240,15 +241,32 @@ fn find_elsewhere(lines: &[Line], index: usize, found: Unknown) -> Option<Elsewh
 fn help_of_local(name: &[u8]) -> &'static str {
     if name == b"self".as_slice() {
         "`self` is known only in `construct` and `destroy`"
-    } else if name == b"null".as_slice() {
+    } else if name == b"null".as_slice() || name == b"NULL".as_slice() {
         "`null POINTER` makes a pointer null; `null` can't be an operand"
     } else if name.starts_with(b"KErr") {
-        "a code is written as its number: `KErrNoMemory` is -4"
+        CODE_AS_NUMBER
     } else if is_reserved(name) {
         "the name is reserved and can't be declared"
     } else {
         "declare it above the first statement, with `ptr`, `int`, `buf` or `view`"
     }
+}
+
+/// What to do about a kind of number where a class is wanted; `None` if the name is none.
+fn help_of_number_kind(line: &Line, name: &[u8]) -> Option<&'static str> {
+    if name != b"int".as_slice() {
+        return None;
+    }
+    match line.line_kind() {
+        Some(LineKind::ClassField) => Some(EXTRA_BYTES),
+        Some(LineKind::ClassPtr) => Some("`int NAME` declares an int"),
+        _ => None,
+    }
+}
+
+/// Whether a line returns an error code by its name.
+fn returns_code(line: &Line, name: &[u8]) -> bool {
+    matches!(line.line_kind(), Some(LineKind::ReturnPointer)) && name.starts_with(b"KErr")
 }
 
 /// What to do if no name is near.
@@ -304,6 +322,11 @@ fn explain_unknown<'x>(
         (_, Some(Elsewhere::FieldOfClass(_))) => {}
         (Some(near), _) => help_with_candidate(page, near),
         (None, Some(Elsewhere::OtherKind(..))) => help_with_operand(page, line, operand_place),
-        (None, _) => page.write_help_text(help_of(found)),
+        (None, _) => page.write_help_text(help_of_number_kind(line, found.name).unwrap_or(help_of(
+            found,
+        ))),
+    }
+    if returns_code(line, found.name) {
+        page.write_help_text(NUMBER_RETURNED);
     }
 }

@@ -112,7 +112,7 @@ fn ends_as_in_c(word: &[u8]) -> bool {
 }
 
 /// What to do about the end of a word, if that is what is wrong; else another hint.
-fn hint_at_end(word: &[u8], other: &'static str) -> &'static str {
+pub(crate) fn hint_at_end(word: &[u8], other: &'static str) -> &'static str {
     if ends_as_in_c(word) {
         "words are separated by blanks, without `,` or `;`"
     } else {

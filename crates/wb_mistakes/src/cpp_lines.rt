@@ -1,0 +1,151 @@
+//! Which word of a line is C++, and the help that says what a script has in its place.
+
+use crate::counterparts::{Counterpart, counterpart_named};
+use crate::forms::{begins_statement, write_form_list};
+use crate::lines::Line;
+use crate::words::has_byte;
+use wb_lines::line_kinds::role_of;
+use wb_lines::words::{after_first_of, before_first};
+use wb_model::script_lines::Role;
+use wb_pages::Page;
+
+/// A word of C++ as the line has it, and what a script has in its place.
+#[derive(Clone, Copy)]
+pub(crate) struct CppWord<'a> {
+    name: &'a [u8],
+    counterpart: Counterpart,
+}
+
+/// What comes after an arrow, if there is one.
+fn after_arrow<'a>(name: &'a [u8]) -> &'a [u8] {
+    if has_byte(b'>', name) {
+        after_first_of(b'>', name)
+    } else {
+        name
+    }
+}
+
+/// The name that a word of C++ begins with, without what it is called with; of `(ELeave)` what the brackets hold.
+pub(crate) fn name_in<'a>(word: &'a [u8]) -> &'a [u8] {
+    match word {
+        [b'(', inside @ ..] => before_first(b')', inside),
+        _ => after_arrow(before_first(b'<', before_first(b';', before_first(b'(', word)))),
+    }
+}
+
+/// Whether a word begins a comment of C++.
+pub(crate) fn begins_cpp_comment(word: &[u8]) -> bool {
+    matches!(word, [b'/', b'/' | b'*', ..])
+}
+
+/// Whether a word names a destructor.
+fn is_destructor(word: &[u8]) -> bool {
+    has_byte(b'~', word) && matches!(before_first(b'~', word), [] | [.., b':'])
+}
+
+/// What the table calls a word: by its name, or by what marks a comment, a destructor or a pointer.
+fn key_of<'a>(word: &'a [u8]) -> &'a [u8] {
+    match word {
+        _ if begins_cpp_comment(word) => b"//",
+        [first, .., b'*'] if *first != b'(' => b"*",
+        _ if is_destructor(word) => b"~",
+        _ => name_in(word),
+    }
+}
+
+/// A word that the table has; `None` if it has none such.
+pub(crate) fn cpp_word<'a>(word: &'a [u8]) -> Option<CppWord<'a>> {
+    let counterpart = counterpart_named(key_of(word))?;
+    Some(CppWord {
+        name: name_in(word),
+        counterpart,
+    })
+}
+
+/// A word that calls something with brackets; `None` for other words, and for statements of a script that are written so.
+fn call_in<'a>(word: &'a [u8]) -> Option<CppWord<'a>> {
+    let name = before_first(b'(', word);
+    if name.is_empty() || name.len() == word.len() || begins_statement(name) {
+        return None;
+    }
+    let counterpart = counterpart_named(b"(")?;
+    Some(CppWord { name, counterpart })
+}
+
+/// A word that the table has, or one that calls something.
+fn word_or_call<'a>(word: &'a [u8]) -> Option<CppWord<'a>> {
+    match cpp_word(word) {
+        Some(found) => Some(found),
+        None => call_in(word),
+    }
+}
+
+/// Whether a word of C++ declares what it is followed by.
+fn is_declaring(found: CppWord) -> bool {
+    match found.counterpart.line_kinds().first() {
+        Some(line_kind) => matches!(role_of(*line_kind), Role::Declaration),
+        None => false,
+    }
+}
+
+/// The place of the word that assigns something; `None` if there is none.
+fn place_of_assignment(line: &Line) -> Option<usize> {
+    for (place, word) in line.words.iter().enumerate() {
+        if matches!(word.text, [b'='] | [b'+' | b'-', b'=']) {
+            return Some(place);
+        }
+    }
+    None
+}
+
+/// The first word of C++ after a place of a line; `None` if there is none.
+fn first_after<'a>(line: &Line<'a>, place: usize) -> Option<CppWord<'a>> {
+    for (at, word) in line.words.iter().enumerate() {
+        if at > place
+            && let Some(found) = word_or_call(word.text)
+        {
+            return Some(found);
+        }
+    }
+    None
+}
+
+/// What a line assigns; `None` if that isn't C++, or it assigns nothing.
+fn assigned_word<'a>(line: &Line<'a>) -> Option<CppWord<'a>> {
+    first_after(line, place_of_assignment(line)?)
+}
+
+/// The sign by which a line assigns something; `None` if it doesn't.
+fn assigning_word<'a>(line: &Line<'a>) -> Option<CppWord<'a>> {
+    cpp_word(line.text_at(place_of_assignment(line)?))
+}
+
+/// The word by which a line of no statement is C++: its first, but of one that declares or assigns what it is given. `None` if there
+/// is none.
+pub(crate) fn cpp_word_of<'a>(line: &Line<'a>) -> Option<CppWord<'a>> {
+    match (word_or_call(line.text_at(0)), assigned_word(line)) {
+        (Some(first), Some(assigned)) if is_declaring(first) => Some(assigned),
+        (Some(first), _) => Some(first),
+        (None, Some(assigned)) => Some(assigned),
+        (None, None) => assigning_word(line),
+    }
+}
+
+/// Writes a hint, if there is one.
+pub(crate) fn help_with_hint(page: &mut Page, hint: &str) {
+    if !hint.is_empty() {
+        page.write_help_text(hint);
+    }
+}
+
+/// Says what a script has in the place of a word of C++.
+pub(crate) fn help_with_cpp(page: &mut Page, found: CppWord) {
+    let line_kinds = found.counterpart.line_kinds();
+    if !line_kinds.is_empty() {
+        page.begin_help();
+        page.write_word("in a script `", found.name, "` is ");
+        write_form_list(page, line_kinds);
+        page.end_line();
+    }
+    help_with_hint(page, found.counterpart.hint());
+}
