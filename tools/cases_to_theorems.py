@@ -23,7 +23,7 @@ from tools.paths import CASES, ROOT
 from tools.program import CEILING, CUT, FINE, FOUND, parser_of
 from tools.report_terms import cut_term, end_term, rises_term, run_term
 from tools.script_terms import Reader
-from tools.terms import UnknownWord, among, apply
+from tools.terms import UnknownWord, among, apply, listed
 from tools.theorem_files import difference, files_of, write
 
 MODEL = ROOT / "crates/wb_model"
@@ -45,6 +45,9 @@ def arguments_of(words: list[str]) -> tuple[argparse.Namespace, list[str]]:
     else:
         parser.add_argument("--every", action="store_true")
     parser.add_argument("--pairs", action="store_true")
+    parser.add_argument("--all", action="store_true")
+    parser.add_argument("--from", type=int, default=0, dest="first")
+    parser.add_argument("--to", type=int, default=CEILING, dest="last")
     parser.add_argument("--json", action="store_true")
     try:
         known, files = parser.parse_known_args(words)
@@ -95,13 +98,20 @@ def accepted_at(path: Path, most_steps: int) -> Accepted | str:
         return "not accepted"
     a, files = arguments_of(case.args)
     script = (ROOT / files[0]).read_bytes() if files else case.script
-    version, told = "3" if a.task == "lengths" else "2", case.stdout.decode()
+    version, told = "3" if a.task == "lengths" or a.all else "2", case.stdout.decode()
     report = lines_of_object(told, version) if a.json else told.removesuffix("\n").split("\n")
     if a.task == "run" and int(report[-1].removeprefix("steps ")) > most_steps:
         return f"more than {most_steps} steps"
     if a.task == "lengths" and sum(line.startswith("from ") for line in report) > MOST_RANGES:
         return f"more than {MOST_RANGES} ranges of lengths"
+    if a.pairs and is_part(a):
+        return "a part of the pairs"
     return Accepted(script.decode(), a, report)
+
+
+def is_part(a: argparse.Namespace) -> bool:
+    """Whether the arguments ask for a part of the numbers."""
+    return (a.first, a.last) != (0, CEILING)
 
 
 # The failures that a sweep tries, by the word of the line that says that none was found.
@@ -150,6 +160,49 @@ def sweep_claims(script: str, given: str, report: list[str], tried: str) -> list
     return [*attempts, f"{least} ≡ Some {number}", f"{runs} {number} ≡ {run_term(report[2:])}"]
 
 
+def cut_claims(runs: str, report: list[str]) -> list[str]:
+    """What the line of a cut says of runs."""
+    _, number, why = report[0].split(" ")
+    return [f"({runs} {number}).outcome ≡ {cut_term(why)}"]
+
+
+def made_claim(runs: str, report: list[str]) -> str:
+    """How many attempts the run without failure makes, of runs."""
+    first, made = report[0].split(" ")
+    among(("attempts",), first, "the first word of a sweep text", "read it in `made_claim`")
+    return f"length ({runs} 0).trace ≡ {made}"
+
+
+def part_claims(script: str, given: str, report: list[str], tried: str, part: tuple[int, int]) -> list[str]:
+    """What a text of a sweep over a part of the numbers says, or of the rates: those before the one that is named are fine, and all are if
+    none is named."""
+    runs = f"(runs_of {FAILURES[tried]} {script} {given})"
+    first, last = part
+    if report[0].startswith("cut "):
+        number = int(report[0].split(" ")[1])
+        return [f"unfine_numbers {runs} {first} {max(number - first, 0)} ≡ []", *cut_claims(runs, report)]
+    word, found = report[1].split(" ")
+    among((tried,), word, "the second line of this sweep's text", "read it in `part_claims`")
+    if found == "none":
+        return [made_claim(runs, report), f"unfine_in {runs} (part {first} {last}) ≡ []"]
+    fine = f"unfine_numbers {runs} {first} {int(found) - first} ≡ []"
+    return [made_claim(runs, report), fine, f"{runs} {found} ≡ {run_term(report[2:])}"]
+
+
+def all_claims(script: str, given: str, report: list[str], tried: str, part: tuple[int, int]) -> list[str]:
+    """What a text of all that a sweep finds says: how the runs of these numbers end, and of the least bad one that run."""
+    runs = f"(runs_of {FAILURES[tried]} {script} {given})"
+    if report[0].startswith("cut "):
+        return cut_claims(runs, report)
+    count = next((at for at, line in enumerate(report) if line.startswith("bad ")), len(report))
+    among(("bad",), "".join(report[count : count + 1]).split(" ")[0], "the line after the numbers", "read it in `all_claims`")
+    told = [line.split(" ") for line in report[1:count]]
+    ends = listed([apply("ending", number, end_term(words)) for _, number, *words in told])
+    claims = [made_claim(runs, report), f"unfine_in {runs} (part {part[0]} {part[1]}) ≡ {ends}"]
+    bad = [number for _, number, word, *_ in told if word in ("leaks", "panic")]
+    return [*claims, f"{runs} {bad[0]} ≡ {run_term(report[count + 1 :])}"] if bad else claims
+
+
 def is_of_pairs(report: list[str]) -> bool:
     """Whether a sweep text speaks of pairs, and not of a single number that was found or cut before any pair was tried."""
     return len(report[0].split(" ")) == 4 if report[0].startswith("cut ") else report[1].startswith("pair ")
@@ -171,11 +224,21 @@ def pair_claims(script: str, given: str, report: list[str]) -> list[str]:
     return [*claims, f"{least} ≡ Some ({first}, {second})", f"{run} {first} {second} ≡ {run_term(report[2:])}"]
 
 
-def check_claims(script: str, given: str, report: list[str], tried: str) -> list[str]:
+def tried_claims(script: str, given: str, report: list[str], a: argparse.Namespace) -> list[str]:
+    """What a text of a sweep says, by the arguments."""
+    tried = "every" if a.every else "pair" if a.pairs else "number"
+    if a.all:
+        return all_claims(script, given, report, tried, (a.first, a.last))
+    if is_part(a):
+        return part_claims(script, given, report, tried, (a.first, a.last))
+    return sweep_claims(script, given, report, tried)
+
+
+def check_claims(script: str, given: str, report: list[str], a: argparse.Namespace) -> list[str]:
     """What a check text says: a size text, and a sweep text where the size wasn't cut."""
     swept = next((at for at, line in enumerate(report) if at > 0 and line.split(" ")[0] in ("attempts", "cut")), len(report))
     rest = report[swept:]
-    return size_claims(script, given, report[:swept]) + (sweep_claims(script, given, rest, tried) if rest else [])
+    return size_claims(script, given, report[:swept]) + (tried_claims(script, given, rest, a) if rest else [])
 
 
 def run_claims(script: str, rule: str, given: str, report: list[str]) -> list[str]:
@@ -184,7 +247,7 @@ def run_claims(script: str, rule: str, given: str, report: list[str]) -> list[st
 
 
 # What the texts of the tasks that try failures say.
-CLAIMS = {"sweep": sweep_claims, "check": check_claims}
+CLAIMS = {"sweep": tried_claims, "check": check_claims}
 
 TASKS = ("run", "size", "lengths", *CLAIMS)
 
@@ -206,7 +269,7 @@ def theorem(name: str, case: Accepted) -> str:
     elif a.task == "lengths":
         claims = lengths_claims(script, given, case.report)
     else:
-        claims = CLAIMS[a.task](script, given, case.report, "every" if a.every else "pair" if a.pairs else "number")
+        claims = CLAIMS[a.task](script, given, case.report, a)
     claim, proof = claims[0], "refl"
     if len(claims) > 1:
         claim, proof = " × ".join(f"({claim})" for claim in claims), f"({', '.join(['refl'] * len(claims))})"

@@ -1,10 +1,11 @@
-"""Tries `examples/ci/check-folder` on the examples, and on a copy of some of them with faults.
+"""Tries `examples/ci/check-folder` on the examples, and on a copy of some of them with faults; and `examples/ci/sweep-parts`.
 
     ./tools/dev ci-examples             tries it; the last line is `N passed, M failed`
     ./tools/dev ci-examples --write     writes the required lengths of all examples to examples/ci/required-lengths.txt
 
 The required lengths of all examples must be those of that file. In the copy one script is missing, one is rejected, one needs a longer heap
-than it did, one is cut, and one is new: each must have its line, and the whole its status."""
+than it did, one is cut, and one is new: each must have its line, and the whole its status. Of some examples, and of scripts without a
+sweep, `sweep-parts` must print what the whole sweep does, with the same status."""
 
 import os
 import subprocess
@@ -17,9 +18,13 @@ from tools.program import CUT, FINE, FOUND, program_parser
 from tools.tally import Tally
 
 TOOL = EXAMPLES / "ci" / "check-folder"
+PARTS = EXAMPLES / "ci" / "sweep-parts"
 LENGTHS = EXAMPLES / "ci" / "required-lengths.txt"
 
 REJECTED, MISSING, COMMAND_LINE = 2, 5, 6
+# what is asked of a sweep in parts: of scripts that show something by a number, by a rate, by a pair, and by nothing
+SWEPT = ("second-phase-leaks.oom", "fallback-leaks.oom", "clean-up-fails.oom", "holes.oom")
+FLAGS = ((), ("--every",), ("--pairs",), ("--all",), ("--every", "--all"))
 # how the words of a script begin that isn't as the baseline has it
 FAULTS = ("grown", "missing", "not in")
 
@@ -53,10 +58,10 @@ class Folder:
         for name in names:
             self.write(name, (EXAMPLES / name).read_text(encoding="ascii"))
 
-    def call(self, *words: str | Path) -> Told:
-        """What `check-folder` says on these words, in the folder above the scripts."""
+    def call(self, *words: str | Path, tool: Path = TOOL) -> Told:
+        """What `check-folder` says on these words, or the other script, in the folder above the scripts."""
         environment = dict(os.environ, WORKBENCH=str(self.program))
-        ran = subprocess.run([TOOL, *words], cwd=self.room, env=environment, capture_output=True, text=True)
+        ran = subprocess.run([tool, *words], cwd=self.room, env=environment, capture_output=True, text=True)
         return Told(ran.stdout.splitlines(), ran.stderr, ran.returncode)
 
 
@@ -123,6 +128,18 @@ def try_faults(tests: Tests, folder: Folder) -> None:
     tests.expect("all lines", len(told.lines), 5)
 
 
+def try_parts(tests: Tests, folder: Folder) -> None:
+    """Whether a sweep in parts prints what a whole one does, also where there is no sweep."""
+    folder.take(*SWEPT)
+    scripts = [folder.room / "scripts" / name for name in (*SWEPT, "retry.oom", "long.oom")]
+    for script in scripts:
+        for flags in FLAGS:
+            ran = subprocess.run([folder.program, "sweep", *flags, script], capture_output=True, text=True)
+            told = folder.call(*flags, "--parts", "3", script, tool=PARTS)
+            tests.expect(f"{script.name} {' '.join(flags)} in parts", (told.lines, told.status), (ran.stdout.splitlines(), ran.returncode))
+    tests.expect("no parts", folder.call("--parts", "0", scripts[0], tool=PARTS).status, COMMAND_LINE)
+
+
 def try_words(tests: Tests, folder: Folder) -> None:
     """Whether what can't be done is a fault of the command line, and leaves the baseline as it is."""
     before = (folder.room / "lengths.txt").read_bytes()
@@ -152,6 +169,6 @@ def main(words: list[str]) -> int:
     try_examples(tests, given.program)
     with tempfile.TemporaryDirectory() as room:
         folder = Folder(given.program, Path(room))
-        for part in (try_baseline, try_faults, try_words):
+        for part in (try_baseline, try_faults, try_parts, try_words):
             part(tests, folder)
     return tests.end()

@@ -23,6 +23,7 @@ COMMANDS = {
     "forks": "forks",
     "rates": "rates",
     "pairs": "pairs",
+    "parts": "parts",
     "lengths": "lengths",
     "fuzz": "fuzz",
     "made-scripts": "made_scripts",

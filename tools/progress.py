@@ -3,6 +3,8 @@
 They are of single failures, rates, pairs and lengths. On a terminal one line says which failure or length is being tried. It appears once a
 sweep has taken two seconds, is rewritten in place, and is wiped before the report. Elsewhere nothing is said, nor of a sweep that is
 shorter. The scripts are made longer and longer until their sweeps take long enough on this machine.
+
+A script that is typed on a terminal is announced there, since the program would wait without a word.
 """
 
 import os
@@ -10,6 +12,7 @@ import pty
 import re
 import select
 import subprocess
+import termios
 import time
 from collections.abc import Callable
 from concurrent.futures import ThreadPoolExecutor
@@ -25,7 +28,7 @@ QUIET, PAUSE, LONGER = 2.0, 0.1, 0.4
 # how long a run may take
 LIMIT = 60
 
-LINE = re.compile(r"trying (attempt|rate) (\d+) of (\d+)(?: with attempt (\d+))?")
+LINE = re.compile(r"trying (attempt|rate) (\d+) of (\d+)(?: with attempt (\d+))?(?:, (\d+)% done, (\d+) (?:s|min|h) left)?")
 LENGTH_LINE = re.compile(r"trying a heap of (\d+) bytes")
 
 
@@ -166,8 +169,17 @@ def screen(written: bytes) -> list[str]:
 
 def tried(line: re.Match[str]) -> tuple[int, int, int]:
     """The place of a failure among all: pairs come after the others."""
-    _, first, _, second = line.groups()
+    first, second = line[2], line[4]
     return (1, int(first), int(second)) if second else (0, int(first), 0)
+
+
+def look_at_estimates(checks: Checks, name: str, lines: list[re.Match[str]]) -> None:
+    """What is said to be done and left: of each kind of failures more and more, and nothing of what can't be known."""
+    shown = [(it[4] is not None, int(it[5])) for it in lines if it[5]]
+    checks.look(f"{name}: what is done", len(shown) > 0, [it[0] for it in lines])
+    checks.look(f"{name}: more and more", shown == sorted(shown), shown)
+    checks.look(f"{name}: not yet all", all(percent < 100 for _, percent in shown), shown)
+    checks.look(f"{name}: what is left", all(int(it[6]) >= 1 for it in lines if it[5]), [it[0] for it in lines])
 
 
 def look_at_lines(checks: Checks, kind: Kind, name: str, attempts: int, shown: Shown) -> None:
@@ -183,6 +195,7 @@ def look_at_lines(checks: Checks, kind: Kind, name: str, attempts: int, shown: S
         return
     checks.look(f"{name}: of how many", all(int(it[3]) == attempts >= int(it[2]) >= 1 for it in lines), [it[0] for it in lines])
     checks.look(f"{name}: one after another", all(tried(one) < tried(two) for one, two in zip(lines, lines[1:])), [it[0] for it in lines])
+    look_at_estimates(checks, name, lines)
     checks.look(f"{name}: its kind", all(it[1] == kind.calls for it in lines) and kind.in_pairs == any(it[4] for it in lines))
 
 
@@ -240,10 +253,48 @@ def look_at_slow_failures(program: Path) -> Checks:
     return checks
 
 
+TYPED = b"workbench: the script is read from the terminal; end it with Ctrl-D on a line of its own\r\n"
+
+
+def type_script(program: Path, script: bytes, told: bool) -> tuple[bytes, bytes]:
+    """The report of a script that is typed on a terminal, and what that shows; what is said goes there too, or is dropped."""
+    master, slave = pty.openpty()
+    modes = termios.tcgetattr(slave)
+    modes[3] &= ~termios.ECHO
+    termios.tcsetattr(slave, termios.TCSANOW, modes)
+    said = slave if told else subprocess.DEVNULL
+    running = subprocess.Popen([program, "run"], stdin=slave, stdout=subprocess.PIPE, stderr=said)
+    os.close(slave)
+    os.write(master, script + b"\x04")
+    report, _ = running.communicate(timeout=LIMIT)
+    shown = b""
+    while select.select([master], [], [], 0)[0]:
+        try:
+            shown += os.read(master, 65_536)
+        except OSError:
+            # the program has closed its end
+            break
+    os.close(master)
+    return report, shown
+
+
+def look_at_typed_scripts(program: Path) -> Checks:
+    """A script that is typed: it is announced where what is said goes to the terminal, and nowhere else."""
+    checks, script = Checks(), fine(3).encode()
+    wanted = answer_of(program, "run", script=script, seconds=LIMIT)
+    for told, line in ((True, TYPED), (False, b"")):
+        report, shown = type_script(program, script, told)
+        checks.look("a typed script", report == wanted.output, report)
+        checks.look("a typed script is announced", shown == line, shown)
+    checks.look("a script that isn't typed", wanted.messages == b"", wanted.messages)
+    return checks
+
+
 def main(words: list[str]) -> int:
     """Looks at all kinds side by side, and prints the totals."""
     program = program_parser(__doc__).parse_args(words).program
     with ThreadPoolExecutor() as beside:
         slow = beside.submit(look_at_slow_failures, program)
-        looked = [*beside.map(lambda kind: look_at(program, kind), KINDS), slow.result()]
+        typed = beside.submit(look_at_typed_scripts, program)
+        looked = [*beside.map(lambda kind: look_at(program, kind), KINDS), slow.result(), typed.result()]
     return summed(looked).end()

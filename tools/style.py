@@ -8,7 +8,7 @@ from tools.program import parser_of
 from tools.tally import Tally
 
 # what `mypy` and `ruff` are given: the package, and the programs without an ending, whose names don't show what they are
-SCRIPTS = ("test", "tools/dev", "bench/run", "bench/compare", "bench/memory", "examples/ci/check-folder")
+SCRIPTS = ("test", "tools/dev", "bench/run", "bench/compare", "bench/memory", "examples/ci/check-folder", "examples/ci/sweep-parts")
 COMMANDS = {"ruff": [["ruff", "check", "tools", "bench", *SCRIPTS]], "mypy": [["mypy", "-p", "tools"], *(["mypy", it] for it in SCRIPTS)]}
 
 

@@ -19,6 +19,7 @@ DECLARED = """
 failures.Failures.TheVariants.{Single, Every, Pairs};
 heap.Rule.TheVariants as R; heap.Panic.TheVariants as P; script.Holder.TheVariants as H;
 heap.Shape.{Shape}; heap.Answer.{Answer}; heap.Answer.TheVariants.{Granted, Simulated, Refused}; heap.Attempt.{Attempt};
+number_ends.NumberEnd.{NumberEnd}; part.Part.{Part}; run_end.RunEnd.{RunEnd};
 run_end.RunEnd.TheVariants as E; run.Leak.{Leak}; run.Note.{Note}; run.Note.TheVariants.{Heap, Available, Compress};
 run.Outcome.{Outcome}; run.RunResult.{RunResult}; run.Why.TheVariants.{Budget, Ceiling};
 run.Outcome.TheVariants.{Ended, Panicked, NoCleanup, Cut}; script.Script.{Script};
@@ -73,6 +74,12 @@ line number length place answer = record { number = number; length = length; pla
 
 abbrev pub rise : ℕ → ℕ → Rise
 rise number top = record { number = number; top = top }
+
+abbrev pub ending : ℕ → RunEnd → NumberEnd
+ending number end = record { number = number; end = end }
+
+abbrev pub part : ℕ → ℕ → Part
+part from to = record { from = from; to = to }
 """  # noqa: E501
 
 WRITTEN = "Written by tools/cases_to_theorems.py; edit nothing here."
@@ -86,6 +93,7 @@ def uses_of(crate: Path) -> list[str]:
         "Rattle.std.specs.Fmt.{digits}",
         *(f"{specs}.declared.{use.strip()}" for use in DECLARED.split(";")),
         f"{specs}.runs.Run.{{run, required, rises}}",
+        f"{specs}.runs.AllNumbers.{{unfine_in, unfine_numbers}}",
         f"{specs}.runs.Lengths.{{end_in, run_in}}",
         f"{specs}.runs.Pairs.{{pair_run, least_bad_or_cut_pair}}",
         f"{specs}.runs.Sweeps.{{runs_of, least_bad_or_cut}}",
@@ -106,7 +114,7 @@ def shorthands(crate: Path) -> str:
 
 def theorem_file(crate: Path, subject: str, theorems: list[str]) -> str:
     """A file of theorems, each line of which has at most so many characters."""
-    names = "everything, on, script, class_of, procedure, operation, body, result, leak, shaped, line, rise"
+    names = "everything, on, script, class_of, procedure, operation, body, result, leak, shaped, line, rise, ending, part"
     common = f"use Rattle.{crate.name}.proofs.{TOP}.{COMMON}.{{{names}}}"
     head = [f"-- Worked cases of `{subject}`, each by computing. {WRITTEN}", *(f"use {use}" for use in uses_of(crate)), common]
     text = "\n".join(head) + "\n\n" + "\n".join(theorems)
@@ -114,7 +122,9 @@ def theorem_file(crate: Path, subject: str, theorems: list[str]) -> str:
 
 
 def wrapped(line: str) -> str:
-    """A line, broken at blanks where it is too long; what comes after a break is indented."""
+    """A line, broken at blanks where it is too long; what comes after a break is indented. Of imported names each has a line then."""
+    if len(line) > WIDTH and (names := re.fullmatch(r"(use \S+\.\{)(.*)\}", line)):
+        return "\n".join([names[1], *(f"  {name}," for name in names[2].split(", ")), "}"])
     lines = []
     while len(line) > WIDTH and (at := line.rfind(" ", 5, WIDTH + 1)) > 0:
         lines.append(line[:at])

@@ -19,10 +19,12 @@ NAME = "workbench"
 # the option whose file is written
 PICTURE = "--picture"
 
-# the commands that read a script, and the options that take a further word; those of the second set do so of `run` alone
+# the commands that read a script, and the options that take a further word; those of the second set do so of `run` alone, those of
+# the third of `sweep`
 COMMANDS = {"run", "size", "lengths", "sweep", "check"}
 WITH_VALUE = {"--min", "--step", "--budget", "--limit", "--fail", PICTURE}
 OF_RUN = {"--also", "--every"}
+OF_SWEEP = {"--from", "--to"}
 
 # the program reads one byte more than the longest script has
 LONGEST_INPUT = 65_537
@@ -53,7 +55,8 @@ def why_not_built(crates: Crates) -> str:
 def script_in(words: list[str]) -> str | None:
     """The word that names the script, if one does."""
     rest = iter(words[1:])
-    with_value = WITH_VALUE | OF_RUN if words[:1] == ["run"] else WITH_VALUE
+    own = {"run": OF_RUN, "sweep": OF_SWEEP}
+    with_value = WITH_VALUE | own.get("".join(words[:1]), set())
     for word in rest:
         if word in with_value:
             next(rest, None)
