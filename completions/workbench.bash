@@ -18,7 +18,7 @@ _workbench()
     local at=$COMP_CWORD word=${COMP_WORDS[COMP_CWORD]} options values given
     COMPREPLY=()
     if ((COMP_CWORD == 1)); then
-        _workbench_words 'run size lengths sweep check help --help' "$word"
+        _workbench_words 'run size lengths sweep check help --help --version' "$word"
         return
     fi
     case ${COMP_WORDS[1]} in
@@ -35,11 +35,11 @@ _workbench()
             values='--budget --min --step --picture'
             ;;
         sweep)
-            options='--every --pairs --budget --min --step --json --picture --help'
-            values='--budget --min --step --picture'
+            options='--every --pairs --all --from --to --budget --min --step --json --picture --help'
+            values='--from --to --budget --min --step --picture'
             ;;
         check)
-            options='--every --pairs --budget --min --step --json --picture --help'
+            options='--every --pairs --all --budget --min --step --json --picture --help'
             values='--budget --min --step --picture'
             ;;
         help)

@@ -1,6 +1,7 @@
 # What fish completes of the words of workbench. Made by `./tools/dev help-files` from the program's own help.
 complete -c workbench -f
 complete -c workbench -n '__fish_use_subcommand' -s h -l help -d 'Print help (see a summary with \'-h\')'
+complete -c workbench -n '__fish_use_subcommand' -s V -l version -d 'Print version'
 complete -c workbench -n '__fish_use_subcommand' -a run -d 'Runs a script once and reports'
 complete -c workbench -n '__fish_use_subcommand' -a size -d 'Finds how long the heap must be, and what shorter heaps refuse'
 complete -c workbench -n '__fish_use_subcommand' -a lengths -d 'Finds how the run ends in a heap of every length'
@@ -33,6 +34,9 @@ complete -c workbench -n '__fish_seen_subcommand_from lengths' -l picture -r -k 
 complete -c workbench -n '__fish_seen_subcommand_from lengths' -s h -l help -d 'Print help (see a summary with \'-h\')'
 complete -c workbench -n '__fish_seen_subcommand_from sweep' -l every -d 'Makes every n-th attempt fail, and finds the least n for which the script leaks or panics'
 complete -c workbench -n '__fish_seen_subcommand_from sweep' -l pairs -d 'If no single failure leaks or panics, makes two attempts fail, and finds the least pair that does'
+complete -c workbench -n '__fish_seen_subcommand_from sweep' -l all -d 'Tells of every number whose run leaks, panics or is cut, and not of the least alone'
+complete -c workbench -n '__fish_seen_subcommand_from sweep' -l from -x -d 'Tries numbers from I on, I from 0 to 16777216; of pairs those with such a first number [default: 0]'
+complete -c workbench -n '__fish_seen_subcommand_from sweep' -l to -x -d 'Tries numbers up to J, J from 0 to 16777216; of pairs those with such a first number [default: 16777216]'
 complete -c workbench -n '__fish_seen_subcommand_from sweep' -l budget -x -d 'Most steps that a run may take, from 1 to 1000000 [default: 10000]'
 complete -c workbench -n '__fish_seen_subcommand_from sweep' -l min -x -d 'Minimum length of the heap in bytes, a multiple of 16 from 0 to 1048576 [default: 4096]'
 complete -c workbench -n '__fish_seen_subcommand_from sweep' -l step -x -d 'Step by which the heap grows, in bytes, a multiple of 16 from 16 to 1048576 [default: 4096]'
@@ -41,6 +45,7 @@ complete -c workbench -n '__fish_seen_subcommand_from sweep' -l picture -r -k -a
 complete -c workbench -n '__fish_seen_subcommand_from sweep' -s h -l help -d 'Print help (see a summary with \'-h\')'
 complete -c workbench -n '__fish_seen_subcommand_from check' -l every -d 'Makes every n-th attempt fail, and finds the least n for which the script leaks or panics'
 complete -c workbench -n '__fish_seen_subcommand_from check' -l pairs -d 'If no single failure leaks or panics, makes two attempts fail, and finds the least pair that does'
+complete -c workbench -n '__fish_seen_subcommand_from check' -l all -d 'Tells of every number whose run leaks, panics or is cut, and not of the least alone'
 complete -c workbench -n '__fish_seen_subcommand_from check' -l budget -x -d 'Most steps that a run may take, from 1 to 1000000 [default: 10000]'
 complete -c workbench -n '__fish_seen_subcommand_from check' -l min -x -d 'Minimum length of the heap in bytes, a multiple of 16 from 0 to 1048576 [default: 4096]'
 complete -c workbench -n '__fish_seen_subcommand_from check' -l step -x -d 'Step by which the heap grows, in bytes, a multiple of 16 from 16 to 1048576 [default: 4096]'
