@@ -12,7 +12,9 @@ often enough among the scripts that are made.
 """
 
 import json
+import zlib
 from collections.abc import Iterator
+from pathlib import Path
 
 from tools.program import CUT, FINE, FOUND
 from tools.sweep_checks import Report, Script, Wanted, attempts_of, compare_scripts, must, shown
@@ -32,6 +34,16 @@ class ToldScript(Script):
     """A script, and what the program tells of all its numbers and of parts of them."""
 
     KIND = "all"
+
+    def __init__(self, program: Path, text: bytes) -> None:
+        super().__init__(program, text)
+        # so that some runs are cut, one of two scripts has few steps; which, and how many, depends on the script alone
+        sum_of_text = zlib.crc32(text)
+        self.budget = [] if sum_of_text % 2 == 0 else ["--budget", str(16 + sum_of_text % 64)]
+
+    def answer(self, *words: str) -> Report:
+        """What a command answers, with the script's budget."""
+        return super().answer(*words, *self.budget)
 
     def outcome(self) -> str:
         outcomes = [self.outcome_of(flags) for flags in FLAGS]
