@@ -7,6 +7,8 @@ import unittest
 from tools.progress import KINDS, Checks, Kind, Shown, look_at_lines, screen
 
 SINGLE, RATES, PAIRS, LENGTHS = KINDS
+# what a line says besides: how much is done, and the time left
+LEFT = ", 22% done, 7 s left"
 
 
 def shown(*pieces: tuple[float, str], seconds: float = 3.0) -> Shown:
@@ -24,12 +26,13 @@ class Lines(unittest.TestCase):
         return checks.failed
 
     def test_lines_that_are_right(self) -> None:
-        self.assertEqual(self.failed(SINGLE, (2.0, "\rtrying attempt 9 of 40"), (2.1, "\rtrying attempt 12 of 40")), 0)
-        self.assertEqual(self.failed(RATES, (2.5, "\rtrying rate 40 of 40")), 0)
+        lines = (2.0, f"\rtrying attempt 9 of 40{LEFT}"), (2.1, f"\rtrying attempt 12 of 40{LEFT}")
+        self.assertEqual(self.failed(SINGLE, *lines), 0)
+        self.assertEqual(self.failed(RATES, (2.5, f"\rtrying rate 40 of 40{LEFT}")), 0)
         lines = (
-            (2.0, "\rtrying attempt 40 of 40"),
-            (2.1, "\rtrying attempt 2 of 40 with attempt 3"),
-            (2.2, "\rtrying attempt 2 of 40 with attempt 41"),
+            (2.0, f"\rtrying attempt 40 of 40{LEFT}"),
+            (2.1, f"\rtrying attempt 2 of 40 with attempt 3{LEFT}"),
+            (2.2, f"\rtrying attempt 2 of 40 with attempt 41{LEFT}"),
         )
         self.assertEqual(self.failed(PAIRS, *lines), 0)
 
@@ -37,32 +40,35 @@ class Lines(unittest.TestCase):
         lines = (2.0, "\rtrying a heap of 4111 bytes"), (2.1, "\rtrying a heap of 4095 bytes")
         self.assertEqual(self.failed(LENGTHS, *lines), 0)
         self.assertGreater(self.failed(LENGTHS, lines[0], (2.1, "\rtrying a heap of 4127 bytes")), 0)
-        self.assertGreater(self.failed(LENGTHS, (2.0, "\rtrying attempt 9 of 40")), 0)
+        self.assertGreater(self.failed(LENGTHS, (2.0, f"\rtrying attempt 9 of 40{LEFT}")), 0)
 
     def test_no_line(self) -> None:
         self.assertGreater(self.failed(SINGLE, (2.5, "attempts 40\r\n")), 0)
 
+    def test_no_estimate(self) -> None:
+        self.assertGreater(self.failed(SINGLE, (2.5, "\rtrying attempt 9 of 40")), 0)
+
     def test_a_line_too_early(self) -> None:
-        self.assertGreater(self.failed(SINGLE, (1.0, "\rtrying attempt 9 of 40")), 0)
+        self.assertGreater(self.failed(SINGLE, (1.0, f"\rtrying attempt 9 of 40{LEFT}")), 0)
 
     def test_too_many_lines(self) -> None:
-        lines = [(2.1, f"\rtrying attempt {number} of 40") for number in range(1, 30)]
+        lines = [(2.1, f"\rtrying attempt {number} of 40{LEFT}") for number in range(1, 30)]
         self.assertGreater(self.failed(SINGLE, *lines), 0)
 
     def test_other_numbers(self) -> None:
-        for line in ("\rtrying attempt 9 of 41", "\rtrying attempt 41 of 40", "\rtrying attempt 0 of 40"):
+        for line in (f"\rtrying attempt 9 of 41{LEFT}", f"\rtrying attempt 41 of 40{LEFT}", f"\rtrying attempt 0 of 40{LEFT}"):
             self.assertGreater(self.failed(SINGLE, (2.5, line)), 0)
 
     def test_lines_out_of_order(self) -> None:
-        self.assertGreater(self.failed(SINGLE, (2.1, "\rtrying attempt 9 of 40"), (2.3, "\rtrying attempt 8 of 40")), 0)
-        self.assertGreater(self.failed(SINGLE, (2.1, "\rtrying attempt 9 of 40"), (2.3, "\rtrying attempt 9 of 40")), 0)
-        lines = (2.1, "\rtrying attempt 2 of 40 with attempt 3"), (2.3, "\rtrying attempt 9 of 40")
+        self.assertGreater(self.failed(SINGLE, (2.1, f"\rtrying attempt 9 of 40{LEFT}"), (2.3, f"\rtrying attempt 8 of 40{LEFT}")), 0)
+        self.assertGreater(self.failed(SINGLE, (2.1, f"\rtrying attempt 9 of 40{LEFT}"), (2.3, f"\rtrying attempt 9 of 40{LEFT}")), 0)
+        lines = (2.1, f"\rtrying attempt 2 of 40 with attempt 3{LEFT}"), (2.3, f"\rtrying attempt 9 of 40{LEFT}")
         self.assertGreater(self.failed(PAIRS, *lines), 0)
 
     def test_another_kind(self) -> None:
-        self.assertGreater(self.failed(SINGLE, (2.5, "\rtrying rate 9 of 40")), 0)
-        self.assertGreater(self.failed(SINGLE, (2.5, "\rtrying attempt 9 of 40 with attempt 10")), 0)
-        self.assertGreater(self.failed(PAIRS, (2.5, "\rtrying attempt 9 of 40")), 0)
+        self.assertGreater(self.failed(SINGLE, (2.5, f"\rtrying rate 9 of 40{LEFT}")), 0)
+        self.assertGreater(self.failed(SINGLE, (2.5, f"\rtrying attempt 9 of 40 with attempt 10{LEFT}")), 0)
+        self.assertGreater(self.failed(PAIRS, (2.5, f"\rtrying attempt 9 of 40{LEFT}")), 0)
 
 
 class Screens(unittest.TestCase):
