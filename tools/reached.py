@@ -77,7 +77,7 @@ class Parts:
         ends = [it for it in range(2, len(path) + 1) if path[:it] in self.files]
         found = {self.files[path[:it]] for it in ends}
         found |= {file for place, file in self.files.items() if place == (path[0], "Lib")} if path else set()
-        if ends[-1:] == [len(path)] or path[:1] == ("specs",) == path:
+        if ends[-1:] == [len(path)] or path == ("specs",):
             found |= {file for place, file in self.files.items() if place[: len(path)] == path}
         return found
 

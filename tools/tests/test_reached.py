@@ -56,6 +56,14 @@ class WhatIsReached(unittest.TestCase):
         self.write("src/lib.rt", "ghost use Rattle.low.specs.heap as heaps;\n", "high")
         self.assertIn("low/specs/heap/Debug.antt", self.reached())
 
+    def test_lemmas_count_where_a_proof_names_them(self) -> None:
+        self.write("proofs/Lemmas.antt", "\n", "low")
+        self.write("proofs/next/Answers.antt", "\n", "low")
+        self.assertNotIn("low/proofs/Lemmas.antt", self.reached())
+        self.write("proofs/Own.antt", "use Rattle.low.proofs.Lemmas.{row-stays}\n", "high")
+        self.assertIn("low/proofs/Lemmas.antt", self.reached())
+        self.assertNotIn("low/proofs/next/Answers.antt", self.reached())
+
     def test_methods_of_a_type_of_another_file_count(self) -> None:
         self.write("src/more.rt", "use crate::heap::Cell;\n\nimpl Cell {}\n", "low")
         self.assertIn("low/src/more.rt", self.reached())
