@@ -267,6 +267,64 @@ end
 end
 """
 
+# the same with so many attempts, and with each turn in a TRAP of its own
+SWEPT_TURNS = """
+proc main
+ptr a
+repeat {turns}
+alloc a 40
+free a
+end
+end
+"""
+SWEPT_TRAPS = """
+class Log 0
+field name
+construct
+hnewl self.name 8
+end
+destroy
+free self.name
+end
+end
+proc main
+ptr log Log
+int code
+repeat 500
+trap code
+newleave log Log
+pushobj log
+construct log
+popdestroy 1
+end
+end
+end
+"""
+# what fails is missing to the end: no fork comes to what the run without failure is
+SWEPT_APART = """
+class Node 0
+field next Node
+end
+proc main
+ptr all Node
+ptr node Node
+repeat 500
+new node Node
+if some node
+set node.next all
+set all node
+end
+end
+repeat 500
+if some all
+set node all.next
+delete all
+set all node
+end
+end
+end
+"""
+
 # so many cells, each named by an object; the cells can be freed from the highest down, and the objects from the lowest up
 AROUND = """
 class Node 0
@@ -373,8 +431,12 @@ WORKLOADS = [
     Workload("sweep of 1,001 attempts", "sweep", SWEPT, "attempt", attempts_swept),
     Workload("all of a sweep of 1,001 attempts", "sweep --all", SWEPT, "attempt", attempts_swept),
     Workload("a quarter of a sweep of 1,001 attempts", "sweep --from 501 --to 750", SWEPT, "attempt of the whole", attempts_swept),
+    Workload("sweep of 4,000 attempts", "sweep", SWEPT_TURNS.format(turns=3_999), "attempt", attempts_swept),
+    Workload("sweep of 500 TRAPs", "sweep", SWEPT_TRAPS, "attempt", attempts_swept),
+    Workload("sweep whose forks never meet", "sweep", SWEPT_APART, "attempt", attempts_swept),
     Workload("sweep of 20 loops", "sweep", SWEPT_LOOPS, "attempt", attempts_swept),
     Workload("sweep by pairs of 200 attempts", "sweep --pairs", SWEPT_BY_PAIRS, "pair", pairs_swept),
+    Workload("sweep by pairs of 1,000 attempts", "sweep --pairs", SWEPT_TURNS.format(turns=999), "pair", pairs_swept),
     Workload("a quarter of a sweep by pairs", "sweep --pairs --from 51 --to 100", SWEPT_BY_PAIRS, "pair of the whole", pairs_swept),
     Workload("lengths of 1,001 attempts", "lengths", SWEPT, "search", lambda _: 1),
     Workload("lengths of a loader", "lengths", LOADER, "search", lambda _: 1),

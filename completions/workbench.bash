@@ -23,8 +23,8 @@ _workbench()
     fi
     case ${COMP_WORDS[1]} in
         run)
-            options='--limit --fail --also --every --budget --min --step --json --picture --help'
-            values='--limit --fail --also --every --budget --min --step --picture'
+            options='--limit --fail --also --every --set --follow --follow-steps --budget --min --step --json --picture --help'
+            values='--limit --fail --also --every --set --follow-steps --budget --min --step --picture'
             ;;
         size)
             options='--budget --min --step --json --picture --help'

@@ -97,6 +97,7 @@ CASES = [
     (SCRIPT, '{"lines":["from 0 ended","length none"],"version":2}', "lengths --json", "`2` is not known as the version of a JSON report"),
     (SCRIPT, "tries 1\nnumber none\n", "sweep", "`tries` is not known as the first word of a sweep text"),
     (SCRIPT, REPORT, "run --every 2", "1 theorems"),
+    (SCRIPT, REPORT, "run --set 2,3", "1 theorems"),
     (SCRIPT, "attempts 1\nevery none\n", "sweep --every", "1 theorems"),
     (SCRIPT, "attempts 1\npair none\n", "sweep --pairs", "1 theorems"),
     (SCRIPT, "attempts 1\nnumber 0\nended\nleaks 0\nsteps 0\n", "sweep --pairs", "1 theorems"),

@@ -39,6 +39,7 @@ def arguments_of(words: list[str]) -> tuple[argparse.Namespace, list[str]]:
     defaults = {"limit": None, "fail": None, "also": None, "budget": 10000, "min": 4096, "step": 4096}
     for name, default in defaults.items():
         parser.add_argument("--" + name, type=int, default=default)
+    parser.add_argument("--set")
     # a number of `run`, and a flag of the others
     if words[:1] == ["run"]:
         parser.add_argument("--every", type=int)
@@ -59,9 +60,15 @@ def arguments_of(words: list[str]) -> tuple[argparse.Namespace, list[str]]:
     return known, files
 
 
+def list_of(numbers: str | None) -> str:
+    """The numbers of a set as a list of the definitions."""
+    return "".join(f"{int(it)} ∷ " for it in (numbers or "").split(",") if it) + "[]"
+
+
 def rule_of(a: argparse.Namespace) -> str:
     """The rule that the arguments ask for."""
     given = [
+        (a.set, f"R.Set ({list_of(a.set)})"),
         (a.limit, f"R.Limit {a.limit}"),
         (a.also, f"R.Pair {a.fail} {a.also}"),
         (a.fail, f"R.Number {a.fail}"),

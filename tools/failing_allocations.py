@@ -52,9 +52,13 @@ rates/eighth-push-grows-the-cleanup-cell-every.sweep examples/fallback-leaks-eve
 pairs/leak-that-needs-two-failures-pair.run pairs/leak-that-needs-two-failures-pairs.sweep
 pairs/leak-that-needs-two-failures-pairs-json.sweep pairs/eighth-push-grows-the-cleanup-cell-pairs.sweep
 examples/clean-up-fails-pairs-json.check explained/pictures/two-runs.check
+explained/sets/three-given-failures.run explained/sets/picture-of-a-set.run
 lengths/unpushed-object-leaks-when-construction-fails.lengths lengths/small-minimum-and-step.lengths
 lengths/failure-that-outruns-the-budget-json.lengths lengths/more-leaks-in-longer-heaps.lengths
 examples/loader-leaks-json.lengths
+explained/meetings/loop-forgets-two-failures-pairs.sweep explained/meetings/trap-in-a-loop-forgets-two-failures-pairs.sweep
+explained/meetings/second-retry-outruns-the-budget-pairs.sweep explained/meetings/retries-outrun-the-budget-all.sweep
+explained/follow/items-that-a-leave-destroys.run
 """.split()
 # the program that makes a call once more where it found no memory
 CALLS = ROOT / "crates/wb_call_tests/out/wb_call_tests"

@@ -14,7 +14,7 @@ HELP = "help"
 
 COMMAND_ROW = re.compile(r"  (\w+) +(\S.*)")
 FILE_ROW = re.compile(r"\s*\[FILE\]\s+(\S.*)\s*")
-OPTION_ROW = re.compile(r"(?:  -(\w), |      )--(\w+)(?: <(\w+)>)?")
+OPTION_ROW = re.compile(r"(?:  -(\w), |      )--([\w-]+)(?: <(\w+)>)?")
 SECTION = re.compile(r"^(Usage|Commands|Arguments|Options):", re.MULTILINE)
 
 

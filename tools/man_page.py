@@ -25,7 +25,7 @@ class NoStatuses(Exception):
 def bold(text: str) -> str:
     """Text in which what is between backquotes, and each option, is bold; what has a meaning in a man page is escaped."""
     plain = text.replace("\\", "\\e").replace("-", "\\-")
-    return re.sub(r"`([^`]*)`|(\\-\\-[a-z]+)", lambda it: f"\\fB{it[1] or it[2]}\\fR", plain)
+    return re.sub(r"`([^`]*)`|(\\-\\-[a-z]+(?:\\-[a-z]+)*)", lambda it: f"\\fB{it[1] or it[2]}\\fR", plain)
 
 
 def escaped(lines: Iterable[str]) -> str:
@@ -57,7 +57,7 @@ def item(head: str, text: str) -> list[str]:
 def spelled(option: Option) -> str:
     """An option with its value."""
     letter = f"\\fB\\-{option.letter}\\fR, " if option.letter else ""
-    return f"{letter}\\fB\\-\\-{option.name}\\fR" + (f" \\fI{option.value}\\fR" if option.value else "")
+    return letter + bold(f"--{option.name}") + (f" \\fI{option.value}\\fR" if option.value else "")
 
 
 def synopsis(command: Command) -> list[str]:

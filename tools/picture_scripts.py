@@ -16,6 +16,13 @@ class Row(NamedTuple):
     lines: dict[str, int] = {}
 
 
+class Compared(NamedTuple):
+    """A script whose picture is compared with the reports of its runs, and what it shows besides: an end once more, places drawn shorter."""
+
+    script: str
+    shown: set[str]
+
+
 def of_steps(last: int, is_leaking: bool) -> str:
     """A script whose run takes so many steps. If it is to, it leaks where its second request fails, and takes no more steps then."""
     leak = ["alloc a 16", "alloc b 16", "if some b", "free a", "end", "free b"] if is_leaking else []
@@ -137,8 +144,34 @@ TABLE = [
         {"from 0 no cleanup stack": 1, "from 144 ended": 1},
         {"required 144": 1, "limit": 0},
     ),
+    Row(
+        "a leave past a destructor",
+        "run",
+        "class Note 4\nfield text\ndestroy\nfree self.text\nend\nend\n"
+        "proc main\nptr n Note\nnewleave n Note\npushobj n\nleave -5\nend\n",
+        2,
+        {"cell 2, object of class Note": 1},
+        {"left with -5, no leaks; line 11: leave -5": 1},
+    ),
     Row("text of a user", "run", MARKUP, 2, {"leak": 0}, {'panic USER 11; line 7: append t "</title></svg><script>&\' ]]>"': 1}),
 ]
+
+# a loop before something that leaks; where an attempt of the loop fails, nothing is lost
+TURNS = "repeat 200\nalloc a 16\nfree a\nend\n"
+LOOP = f"proc main\nptr a\nptr b\n{TURNS}"
+HIDDEN = "proc main\nptr a\nptr b\nptr c\nalloc a 16\nalloc b 1000000\nalloc c 16\n"
+COMPARED = {
+    "a long run that leaks where an attempt fails": Compared(
+        f"{LOOP}alloc a 16\nalloc b 16\nif some b\nfree a\nend\nfree b\nend\n", {"end"}
+    ),
+    "a long run that leaks": Compared(f"{LOOP}alloc a 16\nend\n", {"end"}),
+    "a long run that panics": Compared(f"{LOOP}alloc a 16\nfree a\nfree a\nend\n", {"end"}),
+    "a long run over many cells": Compared(f"proc main\nptr a\nrepeat 100\nalloc a 16\nend\n{TURNS}end\n", {"end", "fold"}),
+    "a long run that ends": Compared(f"{LOOP}end\n", set()),
+    "a cell of a megabyte": Compared(f"{HIDDEN}free a\nfree b\nfree c\nend\n", {"fold"}),
+    "a cell of a megabyte, and a leak": Compared(f"{HIDDEN}free b\nend\n", {"fold"}),
+    "two such cells": Compared(f"{HIDDEN}realloc b b 1500000\nfree a\nfree b\nfree c\nend\n", {"fold"}),
+}
 
 # scripts with long runs, and one that fills the longest heap
 LONG = {

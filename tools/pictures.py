@@ -1,6 +1,6 @@
 """Draws pictures with the built program, and checks what they hold.
 
-The pictures of all examples are compared with the reports of their runs (picture_reports.py). Some are kept in docs/pictures, and must
+The pictures of all examples, and of some more scripts, are compared with the reports of their runs (picture_reports.py). Some are kept in docs/pictures, and must
 be those that the program draws, byte for byte; --write writes them anew. These are the pictures that pages show, and some of other kinds. A
 table of scripts says which shapes their pictures must have, and another how many steps their columns are. Each picture must be
 well-formed XML of a few elements, and the report, the messages and the status beside it those without a picture. Where it can't be
@@ -24,7 +24,7 @@ from tools.pages import pages
 from tools.paths import DOCS, ROOT, examples
 from tools.picture_file import Picture
 from tools.picture_reports import faults_of as picture_faults
-from tools.picture_scripts import COLUMNS, LEAK, LONG, TABLE, Row, of_steps
+from tools.picture_scripts import COLUMNS, COMPARED, LEAK, LONG, TABLE, Row, of_steps
 from tools.program import READ_OR_WRITE_FAULT, Answer, Word, answer_of, program_parser
 from tools.tally import Tally
 
@@ -127,6 +127,19 @@ class Pictures:
             self.check_example(file, file.stem in kept, is_writing)
         held = {it.stem for it in KEPT.iterdir()}
         self.check(held == kept, f"{KEPT.relative_to(ROOT)} holds other pictures than those that are to be kept: {sorted(held ^ kept)}")
+
+    def check_compared(self, name: str, script: str) -> None:
+        """The picture of a script must hold what the reports of its runs say, some headings among them."""
+        file = self.room / "compared.oom"
+        file.write_text(script, encoding="utf-8")
+        picture = self.draw(name, ["check", str(file)])
+        if picture is None:
+            return
+        faults = list(picture_faults(picture, "check", lambda words: self.run([*words, str(file)]).output.decode().splitlines()))
+        self.check(not faults, "\n".join(f"{name}: {it}" for it in faults))
+        shown = {"end"} if any(it.heading.startswith("The end of this run") for it in picture.panels()) else set()
+        shown |= {"fold"} if any(it.folds() for it in picture.panels()) else set()
+        self.check(shown == COMPARED[name].shown, f"{name}: the picture has {sorted(shown)}")
 
     def check_row(self, row: Row) -> None:
         """A script of the table must have the shapes that its row names."""
@@ -282,6 +295,8 @@ def main(words: list[str]) -> int:
         pictures.check_examples(given.write)
         for row in TABLE:
             pictures.check_row(row)
+        for name, compared in COMPARED.items():
+            pictures.check_compared(name, compared.script)
         pictures.check_names()
         pictures.check_unwritable()
         pictures.check_kept_files()

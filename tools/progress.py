@@ -58,15 +58,19 @@ class Shown(NamedTuple):
         return b"".join(piece for _, piece in self.pieces)
 
 
+def turns(attempts: int) -> str:
+    """So many attempts, of which those that fail are counted: so no run under a failure ends early."""
+    return f"repeat {attempts}\nalloc a 16\nif null a\nadd failed 1\nend\nfree a\nend\n"
+
+
 def fine(attempts: int) -> str:
     """A script in which no failure shows anything."""
-    return f"proc main\nptr a\nrepeat {attempts}\nalloc a 16\nfree a\nend\nend\n"
+    return f"proc main\nptr a\nint failed\n{turns(attempts)}end\n"
 
 
 def leaking(attempts: int) -> str:
     """A script that leaks where its last attempt fails: a cell grows, and its only pointer is overwritten."""
-    turns = f"repeat {attempts}\nalloc a 16\nfree a\nend\n"
-    return f"proc main\nptr a\nptr b\n{turns}alloc b 16\nalloc a 16\nif some a\nfree b\nend\nfree a\nend\n"
+    return f"proc main\nptr a\nptr b\nint failed\n{turns(attempts)}alloc b 16\nalloc a 16\nif some a\nfree b\nend\nfree a\nend\n"
 
 
 def growing(attempts: int) -> str:

@@ -23,7 +23,7 @@ PICTURE = "--picture"
 # the third of `sweep`
 COMMANDS = {"run", "size", "lengths", "sweep", "check"}
 WITH_VALUE = {"--min", "--step", "--budget", "--limit", "--fail", PICTURE}
-OF_RUN = {"--also", "--every"}
+OF_RUN = {"--also", "--every", "--set", "--follow-steps"}
 OF_SWEEP = {"--from", "--to"}
 
 # the program reads one byte more than the longest script has

@@ -14,7 +14,7 @@ CODE = re.compile(r"`([^`]*)`")
 def rows_of_source() -> list[tuple[list[str], list[str], str]]:
     """The table's words of C++, the words that begin its lines, and its hints."""
     source = SOURCE.read_text(encoding="utf-8")
-    texts = dict(re.findall(r'^(?:pub\(crate\) )?const (\w+): &str =\s+"(.*)";$', source, re.MULTILINE))
+    texts = dict(re.findall(r'^(?:pub(?:\(crate\))? )?const (\w+): &str =\s+"(.*)";$', source, re.MULTILINE))
     kinds = lines_by_kind()
     return [
         (re.findall(r'"([^"]*)"', cpp), [kinds[it].word for it in re.findall(r"LineKind::(\w+)", lines)], texts.get(hint, hint.strip('"')))

@@ -71,24 +71,60 @@ class OfPictures(unittest.TestCase):
         self.assertEqual(self.faults(picture, "lengths", REPORTS | {"lengths": REPORTS["lengths"][:3]}), [])
 
     def test_shapes_that_lack(self) -> None:
-        for begins, fault in (('<rect class="cell txt"', "cells are"), ('<path class="need strong" d="M76 78L', "lengths are")):
+        for begins, *faults in (
+            ('<rect class="cell txt"', "cells are", "entries of the legend are"),
+            ('<path class="need strong" d="M76 100L', "lengths are"),
+            ('<text class="n" x="342"', "a leak has no label"),
+        ):
             shape = next(it for it in PICTURE.splitlines(keepends=True) if it.startswith(begins))
-            self.assert_other(shape, "", fault)
+            self.assert_other(shape, "", *faults)
 
     def test_shapes_too_many(self) -> None:
         rect = '<rect class="cell ob1" x="1" y="1" width="1" height="1"><title>cell 9</title></rect>'
-        last = '<text class="n" x="556" y="257">1</text>'
+        last = '<text class="n" x="556" y="279">1 cleanup stack</text>'
         self.assert_other(last, last + rect, "a rectangle of a cell has the title of none")
 
     def test_cells_in_a_wrong_place(self) -> None:
         for old, new in (
-            ('x="182" y="139" width="747"', 'x="192" y="139" width="737"'),
-            ('x="396" y="78" width="533"', 'x="396" y="78" width="633"'),
-            ('y="139" width="747" height="46"', 'y="129" width="747" height="56"'),
-            ('y="78" width="533" height="61"', 'y="78" width="533" height="71"'),
+            ('x="182" y="161" width="747"', 'x="192" y="161" width="737"'),
+            ('x="396" y="100" width="533"', 'x="396" y="100" width="633"'),
+            ('y="161" width="747" height="46"', 'y="151" width="747" height="56"'),
+            ('y="100" width="533" height="61"', 'y="100" width="533" height="71"'),
         ):
             self.assert_other(old, new, "a cell is from")
-        self.assertEqual(self.faults(PICTURE.replace('y="139" width="747" height="46"', 'y="138" width="748" height="47"')), [])
+        self.assertEqual(self.faults(PICTURE.replace('y="161" width="747" height="46"', 'y="160" width="748" height="47"')), [])
+
+    def test_a_narrow_leak(self) -> None:
+        leak = next(it for it in PICTURE.splitlines() if it.startswith('<rect class="cell leak"'))
+        self.assert_other(leak, leak.replace('width="320"', 'width="5"'), "a leak is 5 pixels wide", "a cell is from")
+
+    def test_entries_of_what_does_not_occur(self) -> None:
+        last = PICTURE.splitlines(keepends=True)[-1]
+        entry = '<rect class="ref" x="1" y="1" width="14" height="11"/><text class="" x="1" y="1">refused by the limit</text>'
+        self.assert_other(last, entry + last, "entries of the legend are")
+
+    def test_bands_of_other_scales(self) -> None:
+        heading = next(it for it in PICTURE.splitlines() if it.startswith('<text class="h"') and "attempt 3 fails" in it)
+        band = '<rect class="band" x="1" y="1" width="9" height="9"><title>TRAPs: 2, in steps 1 to 2</title></rect>'
+        self.assert_other(heading, heading + band, "the scales of bands are [], and", "the scales of bands are [], and")
+        scale = '<text class="dim" x="1" y="1">up to 2</text>'
+        before = '<text class="h" x="76" y="46">The run without failure'
+        picture = PICTURE.replace(heading, heading + band + scale).replace(before, scale + before)
+        self.assert_wrong(self.faults(picture), "the scales of bands are [], and")
+
+    def test_an_end_once_more(self) -> None:
+        legend = next(it for it in PICTURE.splitlines() if it.startswith('<rect class="stk"'))
+        lower = PICTURE[PICTURE.rindex('<text class="h"') : PICTURE.index(legend)]
+        heading = lower.splitlines()[0]
+        end = lower.replace(heading, '<text class="h" x="1" y="1">The end of this run once more: attempts 1 to 3, from step 0 on</text>')
+        self.assertEqual(self.faults(PICTURE.replace(legend, end + legend)), [])
+        for old, new, fault in (
+            ("attempts 1 to 3", "attempts 2 to 3", "the first and the last attempt are"),
+            ("attempt 2, granted: 48", "attempt 2, granted: 32", "attempts are"),
+            ("leak: cell 2", "leak: cell 1", "leaks are"),
+            ('x="182"', 'x="192"', "a cell is from"),
+        ):
+            self.assert_wrong(self.faults(PICTURE.replace(legend, end.replace(old, new) + legend)), fault)
 
     def test_a_heading_of_no_rule(self) -> None:
         picture = PICTURE.replace("The run in which attempt 3 fails", "The run of attempt 3")

@@ -25,6 +25,20 @@ class OfPictures(unittest.TestCase):
         self.assertEqual(picture.titles("path"), ["required 176"])
         self.assertTrue(picture.is_plain())
 
+    def test_legend(self) -> None:
+        swatch = '<rect class="raw" width="14" height="11"/><text>raw cell</text>'
+        self.assertEqual(Picture(f"{HEAD}{CELLS}{swatch}</svg>").legend(), [("raw", "raw cell")])
+
+    def test_places(self) -> None:
+        places = "".join(
+            f'<text class="e dim">{place}</text><path class="grid" d="M1 {y}H9"/>' for place, y in ((0, 100), (1, 80), (2, 60), (1000, 20), (1001, 0))
+        )
+        fold = '<rect class="paper"><title>places 2304 to 1023000 are drawn shorter</title></rect>'
+        text = f'{HEAD}<text class="h">a run</text><text class="e dim">KiB</text>{places}{fold}</svg>'
+        panel = Picture(text).panels()[0]
+        self.assertEqual([panel.y_of(it) for it in (0, 1024, 2304, 1023488, 1025024)], [100, 80, 55, 30, 0])
+        self.assertEqual([panel.is_folded(it) for it in (2304, 2305, 1023000)], [False, True, False])
+
     def test_other_elements(self) -> None:
         self.assertFalse(Picture(f"{HEAD}<script>1</script></svg>").is_plain())
         self.assertFalse(Picture(HEAD.replace("a heap", "", 1) + "</svg>").is_plain())

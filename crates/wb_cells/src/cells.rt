@@ -1,7 +1,7 @@
 //! The cells of a chunk, and their calls. Which bytes a grown heap may use, and in what order memory is asked for, is
 //! not decided here.
 
-ghost use Rattle.std.specs.Prelude.{◌≡◌, ◌≢◌, ◌+◌, ◌*◌, ◌%◌, ◌<◌, ◌≤◌, [], ◌++◌, max, length, take, drop, slice_index};
+ghost use Rattle.std.specs.Prelude.{◌≡◌, ◌≢◌, ◌+◌, ◌*◌, ◌%◌, ◌<◌, ◌≤◌, [], ◌++◌, max, true, length, take, drop, slice_index};
 ghost use Rattle.std.specs.Prelude.{slice_set, All, IfOk, OnOk, OnErr, option_map, IsOk, IsSome};
 ghost use Rattle.wb_chunk.specs.Halves.{half_of, with_half};
 ghost use Rattle.wb_model.specs.cells.CellRow.{CellRow, FitsInPlace, IsGap, IsSoundCells, payload_of, room_after};
@@ -285,6 +285,20 @@ impl Cells {
         ensures sound { IsSoundCells self.now }
     {
         self.words.word(layout::payload_at(ptr.place) + i)
+    }
+
+    /// Whether a payload of so many words is that of another list of cells, at the same place. Where neither was written since it
+    /// was zeros, nothing is read.
+    pub fn has_payload_of(&self, ptr: Ptr, other: &Cells, there: Ptr, n: u32) -> bool
+        requires live { IsSome (cell_at ptr self.now.row) }
+        requires other_live { IsSome (cell_at there other.now.row) }
+        requires words { length (payload_of ptr self.now.row) ≡ n }
+        requires other_words { length (payload_of there other.now.row) ≡ n }
+        requires place { there.place ≡ ptr.place }
+        ensures { result ≡ true → payload_of there other.now.row ≡ payload_of ptr self.now.row }
+    {
+        self.words
+            .has_words_of(&other.words, layout::payload_at(ptr.place), n)
     }
 
     /// Puts another word at an index of a payload.

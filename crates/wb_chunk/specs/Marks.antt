@@ -17,3 +17,7 @@ MarksToo old new first end = (k : ℕ) → is_marked new k ≡ false → (is_mar
 -- no block that begins at this place, in words, or after it bears a mark
 abbrev pub IsUnmarkedFrom : List Bool → ℕ → Type 0
 IsUnmarkedFrom marks end = (block : ℕ) → end ≤ block * BLOCK → slice_index_or marks block false ≡ false
+
+-- the words from one place up to another are those of another list
+abbrev pub AreSameWords : List ℕ → List ℕ → ℕ → ℕ → Type 0
+AreSameWords words others first end = (k : ℕ) → first ≤ k → k < end → slice_index others k ≡ slice_index words k

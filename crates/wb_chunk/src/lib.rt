@@ -4,10 +4,11 @@
 //! pointer. What words mean is in the crates above.
 #![tactic(auto)]
 
-ghost use Rattle.std.specs.Prelude.{◌≡◌, ◌+◌, ◌*◌, ◌^◌, ◌<◌, ◌≤◌, [], ◌++◌, length, replicate, slice_index, slice_set};
+ghost use Rattle.std.specs.Prelude.{◌≡◌, ◌+◌, ◌*◌, ◌^◌, ◌<◌, ◌≤◌, [], ◌++◌, true, length, replicate, slice_index, slice_set};
 ghost use Rattle.std.specs.Prelude.{slice_range, IfOk, IsOk, OnOk, OnErr};
 ghost use Rattle.std.specs.List.{All, replace_range};
 ghost use Rattle.wb_chunk.specs.Halves.{half_of, halves_from, with_half, with_halves};
+ghost use Rattle.wb_chunk.specs.Marks.{AreSameWords};
 
 use growth::{append_marked, append_words, append_zeros, larger, set_count};
 use marks::BLOCK;
@@ -275,6 +276,23 @@ impl Chunk {
             let words = region.as_mut_slice(self.count);
             words.copy_within(from as usize..(from + n) as usize, to as usize);
         }
+    }
+
+    /// Whether the `n` words from `i` on are those of another chunk. Where neither was written since it was zeros, nothing is read.
+    pub fn has_words_of(&self, other: &Chunk, i: u32, n: u32) -> bool
+        requires within { i + n ≤ length self.now }
+        requires other_within { i + n ≤ length other.now }
+        ensures { result ≡ true → AreSameWords self.now other.now i (i + n) }
+    {
+        let (words, others) = (self.as_slice(), other.as_slice());
+        marks::same_range(
+            words,
+            self.marks.as_slice(),
+            others,
+            other.marks.as_slice(),
+            i as usize,
+            n as usize,
+        )
     }
 
     fn as_slice(&self) -> &[u32]

@@ -1,9 +1,9 @@
 //! Which blocks of a chunk may hold anything but zeros: a mark for each 4,096 bytes. What a block without a mark holds is
 //! known, so nobody zeroes it again, reads it to copy it, or writes zeros over it.
 
-ghost use Rattle.std.specs.Prelude.{◌≡◌, ◌+◌, ◌*◌, ◌<◌, ◌≤◌, length, replicate};
+ghost use Rattle.std.specs.Prelude.{◌≡◌, ◌+◌, ◌*◌, ◌<◌, ◌≤◌, true, length, replicate};
 ghost use Rattle.std.specs.List.{replace_range};
-ghost use Rattle.wb_chunk.specs.Marks.{AreMarked, IsUnmarkedFrom, MarksToo};
+ghost use Rattle.wb_chunk.specs.Marks.{AreMarked, AreSameWords, IsUnmarkedFrom, MarksToo};
 
 /// How many words a block has.
 pub(crate) const BLOCK: usize = 1024;
@@ -75,4 +75,50 @@ pub(crate) fn overwrite(
         marks[block] = source_marks[block];
     }
     marks[blocks..].fill(false);
+}
+
+/// Whether the words from `first` up to `end` are those of another list.
+fn same_words(words: &[u32], others: &[u32], first: usize, end: usize) -> bool
+    requires within { end ≤ length words.now }
+    requires others_within { end ≤ length others.now }
+    ensures { result ≡ true → AreSameWords words.now others.now first end }
+{
+    for i in first..end {
+        if words[i] != others[i] {
+            return false;
+        }
+    }
+    true
+}
+
+/// Whether the `n` words from `i` on are those of another list with marks of its own. Blocks that are marked in neither aren't read:
+/// both have zeros there.
+pub(crate) fn same_range(
+    words: &[u32],
+    marks: &[bool],
+    others: &[u32],
+    other_marks: &[bool],
+    i: usize,
+    n: usize,
+) -> bool
+    requires within { i + n ≤ length words.now }
+    requires others_within { i + n ≤ length others.now }
+    requires covered { length words.now ≤ BLOCK * length marks.now }
+    requires others_covered { length others.now ≤ BLOCK * length other_marks.now }
+    requires marked { AreMarked marks.now words.now }
+    requires others_marked { AreMarked other_marks.now others.now }
+    ensures { result ≡ true → AreSameWords words.now others.now i (i + n) }
+{
+    let end = i + n;
+    let first_block = i / BLOCK;
+    for block in first_block..end.div_ceil(BLOCK) {
+        if marks[block] || other_marks[block] {
+            let first = i.max(block * BLOCK);
+            let last = end.min(block * BLOCK + BLOCK);
+            if !same_words(words, others, first, last) {
+                return false;
+            }
+        }
+    }
+    true
 }

@@ -1,5 +1,5 @@
 -- What clap makes of words on this command line.
-use Rattle.std.proofs.Common.{◌≡◌, ◌∙◌, Bool, true, false, true≢false, refl, sym, ap, List, [], ◌∷◌, Option, Some, None, codes}
+use Rattle.std.proofs.Common.{◌≡◌, ◌∙◌, ◌&&◌, Bool, true, false, true≢false, refl, sym, ap, List, [], ◌∷◌, Option, Some, None, codes}
 use Rattle.std.specs.Str.{bytes_eq}
 use Rattle.std.specs.Prelude.{◌≢◌, ◌==◌, IsSome, find, option_map}
 use Rattle.std.specs.Option.{option_map_or}
@@ -14,8 +14,9 @@ use Rattle.clap.proofs.WalkLemmas.{walk_stopped}
 use Rattle.clap.proofs.FaultLemmas.{stopped_fault}
 use Rattle.wb_command_line.specs.CommandLine.{command_line, level_of}
 use Rattle.wb_command_line.specs.Subcommands.{Subcommand, check_subcommand, lengths_subcommand, run_subcommand, size_subcommand, subcommand_named, sweep_subcommand}
+use Rattle.wb_command_line.specs.Fault.{AreDoubled}
 use Rattle.wb_command_line.specs.Passed.{RowsPass}
-use Rattle.wb_command_line.specs.Spelled.{doubles, gives_more_than_one, gives_too_many}
+use Rattle.wb_command_line.specs.Spelled.{gives_more_than_one, gives_no_list, gives_too_many, takes_rule}
 use Rattle.wb_command_line.proofs.LevelLemmas.{level_name, level_once, level_single}
 use Rattle.wb_command_line.proofs.PassedWords.{level_passed}
 use Rattle.wb_command_line.proofs.RefusalLemmas.{Fails, and_true, has_kind, level_fails, stopped_passes, turn_first, turn_second, version_asks, word_fails}
@@ -163,11 +164,14 @@ last_named name some no_run no_size no_lengths no_sweep =
     go false run false size false lengths false sweep true check = rw (run, size, lengths, sweep, check) refl
     go false run false size false lengths false sweep false check = absurd (true≢false (sym (rw (run, size, lengths, sweep, check) at some)))
 
--- which takes failures, so that flags that don't go together are too many
+-- which takes failures, so that flags that don't go together are too many, and no text is a set's
 pub last_doubled : (name : Text) (rows : List Row) → IsSome (subcommand_named name) → name ≢ codes "run" → name ≢ codes "size" → name ≢ codes "lengths" → name ≢ codes "sweep"
-    → gives_too_many rows ≡ true → doubles name rows ≡ true
+    → gives_too_many rows ≡ true → AreDoubled name rows
 last_doubled name rows some no_run no_size no_lengths no_sweep both =
-    ap (λ (o : Option Subcommand). option_map_or (λ s. gives_more_than_one s.takes rows) o false) (last_named name some no_run no_size no_lengths no_sweep) ∙ both
+    let last = last_named name some no_run no_size no_lengths no_sweep in record {
+      listed = ap (λ (o : Option Subcommand). option_map_or (λ s. takes_rule s.takes) o false && gives_no_list rows) last;
+      doubled = ap (λ (o : Option Subcommand). option_map_or (λ s. gives_more_than_one s.takes rows) o false) last ∙ both;
+    }
 
 -- words that don't name a subcommand first are refused
 pub none_named_fails : (name word : Text) (rest : List Text) → subcommand_named word ≡ None → Fails (fault_of command_line (name ∷ word ∷ rest)) (takes command_line (name ∷ word ∷ rest))

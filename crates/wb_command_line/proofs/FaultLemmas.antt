@@ -1,5 +1,5 @@
 -- What becomes of an error of clap, and of a fault of what a subcommand asks for.
-use Rattle.std.proofs.Common.{◌≡◌, ◌∙◌, Bool, cond, true, false, refl, sym, ap, List, true≢false, ⊎_elim}
+use Rattle.std.proofs.Common.{◌≡◌, ◌∙◌, inl, Bool, cond, true, false, refl, sym, ap, List, true≢false, ⊎_elim}
 use Rattle.std.specs.Prelude.{◌≢◌, ◌%◌, IsTrue, nat_eq, nat_le}
 use Rattle.clap.specs.Words.{HasKind, Row, Text, fault_of, kind_of}
 use Rattle.clap.specs.declared.error.Error.{Error}
@@ -23,15 +23,15 @@ fault_is words e kinds = go (is_want_of_memory (kind_of e)) refl
     go true is = tt
     go false isnt =
         let words_fault : kind_of e ≢ OutOfMemory = λ want. true≢false (sym (ap is_want_of_memory want) ∙ isnt) in
-        (words_fault, ⊎_elim (λ want. absurd (words_fault want)) (λ among. among) kinds)
+        inl (words_fault, ⊎_elim (λ want. absurd (words_fault want)) (λ among. among) kinds)
 
 pub task_fault : (name : Text) (rows : List Row) (fault : CommandFault) → IsFaultOfTask name rows fault → IsFaultOfOptions name rows fault
-task_fault name rows (Usage e) none = none
+task_fault name rows (Usage e) mislisted = mislisted
 task_fault name rows Both doubled = doubled
 task_fault name rows Also disordered = disordered
 task_fault name rows Shape none = absurd none
 task_fault name rows Range none = absurd none
-task_fault name rows NoMemory none = absurd none
+task_fault name rows NoMemory want = tt
 
 -- a shape that a heap may have is of multiples of 16
 pub shapely : (shape : HeapShape) → IsTrue (is_shape shape) → is_sixteenfold shape ≡ true

@@ -8,7 +8,10 @@ pub mod PassedValues
 pub mod PassedWords
 pub mod RefusalLemmas
 pub mod RuleLemmas
+pub mod SetLemmas
 pub mod WordLemmas
+pub mod WorkedFollowing
 pub mod WorkedPairs
 pub mod WorkedParts
+pub mod WorkedSets
 pub mod WorkedWords

@@ -1,5 +1,5 @@
 -- From what a parse found to what the words spell.
-use Rattle.std.proofs.Common.{◌≡◌, ◌∙◌, ◌<◌, ◌≤◌, ◌^◌, ◌%◌, ◌||◌, ℕ, Bool, nat_eq, arith, true, false, eqb-true, refl, sym, ap, ap₂, subst, List, [], Option, Some, None, Result, Ok, Err, inl, inr, codes, option_and_then, option_map}
+use Rattle.std.proofs.Common.{◌≡◌, ◌∙◌, ◌<◌, ◌≤◌, ◌^◌, ◌%◌, ◌||◌, ℕ, Bool, nat_eq, arith, true, false, eqb-true, refl, sym, ap, ap₂, subst, List, [], Option, Some, None, Result, Ok, Err, inl, inr, codes, option_and_then, option_map, true≢false}
 use Rattle.std.specs.Prelude.{Box, IfOk, IfSome, IsSome, MatchOption, pos, unwrap_or}
 use Rattle.std.specs.Option.{option_map_or}
 use Rattle.std.specs.Str.{bytes_eq}
@@ -25,14 +25,15 @@ use Rattle.wb_model.specs.declared.heap.Shape.{Shape}
 use Rattle.wb_command_line.specs.Command.{is_sixteenfold}
 use Rattle.wb_command_line.specs.CommandLine.{command_line, joined_level}
 use Rattle.wb_command_line.specs.Fault.{IsAfterUsage, IsFaultOf, IsFaultOfOptions}
-use Rattle.wb_command_line.specs.Spelled.{IsMeantBy, IsSpelledBy, are_several, command_of, decimal, disorders, doubles, first_rule_of, flag_of, gives_several, number_of, rule_by, spell_both, spell_disorder, spelled}
+use Rattle.wb_command_line.specs.Spelled.{IsMeantBy, IsSpelledBy, are_several, command_of, decimal, disorders, doubles, flag_of, gives_several_numbers, mislists, number_of, numbered_rule_of, rule_by, spell_both, spell_disorder, spell_no_list, spelled}
 use Rattle.wb_command_line.specs.Subcommands.{Subcommand, subcommand_named}
+use Rattle.wb_command_line.specs.declared.command_line.following.TheConstants.{MOST_FOLLOWED}
 use Rattle.wb_command_line.specs.declared.command.Command.{Command}
 use Rattle.wb_command_line.specs.declared.command.CommandFault.{CommandFault}
 use Rattle.wb_command_line.specs.declared.command.CommandFault.TheVariants.{Usage, Both, Also, Range, NoMemory}
 use Rattle.wb_command_line.specs.declared.command.CommandFault.TheVariants as F
 use Rattle.wb_command_line.proofs.CommandLineLemmas.{one_is_met, text_is}
-use Rattle.wb_command_line.proofs.LevelLemmas.{all_rule, also_rule, budget_rule, every_rule, fail_rule, from_rule, json_rule, level_wide, limit_rule, min_rule, only_all, only_also, only_budget, only_every, only_fail, only_from, only_json, only_limit, only_min, only_pairs, only_rates, only_step, only_to, pairs_rule, rates_rule, step_rule, to_rule}
+use Rattle.wb_command_line.proofs.LevelLemmas.{all_rule, also_rule, budget_rule, every_rule, fail_rule, follow_rule, follow_steps_rule, from_rule, json_rule, level_wide, limit_rule, min_rule, only_all, only_also, only_budget, only_every, only_fail, only_follow, only_follow_steps, only_from, only_json, only_limit, only_min, only_pairs, only_rates, only_step, only_to, pairs_rule, rates_rule, step_rule, to_rule}
 use Rattle.wb_command_line.specs.Passed.{RowsPass}
 use Rattle.wb_command_line.proofs.PassedValues.{IsOnly, PassedAs, first_passed}
 
@@ -73,6 +74,7 @@ pub record IsParsed (words : List Text) (m : ArgMatches) (name : Text) (rows : L
   pub named : IsSome (subcommand_named name)
   pub passed : RowsPass joined_level.rules rows
   pub meaning : spelled words ≡ command_of (name, rows)
+  pub mislisted : spell_no_list words ≡ mislists name rows
   pub doubled : spell_both words ≡ doubles name rows
   pub disordered : spell_disorder words ≡ disorders name rows
 
@@ -89,6 +91,7 @@ is_parsed words m met name rows is_name are_rows =
       named = subst (λ t. IsSome (subcommand_named t)) called (rw met.named refl);
       passed = subst (RowsPass joined_level.rules) are met.passed;
       meaning = ap (option_and_then command_of) both;
+      mislisted = ap (λ (o : Option (Text × List Row)). option_map_or (λ p. mislists p.0 p.1) o false) both;
       doubled = ap (λ (o : Option (Text × List Row)). option_map_or (λ p. doubles p.0 p.1) o false) both;
       disordered = ap (λ (o : Option (Text × List Row)). option_map_or (λ p. disorders p.0 p.1) o false) both;
     }
@@ -98,6 +101,7 @@ module _ (words : List Text) (m : ArgMatches) (name : Text) (rows : List Row) (m
   pub spelled_by : (command : Command) → IsMeantBy name rows command → IsSpelledBy words command
   spelled_by command meant = record {
     faultless = met.faultless;
+    listed = met.mislisted ∙ meant.listed;
     one_rule = met.doubled ∙ meant.one_rule;
     in_order = met.disordered ∙ meant.in_order;
     meaning = met.meaning ∙ meant.meaning;
@@ -108,20 +112,20 @@ module _ (words : List Text) (m : ArgMatches) (name : Text) (rows : List Row) (m
   if_spelled (Err fault) meant = tt
 
   pub fault_by : (fault : CommandFault) → IsFaultOfOptions name rows fault → IsFaultOf words fault
-  fault_by (Usage e) none = absurd none
-  fault_by Both doubled = record { faultless = met.faultless; doubled = met.doubled ∙ doubled }
-  fault_by Also bad = record { faultless = met.faultless; one_rule = met.doubled ∙ bad.one_rule; disordered = met.disordered ∙ bad.disordered }
+  fault_by (Usage e) bad = inr (bad.0, record { faultless = met.faultless; mislisted = met.mislisted ∙ bad.1 })
+  fault_by Both bad = record { faultless = met.faultless; listed = met.mislisted ∙ bad.listed; doubled = met.doubled ∙ bad.doubled }
+  fault_by Also bad = record { faultless = met.faultless; listed = met.mislisted ∙ bad.listed; one_rule = met.doubled ∙ bad.one_rule; disordered = met.disordered ∙ bad.disordered }
   fault_by F.Shape bad = record { command = bad.command; spelled = spelled_by bad.command bad.meant; misshapen = bad.misshapen }
   fault_by Range bad = record { command = bad.command; spelled = spelled_by bad.command bad.meant; shapely = bad.shapely; empty = bad.empty }
   fault_by NoMemory want = tt
 
-  pub after_usage : (fault : CommandFault) → IsFaultOfOptions name rows fault → IsAfterUsage fault
-  after_usage (Usage e) none = absurd none
-  after_usage Both doubled = inl refl
-  after_usage Also bad = inr (inl refl)
-  after_usage F.Shape bad = inr (inr (inl refl))
-  after_usage Range bad = inr (inr (inr (inl refl)))
-  after_usage NoMemory want = inr (inr (inr (inr refl)))
+  pub after_usage : spell_no_list words ≡ false → (fault : CommandFault) → IsFaultOfOptions name rows fault → IsAfterUsage fault
+  after_usage list (Usage e) bad = absurd (true≢false (sym (met.mislisted ∙ bad.1) ∙ list))
+  after_usage list Both doubled = inl refl
+  after_usage list Also bad = inr (inl refl)
+  after_usage list F.Shape bad = inr (inr (inl refl))
+  after_usage list Range bad = inr (inr (inr (inl refl)))
+  after_usage list NoMemory want = inr (inr (inr (inr refl)))
 
 -- ---- numbers
 
@@ -182,6 +186,9 @@ module _ (E : Type 0) (G : List ℕ → Result ℕ E → Type 0) (parses : (u : 
   pub every_is : OptionRead (codes "every") 0 CEILING
   every_is f r passed = number_is joined_level.rules (codes "every") every_rule 0 CEILING f r refl (omega arith) only_every passed
 
+  pub follow_steps_is : OptionRead (codes "follow-steps") 1 MOST_FOLLOWED
+  follow_steps_is f r passed = number_is joined_level.rules (codes "follow-steps") follow_steps_rule 1 MOST_FOLLOWED f r refl (omega arith) only_follow_steps passed
+
   pub from_is : OptionRead (codes "from") 0 CEILING
   from_is f r passed = number_is joined_level.rules (codes "from") from_rule 0 CEILING f r refl (omega arith) only_from passed
 
@@ -211,10 +218,10 @@ module _ (E : Type 0) (G : List ℕ → Result ℕ E → Type 0) (parses : (u : 
 
 -- the rule that is spelled, by what is there of the three, and whether more than one is
 module _ {rows : List Row} {limit number rate l n r : Option ℕ} (read : IsRuleRead rows limit number rate) (is_limit : limit ≡ l) (is_number : number ≡ n) (is_rate : rate ≡ r) where
-  pub rule_as : rule_by l n None r ≡ first_rule_of rows
-  rule_as = λ i. rule_by ((sym is_limit ∙ read.limit.is) i) ((sym is_number ∙ read.number.is) i) None ((sym is_rate ∙ read.rate.is) i)
+  pub rule_as : rule_by l n None r None ≡ numbered_rule_of rows
+  rule_as = λ i. rule_by ((sym is_limit ∙ read.limit.is) i) ((sym is_number ∙ read.number.is) i) None ((sym is_rate ∙ read.rate.is) i) None
 
-  pub several_as : gives_several rows ≡ are_several l n r
+  pub several_as : gives_several_numbers rows ≡ are_several l n r
   several_as = λ i. are_several ((sym read.limit.is ∙ is_limit) i) ((sym read.number.is ∙ is_number) i) ((sym read.rate.is ∙ is_rate) i)
 
 -- what stands for a flag is `true` or `false`, where anything does
@@ -248,6 +255,9 @@ FlagRead id = (f : Found) (r : Bool) → RowsPass joined_level.rules (rows_of f)
 
 pub json_is : FlagRead (codes "json")
 json_is = flag_is (codes "json") json_rule only_json (λ t passed. passed) refl
+
+pub follow_is : FlagRead (codes "follow")
+follow_is = flag_is (codes "follow") follow_rule only_follow (λ t passed. passed) refl
 
 pub rates_is : FlagRead (codes "rates")
 rates_is = flag_is (codes "rates") rates_rule only_rates (λ t passed. passed) refl

@@ -13,7 +13,7 @@ use Rattle.clap.specs.Takes.{level_passes, turn_passes, walk_passes}
 use Rattle.wb_model.specs.declared.heap.Rule.{Rule}
 use Rattle.wb_model.specs.declared.heap.Rule.TheVariants.{Unlimited}
 use Rattle.wb_command_line.specs.CommandLine.{level, level_of}
-use Rattle.wb_command_line.specs.Spelled.{command_of, command_with, disorders, doubles, gives_disorder, gives_more_than_one, rule_of, takes_rule, task_of, trial_of}
+use Rattle.wb_command_line.specs.Spelled.{command_of, command_with, disorders, doubles, gives_disorder, gives_more_than_one, gives_no_list, mislists, rule_of, takes_rule, task_of, trial_of}
 use Rattle.wb_command_line.specs.Subcommands.{Subcommand, Trial, subcommand_named}
 use Rattle.wb_command_line.specs.declared.command.Task.{Task}
 use Rattle.wb_command_line.specs.declared.command_line.parser.Takes.{Takes}
@@ -61,6 +61,7 @@ flag_turn called b position (x ∷ y ∷ ys) h text no_separator flag no_option 
 record Reads (called : Text) (b : Takes) (rest : List Text) (file : Option Text) : Type 0 where
   taken : level_passes (level called b) [] nothing_held rest false ≡ true
   faultless : level_fault (level called b) [] nothing_held rest false [] ≡ []
+  list : gives_no_list (rows_after (level called b).rules [] rest) ≡ false
   one_rule : gives_more_than_one b (rows_after (level called b).rules [] rest) ≡ false
   in_order : gives_disorder (rows_after (level called b).rules [] rest) ≡ false
   rule : rule_of (rows_after (level called b).rules [] rest) ≡ Unlimited
@@ -77,24 +78,24 @@ below_fails called b rest f = level_fails (level called b) [] rest false [] true
 
 reads_none : (called : Text) (b : Takes) → Reads called b [] None
 unfolding defaults_fault walk_fault walk_passes walked
-reads_none called taking.Rule = record { taken = refl; faultless = refl; one_rule = refl; in_order = refl; rule = refl; trial = refl; meaning = λ task. refl }
-reads_none called taking.Failures = record { taken = refl; faultless = refl; one_rule = refl; in_order = refl; rule = refl; trial = refl; meaning = λ task. refl }
-reads_none called taking.Part = record { taken = refl; faultless = refl; one_rule = refl; in_order = refl; rule = refl; trial = refl; meaning = λ task. refl }
-reads_none called taking.Neither = record { taken = refl; faultless = refl; one_rule = refl; in_order = refl; rule = refl; trial = refl; meaning = λ task. refl }
+reads_none called taking.Rule = record { taken = refl; faultless = refl; list = refl; one_rule = refl; in_order = refl; rule = refl; trial = refl; meaning = λ task. refl }
+reads_none called taking.Failures = record { taken = refl; faultless = refl; list = refl; one_rule = refl; in_order = refl; rule = refl; trial = refl; meaning = λ task. refl }
+reads_none called taking.Part = record { taken = refl; faultless = refl; list = refl; one_rule = refl; in_order = refl; rule = refl; trial = refl; meaning = λ task. refl }
+reads_none called taking.Neither = record { taken = refl; faultless = refl; list = refl; one_rule = refl; in_order = refl; rule = refl; trial = refl; meaning = λ task. refl }
 
 reads_separator : (called : Text) (b : Takes) → Reads called b (codes "--" ∷ []) None
 unfolding defaults_fault walk_fault walk_passes walked
-reads_separator called taking.Rule = record { taken = refl; faultless = refl; one_rule = refl; in_order = refl; rule = refl; trial = refl; meaning = λ task. refl }
-reads_separator called taking.Failures = record { taken = refl; faultless = refl; one_rule = refl; in_order = refl; rule = refl; trial = refl; meaning = λ task. refl }
-reads_separator called taking.Part = record { taken = refl; faultless = refl; one_rule = refl; in_order = refl; rule = refl; trial = refl; meaning = λ task. refl }
-reads_separator called taking.Neither = record { taken = refl; faultless = refl; one_rule = refl; in_order = refl; rule = refl; trial = refl; meaning = λ task. refl }
+reads_separator called taking.Rule = record { taken = refl; faultless = refl; list = refl; one_rule = refl; in_order = refl; rule = refl; trial = refl; meaning = λ task. refl }
+reads_separator called taking.Failures = record { taken = refl; faultless = refl; list = refl; one_rule = refl; in_order = refl; rule = refl; trial = refl; meaning = λ task. refl }
+reads_separator called taking.Part = record { taken = refl; faultless = refl; list = refl; one_rule = refl; in_order = refl; rule = refl; trial = refl; meaning = λ task. refl }
+reads_separator called taking.Neither = record { taken = refl; faultless = refl; list = refl; one_rule = refl; in_order = refl; rule = refl; trial = refl; meaning = λ task. refl }
 
 reads_after_separator : (called : Text) (b : Takes) (f : Text) → Reads called b (codes "--" ∷ f ∷ []) (Some f)
 unfolding defaults_fault walk_fault walk_passes walked
-reads_after_separator called taking.Rule f = record { taken = refl; faultless = refl; one_rule = refl; in_order = refl; rule = refl; trial = refl; meaning = λ task. refl }
-reads_after_separator called taking.Failures f = record { taken = refl; faultless = refl; one_rule = refl; in_order = refl; rule = refl; trial = refl; meaning = λ task. refl }
-reads_after_separator called taking.Part f = record { taken = refl; faultless = refl; one_rule = refl; in_order = refl; rule = refl; trial = refl; meaning = λ task. refl }
-reads_after_separator called taking.Neither f = record { taken = refl; faultless = refl; one_rule = refl; in_order = refl; rule = refl; trial = refl; meaning = λ task. refl }
+reads_after_separator called taking.Rule f = record { taken = refl; faultless = refl; list = refl; one_rule = refl; in_order = refl; rule = refl; trial = refl; meaning = λ task. refl }
+reads_after_separator called taking.Failures f = record { taken = refl; faultless = refl; list = refl; one_rule = refl; in_order = refl; rule = refl; trial = refl; meaning = λ task. refl }
+reads_after_separator called taking.Part f = record { taken = refl; faultless = refl; list = refl; one_rule = refl; in_order = refl; rule = refl; trial = refl; meaning = λ task. refl }
+reads_after_separator called taking.Neither f = record { taken = refl; faultless = refl; list = refl; one_rule = refl; in_order = refl; rule = refl; trial = refl; meaning = λ task. refl }
 
 abbrev none_found : Kinds
 none_found = []
@@ -105,6 +106,7 @@ reads_file called taking.Rule f no_separator is_plain =
     let none = no_flag f is_plain in record {
       taken = rw (no_separator, none.0, none.1) (refl {a = true});
       faultless = rw (no_separator, none.0, none.1) (refl {a = none_found});
+      list = rw (no_separator, none.0, none.1) (refl {a = false});
       one_rule = rw (no_separator, none.0, none.1) (refl {a = false});
       in_order = rw (no_separator, none.0, none.1) (refl {a = false});
       rule = rw (no_separator, none.0, none.1) (refl {a = Unlimited});
@@ -115,6 +117,7 @@ reads_file called taking.Failures f no_separator is_plain =
     let none = no_flag f is_plain in record {
       taken = rw (no_separator, none.0, none.1) (refl {a = true});
       faultless = rw (no_separator, none.0, none.1) (refl {a = none_found});
+      list = rw (no_separator, none.0, none.1) (refl {a = false});
       one_rule = rw (no_separator, none.0, none.1) (refl {a = false});
       in_order = rw (no_separator, none.0, none.1) (refl {a = false});
       rule = rw (no_separator, none.0, none.1) (refl {a = Unlimited});
@@ -125,6 +128,7 @@ reads_file called taking.Part f no_separator is_plain =
     let none = no_flag f is_plain in record {
       taken = rw (no_separator, none.0, none.1) (refl {a = true});
       faultless = rw (no_separator, none.0, none.1) (refl {a = none_found});
+      list = rw (no_separator, none.0, none.1) (refl {a = false});
       one_rule = rw (no_separator, none.0, none.1) (refl {a = false});
       in_order = rw (no_separator, none.0, none.1) (refl {a = false});
       rule = rw (no_separator, none.0, none.1) (refl {a = Unlimited});
@@ -135,6 +139,7 @@ reads_file called taking.Neither f no_separator is_plain =
     let none = no_flag f is_plain in record {
       taken = rw (no_separator, none.0, none.1) (refl {a = true});
       faultless = rw (no_separator, none.0, none.1) (refl {a = none_found});
+      list = rw (no_separator, none.0, none.1) (refl {a = false});
       one_rule = refl;
       in_order = rw (no_separator, none.0, none.1) (refl {a = false});
       rule = rw (no_separator, none.0, none.1) (refl {a = Unlimited});
@@ -148,6 +153,7 @@ reads_before_separator called taking.Rule f no_separator is_plain =
     let none = no_flag f is_plain in record {
       taken = rw (no_separator, none.0, none.1) (refl {a = true});
       faultless = rw (no_separator, none.0, none.1) (refl {a = none_found});
+      list = rw (no_separator, none.0, none.1) (refl {a = false});
       one_rule = rw (no_separator, none.0, none.1) (refl {a = false});
       in_order = rw (no_separator, none.0, none.1) (refl {a = false});
       rule = rw (no_separator, none.0, none.1) (refl {a = Unlimited});
@@ -158,6 +164,7 @@ reads_before_separator called taking.Failures f no_separator is_plain =
     let none = no_flag f is_plain in record {
       taken = rw (no_separator, none.0, none.1) (refl {a = true});
       faultless = rw (no_separator, none.0, none.1) (refl {a = none_found});
+      list = rw (no_separator, none.0, none.1) (refl {a = false});
       one_rule = rw (no_separator, none.0, none.1) (refl {a = false});
       in_order = rw (no_separator, none.0, none.1) (refl {a = false});
       rule = rw (no_separator, none.0, none.1) (refl {a = Unlimited});
@@ -168,6 +175,7 @@ reads_before_separator called taking.Part f no_separator is_plain =
     let none = no_flag f is_plain in record {
       taken = rw (no_separator, none.0, none.1) (refl {a = true});
       faultless = rw (no_separator, none.0, none.1) (refl {a = none_found});
+      list = rw (no_separator, none.0, none.1) (refl {a = false});
       one_rule = rw (no_separator, none.0, none.1) (refl {a = false});
       in_order = rw (no_separator, none.0, none.1) (refl {a = false});
       rule = rw (no_separator, none.0, none.1) (refl {a = Unlimited});
@@ -178,6 +186,7 @@ reads_before_separator called taking.Neither f no_separator is_plain =
     let none = no_flag f is_plain in record {
       taken = rw (no_separator, none.0, none.1) (refl {a = true});
       faultless = rw (no_separator, none.0, none.1) (refl {a = none_found});
+      list = rw (no_separator, none.0, none.1) (refl {a = false});
       one_rule = refl;
       in_order = rw (no_separator, none.0, none.1) (refl {a = false});
       rule = rw (no_separator, none.0, none.1) (refl {a = Unlimited});
@@ -297,6 +306,8 @@ module _ (s : Subcommand) (is : IsSubcommand s) (name word : Text) (rest : List 
     taken = level_takes s name word rest is met ∙ r.taken;
     spell = record {
       faultless = level_faults s name word rest is met ∙ r.faultless;
+      listed = ap (λ (o : Option (Text × List Row)). option_map_or (λ p. mislists p.0 p.1) o false) (level_meaning s name word rest is met)
+          ∙ ap (λ wrong. option_map_or (λ x. takes_rule x.takes) (subcommand_named s.name) false && wrong) r.list ∙ and_false _;
       one_rule = ap (λ (o : Option (Text × List Row)). option_map_or (λ p. doubles p.0 p.1) o false) (level_meaning s name word rest is met)
           ∙ ap (λ (o : Option Subcommand). option_map_or (λ x. gives_more_than_one x.takes rows) o false) is.named ∙ r.one_rule;
       in_order = ap (λ (o : Option (Text × List Row)). option_map_or (λ p. disorders p.0 p.1) o false) (level_meaning s name word rest is met)

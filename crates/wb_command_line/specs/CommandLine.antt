@@ -6,6 +6,7 @@ use Rattle.clap.specs.declared.builder.action.ArgAction.TheVariants.{SetTrue}
 use Rattle.clap.specs.declared.builder.value_parser.ValueParser.TheVariants.{Signed}
 use Rattle.wb_model.specs.declared.limits.TheConstants.{CEILING, LARGEST_BUDGET, LARGEST_MINIMUM, LARGEST_STEP, SMALLEST_STEP}
 use Rattle.wb_command_line.specs.Subcommands.{Subcommand, subcommands}
+use Rattle.wb_command_line.specs.declared.command_line.following.TheConstants.{MOST_FOLLOWED}
 use Rattle.wb_command_line.specs.declared.command_line.parser.Level.{Level}
 use Rattle.wb_command_line.specs.declared.command_line.parser.NumberOption.{NumberOption}
 use Rattle.wb_command_line.specs.declared.command_line.parser.Takes.{Takes}
@@ -29,6 +30,10 @@ also_option = number_option (codes "also") 0 CEILING
 
 abbrev pub every_option : Rule
 every_option = number_option (codes "every") 0 CEILING
+
+-- `--set LIST`, where LIST is any text as far as clap knows
+abbrev pub set_option : Rule
+set_option = record (new_rule (codes "set")) { long = Some (codes "set"); value_names = 1 }
 
 abbrev pub budget_option : Rule
 budget_option = number_option (codes "budget") 1 LARGEST_BUDGET
@@ -67,15 +72,28 @@ from_option = number_option (codes "from") 0 CEILING
 abbrev pub to_option : Rule
 to_option = number_option (codes "to") 0 CEILING
 
+abbrev pub follow_flag : Rule
+follow_flag = flag (codes "follow") (codes "follow")
+
+abbrev pub follow_steps_option : Rule
+follow_steps_option = number_option (codes "follow-steps") 1 MOST_FOLLOWED
+
 abbrev pub failure_flags : List Rule
 failure_flags = rates_flag ∷ pairs_flag ∷ all_flag ∷ []
 
 abbrev pub part_options : List Rule
 part_options = from_option ∷ to_option ∷ []
 
+abbrev pub rule_options : List Rule
+rule_options = limit_option ∷ fail_option ∷ also_option ∷ every_option ∷ set_option ∷ []
+
+-- those that ask for the steps of a run
+abbrev pub following_options : List Rule
+following_options = follow_flag ∷ follow_steps_option ∷ []
+
 -- the options that a subcommand has beside those of all
 abbrev pub own_options : Takes → List Rule
-own_options taking.Rule = limit_option ∷ fail_option ∷ also_option ∷ every_option ∷ []
+own_options taking.Rule = rule_options ++ following_options
 own_options taking.Failures = failure_flags
 own_options taking.Part = failure_flags ++ part_options
 own_options taking.Neither = []
@@ -95,9 +113,9 @@ with_rules = fold with_rule
 abbrev pub line_with : Text → List Rule → App
 line_with name options = with_rules (new_app name) (file_argument ∷ options ++ shared_options)
 
--- `NAME [--limit L] [--fail N] [--also J] [--every N] [--budget B] [--min M] [--step G] [--json] [--picture FILE] [FILE]`,
--- the same with flags `--every`, `--pairs` and `--all` in the place of a rule, with these and `[--from I] [--to J]`, or with none
--- of them
+-- `NAME [--limit L] [--fail N] [--also J] [--every N] [--set LIST] [--follow] [--follow-steps N] [--budget B] [--min M] [--step G] [--json]
+-- [--picture FILE] [FILE]`, the same with flags `--every`, `--pairs` and `--all` in the place of a rule and of the steps, with these and
+-- `[--from I] [--to J]`, or with none of them
 abbrev pub subcommand_line : Text → Takes → App
 subcommand_line name takes = line_with name (own_options takes)
 

@@ -8,13 +8,15 @@ use Rattle.clap.specs.Words.{Row, Text, fault_of, first_of, one_of, subcommand_o
 use Rattle.wb_model.specs.declared.failures.Failures.{Failures}
 use Rattle.wb_model.specs.declared.failures.Failures.TheVariants as failures
 use Rattle.wb_model.specs.declared.heap.Rule.{Rule}
-use Rattle.wb_model.specs.declared.heap.Rule.TheVariants.{Every, Limit, Number, Pair, Unlimited}
+use Rattle.wb_model.specs.declared.heap.Rule.TheVariants.{Every, Limit, Number, Pair, Set, Unlimited}
 use Rattle.wb_model.specs.declared.heap.Shape.{Shape}
 use Rattle.wb_model.specs.declared.part.Part.{Part}
 use Rattle.wb_model.specs.declared.limits.TheConstants.{CEILING, DEFAULT_BUDGET, DEFAULT_MINIMUM, DEFAULT_STEP}
 use Rattle.wb_command_line.specs.Command.{are_in_order}
 use Rattle.wb_command_line.specs.CommandLine.{command_line}
+use Rattle.wb_command_line.specs.SetList.{is_list, numbers_in}
 use Rattle.wb_command_line.specs.Subcommands.{Trial, subcommand_named}
+use Rattle.wb_command_line.specs.declared.command_line.following.TheConstants.{DEFAULT_FOLLOWED}
 use Rattle.wb_command_line.specs.declared.command.Command.{Command}
 use Rattle.wb_command_line.specs.declared.command.Task.{Task}
 use Rattle.wb_command_line.specs.declared.command_line.parser.Takes.{Takes}
@@ -38,10 +40,28 @@ are_several a b c =
     (is_some a && is_some b) || ((is_some a && is_some c) || (is_some b && is_some c))
 
 -- more than one of a limit, the number of an attempt and a rate is given
-abbrev pub gives_several : List Row → Bool
-gives_several rows =
+abbrev pub gives_several_numbers : List Row → Bool
+gives_several_numbers rows =
     are_several (number_of (codes "limit") rows) (number_of (codes "fail") rows)
     (number_of (codes "every") rows)
+
+-- the text of a set was given, and it is no list
+abbrev pub gives_no_list : List Row → Bool
+gives_no_list rows = option_map_or (λ text. not (is_list text)) (first_of (codes "set") rows) false
+
+-- the numbers of a set, where one was given
+abbrev pub set_of : List Row → Option (List ℕ)
+set_of rows = option_map numbers_in (first_of (codes "set") rows)
+
+-- a rule is there: a limit, the number of an attempt, or a rate
+abbrev pub is_any : Option ℕ → Option ℕ → Option ℕ → Bool
+is_any a b c = is_some a || (is_some b || is_some c)
+
+-- more than one of a limit, the number of an attempt, a rate and a set is given
+abbrev pub gives_several : List Row → Bool
+gives_several rows =
+    gives_several_numbers rows || (is_some (set_of rows)
+    && is_any (number_of (codes "limit") rows) (number_of (codes "fail") rows) (number_of (codes "every") rows))
 
 -- a second number is there, and no first that it comes after
 abbrev pub are_disordered : Option ℕ → Option ℕ → Bool
@@ -56,23 +76,29 @@ gives_disorder rows = are_disordered (number_of (codes "fail") rows) (number_of 
 abbrev pub failing_rule : Option ℕ → ℕ → Rule
 failing_rule second first = option_map_or (Pair first) second (Number first)
 
--- the rule of what is there of a limit, a number and a rate, where no more than one of them is, and a second number only
+-- the rule of what is there of a limit, a number, a rate and a set, where no more than one of them is, and a second number only
 -- beside the first
-abbrev pub rule_by : Option ℕ → Option ℕ → Option ℕ → Option ℕ → Rule
-rule_by limit number second rate =
+abbrev pub rule_by : Option ℕ → Option ℕ → Option ℕ → Option ℕ → Option (List ℕ) → Rule
+rule_by limit number second rate set =
     option_map_or Limit limit
-    (option_map_or (failing_rule second) number (option_map_or Every rate Unlimited))
+    (option_map_or (failing_rule second) number (option_map_or Every rate (option_map_or Set set Unlimited)))
 
 abbrev pub rule_of : List Row → Rule
 rule_of rows =
     rule_by (number_of (codes "limit") rows) (number_of (codes "fail") rows)
-    (number_of (codes "also") rows) (number_of (codes "every") rows)
+    (number_of (codes "also") rows) (number_of (codes "every") rows) (set_of rows)
 
 -- the rule of the others, whatever second number is given
 abbrev pub first_rule_of : List Row → Rule
 first_rule_of rows =
     rule_by (number_of (codes "limit") rows) (number_of (codes "fail") rows) None
-    (number_of (codes "every") rows)
+    (number_of (codes "every") rows) (set_of rows)
+
+-- and whatever set
+abbrev pub numbered_rule_of : List Row → Rule
+numbered_rule_of rows =
+    rule_by (number_of (codes "limit") rows) (number_of (codes "fail") rows) None
+    (number_of (codes "every") rows) None
 
 -- the rule lets one attempt fail, and the other comes after it
 abbrev pub comes_before : Rule → ℕ → Bool
@@ -135,6 +161,14 @@ abbrev pub task_of : Text → List Row → Option Task
 task_of name rows =
     option_map (λ s. s.task (rule_of rows) (trial_of rows)) (subcommand_named name)
 
+-- how many of the first steps are followed and how many of the last, where steps are
+abbrev pub followed_of : List Row → ℕ
+followed_of rows = unwrap_or (number_of (codes "follow-steps") rows) DEFAULT_FOLLOWED
+
+-- `None` where none are: a number without the flag asks for none
+abbrev pub follow_of : List Row → Option ℕ
+follow_of rows = if flag_of (codes "follow") rows then Some (followed_of rows) else None
+
 -- the command of a task, by the matches of its subcommand
 abbrev pub command_with : List Row → Task → Command
 command_with rows task = record {
@@ -144,6 +178,7 @@ command_with rows task = record {
   shape = shape_of rows;
   json = flag_of (codes "json") rows;
   picture = first_of (codes "picture") rows;
+  follow = follow_of rows;
 }
 
 -- the command of a subcommand's name and matches
@@ -163,19 +198,26 @@ gives_more_than_one taking.Failures rows = gives_too_many rows
 gives_more_than_one taking.Part rows = gives_too_many rows
 gives_more_than_one taking.Neither rows = false
 
--- the subcommand takes a rule, and more than one of a limit, a number and a rate is given to it; or failures, and pairs are asked for
--- together with rates or with all that is found
+-- the subcommand takes a rule, and more than one of a limit, a number, a rate and a set is given to it; or failures, and pairs are
+-- asked for together with rates or with all that is found
 abbrev pub doubles : Text → List Row → Bool
 doubles name rows =
     option_map_or (λ s. gives_more_than_one s.takes rows) (subcommand_named name) false
+
+-- the subcommand takes a rule, and the text of a set is given to it that is no list
+abbrev pub mislists : Text → List Row → Bool
+mislists name rows =
+    option_map_or (λ s. takes_rule s.takes) (subcommand_named name) false && gives_no_list rows
 
 -- the subcommand takes a rule, and a second number is given to it that doesn't come after a first
 abbrev pub disorders : Text → List Row → Bool
 disorders name rows =
     option_map_or (λ s. takes_rule s.takes) (subcommand_named name) false && gives_disorder rows
 
--- no more than one rule is given, or than goes together of what is to be tried, and a second number only after a first, and this is the command
+-- a set that is given is a list, no more than one rule is given, or than goes together of what is to be tried, and a second number only
+-- after a first, and this is the command
 pub record IsMeantBy (name : Text) (rows : List Row) (command : Command) : Type 0 where
+  pub listed : mislists name rows ≡ false
   pub one_rule : doubles name rows ≡ false
   pub in_order : disorders name rows ≡ false
   pub meaning : command_of (name, rows) ≡ Some command
@@ -184,7 +226,11 @@ pub record IsMeantBy (name : Text) (rows : List Row) (command : Command) : Type 
 abbrev pub spelled : List Text → Option Command
 spelled words = option_and_then command_of (subcommand_of command_line words)
 
--- the words give more than one of a limit, a number and a rate, or flags that don't go together
+-- the words give a set whose text is no list
+abbrev pub spell_no_list : List Text → Bool
+spell_no_list words = option_map_or (λ p. mislists p.0 p.1) (subcommand_of command_line words) false
+
+-- they give more than one of a limit, a number, a rate and a set, or flags that don't go together
 abbrev pub spell_both : List Text → Bool
 spell_both words = option_map_or (λ p. doubles p.0 p.1) (subcommand_of command_line words) false
 
@@ -193,10 +239,11 @@ abbrev pub spell_disorder : List Text → Bool
 spell_disorder words =
     option_map_or (λ p. disorders p.0 p.1) (subcommand_of command_line words) false
 
--- clap finds no fault in the words, no more than one rule is there, nor flags that don't go together, a second number only after a
--- first, and this is what they spell
+-- clap finds no fault in the words, a set that they give is a list, no more than one rule is there, nor flags that don't go together, a
+-- second number only after a first, and this is what they spell
 pub record IsSpelledBy (words : List Text) (command : Command) : Type 0 where
   pub faultless : fault_of command_line words ≡ []
+  pub listed : spell_no_list words ≡ false
   pub one_rule : spell_both words ≡ false
   pub in_order : spell_disorder words ≡ false
   pub meaning : spelled words ≡ Some command

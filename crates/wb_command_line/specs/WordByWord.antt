@@ -31,7 +31,7 @@ shared_names = codes "budget" ∷ codes "min" ∷ codes "step" ∷ codes "json" 
 
 -- those that a subcommand has beside them
 abbrev pub own_names : Takes → List Text
-own_names taking.Rule = codes "limit" ∷ codes "fail" ∷ codes "also" ∷ codes "every" ∷ []
+own_names taking.Rule = codes "limit" ∷ codes "fail" ∷ codes "also" ∷ codes "every" ∷ codes "set" ∷ codes "follow" ∷ codes "follow-steps" ∷ []
 own_names taking.Failures = codes "every" ∷ codes "pairs" ∷ codes "all" ∷ []
 own_names taking.Part = codes "every" ∷ codes "pairs" ∷ codes "all" ∷ codes "from" ∷ codes "to" ∷ []
 own_names taking.Neither = []
@@ -65,7 +65,7 @@ file_named _ = None
 abbrev pub plain_trial : Trial
 plain_trial = record { failures = Single; part = whole; all = false }
 
--- a task on the file, or on standard input, with the default budget and shape, as lines and without a picture
+-- a task on the file, or on standard input, with the default budget and shape, as lines, without a picture, and no step is followed
 abbrev pub plain_command : Task → Option Text → Command
 plain_command task file = record {
   task = task;
@@ -74,6 +74,7 @@ plain_command task file = record {
   shape = default_shape;
   json = false;
   picture = None;
+  follow = None;
 }
 
 pub record AreTaken (words : List Text) (command : Command) : Type 0 where

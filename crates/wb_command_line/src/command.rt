@@ -13,7 +13,7 @@ use wb_model::heap::{Rule, Shape};
 use wb_model::part::Part;
 
 /// What is to be done with the script.
-#[derive(Clone, Copy, Debug, PartialEq, Eq)]
+#[derive(Debug, Drop)]
 pub enum Task {
     /// One run under this rule.
     Run(Rule),
@@ -47,15 +47,18 @@ pub struct Command {
     pub json: bool,
     /// The file that a picture of the runs is written to; `None` if none is wanted.
     pub picture: Option<FileName>,
+    /// How many of the first steps of the run are followed, and how many of the last, from 1 to 1,000,000; `None` if none are.
+    pub follow: Option<u32>,
 }
 
 /// Why words are no command.
 #[derive(Debug, Drop, Error)]
 pub enum CommandFault {
-    /// `clap` refuses the words, or they call for help; its text is for the user.
+    /// `clap` refuses the words, or they call for help, or it takes them but the text of a set is no list; its text is for the
+    /// user.
     #[error("{0}")]
     Usage(clap::Error),
-    /// `clap` takes the words, but they give more than one of a limit, the number of an attempt and a rate, or ask for
+    /// `clap` takes the words, but they give more than one of a limit, the number of an attempt, a rate and a set, or ask for
     /// pairs to be tried and for rates, or for each failure to be told of. It comes before `Also`.
     #[error("error: two of these options don't go together\n")]
     Both,

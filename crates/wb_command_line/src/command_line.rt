@@ -1,5 +1,5 @@
-//! How the words of a command line are read: `workbench run [--limit L | --fail N [--also J] | --every N] [--budget B]
-//! [--min M] [--step G] [--json] [--picture FILE] [FILE]`, the same with flags `--every`, `--pairs` and `--all` in the place of a rule after
+//! How the words of a command line are read: `workbench run [--limit L | --fail N [--also J] | --every N | --set LIST] [--follow]
+//! [--follow-steps N] [--budget B] [--min M] [--step G] [--json] [--picture FILE] [FILE]`, the same with flags `--every`, `--pairs` and `--all` in the place of a rule after
 //! `sweep` and `check`, after `sweep` with `[--from I] [--to J]` too, and with none of them after `size` and `lengths`. Nothing is
 //! opened or run here.
 ghost use Rattle.std.specs.Prelude.{◌≡◌, ◌≤◌, All, IfErr, IfOk, IsSome, IsTrue, List, Some, OnErr, OnOk, codes, false};
@@ -9,31 +9,34 @@ ghost use Rattle.clap.specs.Words.{Text, first_of, found_of, rows_of, takes};
 ghost use Rattle.wb_model.specs.heap.Space.{is_shape};
 ghost use Rattle.wb_command_line.specs.Command.{has_number, is_answerable, is_filled, is_in_range, is_sixteenfold};
 ghost use Rattle.wb_command_line.specs.CommandLine.{command_line, joined_level};
-ghost use Rattle.wb_command_line.specs.Fault.{IsAfterUsage, IsFaultOf, IsFaultOfOptions, IsFaultOfRule, IsFaultOfTask};
+ghost use Rattle.wb_command_line.specs.Fault.{IsAfterUsage, IsFaultOf, IsFaultOfOptions, IsFaultOfTask};
 ghost use Rattle.wb_command_line.specs.Passed.{RowsPass};
-ghost use Rattle.wb_command_line.specs.Spelled.{IsMeantBy, IsPairOf, IsSpelledBy, budget_of as spelled_budget};
-ghost use Rattle.wb_command_line.specs.Spelled.{are_too_many, comes_before, disorders, doubles};
-ghost use Rattle.wb_command_line.specs.Spelled.{failures_by, failures_of as spelled_failures};
-ghost use Rattle.wb_command_line.specs.Spelled.{first_rule_of, flag_of, gives_disorder};
-ghost use Rattle.wb_command_line.specs.Spelled.{gives_several, gives_too_many, part_of as spelled_part};
-ghost use Rattle.wb_command_line.specs.Spelled.{rule_of as spelled_rule, shape_of as spelled_shape};
+ghost use Rattle.wb_command_line.specs.Spelled.{IsMeantBy, IsSpelledBy, are_too_many, budget_of as spelled_budget};
+ghost use Rattle.wb_command_line.specs.Spelled.{disorders, doubles, failures_by, failures_of as spelled_failures};
+ghost use Rattle.wb_command_line.specs.Spelled.{flag_of, gives_too_many, mislists, part_of as spelled_part};
+ghost use Rattle.wb_command_line.specs.Spelled.{shape_of as spelled_shape, spell_no_list};
 ghost use Rattle.wb_command_line.specs.Spelled.{task_of, trial_of as spelled_trial};
 ghost use Rattle.wb_command_line.specs.Subcommands.{check_task, subcommand_named, sweep_task};
 ghost use Rattle.wb_command_line.specs.WordByWord.{AreRead};
 
+mod following;
 mod long_help;
 mod number_help;
 mod parser;
+mod rules;
+mod set_list;
 
 use crate::command::{Command, CommandFault, Task};
+use crate::command_line::following::follow_in;
 use crate::command_line::number_help::NumberHelp;
 use crate::command_line::parser::parser;
+use crate::command_line::rules::rule_in;
 use crate::file_name::FileName;
 use clap::ArgMatches;
 use std::alloc::{AllocError, Global};
 use std::convert::AsStr;
 use wb_model::failures::Failures;
-use wb_model::heap::{Rule, Shape};
+use wb_model::heap::Shape;
 use wb_model::limits::{CEILING, DEFAULT_BUDGET, DEFAULT_MINIMUM, DEFAULT_STEP, LARGEST_BUDGET};
 use wb_model::part::Part;
 
@@ -43,15 +46,17 @@ const GRANULE: u32 = 16;
 /// The command that the words spell; the first of them is the program's name, and is not looked at. What the
 /// words don't say has its default, and the numbers are in their ranges.
 ///
-/// Words that `clap` doesn't take, and calls for help or the version, are `Usage`. Where it takes them, more than one of a
-/// limit, the number of an attempt and a rate is `Both`, and so are pairs together with rates or with all that is found. Else
-/// the number of a second attempt is `Also` where that of a first is missing, 0 or not less; else a minimum length or a step
-/// that is no multiple of 16 is `Shape`; and else a part that ends before it begins is `Range`. `NoMemory` comes where a growth
-/// was refused, of the workbench or of `clap`, and says nothing of the words.
+/// Words that `clap` doesn't take, and calls for help or the version, are `Usage`. Where it takes them, a set whose text is no
+/// list is `Usage` too. Else more than one of a limit, the number of an attempt, a rate and a set is `Both`, and so are pairs
+/// together with rates or with all that is found. Else the number of a second attempt is `Also` where that of a first is
+/// missing, 0 or not less; else a minimum length or a step that is no multiple of 16 is `Shape`; and else a part that ends
+/// before it begins is `Range`. `NoMemory` comes where a growth was refused, of the workbench or of `clap`, and says nothing of
+/// the words.
 pub fn command<'a, S: AsStr>(alloc: Global, words: &'a [S]) -> Result<Command, CommandFault>
     ensures spelled { IfOk result (IsSpelledBy (map S.text words.now)) }
     ensures numbers { IfOk result (λ command. IsTrue (is_answerable command)) }
-    ensures taken { takes command_line (map S.text words.now) ≡ true → IfErr result IsAfterUsage }
+    ensures taken { takes command_line (map S.text words.now) ≡ true
+        → spell_no_list (map S.text words.now) ≡ false → IfErr result IsAfterUsage }
     ensures fault { IfErr result (IsFaultOf (map S.text words.now)) }
 {
     let help = NumberHelp::new(alloc)?;
@@ -62,7 +67,7 @@ pub fn command<'a, S: AsStr>(alloc: Global, words: &'a [S]) -> Result<Command, C
     command_in(alloc, name, options)
 }
 
-/// The command of a subcommand with these options, or `Both`, `Also`, `Shape` or `Range`.
+/// The command of a subcommand with these options, or `Usage`, `Both`, `Also`, `Shape` or `Range`.
 fn command_in(alloc: Global, name: &str, options: &ArgMatches) -> Result<Command, CommandFault>
     requires named { IsSome (subcommand_named name.now) }
     requires passed { RowsPass joined_level.rules (rows_of (found_of options.now)) }
@@ -70,9 +75,9 @@ fn command_in(alloc: Global, name: &str, options: &ArgMatches) -> Result<Command
     ensures numbers { IfOk result (λ command. IsTrue (is_answerable command)) }
     ensures fault { IfErr result (IsFaultOfOptions name.now (rows_of (found_of options.now))) }
 {
-    let task = task_in(name, options)?;
+    let task = task_in(alloc, name, options)?;
     let shape = shape_in(options)?;
-    check_part_of(task)?;
+    check_part_of(&task)?;
     Ok(Command {
         task,
         file: file_in(alloc, options)?,
@@ -80,23 +85,25 @@ fn command_in(alloc: Global, name: &str, options: &ArgMatches) -> Result<Command
         shape,
         json: json_in(options),
         picture: picture_in(alloc, options)?,
+        follow: follow_in(options),
     })
 }
 
-/// What a subcommand asks for, or `Both` or `Also`.
+/// What a subcommand asks for, or `Usage`, `Both` or `Also`.
 #[tactic(auto, using(crate::proofs::CommandLineLemmas::last_doubled))]
-fn task_in(name: &str, options: &ArgMatches) -> Result<Task, CommandFault>
+fn task_in(alloc: Global, name: &str, options: &ArgMatches) -> Result<Task, CommandFault>
     requires named { IsSome (subcommand_named name.now) }
     requires passed { RowsPass joined_level.rules (rows_of (found_of options.now)) }
     ensures ok { IfOk result
         (λ task. task_of name.now (rows_of (found_of options.now)) ≡ Some task) }
     ensures range { IfOk result (λ task. IsTrue (is_in_range task)) }
+    ensures list { OnOk result (mislists name.now (rows_of (found_of options.now)) ≡ false) }
     ensures alone { OnOk result (doubles name.now (rows_of (found_of options.now)) ≡ false) }
     ensures ordered { OnOk result (disorders name.now (rows_of (found_of options.now)) ≡ false) }
     ensures fault { IfErr result (IsFaultOfTask name.now (rows_of (found_of options.now))) }
 {
     match name {
-        "run" => Ok(Task::Run(rule_in(options)?)),
+        "run" => Ok(Task::Run(rule_in(alloc, options)?)),
         "size" => Ok(Task::Size),
         "lengths" => Ok(Task::Lengths),
         "sweep" => Ok(sweep_in(options)?),
@@ -106,13 +113,13 @@ fn task_in(name: &str, options: &ArgMatches) -> Result<Task, CommandFault>
 }
 
 /// Nothing if the part that a task names, if it names one, has a number; else `Range`.
-fn check_part_of(task: Task) -> Result<(), CommandFault>
-    ensures ok { OnOk result (IsTrue (is_filled task)) }
+fn check_part_of(task: &Task) -> Result<(), CommandFault>
+    ensures ok { OnOk result (IsTrue (is_filled task.now)) }
     ensures fault { IfErr result (λ fault. fault ≡ CommandFault.Range) }
-    ensures empty { OnErr result (is_filled task ≡ false) }
+    ensures empty { OnErr result (is_filled task.now ≡ false) }
 {
     match task {
-        Task::Sweep(_, part) | Task::All(_, part) => check_part(part),
+        Task::Sweep(_, part) | Task::All(_, part) => check_part(*part),
         Task::Run(_) | Task::Size | Task::Lengths | Task::Check(_) | Task::CheckAll(_) => Ok(()),
     }
 }
@@ -127,58 +134,6 @@ fn check_part(part: Part) -> Result<(), CommandFault>
         Ok(())
     } else {
         Err(CommandFault::Range)
-    }
-}
-
-/// The rule that the options of `run` spell, or `Both` or `Also`.
-fn rule_in(options: &ArgMatches) -> Result<Rule, CommandFault>
-    requires { RowsPass joined_level.rules (rows_of (found_of options.now)) }
-    ensures ok { IfOk result (λ rule. rule ≡ spelled_rule (rows_of (found_of options.now))) }
-    ensures range { IfOk result (λ rule. IsTrue (is_in_range (Task.Run rule))) }
-    ensures alone { OnOk result (gives_several (rows_of (found_of options.now)) ≡ false) }
-    ensures ordered { OnOk result (gives_disorder (rows_of (found_of options.now)) ≡ false) }
-    ensures fault { IfErr result (IsFaultOfRule (rows_of (found_of options.now))) }
-{
-    let first = first_rule_in(options)?;
-    match options.get_one::<u32>("also") {
-        None => Ok(first),
-        Some(second) => with_second(first, second),
-    }
-}
-
-/// The rule that these options spell without `--also`, or `Both`.
-fn first_rule_in(options: &ArgMatches) -> Result<Rule, CommandFault>
-    requires { RowsPass joined_level.rules (rows_of (found_of options.now)) }
-    ensures ok { IfOk result (λ rule. rule ≡ first_rule_of (rows_of (found_of options.now))) }
-    ensures range { IfOk result (λ rule. IsTrue (is_in_range (Task.Run rule))) }
-    ensures alone { OnOk result (gives_several (rows_of (found_of options.now)) ≡ false) }
-    ensures fault { IfErr result (λ fault. fault ≡ CommandFault.Both) }
-    ensures both { OnErr result (gives_several (rows_of (found_of options.now)) ≡ true) }
-{
-    match (
-        options.get_one::<u32>("limit"),
-        options.get_one::<u32>("fail"),
-        options.get_one::<u32>("every"),
-    ) {
-        (None, None, None) => Ok(Rule::Unlimited),
-        (Some(limit), None, None) => Ok(Rule::Limit(limit)),
-        (None, Some(number), None) => Ok(Rule::Number(number)),
-        (None, None, Some(rate)) => Ok(Rule::Every(rate)),
-        (Some(_), Some(_), _) => Err(CommandFault::Both),
-        (Some(_), None, Some(_)) => Err(CommandFault::Both),
-        (None, Some(_), Some(_)) => Err(CommandFault::Both),
-    }
-}
-
-/// The rule by which the attempt with a second number fails as well, or `Also`.
-fn with_second(first: Rule, second: u32) -> Result<Rule, CommandFault>
-    ensures ok { IfOk result (IsPairOf first second) }
-    ensures fault { IfErr result (λ fault. fault ≡ CommandFault.Also) }
-    ensures disordered { OnErr result (comes_before first second ≡ false) }
-{
-    match first {
-        Rule::Number(number) if 1 <= number && number < second => Ok(Rule::Pair(number, second)),
-        _ => Err(CommandFault::Also),
     }
 }
 

@@ -6,6 +6,9 @@ use clap::error::ErrorKind;
 use std::alloc::{AllocError, Global};
 use std::convert::AsStr;
 
+/// What `clap` adds to an error that `set_list` found, and not to one of a value that it found itself: a usage.
+const USAGE: &str = "\n\nUsage: workbench run\n\nFor more information, try '--help'.\n";
+
 /// Returns the text of a fault that these words have, whose first is the program's name. The only error is that memory ran out.
 pub fn message_of<S: AsStr>(
     alloc: Global,
@@ -14,7 +17,7 @@ pub fn message_of<S: AsStr>(
 ) -> Result<String, AllocError> {
     match fault {
         CommandFault::Usage(error) => {
-            let text = format!(in alloc; "{error}")?;
+            let text = without_usage(alloc, format!(in alloc; "{error}")?)?;
             match tip_for(alloc, words, error.kind(), text.as_str())? {
                 Some(tip) => with_tip(alloc, text.as_str(), tip.as_str()),
                 None => Ok(text),
@@ -25,10 +28,18 @@ pub fn message_of<S: AsStr>(
     }
 }
 
+/// The text of an error of a value, as `clap` writes its own.
+fn without_usage(alloc: Global, text: String) -> Result<String, AllocError> {
+    match text.as_str().strip_suffix(USAGE) {
+        Some(error) => format!(in alloc; "{error}\n\nFor more information, try '--help'.\n"),
+        None => Ok(text),
+    }
+}
+
 /// Which options of a subcommand don't go together.
 fn too_many(subcommand: &str) -> &'static str {
     match subcommand {
-        "run" => "error: give one of '--limit', '--fail' and '--every'\n",
+        "run" => "error: give one of '--limit', '--fail', '--every' and '--set'\n",
         _ => "error: give '--pairs' without '--every' and without '--all'\n",
     }
 }
@@ -126,7 +137,7 @@ fn argument_tip<S: AsStr>(
 /// The subcommands that have an option which some have and others don't; empty if there is no such option.
 fn subcommands_with(name: &str) -> &'static str {
     match name {
-        "limit" | "fail" | "also" => "run",
+        "limit" | "fail" | "also" | "set" | "follow" | "follow-steps" => "run",
         "every" => "run, sweep and check",
         "pairs" | "all" => "sweep and check",
         "from" | "to" => "sweep",

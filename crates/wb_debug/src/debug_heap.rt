@@ -107,7 +107,7 @@ impl DebugHeap {
         Ok(DebugHeap {
             alloc: self.alloc,
             heap: self.heap.try_copy_over(spare)?,
-            rule: self.rule,
+            rule: self.rule.try_copy()?,
             level: self.level,
             setting: self.setting,
             attempts: self.attempts,
@@ -193,7 +193,7 @@ fn with_log(alloc: Global, rule: Rule, shape: Shape, log: Log) -> Result<DebugHe
     ensures no_growth { (first_debug rule shape).committed ≡ 0 → result ≢ Err DebugFault.NoMemory }
     ensures sound { IfOk result IsSoundDebug }
 {
-    let heap = match Heap::new(alloc, limit_under(rule), shape) {
+    let heap = match Heap::new(alloc, limit_under(&rule), shape) {
         Ok(heap) => heap,
         Err(HeapFault::BadShape) => return Err(DebugFault::BadShape),
         Err(_) => return Err(NoMemory.into()),
@@ -318,7 +318,7 @@ impl DebugHeap {
             line.answer) }
     {
         let number = self.attempts + 1;
-        let answer = answer(self.setting.is_due(), self.rule, number, place + len)?;
+        let answer = answer(self.setting.is_due(), &self.rule, number, place + len)?;
         Some(Attempt {
             number,
             length: len,

@@ -1,6 +1,6 @@
 //! Headers, and the words of payloads. Words and their halves are counted from 0; the half 2k is the low half of word k.
 
-ghost use Rattle.std.specs.Prelude.{◌≡◌, ◌+◌, ◌*◌, ◌<◌, ◌≤◌, ◌++◌, length, take, drop, replicate, slice_index};
+ghost use Rattle.std.specs.Prelude.{◌≡◌, ◌+◌, ◌*◌, ◌<◌, ◌≤◌, ◌++◌, true, length, take, drop, replicate, slice_index};
 ghost use Rattle.std.specs.Prelude.{slice_set, option_map, IfSome, IsSome};
 ghost use Rattle.wb_chunk.specs.Halves.{half_of, halves_from, with_half, with_halves};
 ghost use Rattle.wb_model.specs.cells.CellRow.{payload_of};
@@ -29,6 +29,20 @@ impl DebugHeap {
         ensures { result ≡ slice_index (payload_of ptr self.now.heap.row) i }
     {
         self.heap.payload(ptr, i)
+    }
+
+    /// Whether a payload of so many words is that of another heap, at the same place. Where neither was written since it was zeros,
+    /// nothing is read.
+    pub fn has_payload_of(&self, ptr: Ptr, other: &DebugHeap, there: Ptr, n: u32) -> bool
+        requires live { IsSome (cell_at ptr self.now.heap.row) }
+        requires other_live { IsSome (cell_at there other.now.heap.row) }
+        requires words { length (payload_of ptr self.now.heap.row) ≡ n }
+        requires other_words { length (payload_of there other.now.heap.row) ≡ n }
+        requires place { there.place ≡ ptr.place }
+        ensures { result ≡ true →
+            payload_of there other.now.heap.row ≡ payload_of ptr self.now.heap.row }
+    {
+        self.heap.has_payload_of(ptr, &other.heap, there, n)
     }
 
     /// Changes a word of a payload, and nothing else.

@@ -10,26 +10,30 @@ use wb_model::heap::{Answer, Rule};
 use wb_model::limits::CEILING;
 
 /// What a rule says of an attempt whose cell would end here.
-fn refusal(rule: Rule, number: u32, end: u32) -> Option<Answer>
-    ensures { result ≡ refusal_of rule number end }
+fn refusal(rule: &Rule, number: u32, end: u32) -> Option<Answer>
+    ensures { result ≡ refusal_of rule.now number end }
 {
     match rule {
         Rule::Unlimited => None,
-        Rule::Limit(limit) => (limit < end).then_some(Answer::Refused),
-        Rule::Number(failing) => (failing == number).then_some(Answer::Simulated),
+        Rule::Limit(limit) => (*limit < end).then_some(Answer::Refused),
+        Rule::Number(failing) => (*failing == number).then_some(Answer::Simulated),
         Rule::Every(0) => None,
-        Rule::Every(rate) => (number % rate == 0).then_some(Answer::Simulated),
+        Rule::Every(rate) => (number % *rate == 0).then_some(Answer::Simulated),
         Rule::Pair(first, second) => {
-            (first == number || second == number).then_some(Answer::Simulated)
+            (*first == number || *second == number).then_some(Answer::Simulated)
+        }
+        Rule::Set(numbers) => {
+            let is_named = numbers.as_slice().contains(&number);
+            is_named.then_some(Answer::Simulated)
         }
     }
 }
 
 /// The answer to an attempt whose cell would end here, or `None` if the ceiling cuts the run. The script's own setting,
 /// which may be due, is asked before the rule.
-pub fn answer(due: bool, rule: Rule, number: u32, end: u32) -> Option<Answer>
-    ensures { result
-        ≡ (if due then Some Answer.Simulated else unless_refused (refusal_of rule number end) end) }
+pub fn answer(due: bool, rule: &Rule, number: u32, end: u32) -> Option<Answer>
+    ensures { result ≡ (if due then Some Answer.Simulated
+        else unless_refused (refusal_of rule.now number end) end) }
 {
     if due {
         return Some(Answer::Simulated);
@@ -41,12 +45,14 @@ pub fn answer(due: bool, rule: Rule, number: u32, end: u32) -> Option<Answer>
 }
 
 /// The length that a heap may reach under a rule.
-pub fn limit_under(rule: Rule) -> u32
-    ensures { result ≡ limit_under rule }
+pub fn limit_under(rule: &Rule) -> u32
+    ensures { result ≡ limit_under rule.now }
 {
     match rule {
-        Rule::Limit(limit) => limit.min(CEILING),
-        Rule::Unlimited | Rule::Number(_) | Rule::Every(_) | Rule::Pair(..) => CEILING,
+        Rule::Limit(limit) => (*limit).min(CEILING),
+        Rule::Unlimited | Rule::Number(_) | Rule::Every(_) | Rule::Pair(..) | Rule::Set(_) => {
+            CEILING
+        }
     }
 }
 

@@ -5,6 +5,7 @@ ghost use Rattle.wb_model.specs.language.Sound.{is_script};
 
 use crate::copies::compare_copies;
 use crate::forks::compare_forks;
+use crate::meetings::compare_meetings;
 use crate::pairs::compare_pairs;
 use std::alloc::Global;
 use wb_machine::RunFault;
@@ -17,11 +18,14 @@ use wb_script::read;
 pub(crate) enum Comparison {
     /// This many forks were made under numbers and as many under rates, and this many under pairs, and each comes to what its run
     /// does; and as many copies as there are numbers are apart from their sources.
-    Same { forks: u32, pairs: u32 },
+    /// So many of those under numbers met the run without failure, and came to what it does from there on.
+    Same { forks: u32, pairs: u32, met: u32 },
     /// The fork under this failure comes to something else than its run.
     OtherFork(Failing),
     /// The run that the forks were taken from comes to something else than without them.
     OtherRun,
+    /// The fork in which this attempt fails met the run without failure, and came to something else.
+    OtherMeeting(u32),
     /// A copy that was taken before the attempt with this number differs from its source, or what was done to one of them was
     /// seen in the other.
     OtherCopy(u32),
@@ -38,8 +42,18 @@ pub(crate) fn compare(alloc: Global, bytes: &[u8]) -> Option<Comparison> {
 fn compare_script(alloc: Global, script: &Script) -> Result<Comparison, RunFault>
     requires { IsTrue (is_script script.now) }
 {
+    match compare_met_forks(alloc, script)? {
+        Comparison::Same { forks, pairs, met } => compare_copies(alloc, script, forks, pairs, met),
+        other => Ok(other),
+    }
+}
+
+/// Compares all forks with their runs, and then those that meet the run without failure with it.
+fn compare_met_forks(alloc: Global, script: &Script) -> Result<Comparison, RunFault>
+    requires { IsTrue (is_script script.now) }
+{
     match compare_all_forks(alloc, script)? {
-        Comparison::Same { forks, pairs } => compare_copies(alloc, script, forks, pairs),
+        Comparison::Same { forks, pairs, .. } => compare_meetings(alloc, script, forks, pairs),
         other => Ok(other),
     }
 }

@@ -32,13 +32,14 @@ enum First {
 const NONE: Rule = Rule::Number(0);
 
 /// Copies a script's run without failure before each of its attempts, of which there are as many as forks under numbers, and
-/// says whether each copy and its source are apart, whichever of the two ends first. That many forks under pairs were compared
-/// before.
+/// says whether each copy and its source are apart, whichever of the two ends first. So many forks under pairs were compared
+/// before, and so many that met the run.
 pub(crate) fn compare_copies(
     alloc: Global,
     script: &Script,
     forks: u32,
     pairs: u32,
+    met: u32,
 ) -> Result<Comparison, RunFault>
     requires { IsTrue (is_script script.now) }
 {
@@ -47,7 +48,7 @@ pub(crate) fn compare_copies(
             return Ok(Comparison::OtherCopy(made + 1));
         }
     }
-    Ok(Comparison::Same { forks, pairs })
+    Ok(Comparison::Same { forks, pairs, met })
 }
 
 /// Whether a copy and its source are apart, where the copy is taken when `made` attempts are made and the next is to come.
@@ -66,7 +67,7 @@ fn one_waits(alloc: Global, script: &Script, made: u32, first: First) -> Result<
 {
     let mut source = Machine::new(alloc, script, NONE, BUDGET, SHAPE)?;
     let is_copy_apart = is_copy_apart(alloc, script, made, first, &mut source);
-    let is_source_as_run = comes_to_run(alloc, script, NONE, source)?;
+    let is_source_as_run = comes_to_run(alloc, script, &NONE, source)?;
     Ok(is_source_as_run && is_copy_apart?)
 }
 
@@ -83,7 +84,7 @@ fn is_copy_apart(
     go_to_attempt(source, made)?;
     let mut copy = source.try_copy()?;
     let stays = one_stays(first, source, &mut copy);
-    let is_copy_as_run = comes_to_run(alloc, script, NONE, copy)?;
+    let is_copy_as_run = comes_to_run(alloc, script, &NONE, copy)?;
     Ok(is_copy_as_run && stays?)
 }
 

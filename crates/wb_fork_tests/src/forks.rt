@@ -21,10 +21,10 @@ pub(crate) fn compare_forks(
 ) -> Result<Comparison, RunFault>
     requires { IsTrue (is_script script.now) }
 {
-    let none = failures.at(0).rule();
-    let mut lead = Machine::new(alloc, script, none, BUDGET, SHAPE)?;
+    let none = failures.at(0);
+    let mut lead = Machine::new(alloc, script, none.rule(), BUDGET, SHAPE)?;
     let forks = walk(alloc, script, failures, &mut lead);
-    if comes_to_run(alloc, script, none, lead)? {
+    if comes_to_run(alloc, script, &none.rule(), lead)? {
         forks
     } else {
         Ok(Comparison::OtherRun)
@@ -59,7 +59,11 @@ fn walk(
             break;
         }
     }
-    Ok(Comparison::Same { forks, pairs: 0 })
+    Ok(Comparison::Same {
+        forks,
+        pairs: 0,
+        met: 0,
+    })
 }
 
 /// Whether the fork in which the next attempt, which has this number, is the first to fail comes to what the whole run under
@@ -79,7 +83,7 @@ fn is_fork_as_run(
     requires well { lead.now.failed ≡ false }
     requires lines { lead.now.keeps_rises ≡ false }
 {
-    let rule = failures.at(number).rule();
-    let run_result = result_under(lead, rule, spare)?;
-    is_result(alloc, script, rule, &run_result)
+    let failing = failures.at(number);
+    let run_result = result_under(lead, failing.rule(), spare)?;
+    is_result(alloc, script, &failing.rule(), &run_result)
 }

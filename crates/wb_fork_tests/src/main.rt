@@ -2,13 +2,15 @@
 //!
 //! A fork is a copy of the run that goes on under another rule, so that an attempt fails which the run itself is granted: it
 //! alone, or from it on each whose number is a multiple of its own. From a fork in which one attempt has failed, further ones are
-//! taken, in each of which a later attempt fails as well. The program reads the script on standard input, and says how many forks
+//! taken, in each of which a later attempt fails as well. A fork in which one attempt has failed may meet the run without failure: then it
+//! must go on as that does, but for allocation numbers. The program reads the script on standard input, and says how many forks
 //! there are. Where a fork or a copy comes to anything else than it should, the program says which, and ends with status 1.
 #![tactic(auto)]
 
 mod comparison;
 mod copies;
 mod forks;
+mod meetings;
 mod pairs;
 mod results;
 
@@ -25,9 +27,12 @@ fn main(rt: HostRuntime) -> ExitCode {
 /// Says what was found.
 fn say(rt: &HostRuntime) -> io::Result<ExitCode> {
     match compare_input(rt)? {
-        Some(Comparison::Same { forks, pairs }) => {
+        Some(Comparison::Same { forks, pairs, met }) => {
             println!(rt;
-                "{forks} forks under numbers, as many under rates and {pairs} under pairs, each as its run, and {forks} copies, each apart from its source"
+                "{forks} forks under numbers, as many under rates and {pairs} under pairs, each as its run"
+            )?;
+            println!(rt;
+                "forks that met the run without failure, each going on as it does: {met}; copies, each apart from its source: {forks}"
             )?;
             return Ok(ExitCode::SUCCESS);
         }
@@ -43,6 +48,9 @@ fn say(rt: &HostRuntime) -> io::Result<ExitCode> {
             println!(rt; "another result where attempts {first} and {second} fail")?;
         }
         Some(Comparison::OtherRun) => println!(rt; "another result of the run itself")?,
+        Some(Comparison::OtherMeeting(number)) => {
+            println!(rt; "another result after a meeting where attempt {number} fails")?;
+        }
         Some(Comparison::OtherCopy(number)) => {
             println!(rt; "a copy before attempt {number} isn't apart from its source")?;
         }

@@ -36,7 +36,11 @@ pub(crate) fn compare_pairs(
             break;
         }
     }
-    Ok(Comparison::Same { forks, pairs })
+    Ok(Comparison::Same {
+        forks,
+        pairs,
+        met: 0,
+    })
 }
 
 /// The first pair whose fork comes to something else, of those of which the first attempt is the one that the next turn makes, if
@@ -57,14 +61,13 @@ fn other_with_next(
         return Ok(None);
     }
     let first = lead.attempts() + 1;
-    let rule = Rule::Number(first);
     let mut fork = lead.try_copy()?;
-    fork.set_rule(rule);
+    fork.set_rule(Rule::Number(first));
     let other = match fork.step()? {
         Turn::GoesOn => other_after(alloc, script, first, &mut fork, pairs)?,
         Turn::Ended => None,
     };
-    if comes_to_run(alloc, script, rule, fork)? {
+    if comes_to_run(alloc, script, &Rule::Number(first), fork)? {
         Ok(other)
     } else {
         Ok(Some(Failing::Number(first)))
@@ -123,7 +126,6 @@ fn is_pair_as_run(
     requires well { fork.now.failed ≡ false }
     requires lines { fork.now.keeps_rises ≡ false }
 {
-    let rule = Rule::Pair(first, second);
-    let run_result = result_under(fork, rule, spare)?;
-    is_result(alloc, script, rule, &run_result)
+    let run_result = result_under(fork, Rule::Pair(first, second), spare)?;
+    is_result(alloc, script, &Rule::Pair(first, second), &run_result)
 }

@@ -6,7 +6,7 @@ ghost use Rattle.wb_model.specs.language.Sound.{is_script};
 use std::alloc::Global;
 use wb_machine::{Machine, RunFault, run};
 use wb_model::heap::{Rule, Shape};
-use wb_model::run::{Lines, Outcome, RunResult};
+use wb_model::run::{Leaks, Lines, Outcome, RunResult, Why};
 use wb_model::script::Script;
 
 /// The greatest number of steps of each run.
@@ -19,11 +19,18 @@ pub(crate) const SHAPE: Shape = Shape {
 /// The first turn, one for each step, and one that cuts the run.
 pub(crate) const MOST_TURNS: u32 = BUDGET + 2;
 
+/// How far a run has come.
+#[derive(Clone, Copy, Debug, PartialEq, Eq)]
+pub(crate) struct Reached {
+    pub(crate) attempts: u32,
+    pub(crate) steps: u32,
+}
+
 /// Whether a run under way, of this script and under this rule, comes to what the whole run does.
 pub(crate) fn comes_to_run(
     alloc: Global,
     script: &Script,
-    rule: Rule,
+    rule: &Rule,
     machine: Machine,
 ) -> Result<bool, RunFault>
     requires { IsTrue (is_script script.now) }
@@ -36,12 +43,12 @@ pub(crate) fn comes_to_run(
 pub(crate) fn is_result(
     alloc: Global,
     script: &Script,
-    rule: Rule,
+    rule: &Rule,
     run_result: &RunResult,
 ) -> Result<bool, RunFault>
     requires { IsTrue (is_script script.now) }
 {
-    let whole = run(alloc, script, rule, BUDGET, SHAPE)?;
+    let whole = run(alloc, script, rule.try_copy()?, BUDGET, SHAPE)?;
     Ok(is_same(&whole, run_result))
 }
 
@@ -75,6 +82,66 @@ fn is_same_outcome(one: &Outcome, other: &Outcome) -> bool {
         (Outcome::Cut(one), Outcome::Cut(other)) => *one == *other,
         _ => false,
     }
+}
+
+/// Whether two runs come to the same from where they had come, but for allocation numbers: as many further steps and attempts, and
+/// the same end, in which the leaks have the same places and lengths. Where the budget cuts one of them nothing is asked.
+pub(crate) fn is_same_from(
+    one: &RunResult,
+    here: Reached,
+    other: &RunResult,
+    there: Reached,
+) -> bool {
+    if is_past_budget(&one.outcome) || is_past_budget(&other.outcome) {
+        return true;
+    }
+    one.steps.saturating_sub(here.steps) == other.steps.saturating_sub(there.steps)
+        && one
+            .trace
+            .as_slice()
+            .iter()
+            .skip(here.attempts as usize)
+            .count()
+            == other
+                .trace
+                .as_slice()
+                .iter()
+                .skip(there.attempts as usize)
+                .count()
+        && is_like_outcome(&one.outcome, &other.outcome)
+}
+
+fn is_past_budget(outcome: &Outcome) -> bool {
+    match outcome {
+        Outcome::Cut(Why::Budget) => true,
+        _ => false,
+    }
+}
+
+/// Whether two outcomes are the same but for the numbers of leaks.
+fn is_like_outcome(one: &Outcome, other: &Outcome) -> bool {
+    match (one, other) {
+        (
+            Outcome::Ended { left, leaks },
+            Outcome::Ended {
+                left: other_left,
+                leaks: other_leaks,
+            },
+        ) => *left == *other_left && are_like_leaks(leaks, other_leaks),
+        _ => is_same_outcome(one, other),
+    }
+}
+
+fn are_like_leaks(one: &Leaks, other: &Leaks) -> bool {
+    if one.len() != other.len() {
+        return false;
+    }
+    for (leak, other) in one.as_slice().iter().zip(other.as_slice()) {
+        if leak.place != other.place || leak.length != other.length {
+            return false;
+        }
+    }
+    true
 }
 
 fn are_same_lines(one: &Lines, other: &Lines) -> bool {

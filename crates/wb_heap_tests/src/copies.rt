@@ -3,12 +3,13 @@
 
 use crate::debug_calls::{Call as DebugCall, Marked, WorkedDebugHeap};
 use crate::heap_calls::{Call as HeapCall, Numbered, WorkedHeap};
+use crate::rules::Refuses;
 use crate::walker::{Called, all_answer};
 use std::test::Fail;
 use wb_cells::Cells;
 use wb_chunk::Chunk;
 use wb_model::heap::Answer::Granted;
-use wb_model::heap::{Header, Kind, Ptr, Rule, Shape};
+use wb_model::heap::{Header, Kind, Ptr, Shape};
 
 const SHAPE: Shape = Shape { min: 0, step: 4096 };
 
@@ -22,7 +23,7 @@ struct Copied<W, C: 'static> {
 static DEBUG_HEAP: Copied<WorkedDebugHeap, DebugCall> = Copied {
     before: WorkedDebugHeap {
         about: "cells that were freed merge",
-        rule: Rule::Number(0),
+        rule: Refuses::Number(0),
         shape: SHAPE,
         calls: &[
             DebugCall::Alloc(16, (144, 2)),

@@ -3,11 +3,12 @@
 ghost use Rattle.std.specs.Prelude.{◌≡◌};
 
 use crate::heap_calls::{Cell, header, pointer};
+use crate::rules::Refuses;
 use crate::walker;
 use crate::walker::Called;
 use std::alloc::Global;
 use wb_debug::{DebugFault, DebugHeap};
-use wb_model::heap::{Answer, Attempt, Gave, Kind, Panic, Ptr, Rule, Shape};
+use wb_model::heap::{Answer, Attempt, Gave, Kind, Panic, Ptr, Shape};
 use wb_model::limits::CEILING;
 use wb_model::run::{Leak, Leaks, Note, Trace};
 
@@ -69,7 +70,7 @@ pub(crate) enum Call {
 pub(crate) struct WorkedDebugHeap {
     /// What it shows.
     pub(crate) about: &'static str,
-    pub(crate) rule: Rule,
+    pub(crate) rule: Refuses,
     pub(crate) shape: Shape,
     pub(crate) calls: &'static [Call],
 }
@@ -137,7 +138,7 @@ impl Marked {
     /// A heap after attempt 1.
     pub(crate) fn new(alloc: Global, worked: &WorkedDebugHeap) -> Result<Marked, DebugFault> {
         let mut marked = Marked {
-            heap: DebugHeap::new(alloc, worked.rule, worked.shape)?,
+            heap: DebugHeap::new(alloc, worked.rule.rule(alloc)?, worked.shape)?,
             marks: 0,
         };
         match marked.attempt(128, Kind::Cleanup) {

@@ -2,6 +2,7 @@
 //! have.
 
 use crate::debug_calls::{Call, WorkedDebugHeap, first_other};
+use crate::rules::Refuses;
 use std::test::Fail;
 use wb_debug::{DebugFault, DebugHeap};
 use wb_model::heap::Answer::{Granted, Refused, Simulated};
@@ -10,10 +11,10 @@ use wb_model::heap::{Attempt, Kind, Rule, Shape};
 /// The shape of most heaps here.
 const SHAPE: Shape = Shape { min: 0, step: 4096 };
 
-static ATTEMPTS: [WorkedDebugHeap; 16] = [
+static ATTEMPTS: [WorkedDebugHeap; 17] = [
     WorkedDebugHeap {
         about: "the next attempt fails once",
-        rule: Rule::Unlimited,
+        rule: Refuses::Nothing,
         shape: SHAPE,
         calls: &[
             Call::FailNext(1),
@@ -31,7 +32,7 @@ static ATTEMPTS: [WorkedDebugHeap; 16] = [
     },
     WorkedDebugHeap {
         about: "every second attempt fails",
-        rule: Rule::Unlimited,
+        rule: Refuses::Nothing,
         shape: SHAPE,
         calls: &[
             Call::FailEvery(2),
@@ -47,7 +48,7 @@ static ATTEMPTS: [WorkedDebugHeap; 16] = [
     },
     WorkedDebugHeap {
         about: "the second attempt fails",
-        rule: Rule::Number(2),
+        rule: Refuses::Number(2),
         shape: SHAPE,
         calls: &[
             Call::NoAlloc(10),
@@ -57,7 +58,7 @@ static ATTEMPTS: [WorkedDebugHeap; 16] = [
     },
     WorkedDebugHeap {
         about: "the setting is asked before the limit",
-        rule: Rule::Limit(303),
+        rule: Refuses::Past(303),
         shape: SHAPE,
         calls: &[
             Call::Alloc(10, (144, 2)),
@@ -76,7 +77,7 @@ static ATTEMPTS: [WorkedDebugHeap; 16] = [
     },
     WorkedDebugHeap {
         about: "a rate counts from attempt 1, whatever the setting counts from",
-        rule: Rule::Every(3),
+        rule: Refuses::Every(3),
         shape: SHAPE,
         calls: &[
             Call::Alloc(16, (144, 2)),
@@ -104,7 +105,7 @@ static ATTEMPTS: [WorkedDebugHeap; 16] = [
     },
     WorkedDebugHeap {
         about: "what a rate and the setting refuse is refused once",
-        rule: Rule::Every(2),
+        rule: Refuses::Every(2),
         shape: SHAPE,
         calls: &[
             Call::FailNext(1),
@@ -117,7 +118,7 @@ static ATTEMPTS: [WorkedDebugHeap; 16] = [
     },
     WorkedDebugHeap {
         about: "a rate of 0 refuses nothing",
-        rule: Rule::Every(0),
+        rule: Refuses::Every(0),
         shape: SHAPE,
         calls: &[
             Call::Alloc(16, (144, 2)),
@@ -128,7 +129,7 @@ static ATTEMPTS: [WorkedDebugHeap; 16] = [
     },
     WorkedDebugHeap {
         about: "two attempts fail beside those that the setting refuses",
-        rule: Rule::Pair(2, 5),
+        rule: Refuses::Pair(2, 5),
         shape: SHAPE,
         calls: &[
             Call::NoAlloc(16),
@@ -152,8 +153,28 @@ static ATTEMPTS: [WorkedDebugHeap; 16] = [
         ],
     },
     WorkedDebugHeap {
+        about: "the attempts of a set fail, and no other",
+        rule: Refuses::Set(&[2, 4, 5]),
+        shape: SHAPE,
+        calls: &[
+            Call::NoAlloc(16),
+            Call::Alloc(16, (144, 3)),
+            Call::NoRealloc((144, 3), 48),
+            Call::NoAlloc(16),
+            Call::Alloc(16, (176, 6)),
+            Call::Trace(&[
+                (1, 144, 0, Granted),
+                (2, 32, 144, Simulated),
+                (3, 32, 144, Granted),
+                (4, 64, 144, Simulated),
+                (5, 32, 176, Simulated),
+                (6, 32, 176, Granted),
+            ]),
+        ],
+    },
+    WorkedDebugHeap {
         about: "the ceiling counts nothing",
-        rule: Rule::Number(0),
+        rule: Refuses::Number(0),
         shape: SHAPE,
         calls: &[
             Call::FailNext(2),
@@ -165,7 +186,7 @@ static ATTEMPTS: [WorkedDebugHeap; 16] = [
     },
     WorkedDebugHeap {
         about: "a stale pointer is not released",
-        rule: Rule::Unlimited,
+        rule: Refuses::Nothing,
         shape: SHAPE,
         calls: &[
             Call::Alloc(16, (144, 2)),
@@ -180,7 +201,7 @@ static ATTEMPTS: [WorkedDebugHeap; 16] = [
     },
     WorkedDebugHeap {
         about: "growth fills the hole after it",
-        rule: Rule::Unlimited,
+        rule: Refuses::Nothing,
         shape: SHAPE,
         calls: &[
             Call::Alloc(16, (144, 2)),
@@ -200,7 +221,7 @@ static ATTEMPTS: [WorkedDebugHeap; 16] = [
     },
     WorkedDebugHeap {
         about: "a shorter cell is no attempt",
-        rule: Rule::Unlimited,
+        rule: Refuses::Nothing,
         shape: SHAPE,
         calls: &[
             Call::Alloc(48, (144, 2)),
@@ -216,7 +237,7 @@ static ATTEMPTS: [WorkedDebugHeap; 16] = [
     },
     WorkedDebugHeap {
         about: "a top cell that the limit stops stays",
-        rule: Rule::Limit(256),
+        rule: Refuses::Past(256),
         shape: SHAPE,
         calls: &[
             Call::Alloc(48, (144, 2)),
@@ -235,7 +256,7 @@ static ATTEMPTS: [WorkedDebugHeap; 16] = [
     },
     WorkedDebugHeap {
         about: "a cell past the ceiling stays",
-        rule: Rule::Unlimited,
+        rule: Refuses::Nothing,
         shape: SHAPE,
         calls: &[
             Call::Alloc(16, (144, 2)),
@@ -246,7 +267,7 @@ static ATTEMPTS: [WorkedDebugHeap; 16] = [
     },
     WorkedDebugHeap {
         about: "notes follow the committed length",
-        rule: Rule::Unlimited,
+        rule: Refuses::Nothing,
         shape: Shape { min: 256, step: 64 },
         calls: &[
             Call::Alloc(200, (144, 2)),
@@ -260,7 +281,7 @@ static ATTEMPTS: [WorkedDebugHeap; 16] = [
     },
     WorkedDebugHeap {
         about: "payloads are read and written",
-        rule: Rule::Unlimited,
+        rule: Refuses::Nothing,
         shape: SHAPE,
         calls: &[
             Call::Alloc(16, (144, 2)),
@@ -301,7 +322,7 @@ fn worked_debug_heaps(rt: HostRuntime) -> Result<(), Fail> {
 fn a_shape_that_no_heap_has(rt: HostRuntime) {
     let heap = WorkedDebugHeap {
         about: "a shape that is no multiple of 16",
-        rule: Rule::Unlimited,
+        rule: Refuses::Nothing,
         shape: Shape { min: 8, step: 4096 },
         calls: &[],
     };

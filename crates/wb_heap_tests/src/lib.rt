@@ -21,4 +21,6 @@ mod heaps;
 #[cfg(test)]
 mod marks;
 #[cfg(test)]
+mod rules;
+#[cfg(test)]
 mod walker;

@@ -1,8 +1,9 @@
 //! `wb_debug`: worked debug heaps whose marks are checked, by what checks count and what the end of a mark leaves.
 
 use crate::debug_calls::{Call, WorkedDebugHeap, first_other};
+use crate::rules::Refuses;
 use std::test::Fail;
-use wb_model::heap::{Panic, Rule, Shape};
+use wb_model::heap::{Panic, Shape};
 
 /// The shape of all heaps here.
 const SHAPE: Shape = Shape { min: 0, step: 4096 };
@@ -10,7 +11,7 @@ const SHAPE: Shape = Shape { min: 0, step: 4096 };
 static MARKS: [WorkedDebugHeap; 4] = [
     WorkedDebugHeap {
         about: "a check counts the current level",
-        rule: Rule::Unlimited,
+        rule: Refuses::Nothing,
         shape: SHAPE,
         calls: &[
             Call::Alloc(16, (144, 2)),
@@ -28,7 +29,7 @@ static MARKS: [WorkedDebugHeap; 4] = [
     },
     WorkedDebugHeap {
         about: "a mark that finds cells stays open",
-        rule: Rule::Unlimited,
+        rule: Refuses::Nothing,
         shape: SHAPE,
         calls: &[
             Call::MarkEnd(0, Some(Panic::NO_OPEN_MARK)),
@@ -44,7 +45,7 @@ static MARKS: [WorkedDebugHeap; 4] = [
     },
     WorkedDebugHeap {
         about: "nested marks hand cells outward",
-        rule: Rule::Unlimited,
+        rule: Refuses::Nothing,
         shape: SHAPE,
         calls: &[
             Call::Mark,
@@ -60,7 +61,7 @@ static MARKS: [WorkedDebugHeap; 4] = [
     },
     WorkedDebugHeap {
         about: "counts of levels follow grants, releases and moved cells",
-        rule: Rule::Unlimited,
+        rule: Refuses::Nothing,
         shape: SHAPE,
         calls: &[
             Call::Mark,

@@ -3,24 +3,33 @@ use Rattle.std.specs.Prelude.{◌≡◌, ◌≢◌, ℕ, List, map, find, drop, 
 use Rattle.wb_model.specs.cells.Spelling.{pointers}
 use Rattle.wb_model.specs.declared.heap.Kind.{Kind}
 use Rattle.wb_model.specs.declared.heap.Kind.TheVariants.{Raw, Object, Text, Cleanup}
+use Rattle.wb_model.specs.declared.heap.Rule.{Rule}
 use Rattle.wb_model.specs.declared.run.Outcome.TheVariants.{Cut}
 use Rattle.wb_model.specs.declared.run.Why.TheVariants.{Budget}
 use Rattle.wb_model.specs.runs.Follows.{Reached, RefusesAlike, RestsAgree}
+use Rattle.wb_model.specs.runs.Rest.{Fits}
+use Rattle.wb_model.specs.runs.Run.{WholeRun, whole_run}
 use Rattle.wb_model.specs.runs.SameButNumbers.{Names, Renames, Renaming, IsRenaming, AllBeside, IsSamePointer}
 use Rattle.wb_machine.specs.declared.alike.names.Name.{Name}
-use Rattle.wb_machine.specs.Seen.{Seen, whole_run_of}
+use Rattle.wb_machine.specs.Seen.{Seen}
 
 -- how far a run has come
 abbrev pub reached_by : Seen → Reached
 reached_by m = record { attempts = m.attempts; steps = m.steps }
 
--- The rest of a run is the rest of another: if the budget doesn't cut the other, and the rule of each says the same of the attempts
--- that are still to be made, both come to the same but for numbers, or the budget cuts the one that has counted more steps.
+-- what a run comes to if it goes on under this rule
+abbrev pub whole_run_under : Rule → Seen → WholeRun
+whole_run_under r m = whole_run m.keeps_rises m.script r m.budget m.shape
+
+-- The rest of a run is the rest of another, under any two rules that say of the attempts made so far what each run's own says. If both
+-- say the same of the attempts that are still to be made, and the budget doesn't cut the other, both come to the same but for numbers,
+-- or the budget cuts the one that has counted more steps.
 abbrev pub GoesOnLike : Seen → Seen → Type 0
 GoesOnLike m other =
-    (whole_run_of other).result.outcome ≢ Cut Budget →
-    RefusesAlike other.rule m.rule (reached_by other) (reached_by m) →
-    RestsAgree m.budget (reached_by other) (reached_by m) (whole_run_of other) (whole_run_of m)
+    (r s : Rule) → Fits r other.rule other.over other.attempts → Fits s m.rule m.over m.attempts →
+    (whole_run_under r other).result.outcome ≢ Cut Budget →
+    RefusesAlike r s (reached_by other) (reached_by m) →
+    RestsAgree m.budget (reached_by other) (reached_by m) (whole_run_under r other) (whole_run_under s m)
 
 -- pairs, as a map is made of them
 abbrev pub names_of : List Name → Names

@@ -22,8 +22,14 @@ impl<'a> Machine<'a> {
         !self.failed && !other.failed && self.begun && other.begun && self.budget == other.budget
     }
 
+    /// Whether another run is at the same line, with as much pending. Runs that go on alike are; it is quickly said.
+    pub fn is_at_line_of(&self, other: &Machine) -> bool {
+        self.control.is_at_line_of(&other.control)
+    }
+
     /// Whether the run is the same from here on as another of the same script, but for allocation numbers: then it comes to what the
-    /// other comes to, if the rules say the same of the attempts that are still to be made.
+    /// other comes to, under any two rules that say the same of the attempts that are still to be made, and of those made so far what
+    /// each run's own says.
     ///
     /// `since` is an attempt up to which both were one run: its number and those below stand for themselves, and 64 later ones at
     /// most for others. With another `since`, and of runs that are over, `false` comes where `true` may be right, and never the

@@ -136,6 +136,15 @@ impl<'a> Control<'a> {
         self.statement
     }
 
+    /// The statement that the next turn begins if the budget lasts; `None` if that turn begins none.
+    pub fn next_statement(&self) -> Option<&'a Statement> {
+        if self.is_over() {
+            return None;
+        }
+        let first = first_statement(self.pieces.last()?)?;
+        Some(&first.statement)
+    }
+
     /// How many bodies ran when that statement began; 0 before the first.
     pub fn depth(&self) -> u32 {
         self.depth

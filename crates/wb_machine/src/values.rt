@@ -8,12 +8,18 @@ ghost use Rattle.wb_machine.specs.Effects.{pointer_read};
 use crate::machine::Machine;
 use crate::raiser::Raised;
 use crate::state::State;
+use wb_model::heap::Ptr;
 use wb_model::script::{Number, Pointer, Readable, Script, Statement, Writable};
 
 impl<'a> Machine<'a> {
     /// The statement begun last; `None` before the first.
     pub fn statement(&self) -> Option<&'a Statement> {
         self.control.statement()
+    }
+
+    /// The statement that the next turn begins if the budget lasts; `None` if that turn begins none.
+    pub fn next_statement(&self) -> Option<&'a Statement> {
+        self.control.next_statement()
     }
 
     /// How many bodies ran when that statement began, 1 in `main`; 0 before the first.
@@ -24,6 +30,11 @@ impl<'a> Machine<'a> {
     /// The panic that ended the run; `None` if none did.
     pub fn raised_panic(&self) -> Option<Raised> {
         self.control.raised_panic()
+    }
+
+    /// What a pointer operand names, in the innermost body; null if it names nothing.
+    pub fn pointer(&self, operand: Pointer) -> Ptr {
+        self.state.pointer(self.script, operand)
     }
 
     /// The number of an operand, in the innermost body.

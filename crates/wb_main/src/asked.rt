@@ -3,6 +3,8 @@
 
 ghost use Rattle.std.specs.Prelude.{◌≤◌};
 
+use wb_history::RunParameters;
+use wb_model::heap::Rule;
 use wb_model::lengths::LengthTable;
 use wb_model::limits::LARGEST_BUDGET;
 use workbench::{Command, FileName};
@@ -38,6 +40,18 @@ pub fn budget_of(command: &Command) -> u32
     ensures greatest { result ≤ LARGEST_BUDGET }
 {
     command.budget.max(1).min(LARGEST_BUDGET)
+}
+
+/// Returns how the run under a rule is made that the command asks for.
+pub fn parameters_of(command: &Command, rule: Rule) -> RunParameters
+    ensures least { 1 ≤ result.budget }
+    ensures greatest { result.budget ≤ LARGEST_BUDGET }
+{
+    RunParameters {
+        rule,
+        budget: budget_of(command),
+        shape: command.shape,
+    }
 }
 
 /// Returns the least length of a table whose run leaks or panics, in bytes; `None` if none does.

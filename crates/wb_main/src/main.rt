@@ -1,9 +1,11 @@
 //! The program: hands the process's own words, files and streams to the workbench, says on standard error what there is
-//! to say of the answer, and how far a sweep is that takes long, and draws the picture that is asked for.
+//! to say of the answer, with the steps of its run if they are asked for, and how far a sweep is that takes long, and draws the picture
+//! that is asked for.
 #![tactic(auto)]
 
 mod asked;
 mod explanation;
+mod following;
 mod messages;
 mod picture;
 mod picture_file;
@@ -12,6 +14,7 @@ mod recorded;
 mod work;
 
 use crate::explanation::explain_answer;
+use crate::following::put_steps;
 use crate::messages::ProcessMessages;
 use crate::picture::put_picture;
 use crate::picture_file::ProcessFiles;
@@ -40,6 +43,7 @@ fn main(rt: HostRuntime) -> ExitCode {
         &mut ProcessMessages { rt: &rt },
         &mut ProgressLine::new(&rt),
     );
+    put_steps(&rt, &exit);
     explain(&rt, &first, &exit);
     let mut files = ProcessFiles::new(&rt, script_file(&exit));
     ExitCode::from(put_picture(rt.alloc(), &exit, &mut files))

@@ -92,10 +92,10 @@ fn draw_runs(
     let name = script_name(command);
     let file = ScriptFile { name, text };
     let (budget, shape, at) = (budget_of(command), command.shape, findings.at);
-    match command.task {
+    match &command.task {
         Task::Run(rule) => {
             let setting = Setting {
-                rule,
+                rule: rule.try_copy()?,
                 budget,
                 shape,
             };

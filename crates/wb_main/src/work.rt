@@ -22,9 +22,21 @@ pub struct Work {
 #[derive(Clone, Copy, Debug, PartialEq, Eq)]
 struct Pairs {
     /// The first attempt of the pairs that were tried first.
-    first: u32,
+    begin: u32,
     /// The greatest second attempt of a pair.
     farthest: u32,
+    /// The pairs that are tried now.
+    now: SameFirst,
+    /// Those that were tried before these.
+    before: Option<SameFirst>,
+}
+
+/// Pairs with the same first attempt.
+#[derive(Clone, Copy, Debug, PartialEq, Eq)]
+struct SameFirst {
+    first: u32,
+    /// How many were tried.
+    tried: u32,
 }
 
 /// What is left of the work.
@@ -59,15 +71,9 @@ impl Work {
         let pairs = match self.pairs {
             None => {
                 self.begun = 0;
-                Pairs {
-                    first,
-                    farthest: second,
-                }
+                Pairs::new(first, second)
             }
-            Some(Pairs { first, farthest }) => Pairs {
-                first,
-                farthest: farthest.max(second),
-            },
+            Some(pairs) => pairs.and(first, second),
         };
         self.pairs = Some(pairs);
     }
@@ -98,17 +104,49 @@ impl Work {
                 self.last.checked_sub(number).map(u64::from)
             }
             Failing::Pair(first, second) => {
-                let Pairs {
-                    first: begin,
-                    farthest,
-                } = self.pairs?;
-                if first == begin {
-                    return None;
+                let pairs = self.pairs?;
+                let before = pairs.before?;
+                if pairs.has_all_of(before) {
+                    let same = u64::from(pairs.farthest.checked_sub(second)?);
+                    return same.checked_add(pairs_after(first, self.last, pairs.farthest)?);
                 }
-                let same = u64::from(farthest.checked_sub(second)?);
-                same.checked_add(pairs_after(first, self.last, farthest)?)
+                let firsts = u64::from(first.checked_sub(pairs.begin)?);
+                let left = u64::from(self.last.checked_sub(first)?);
+                left.checked_mul(self.begun)?.checked_div(firsts)
             }
         }
+    }
+}
+
+impl Pairs {
+    /// Of which the first is tried.
+    fn new(first: u32, second: u32) -> Pairs {
+        Pairs {
+            begin: first,
+            farthest: second,
+            now: SameFirst { first, tried: 1 },
+            before: None,
+        }
+    }
+
+    /// The same once a further one is tried.
+    fn and(self, first: u32, second: u32) -> Pairs {
+        let is_same = self.now.first == first;
+        let tried = if is_same { self.now.tried } else { 0 };
+        Pairs {
+            begin: self.begin,
+            farthest: self.farthest.max(second),
+            now: SameFirst {
+                first,
+                tried: tried.saturating_add(1),
+            },
+            before: if is_same { self.before } else { Some(self.now) },
+        }
+    }
+
+    /// Whether pairs with the same first attempt were tried up to the greatest second one. Where single failures settle most, few are.
+    fn has_all_of(&self, same: SameFirst) -> bool {
+        same.first.saturating_add(same.tried) >= self.farthest
     }
 }
 

@@ -7,7 +7,7 @@ use crate::spaces::find_item;
 use wb_lines::operand_kinds::{is_number_kind, is_pointer_kind};
 use wb_lines::words::{before_first, parameter_type_of_word};
 use wb_model::script_lines::{LineKind, ParameterType};
-use wb_pages::{Fragment, Page, Spot, Word};
+use wb_pages::{Page, Shown, Spot, Word};
 
 /// The place of the procedure's name among the words of a call.
 fn procedure_place(line: &Line) -> usize {
@@ -47,35 +47,24 @@ fn explain_count(page: &mut Page, line: &Line, procedure: &Line) {
     let place = procedure_place(line);
     page.mark(
         line.spot(place),
-        &[
-            Fragment::Text("wrong number of arguments: `"),
-            Fragment::Word(line.text_at(place)),
-            Fragment::Text("` takes "),
-            Fragment::Number(procedure.words.len().saturating_sub(2)),
-            Fragment::Text(", but is given "),
-            Fragment::Number(line.words.len().saturating_sub(place).saturating_sub(1)),
-        ],
+        format_args!(
+            "wrong number of arguments: `{}` takes {}, but is given {}",
+            Shown::word(line.text_at(place)),
+            procedure.words.len().saturating_sub(2),
+            line.words.len().saturating_sub(place).saturating_sub(1)
+        ),
     );
 }
 
-fn explain_argument<'x>(
-    page: &mut Page,
-    lines: &[Line],
-    index: usize,
-    spot: Spot<'x>,
-    parameter: &'x [u8],
-) {
+fn explain_argument(page: &mut Page, lines: &[Line], index: usize, spot: Spot, parameter: &[u8]) {
     page.mark(
         spot,
-        &[
-            Fragment::Text("wrong kind: `"),
-            Fragment::Word(spot.word),
-            Fragment::Text("` is "),
-            Fragment::Text(description_of(operand_kind_in_body(lines, index, spot.word))),
-            Fragment::Text(", but the parameter is `"),
-            Fragment::Word(parameter),
-            Fragment::Text("`"),
-        ],
+        format_args!(
+            "wrong kind: `{}` is {}, but the parameter is `{}`",
+            spot.shown_word(),
+            description_of(operand_kind_in_body(lines, index, spot.word)),
+            Shown::word(parameter)
+        ),
     );
     mark_declaration(page, lines, index, before_first(b'.', spot.word));
 }
@@ -86,13 +75,7 @@ fn procedure_of<'l, 'a>(lines: &'l [Line<'a>], line: &Line) -> Option<&'l Line<'
     lines.get(item.line)
 }
 
-fn explain_call<'x>(
-    page: &mut Page,
-    lines: &[Line<'x>],
-    index: usize,
-    line: &Line<'x>,
-    procedure: &Line<'x>,
-) {
+fn explain_call(page: &mut Page, lines: &[Line], index: usize, line: &Line, procedure: &Line) {
     let offset = procedure_place(line).saturating_sub(1);
     let is_other_count = line.words.len() != procedure.words.len().saturating_add(offset);
     match first_wrong_argument(lines, index, line, procedure) {
@@ -105,14 +88,9 @@ fn explain_call<'x>(
 }
 
 /// Says how the arguments of a call differ from what the procedure takes.
-pub(crate) fn explain_arguments<'x>(
-    page: &mut Page,
-    lines: &[Line<'x>],
-    index: usize,
-    line: &Line<'x>,
-) {
+pub fn explain_arguments(page: &mut Page, lines: &[Line], index: usize, line: &Line) {
     if let Some(procedure) = procedure_of(lines, line) {
         explain_call(page, lines, index, line, procedure);
-        page.mark_text(procedure.spot(0), "the procedure begins here");
+        page.mark(procedure.spot(0), "the procedure begins here");
     }
 }

@@ -7,7 +7,7 @@ use wb_model::script_lines::Role;
 
 /// How far an open block is, and so what may come next in it.
 #[derive(Clone, Copy)]
-pub(crate) enum BlockState {
+pub enum BlockState {
     /// A class: fields, bodies or the end.
     Fields,
     /// A class after its `construct`.
@@ -27,14 +27,14 @@ pub(crate) enum BlockState {
 
 /// An open block: how far it is, and the index of its first line.
 #[derive(Clone, Copy)]
-pub(crate) struct Block {
+pub struct Block {
     pub state: BlockState,
     pub line: usize,
 }
 
 /// An `end` and the first line of the block that it closes, by their indexes.
 #[derive(Clone, Copy)]
-pub(crate) struct ClosedBlock {
+pub struct ClosedBlock {
     pub first: usize,
     pub end: usize,
 }
@@ -42,14 +42,14 @@ pub(crate) struct ClosedBlock {
 /// The blocks that are open, the innermost last; the block that was closed last; and the first one whose `end` is indented more or
 /// less than its first line, of those that a mistake may come from.
 #[derive(Drop)]
-pub(crate) struct Blocks {
+pub struct Blocks {
     pub open: Vec<Block>,
     pub last_closed: Option<ClosedBlock>,
     pub misaligned: Option<ClosedBlock>,
 }
 
 /// The role of a line in the nesting of blocks, by its form.
-pub(crate) fn role(line: &Line) -> Role {
+pub fn role(line: &Line) -> Role {
     match line.line_kind() {
         Some(line_kind) => role_of(line_kind),
         None => Role::Skip,
@@ -57,7 +57,7 @@ pub(crate) fn role(line: &Line) -> Role {
 }
 
 /// The role of the line with an index; that of a comment if there is no such line.
-pub(crate) fn role_at(lines: &[Line], index: usize) -> Role {
+pub fn role_at(lines: &[Line], index: usize) -> Role {
     match lines.get(index) {
         Some(line) => role(line),
         None => Role::Skip,
@@ -95,7 +95,7 @@ fn state_after(state: BlockState, role: Role) -> BlockState {
 }
 
 /// The number of blanks before the line with an index; 0 if there is no such line.
-pub(crate) fn indent_at(lines: &[Line], index: usize) -> usize {
+pub fn indent_at(lines: &[Line], index: usize) -> usize {
     match lines.get(index) {
         Some(line) => line.indent,
         None => 0,
@@ -150,11 +150,7 @@ impl Blocks {
 
 /// Returns the blocks that are open before the line with an index, if all lines before it are where they belong. The only error is
 /// that memory ran out.
-pub(crate) fn blocks_before(
-    alloc: Global,
-    lines: &[Line],
-    index: usize,
-) -> Result<Blocks, AllocError> {
+pub fn blocks_before(alloc: Global, lines: &[Line], index: usize) -> Result<Blocks, AllocError> {
     let mut blocks = Blocks {
         open: Vec::new(alloc),
         last_closed: None,

@@ -5,7 +5,7 @@ use wb_model::script_lines::LineKind;
 /// Words of C++, the lines of a script that do the same, and what else there is to say. There are no lines where that says it all, and
 /// it may be empty.
 #[derive(Clone, Copy)]
-pub(crate) struct Counterpart(&'static [&'static str], &'static [LineKind], &'static str);
+pub struct Counterpart(&'static [&'static str], &'static [LineKind], &'static str);
 
 impl Counterpart {
     /// Whether it is that of this word of C++.
@@ -13,28 +13,28 @@ impl Counterpart {
         self.0.iter().any(|it| it.as_bytes() == word)
     }
 
-    pub(crate) fn line_kinds(self) -> &'static [LineKind] {
+    pub fn line_kinds(self) -> &'static [LineKind] {
         self.1
     }
 
-    pub(crate) fn hint(self) -> &'static str {
+    pub fn hint(self) -> &'static str {
         self.2
     }
 }
 
 /// Where a class says how large its members are that are no pointers.
-pub(crate) const EXTRA_BYTES: &str =
+pub const EXTRA_BYTES: &str =
     "a member that is no pointer adds to the extra bytes of its class: NUMBER in `class NAME NUMBER`";
 
 /// A procedure that gives back a number.
-pub(crate) const NUMBER_RETURNED: &str =
+pub const NUMBER_RETURNED: &str =
     "a procedure returns no number: `leave NUMBER` hands a code to the `trap INT` of its caller";
 
 /// How an error code is written.
-pub(crate) const CODE_AS_NUMBER: &str = "a code is written as its number: `KErrNoMemory` is -4";
+pub const CODE_AS_NUMBER: &str = "a code is written as its number: `KErrNoMemory` is -4";
 
 /// How words are written.
-pub(crate) const WORDS_APART: &str = "words are separated by blanks, without brackets, `,` or `;`";
+pub const WORDS_APART: &str = "words are separated by blanks, without brackets, `,` or `;`";
 
 /// What is to be done with a new cell that is to be on the cleanup stack.
 const THEN_PUSHED: &str = "`push POINTER` is a line of its own, after it";
@@ -156,7 +156,7 @@ static COUNTERPARTS: [Counterpart; 45] = [
 ];
 
 /// What a script has in the place of a word of C++; `None` if the table has no such word.
-pub(crate) fn counterpart_named(word: &[u8]) -> Option<Counterpart> {
+pub fn counterpart_named(word: &[u8]) -> Option<Counterpart> {
     for counterpart in &COUNTERPARTS {
         if counterpart.is_of(word) {
             return Some(*counterpart);

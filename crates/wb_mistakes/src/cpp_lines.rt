@@ -7,11 +7,11 @@ use crate::words::has_byte;
 use wb_lines::line_kinds::role_of;
 use wb_lines::words::{after_first_of, before_first};
 use wb_model::script_lines::Role;
-use wb_pages::Page;
+use wb_pages::{Page, Shown};
 
 /// A word of C++ as the line has it, and what a script has in its place.
 #[derive(Clone, Copy)]
-pub(crate) struct CppWord<'a> {
+pub struct CppWord<'a> {
     name: &'a [u8],
     counterpart: Counterpart,
 }
@@ -26,7 +26,7 @@ fn after_arrow<'a>(name: &'a [u8]) -> &'a [u8] {
 }
 
 /// The name that a word of C++ begins with, without what it is called with; of `(ELeave)` what the brackets hold.
-pub(crate) fn name_in<'a>(word: &'a [u8]) -> &'a [u8] {
+pub fn name_in<'a>(word: &'a [u8]) -> &'a [u8] {
     match word {
         [b'(', inside @ ..] => before_first(b')', inside),
         _ => after_arrow(before_first(b'<', before_first(b';', before_first(b'(', word)))),
@@ -34,7 +34,7 @@ pub(crate) fn name_in<'a>(word: &'a [u8]) -> &'a [u8] {
 }
 
 /// Whether a word begins a comment of C++.
-pub(crate) fn begins_cpp_comment(word: &[u8]) -> bool {
+pub fn begins_cpp_comment(word: &[u8]) -> bool {
     matches!(word, [b'/', b'/' | b'*', ..])
 }
 
@@ -54,7 +54,7 @@ fn key_of<'a>(word: &'a [u8]) -> &'a [u8] {
 }
 
 /// A word that the table has; `None` if it has none such.
-pub(crate) fn cpp_word<'a>(word: &'a [u8]) -> Option<CppWord<'a>> {
+pub fn cpp_word<'a>(word: &'a [u8]) -> Option<CppWord<'a>> {
     let counterpart = counterpart_named(key_of(word))?;
     Some(CppWord {
         name: name_in(word),
@@ -122,7 +122,7 @@ fn assigning_word<'a>(line: &Line<'a>) -> Option<CppWord<'a>> {
 
 /// The word by which a line of no statement is C++: its first, but of one that declares or assigns what it is given. `None` if there
 /// is none.
-pub(crate) fn cpp_word_of<'a>(line: &Line<'a>) -> Option<CppWord<'a>> {
+pub fn cpp_word_of<'a>(line: &Line<'a>) -> Option<CppWord<'a>> {
     match (word_or_call(line.text_at(0)), assigned_word(line)) {
         (Some(first), Some(assigned)) if is_declaring(first) => Some(assigned),
         (Some(first), _) => Some(first),
@@ -132,18 +132,18 @@ pub(crate) fn cpp_word_of<'a>(line: &Line<'a>) -> Option<CppWord<'a>> {
 }
 
 /// Writes a hint, if there is one.
-pub(crate) fn help_with_hint(page: &mut Page, hint: &str) {
+pub fn help_with_hint(page: &mut Page, hint: &str) {
     if !hint.is_empty() {
         page.write_help_text(hint);
     }
 }
 
 /// Says what a script has in the place of a word of C++.
-pub(crate) fn help_with_cpp(page: &mut Page, found: CppWord) {
+pub fn help_with_cpp(page: &mut Page, found: CppWord) {
     let line_kinds = found.counterpart.line_kinds();
     if !line_kinds.is_empty() {
         page.begin_help();
-        page.write_word("in a script `", found.name, "` is ");
+        page.write(format_args!("in a script `{}` is ", Shown::word(found.name)));
         write_form_list(page, line_kinds);
         page.end_line();
     }

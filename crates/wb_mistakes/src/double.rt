@@ -7,10 +7,15 @@ use crate::spaces::{line_of_field, line_of_item, line_of_local};
 use crate::words::{is_parameter, is_parameter_named};
 use wb_lines::words::before_first;
 use wb_model::script_lines::Role;
-use wb_pages::{Page, Span, Spot, Word};
+use wb_pages::{Page, Spot, Word};
 
-/// What is said of a name, after it.
-const DECLARED_AGAIN: &str = "` is declared a second time";
+/// Says of a name that it is declared a second time.
+fn mark_again(page: &mut Page, spot: Spot) {
+    page.mark(
+        spot,
+        format_args!("`{}` is declared a second time", spot.shown_word()),
+    );
+}
 
 /// The index of an earlier line that declares what a line declares, in the same space; `None` if there is none.
 fn first_declaration(lines: &[Line], index: usize, line: &Line) -> Option<usize> {
@@ -42,11 +47,7 @@ fn repeated_parameter<'a>(line: &Line<'a>) -> Option<Spot<'a>> {
     for (place, word) in line.words.iter().enumerate() {
         let name = before_first(b':', word.text);
         if is_parameter(word.text) && has_parameter_before(&line.words, place, name) {
-            let span = Span {
-                column: word.column,
-                length: name.len(),
-            };
-            return Some(line.spot_of(span, name));
+            return Some(line.part(word.column, name));
         }
     }
     None
@@ -63,19 +64,19 @@ fn help_for_role(role: Role) -> &'static str {
 }
 
 /// Says which name a line declares a second time, and where it is declared first.
-pub(crate) fn explain_double_name(page: &mut Page, lines: &[Line], index: usize) {
+pub fn explain_double_name(page: &mut Page, lines: &[Line], index: usize) {
     let Some(line) = lines.get(index) else {
         return;
     };
     match first_declaration(lines, index, line) {
         Some(first) => {
-            page.mark_word(line.spot(1), "`", DECLARED_AGAIN);
+            mark_again(page, line.spot(1));
             mark_name(page, lines, first, line.text_at(1), "first declared here");
             page.write_help_text(help_for_role(role(line)));
         }
         None => {
             if let Some(spot) = repeated_parameter(line) {
-                page.mark_word(spot, "`", DECLARED_AGAIN);
+                mark_again(page, spot);
                 page.write_help_text(help_for_role(Role::Declaration));
             }
         }

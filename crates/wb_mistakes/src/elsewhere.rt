@@ -4,11 +4,11 @@ use crate::further_lines::mark_name;
 use crate::lines::Line;
 use crate::spaces::{find_item, find_local, find_local_anywhere, has_self, line_of_field};
 use wb_model::script_lines::{ItemKind, LocalKind};
-use wb_pages::Page;
+use wb_pages::{Page, Shown};
 
 /// What a name is elsewhere, and the line that declares it.
 #[derive(Clone, Copy)]
-pub(crate) enum Elsewhere {
+pub enum Elsewhere {
     /// A field of the class in whose body the name is used.
     FieldOfClass(usize),
     /// Something other than what is expected where the name is used, and what that is.
@@ -44,7 +44,7 @@ fn field_of_class(lines: &[Line], index: usize, name: &[u8]) -> Option<usize> {
 }
 
 /// What a name is that no local of the body has; `None` if it is nothing elsewhere either.
-pub(crate) fn elsewhere_of_local(lines: &[Line], index: usize, name: &[u8]) -> Option<Elsewhere> {
+pub fn elsewhere_of_local(lines: &[Line], index: usize, name: &[u8]) -> Option<Elsewhere> {
     if let Some(field) = field_of_class(lines, index, name) {
         return Some(Elsewhere::FieldOfClass(field));
     }
@@ -56,13 +56,13 @@ pub(crate) fn elsewhere_of_local(lines: &[Line], index: usize, name: &[u8]) -> O
 }
 
 /// What a name is that no class, procedure or operation has; `None` if it is nothing elsewhere either.
-pub(crate) fn elsewhere_of_item(lines: &[Line], index: usize, name: &[u8]) -> Option<Elsewhere> {
+pub fn elsewhere_of_item(lines: &[Line], index: usize, name: &[u8]) -> Option<Elsewhere> {
     let local = find_local(lines, index, name)?;
     Some(Elsewhere::OtherKind(local_problem(local.kind), local.line))
 }
 
 /// Says what a name is elsewhere.
-pub(crate) fn explain_elsewhere(page: &mut Page, lines: &[Line], name: &[u8], found: Elsewhere) {
+pub fn explain_elsewhere(page: &mut Page, lines: &[Line], name: &[u8], found: Elsewhere) {
     match found {
         Elsewhere::FieldOfClass(line) => {
             mark_name(
@@ -72,7 +72,10 @@ pub(crate) fn explain_elsewhere(page: &mut Page, lines: &[Line], name: &[u8], fo
                 name,
                 "the class has a field of this name",
             );
-            page.write_help_word("a field is named through its object: `self.", name, "`");
+            page.write_help(format_args!(
+                "a field is named through its object: `self.{}`",
+                Shown::word(name)
+            ));
         }
         Elsewhere::OtherKind(what, line) => mark_name(page, lines, line, name, what),
         Elsewhere::OtherBody(line) => mark_name(

@@ -6,10 +6,10 @@ use wb_lines::line_kinds::{line_kinds, operand_places_of, rest_of, text_of};
 use wb_lines::operand_places::OperandPlaces;
 use wb_lines::words::text_of_keyword;
 use wb_model::script_lines::{LineKind, OperandPlace};
-use wb_pages::{Fragment, Page, Word};
+use wb_pages::{Page, Shown, Word};
 
 /// The operand that a form has at a place after its first word, counted from 1; `None` at place 0 and where it has none.
-pub(crate) fn operand_place_at(line_kind: LineKind, place: usize) -> Option<OperandPlace> {
+pub fn operand_place_at(line_kind: LineKind, place: usize) -> Option<OperandPlace> {
     if place == 0 {
         return None;
     }
@@ -17,21 +17,21 @@ pub(crate) fn operand_place_at(line_kind: LineKind, place: usize) -> Option<Oper
 }
 
 /// The operand at a place of a line, by the line's form; `None` if it has none there.
-pub(crate) fn operand_place_of(line: &Line, place: usize) -> Option<OperandPlace> {
+pub fn operand_place_of(line: &Line, place: usize) -> Option<OperandPlace> {
     operand_place_at(line.line_kind()?, place)
 }
 
 /// Whether a line of this form may have this number of words, its first one included.
-pub(crate) fn admits_count(line_kind: LineKind, words: usize) -> bool {
+pub fn admits_count(line_kind: LineKind, words: usize) -> bool {
     OperandPlaces::of(line_kind).admit(words.saturating_sub(1))
 }
 
-pub(crate) fn begins_with(line_kind: LineKind, word: &[u8]) -> bool {
+pub fn begins_with(line_kind: LineKind, word: &[u8]) -> bool {
     text_of(line_kind) == word
 }
 
 /// Whether some form begins with a word.
-pub(crate) fn begins_statement(word: &[u8]) -> bool {
+pub fn begins_statement(word: &[u8]) -> bool {
     for line_kind in line_kinds() {
         if begins_with(*line_kind, word) {
             return true;
@@ -48,7 +48,7 @@ fn fits_at(line_kind: LineKind, place: usize, word: &[u8]) -> bool {
 }
 
 /// The place of the first word that doesn't fit the form; `None` if all fit.
-pub(crate) fn first_wrong_word(line_kind: LineKind, words: &[Word]) -> Option<usize> {
+pub fn first_wrong_word(line_kind: LineKind, words: &[Word]) -> Option<usize> {
     for (place, word) in words.iter().enumerate() {
         if !fits_at(line_kind, place, word.text) {
             return Some(place);
@@ -79,31 +79,28 @@ fn placeholder_of(operand_place: OperandPlace) -> &'static [u8] {
 }
 
 fn write_placeholder(page: &mut Page, operand_place: OperandPlace) {
-    page.write(&[
-        Fragment::Text(" "),
-        Fragment::Word(placeholder_of(operand_place)),
-    ]);
+    page.write(format_args!(" {}", Shown::word(placeholder_of(operand_place))));
 }
 
 /// Writes a form between backquotes, as `alloc POINTER NUMBER`.
-pub(crate) fn write_form(page: &mut Page, line_kind: LineKind) {
-    page.write(&[Fragment::Text("`"), Fragment::Word(text_of(line_kind))]);
+pub fn write_form(page: &mut Page, line_kind: LineKind) {
+    page.write(format_args!("`{}", Shown::word(text_of(line_kind))));
     for operand_place in operand_places_of(line_kind) {
         write_placeholder(page, *operand_place);
     }
     if let Some(operand_place) = rest_of(line_kind) {
         write_placeholder(page, operand_place);
     }
-    page.write(&[Fragment::Text("`")]);
+    page.write("`");
 }
 
 /// Writes all forms that begin with a word, with `or` between them.
-pub(crate) fn write_forms(page: &mut Page, word: &[u8]) {
+pub fn write_forms(page: &mut Page, word: &[u8]) {
     let mut is_first = true;
     for line_kind in line_kinds() {
         if begins_with(*line_kind, word) {
             if !is_first {
-                page.write(&[Fragment::Text(" or ")]);
+                page.write(" or ");
             }
             write_form(page, *line_kind);
             is_first = false;
@@ -112,7 +109,7 @@ pub(crate) fn write_forms(page: &mut Page, word: &[u8]) {
 }
 
 /// Writes these forms, with `or` between them.
-pub(crate) fn write_form_list(page: &mut Page, line_kinds: &[LineKind]) {
+pub fn write_form_list(page: &mut Page, line_kinds: &[LineKind]) {
     for (index, line_kind) in line_kinds.iter().enumerate() {
         if index > 0 {
             page.write_text(" or ");

@@ -6,9 +6,9 @@ use wb_lines::words::before_first;
 use wb_pages::{Page, Span};
 
 /// Writes a message about another line of the script, and shows that line with its first word marked.
-pub(crate) fn mark_line(page: &mut Page, lines: &[Line], index: usize, text: &str) {
+pub fn mark_line(page: &mut Page, lines: &[Line], index: usize, text: &str) {
     if let Some(line) = lines.get(index) {
-        page.mark_text(line.spot(0), text);
+        page.mark(line.spot(0), text);
     }
 }
 
@@ -27,14 +27,14 @@ fn span_of(line: &Line, name: &[u8]) -> Span {
 }
 
 /// Writes a message about another line of the script, and shows that line with a name marked that it declares.
-pub(crate) fn mark_name(page: &mut Page, lines: &[Line], index: usize, name: &[u8], text: &str) {
+pub fn mark_name(page: &mut Page, lines: &[Line], index: usize, name: &[u8], text: &str) {
     if let Some(line) = lines.get(index) {
-        page.mark_text(line.spot_of(span_of(line, name), &[]), text);
+        page.mark(line.spot_of(span_of(line, name), &[]), text);
     }
 }
 
 /// Says where the local with a name is declared, if there is one.
-pub(crate) fn mark_declaration(page: &mut Page, lines: &[Line], index: usize, name: &[u8]) {
+pub fn mark_declaration(page: &mut Page, lines: &[Line], index: usize, name: &[u8]) {
     if let Some(local) = line_of_local(lines, index, name) {
         mark_name(page, lines, local, name, "declared here");
     }

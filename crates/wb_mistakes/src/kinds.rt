@@ -14,7 +14,7 @@ use crate::words::{is_field, is_parameter};
 use wb_lines::operand_kinds::{is_pointer_kind, takes};
 use wb_lines::words::{after_first_of, before_first};
 use wb_model::script_lines::{LineKind, OperandKind, OperandPlace, Role};
-use wb_pages::{Fragment, Page, Span, Spot, Word};
+use wb_pages::{Page, Shown, Spot, Word};
 
 /// Whether what a word refers to is right for an operand.
 fn fits_letter(lines: &[Line], index: usize, operand_place: OperandPlace, word: &[u8]) -> bool {
@@ -48,37 +48,23 @@ fn first_wrong_operand(lines: &[Line], index: usize, line: &Line) -> Option<usiz
 }
 
 /// Says what a word is, and shows it.
-fn mark_kind<'x>(page: &mut Page, spot: Spot<'x>, is: &'x str) {
+fn mark_kind(page: &mut Page, spot: Spot, is: &str) {
     page.mark(
         spot,
-        &[
-            Fragment::Text("wrong kind: `"),
-            Fragment::Word(spot.word),
-            Fragment::Text("` is "),
-            Fragment::Text(is),
-        ],
+        format_args!("wrong kind: `{}` is {is}", spot.shown_word()),
     );
 }
 
 /// The part before the dot of a field.
 fn spot_of_holder<'a>(line: &Line<'a>, word: Word<'a>) -> Spot<'a> {
-    let holder = before_first(b'.', word.text);
-    let span = Span {
-        column: word.column,
-        length: holder.len(),
-    };
-    line.spot_of(span, holder)
+    line.part(word.column, before_first(b'.', word.text))
 }
 
 /// The class in the word of a parameter.
 fn spot_of_class<'a>(line: &Line<'a>, word: Word<'a>) -> Spot<'a> {
     let class = after_first_of(b':', word.text);
     let end = word.column.saturating_add(word.text.len());
-    let span = Span {
-        column: end.saturating_sub(class.len()),
-        length: class.len(),
-    };
-    line.spot_of(span, class)
+    line.part(end.saturating_sub(class.len()), class)
 }
 
 /// Says why the name before a dot has no fields.
@@ -156,16 +142,13 @@ fn explain_sides(page: &mut Page, lines: &[Line], index: usize, line: &Line) {
     let (target, source) = (line.text_at(1), line.text_at(2));
     page.mark(
         line.spot(2),
-        &[
-            Fragment::Text("wrong kind: `"),
-            Fragment::Word(target),
-            Fragment::Text("` is "),
-            Fragment::Text(description_of(operand_kind_in_body(lines, index, target))),
-            Fragment::Text(", but `"),
-            Fragment::Word(source),
-            Fragment::Text("` is "),
-            Fragment::Text(description_of(operand_kind_in_body(lines, index, source))),
-        ],
+        format_args!(
+            "wrong kind: `{}` is {}, but `{}` is {}",
+            Shown::word(target),
+            description_of(operand_kind_in_body(lines, index, target)),
+            Shown::word(source),
+            description_of(operand_kind_in_body(lines, index, source))
+        ),
     );
     mark_declaration(page, lines, index, target);
     mark_declaration(page, lines, index, before_first(b'.', source));
@@ -180,7 +163,7 @@ fn misuses_main(line: &Line) -> bool {
 }
 
 fn explain_main(page: &mut Page, line: &Line) {
-    page.mark_text(
+    page.mark(
         line.whole(),
         "`main` must be a procedure without parameters",
     );
@@ -205,13 +188,13 @@ fn open_trap(lines: &[Line], blocks: &Blocks) -> Option<usize> {
 fn explain_return(page: &mut Page, lines: &[Line], index: usize, line: &Line, blocks: &Blocks) {
     match open_trap(lines, blocks) {
         Some(trap) => {
-            page.mark_text(line.whole(), "`return` is not allowed inside a `trap`");
+            page.mark(line.whole(), "`return` is not allowed inside a `trap`");
             mark_line(page, lines, trap, "the block begins here");
             page.write_help_text("end the `trap` first, and return after it");
         }
         None => {
             let body = body_of(lines, index);
-            page.mark_text(line.whole(), "only a procedure can return a pointer");
+            page.mark(line.whole(), "only a procedure can return a pointer");
             mark_line(page, lines, body, "the body begins here");
             page.write_help_text(help_of_return(role_at(lines, body)));
         }
@@ -236,7 +219,7 @@ fn ends_body(line: &Line) -> bool {
 }
 
 /// Says which operand of a line is of a wrong kind, or why the line is not allowed where it is.
-pub(crate) fn explain_wrong_kind(page: &mut Page, lines: &[Line], index: usize, blocks: &Blocks) {
+pub fn explain_wrong_kind(page: &mut Page, lines: &[Line], index: usize, blocks: &Blocks) {
     let Some(line) = lines.get(index) else {
         return;
     };

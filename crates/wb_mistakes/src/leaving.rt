@@ -5,7 +5,7 @@ use crate::lines::Line;
 use crate::spaces::body_of;
 use wb_lines::line_kinds::{is_quiet, line_kinds, role_of, text_of};
 use wb_model::script_lines::{LineKind, Role};
-use wb_pages::Page;
+use wb_pages::{Page, Shown};
 
 /// Whether a line kind is to be named among those that no body forbids: an `else` and an `end` go with the line that they belong to.
 fn is_listed(line_kind: LineKind) -> bool {
@@ -20,24 +20,26 @@ fn write_allowed_words(page: &mut Page) {
         let next = text_of(*line_kind);
         if is_listed(*line_kind) && next != word {
             if !word.is_empty() {
-                page.write_word(before, word, "`");
+                page.write(format_args!("{before}{}`", Shown::word(word)));
                 before = ", `";
             }
             word = next;
         }
     }
-    page.write_word(" and `", word, "`");
+    page.write(format_args!(" and `{}`", Shown::word(word)));
 }
 
 /// Says which line may leave, and in what body it is.
-pub(crate) fn explain_may_leave(page: &mut Page, lines: &[Line], index: usize) {
+pub fn explain_may_leave(page: &mut Page, lines: &[Line], index: usize) {
     let Some(line) = lines.get(index) else {
         return;
     };
-    page.mark_word(
+    page.mark(
         line.spot(0),
-        "`",
-        "` is not allowed in a body that must not leave",
+        format_args!(
+            "`{}` is not allowed in a body that must not leave",
+            line.shown_word(0)
+        ),
     );
     mark_line(
         page,

@@ -12,7 +12,7 @@ use wb_model::limits::{
     MOST_LOCALS, MOST_PARAMETERS, MOST_PROCEDURES,
 };
 use wb_model::script_lines::{LineKind, Operand, OperandPlace, Role};
-use wb_pages::{Fragment, Page, Span};
+use wb_pages::{Page, Span};
 
 /// More than a limit allows: of what, the count, the limit, and the part of the line that exceeds it.
 #[derive(Clone, Copy)]
@@ -120,65 +120,51 @@ fn size_of(word: &[u8]) -> usize {
 
 /// The size in a line that is larger than its limit; `None` if there is none.
 fn size_excess(line: &Line) -> Option<Excess> {
-    let size = size_of(line.text_at(2));
-    match line.line_kind() {
-        Some(LineKind::Class) => excess_over(
-            "extra bytes in a class",
-            size,
-            MOST_EXTRA,
-            line.span_at(2),
-        ),
-        Some(LineKind::Buf) => excess_over(
-            "units in a buffer",
-            size,
-            LARGEST_BUFFER,
-            line.span_at(2),
-        ),
-        _ => None,
-    }
+    let (what, most) = match line.line_kind()? {
+        LineKind::Class => ("extra bytes in a class", MOST_EXTRA),
+        LineKind::Buf => ("units in a buffer", LARGEST_BUFFER),
+        _ => return None,
+    };
+    excess_over(what, size_of(line.text_at(2)), most, line.span_at(2))
 }
 
 /// What a line adds one too many of; `None` if there is nothing.
 fn count_excess(lines: &[Line], index: usize, line: &Line, blocks: &Blocks) -> Option<Excess> {
-    let span = line.span_at(1);
-    match role(line) {
-        Role::Class => excess_over(
+    let role = role(line);
+    let (what, counted, most) = match role {
+        Role::Class => (
             "classes",
-            count_between(lines, 0, index, Role::Class),
+            count_between(lines, 0, index, role),
             MOST_CLASSES,
-            span,
         ),
         Role::Field => {
             let class = class_before(lines, index).unwrap_or(0);
-            excess_over(
+            (
                 "fields in a class",
-                count_between(lines, class, index, Role::Field),
+                count_between(lines, class, index, role),
                 MOST_FIELDS,
-                span,
             )
         }
-        Role::Procedure => excess_over(
-            "procedures and operations",
-            count_between(lines, 0, index, Role::Procedure),
-            MOST_PROCEDURES,
-            span,
-        ),
-        Role::Declaration => excess_over(
-            "locals in a body",
-            local_count(lines, index),
-            MOST_LOCALS,
-            span,
-        ),
+        Role::Procedure => {
+            let counted = count_between(lines, 0, index, role);
+            ("procedures and operations", counted, MOST_PROCEDURES)
+        }
+        Role::Declaration => ("locals in a body", local_count(lines, index), MOST_LOCALS),
         Role::Loop | Role::If => {
-            excess_over(
+            (
                 "blocks inside one another",
                 block_count(lines, blocks),
                 DEEPEST_BLOCK,
-                line.span_at(0),
             )
         }
-        _ => None,
-    }
+        _ => return None,
+    };
+    let place = if let Role::Loop | Role::If = role {
+        0
+    } else {
+        1
+    };
+    excess_over(what, counted, most, line.span_at(place))
 }
 
 /// The number of blocks inside one another, with one more inside those that are open.
@@ -203,34 +189,26 @@ fn parameter_excess(line: &Line) -> Option<Excess> {
 
 /// The first limit that a line exceeds; `None` if there is none.
 fn find_excess(lines: &[Line], index: usize, line: &Line, blocks: &Blocks) -> Option<Excess> {
-    if let Some(found) = name_excess(line) {
-        Some(found)
-    } else if let Some(found) = parameter_excess(line) {
-        Some(found)
-    } else if let Some(found) = count_excess(lines, index, line, blocks) {
-        Some(found)
-    } else {
-        size_excess(line)
-    }
+    let found = name_excess(line).or(parameter_excess(line));
+    found
+        .or(count_excess(lines, index, line, blocks))
+        .or(size_excess(line))
 }
 
 /// Says which limit a line exceeds.
-pub(crate) fn explain_too_many(page: &mut Page, lines: &[Line], index: usize, blocks: &Blocks) {
-    let Some(line) = lines.get(index) else {
-        return;
-    };
-    let Some(found) = find_excess(lines, index, line, blocks) else {
-        return;
-    };
-    page.mark(
-        line.spot_of(found.span, &[]),
-        &[
-            Fragment::Text("too many "),
-            Fragment::Text(found.what),
-            Fragment::Text(": "),
-            Fragment::Number(found.counted),
-            Fragment::Text(", but the limit is "),
-            Fragment::Number(found.most as usize),
-        ],
-    );
+pub fn explain_too_many(page: &mut Page, lines: &[Line], index: usize, blocks: &Blocks) {
+    if let Some(line) = lines.get(index)
+        && let Some(found) = find_excess(lines, index, line, blocks)
+    {
+        let Excess {
+            what,
+            counted,
+            most,
+            span,
+        } = found;
+        page.mark(
+            line.spot_of(span, &[]),
+            format_args!("too many {what}: {counted}, but the limit is {most}"),
+        );
+    }
 }

@@ -6,12 +6,12 @@ use wb_lines::forms::{begins_comment, form_of};
 use wb_lines::segments::{self, add_words};
 use wb_model::script_lines::{Form, LineKind, Operand};
 use wb_pages::words::{count_blanks, place_words, trim};
-use wb_pages::{Span, Spot, Word};
+use wb_pages::{Shown, Span, Spot, Word};
 
 /// A line: its number, its text without the blanks around it, the number of blanks before it, its words, its form, and the index of
 /// the line that begins its body, which may be itself.
 #[derive(Drop)]
-pub(crate) struct Line<'a> {
+pub struct Line<'a> {
     pub number: usize,
     pub text: &'a [u8],
     pub indent: usize,
@@ -60,7 +60,7 @@ fn add_line<'a>(
 }
 
 /// Returns the lines of a script. The only error is that memory ran out.
-pub(crate) fn lines_of<'a>(alloc: Global, bytes: &'a [u8]) -> Result<Vec<Line<'a>>, AllocError> {
+pub fn lines_of<'a>(alloc: Global, bytes: &'a [u8]) -> Result<Vec<Line<'a>>, AllocError> {
     let mut lines = Vec::new(alloc);
     for line in segments::lines(alloc, bytes)? {
         add_line(alloc, &mut lines, line)?;
@@ -70,7 +70,7 @@ pub(crate) fn lines_of<'a>(alloc: Global, bytes: &'a [u8]) -> Result<Vec<Line<'a
 
 impl<'a> Line<'a> {
     /// Which kind of line it is; `None` if it has no form, or is blank or a comment.
-    pub(crate) fn line_kind(&self) -> Option<LineKind> {
+    pub fn line_kind(&self) -> Option<LineKind> {
         match &self.form {
             Form::Line(line_kind, _) => Some(*line_kind),
             Form::Skip | Form::Unknown => None,
@@ -78,7 +78,7 @@ impl<'a> Line<'a> {
     }
 
     /// Its operands; `None` if it has no form.
-    pub(crate) fn operands(&self) -> &[Operand<&'a [u8]>] {
+    pub fn operands(&self) -> &[Operand<&'a [u8]>] {
         match &self.form {
             Form::Line(_, operands) => operands.as_slice(),
             Form::Skip | Form::Unknown => &[],
@@ -86,20 +86,25 @@ impl<'a> Line<'a> {
     }
 
     /// The word with an index; `None` if there is none.
-    pub(crate) fn word(&self, index: usize) -> Option<Word<'a>> {
+    pub fn word(&self, index: usize) -> Option<Word<'a>> {
         self.words.get(index).copied()
     }
 
     /// The text of the word with an index; empty if there is none.
-    pub(crate) fn text_at(&self, index: usize) -> &'a [u8] {
+    pub fn text_at(&self, index: usize) -> &'a [u8] {
         match self.word(index) {
             Some(word) => word.text,
             None => &[],
         }
     }
 
+    /// The word with an index, as messages show it.
+    pub fn shown_word(&self, index: usize) -> Shown<'a> {
+        Shown::word(self.text_at(index))
+    }
+
     /// The text of the last word; empty if the line has none.
-    pub(crate) fn last_text(&self) -> &'a [u8] {
+    pub fn last_text(&self) -> &'a [u8] {
         match self.words.last() {
             Some(word) => word.text,
             None => &[],
@@ -107,7 +112,7 @@ impl<'a> Line<'a> {
     }
 
     /// The first word; `None` if the line has none or is a comment.
-    pub(crate) fn first(&self) -> Option<Word<'a>> {
+    pub fn first(&self) -> Option<Word<'a>> {
         match self.word(0) {
             Some(word) if !begins_comment(word.text) => Some(word),
             _ => None,
@@ -115,7 +120,7 @@ impl<'a> Line<'a> {
     }
 
     /// The part of the line that is the word with an index; the whole line if there is none.
-    pub(crate) fn span_at(&self, index: usize) -> Span {
+    pub fn span_at(&self, index: usize) -> Span {
         match self.word(index) {
             Some(word) => word.span(),
             None => self.span(),
@@ -123,12 +128,12 @@ impl<'a> Line<'a> {
     }
 
     /// The word with an index, to be shown; the whole line if there is none.
-    pub(crate) fn spot(&self, index: usize) -> Spot<'a> {
+    pub fn spot(&self, index: usize) -> Spot<'a> {
         Spot::of_word(self.number, self.text, &self.words, index)
     }
 
     /// A part of the line, to be shown, and the word that is meant.
-    pub(crate) fn spot_of(&self, span: Span, word: &'a [u8]) -> Spot<'a> {
+    pub fn spot_of(&self, span: Span, word: &'a [u8]) -> Spot<'a> {
         Spot {
             number: self.number,
             text: self.text,
@@ -137,13 +142,19 @@ impl<'a> Line<'a> {
         }
     }
 
+    /// A word that begins in a column of the line, or a part of one, to be shown.
+    pub fn part(&self, column: usize, word: &'a [u8]) -> Spot<'a> {
+        let length = word.len();
+        self.spot_of(Span { column, length }, word)
+    }
+
     /// The whole line, to be shown, and no word of it.
-    pub(crate) fn whole(&self) -> Spot<'a> {
+    pub fn whole(&self) -> Spot<'a> {
         Spot::of_line(self.number, self.text)
     }
 
     /// The whole line as a part of it.
-    pub(crate) fn span(&self) -> Span {
+    pub fn span(&self) -> Span {
         Span {
             column: 0,
             length: self.text.len(),

@@ -8,7 +8,7 @@ use wb_model::script_lines::ItemKind;
 use wb_pages::Page;
 
 /// Says that there is no `main`, and which procedure may be meant to be it.
-pub(crate) fn explain_no_main(page: &mut Page, lines: &[Line]) {
+pub fn explain_no_main(page: &mut Page, lines: &[Line]) {
     page.write_file_text("the script has no procedure `main`");
     let near = nearest_item(lines, ItemKind::Procedure, b"main");
     match (find_item(lines, b"main"), near) {

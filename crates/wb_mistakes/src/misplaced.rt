@@ -6,7 +6,7 @@ use crate::further_lines::mark_line;
 use crate::lines::Line;
 use crate::spaces::is_statement;
 use wb_model::script_lines::{LineKind, Role};
-use wb_pages::{Fragment, Page};
+use wb_pages::Page;
 
 fn is_further_left(lines: &[Line], closed: ClosedBlock) -> bool {
     indent_at(lines, closed.end) < indent_at(lines, closed.first)
@@ -48,17 +48,9 @@ fn mark_closed(page: &mut Page, lines: &[Line], blocks: &Blocks) {
 }
 
 /// Says what is wrong with the first word of a line, and shows it.
-fn refuse<'x>(page: &mut Page, line: &Line<'x>, problem: &'x str) {
+fn refuse(page: &mut Page, line: &Line, problem: &str) {
     let spot = line.spot(0);
-    page.mark(
-        spot,
-        &[
-            Fragment::Text("`"),
-            Fragment::Word(spot.word),
-            Fragment::Text("` "),
-            Fragment::Text(problem),
-        ],
-    );
+    page.mark(spot, format_args!("`{}` {problem}", spot.shown_word()));
 }
 
 /// Explains a line outside any class, procedure and operation.
@@ -275,7 +267,7 @@ fn explain_in_block(page: &mut Page, lines: &[Line], blocks: &Blocks, block: Blo
 }
 
 /// Says why a line is not allowed where it is.
-pub(crate) fn explain_misplaced(page: &mut Page, lines: &[Line], blocks: &Blocks, line: &Line) {
+pub fn explain_misplaced(page: &mut Page, lines: &[Line], blocks: &Blocks, line: &Line) {
     match blocks.open.last() {
         None => explain_outside(page, lines, blocks, line),
         Some(block) => explain_in_block(page, lines, blocks, *block, line),
@@ -283,7 +275,7 @@ pub(crate) fn explain_misplaced(page: &mut Page, lines: &[Line], blocks: &Blocks
 }
 
 /// Says that the file ends before its blocks do.
-pub(crate) fn explain_early_end(page: &mut Page, lines: &[Line], blocks: &Blocks, number: usize) {
+pub fn explain_early_end(page: &mut Page, lines: &[Line], blocks: &Blocks, number: usize) {
     page.write_message(number, "the file ends, but an `end` is missing");
     mark_unclosed(page, lines, blocks);
     page.write_help_text(

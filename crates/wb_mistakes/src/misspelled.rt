@@ -16,7 +16,7 @@ use wb_lines::forms::begins_comment;
 use wb_lines::line_kinds::{line_kinds, operand_places_of, text_of};
 use wb_lines::words::text_of_keyword;
 use wb_model::script_lines::{Keyword, LineKind, OperandPlace};
-use wb_pages::{Fragment, Page, Span, Spot, Word};
+use wb_pages::{Page, Shown, Span, Spot, Word};
 
 /// What a condition asks.
 static CONDITIONS: [Keyword; 4] = [Keyword::Null, Keyword::Some, Keyword::Equal, Keyword::Less];
@@ -95,7 +95,7 @@ fn help_with_statement(page: &mut Page, line: &Line) {
     match nearest_statement(line.text_at(0)) {
         Some(near) => {
             page.begin_help();
-            page.write_word("did you mean `", near.word, "`? its form is ");
+            page.write(format_args!("did you mean `{}`? its form is ", Shown::word(near.word)));
             write_forms(page, near.word);
             page.end_line();
         }
@@ -109,7 +109,10 @@ fn help_with_statement(page: &mut Page, line: &Line) {
 }
 
 fn explain_statement(page: &mut Page, line: &Line) {
-    page.mark_word(line.spot(0), "no such statement: `", "`");
+    page.mark(
+        line.spot(0),
+        format_args!("no such statement: `{}`", line.shown_word(0)),
+    );
     let name = name_in(line.text_at(0));
     if let Some(found) = cpp_word_of(line) {
         help_with_cpp(page, found);
@@ -122,9 +125,12 @@ fn explain_statement(page: &mut Page, line: &Line) {
 }
 
 fn explain_condition(page: &mut Page, spot: Spot) {
-    page.mark_word(spot, "no such condition: `", "`");
+    page.mark(
+        spot,
+        format_args!("no such condition: `{}`", spot.shown_word()),
+    );
     if let Some(near) = nearest_condition(spot.word) {
-        page.write_help_word("did you mean `", near.word, "`?");
+        page.write_help(format_args!("did you mean `{}`?", Shown::word(near.word)));
     }
     if let [b'(', ..] = spot.word {
         page.write_help_text("in a script `if (p)` is `if some p`, and `if (!p)` is `if null p`");
@@ -198,12 +204,12 @@ fn help_with_wrong_word(page: &mut Page, word: &[u8], hint: &str) {
 /// Says that a line has too few words, or too many.
 fn explain_word_count(page: &mut Page, line: &Line, line_kind: LineKind) {
     let is_more = line.words.len() > operand_places_of(line_kind).len();
-    let problem = if is_more {
-        "too many words for `"
-    } else {
-        "too few words for `"
-    };
-    page.mark_word(spot_of_count(line, line_kind, is_more), problem, "`");
+    let how_many = if is_more { "many" } else { "few" };
+    let spot = spot_of_count(line, line_kind, is_more);
+    page.mark(
+        spot,
+        format_args!("too {how_many} words for `{}`", line.shown_word(0)),
+    );
     if is_else_if(line) {
         page.write_help_text("write the `if` on the next line, with an `end` of its own");
     }
@@ -215,10 +221,7 @@ fn explain_word_count(page: &mut Page, line: &Line, line_kind: LineKind) {
 /// Says what is expected as an operand, and the form of its line.
 fn help_with_place(page: &mut Page, line_kind: LineKind, operand_place: OperandPlace) {
     page.begin_help();
-    page.write(&[
-        Fragment::Text(expectation_of(operand_place)),
-        Fragment::Text(" is expected here: "),
-    ]);
+    page.write(format_args!("{} is expected here: ", expectation_of(operand_place)));
     write_form(page, line_kind);
     page.end_line();
     if let LineKind::ReturnPointer = line_kind {
@@ -227,7 +230,7 @@ fn help_with_place(page: &mut Page, line_kind: LineKind, operand_place: OperandP
 }
 
 /// The same of a line, if it has a form.
-pub(crate) fn help_with_operand(page: &mut Page, line: &Line, operand_place: OperandPlace) {
+pub fn help_with_operand(page: &mut Page, line: &Line, operand_place: OperandPlace) {
     if let Some(line_kind) = line.line_kind() {
         help_with_place(page, line_kind, operand_place);
     }
@@ -235,27 +238,22 @@ pub(crate) fn help_with_operand(page: &mut Page, line: &Line, operand_place: Ope
 
 /// Says what is wrong with the word at a place of a form.
 fn explain_word(page: &mut Page, line_kind: LineKind, operand_place: OperandPlace, spot: Spot) {
-    let found = complaint_of(operand_place, spot.word);
-    page.mark(
-        spot,
-        &[
-            Fragment::Text(found.problem),
-            Fragment::Text(": `"),
-            Fragment::Word(spot.word),
-            Fragment::Text("`"),
-        ],
-    );
-    help_with_wrong_word(page, spot.word, found.hint);
+    let (problem, hint) = complaint_of(operand_place, spot.word);
+    page.mark(spot, format_args!("{problem}: `{}`", spot.shown_word()));
+    help_with_wrong_word(page, spot.word, hint);
     help_with_place(page, line_kind, operand_place);
 }
 
 fn explain_late_comment(page: &mut Page, spot: Spot) {
-    page.mark_text(spot, "a comment can't follow a statement");
+    page.mark(spot, "a comment can't follow a statement");
     help_with_wrong_word(page, spot.word, "give the comment a line of its own");
 }
 
 fn explain_open_quote(page: &mut Page, spot: Spot) {
-    page.mark_word(spot, "the quote is not closed: `", "`");
+    page.mark(
+        spot,
+        format_args!("the quote is not closed: `{}`", spot.shown_word()),
+    );
     page.write_help_text(
         "a text ends with `\"` on the line on which it begins, and can't contain one",
     );
@@ -272,7 +270,7 @@ fn first_of_base<'a>(line: &Line<'a>, line_kind: LineKind) -> Option<Word<'a>> {
 }
 
 fn explain_base(page: &mut Page, spot: Spot) {
-    page.mark_text(spot, "a class has no base class: there is no inheritance");
+    page.mark(spot, "a class has no base class: there is no inheritance");
     page.write_help_text("it has the fields of its base too: \"BaseConstructL\" in docs/IDIOMS.md");
     help_with_forms(page, b"class");
 }
@@ -294,7 +292,7 @@ fn explain_words(page: &mut Page, line: &Line, line_kind: LineKind) {
 }
 
 /// Says why a line is of no form.
-pub(crate) fn explain_misspelled(page: &mut Page, line: &Line) {
+pub fn explain_misspelled(page: &mut Page, line: &Line) {
     if line.first().is_none() {
         return;
     }

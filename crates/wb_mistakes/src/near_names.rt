@@ -17,11 +17,7 @@ fn is_item(line: &Line, kind: ItemKind) -> bool {
 }
 
 /// The class, procedure or operation with the nearest name; `None` if none is near.
-pub(crate) fn nearest_item<'a>(
-    lines: &[Line<'a>],
-    kind: ItemKind,
-    name: &[u8],
-) -> Option<Candidate<'a>> {
+pub fn nearest_item<'a>(lines: &[Line<'a>], kind: ItemKind, name: &[u8]) -> Option<Candidate<'a>> {
     let mut search = Search::of(name);
     for (index, line) in lines.iter().enumerate() {
         if is_item(line, kind) {
@@ -52,11 +48,7 @@ impl<'w, 'a> Search<'w, 'a> {
 }
 
 /// The local of a line's body with the nearest name, declared before that line; `None` if none is near.
-pub(crate) fn nearest_local<'a>(
-    lines: &[Line<'a>],
-    index: usize,
-    name: &[u8],
-) -> Option<Candidate<'a>> {
+pub fn nearest_local<'a>(lines: &[Line<'a>], index: usize, name: &[u8]) -> Option<Candidate<'a>> {
     let body = body_of(lines, index);
     let mut search = Search::of(name);
     for (at, line) in lines.iter().enumerate() {
@@ -68,11 +60,7 @@ pub(crate) fn nearest_local<'a>(
 }
 
 /// The field with the nearest name, of the class that begins at an index; `None` if none is near.
-pub(crate) fn nearest_field<'a>(
-    lines: &[Line<'a>],
-    class: usize,
-    name: &[u8],
-) -> Option<Candidate<'a>> {
+pub fn nearest_field<'a>(lines: &[Line<'a>], class: usize, name: &[u8]) -> Option<Candidate<'a>> {
     let mut search = Search::of(name);
     for (index, line) in lines.iter().enumerate() {
         if index > class {

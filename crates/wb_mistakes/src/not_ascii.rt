@@ -2,7 +2,7 @@
 
 use crate::lines::Line;
 use wb_lines::bytes::is_foreign;
-use wb_pages::{Fragment, Page, Span};
+use wb_pages::{Page, Span};
 
 /// The hexadecimal digits.
 static DIGITS: [&str; 16] = [
@@ -47,13 +47,13 @@ fn beginning_of(text: &[u8]) -> Beginning {
 }
 
 /// Says that a line has a byte outside printable ASCII: of the file's first line, in which encoding the file seems to be.
-pub(crate) fn explain_not_ascii(page: &mut Page, lines: &[Line], index: usize) {
+pub fn explain_not_ascii(page: &mut Page, lines: &[Line], index: usize) {
     let Some(line) = lines.get(index) else {
         return;
     };
     match beginning_of(line.text) {
         Beginning::Mark if index == 0 => {
-            page.mark_text(
+            page.mark(
                 line.spot_of(
                     Span {
                         column: 0,
@@ -83,13 +83,12 @@ fn explain_byte(page: &mut Page, line: &Line) {
     };
     page.mark(
         line.spot_of(Span { column, length: 1 }, &[]),
-        &[
-            Fragment::Text("a byte outside printable ASCII: 0x"),
-            Fragment::Text(hex_digit(byte / 16)),
-            Fragment::Text(hex_digit(byte % 16)),
-            Fragment::Text(" in column "),
-            Fragment::Number(line.indent.saturating_add(column).saturating_add(1)),
-        ],
+        format_args!(
+            "a byte outside printable ASCII: 0x{}{} in column {}",
+            hex_digit(byte / 16),
+            hex_digit(byte % 16),
+            line.indent.saturating_add(column).saturating_add(1)
+        ),
     );
     page.write_help_text(
         "a script is ASCII, in comments and texts too: letters without accents, and straight quotes",

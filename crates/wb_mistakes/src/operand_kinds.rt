@@ -113,7 +113,7 @@ fn resolved_operand(
 }
 
 /// What a word is in this place; nothing if it isn't grammatical there.
-pub(crate) fn operand_kind_of(
+pub fn operand_kind_of(
     lines: &[Line],
     index: usize,
     operand_place: OperandPlace,
@@ -131,12 +131,12 @@ pub(crate) fn operand_kind_of(
 }
 
 /// What a word is that a body uses: `print` takes the most kinds.
-pub(crate) fn operand_kind_in_body(lines: &[Line], index: usize, word: &[u8]) -> OperandKind {
+pub fn operand_kind_in_body(lines: &[Line], index: usize, word: &[u8]) -> OperandKind {
     operand_kind_of(lines, index, OperandPlace::Printed, word)
 }
 
 /// What a word refers to, in words.
-pub(crate) fn description_of(operand_kind: OperandKind) -> &'static str {
+pub fn description_of(operand_kind: OperandKind) -> &'static str {
     match operand_kind {
         OperandKind::Pointer => "a pointer",
         OperandKind::This => "the object of this body, which no line can set",
@@ -154,7 +154,7 @@ pub(crate) fn description_of(operand_kind: OperandKind) -> &'static str {
 }
 
 /// The index of the line that declares what a word refers to as this operand; `None` if no line does.
-pub(crate) fn line_of_declaration(
+pub fn line_of_declaration(
     lines: &[Line],
     index: usize,
     operand_place: OperandPlace,

@@ -7,25 +7,25 @@ use wb_model::script_lines::{ItemKind, LineKind, LocalKind, Operand, ParameterTy
 
 /// A local: what it holds, and the index of the line that declares it.
 #[derive(Clone, Copy)]
-pub(crate) struct LocalAt<'a> {
+pub struct LocalAt<'a> {
     pub kind: LocalKind<&'a [u8]>,
     pub line: usize,
 }
 
 /// A class, a procedure or an operation: which of these, and the index of the line that begins it.
 #[derive(Clone, Copy)]
-pub(crate) struct ItemAt {
+pub struct ItemAt {
     pub kind: ItemKind,
     pub line: usize,
 }
 
 /// The kind of the line with an index; `None` if there is no such line, or it has none.
-pub(crate) fn line_kind_at(lines: &[Line], index: usize) -> Option<LineKind> {
+pub fn line_kind_at(lines: &[Line], index: usize) -> Option<LineKind> {
     lines.get(index)?.line_kind()
 }
 
 /// Returns the first class, procedure or operation with a name; `None` if there is none.
-pub(crate) fn find_item(lines: &[Line], name: &[u8]) -> Option<ItemAt> {
+pub fn find_item(lines: &[Line], name: &[u8]) -> Option<ItemAt> {
     for (index, line) in lines.iter().enumerate() {
         if let Some(kind) = item_kind_in(&line.form) {
             if line.text_at(1) == name {
@@ -50,7 +50,7 @@ fn find_class(lines: &[Line], name: &[u8]) -> Option<usize> {
 }
 
 /// The index of the line that begins the body of a line, which may be that line.
-pub(crate) fn body_of(lines: &[Line], index: usize) -> usize {
+pub fn body_of(lines: &[Line], index: usize) -> usize {
     match lines.get(index) {
         Some(line) => line.body,
         None => 0,
@@ -58,7 +58,7 @@ pub(crate) fn body_of(lines: &[Line], index: usize) -> usize {
 }
 
 /// The index of the last line, up to a line, that begins a class; `None` if there is none.
-pub(crate) fn class_before(lines: &[Line], index: usize) -> Option<usize> {
+pub fn class_before(lines: &[Line], index: usize) -> Option<usize> {
     let mut class = None;
     for (at, line) in lines.iter().enumerate() {
         if at <= index && matches!(role(line), Role::Class) {
@@ -69,7 +69,7 @@ pub(crate) fn class_before(lines: &[Line], index: usize) -> Option<usize> {
 }
 
 /// Whether `self` is an object in the body of a line.
-pub(crate) fn has_self(lines: &[Line], index: usize) -> bool {
+pub fn has_self(lines: &[Line], index: usize) -> bool {
     matches!(
         role_at(lines, body_of(lines, index)),
         Role::Construct | Role::Destroy
@@ -102,12 +102,12 @@ fn kind_by_line<'a>(line: &Line<'a>, name: &[u8]) -> Option<LocalKind<&'a [u8]>>
 }
 
 /// Whether a line is a statement, after which its body declares nothing.
-pub(crate) fn is_statement(line: &Line) -> bool {
+pub fn is_statement(line: &Line) -> bool {
     matches!(role(line), Role::Plain | Role::Loop | Role::If)
 }
 
 /// Returns the local with a name in the body of a line, declared before that line; `None` if there is none.
-pub(crate) fn find_local<'a>(lines: &[Line<'a>], index: usize, name: &[u8]) -> Option<LocalAt<'a>> {
+pub fn find_local<'a>(lines: &[Line<'a>], index: usize, name: &[u8]) -> Option<LocalAt<'a>> {
     for at in body_of(lines, index)..index {
         let line = lines.get(at)?;
         if let Some(kind) = kind_by_line(line, name) {
@@ -121,7 +121,7 @@ pub(crate) fn find_local<'a>(lines: &[Line<'a>], index: usize, name: &[u8]) -> O
 }
 
 /// Returns the first local with a name in any body; `None` if there is none.
-pub(crate) fn find_local_anywhere<'a>(lines: &[Line<'a>], name: &[u8]) -> Option<LocalAt<'a>> {
+pub fn find_local_anywhere<'a>(lines: &[Line<'a>], name: &[u8]) -> Option<LocalAt<'a>> {
     for (index, line) in lines.iter().enumerate() {
         if let Some(kind) = kind_by_line(line, name) {
             return Some(LocalAt { kind, line: index });
@@ -131,7 +131,7 @@ pub(crate) fn find_local_anywhere<'a>(lines: &[Line<'a>], name: &[u8]) -> Option
 }
 
 /// The index of the line of the class with which the name before a dot is declared; `None` if it has no class.
-pub(crate) fn class_of_holder(lines: &[Line], index: usize, base: &[u8]) -> Option<usize> {
+pub fn class_of_holder(lines: &[Line], index: usize, base: &[u8]) -> Option<usize> {
     if base == b"self".as_slice() {
         return if has_self(lines, index) {
             class_before(lines, index)
@@ -151,7 +151,7 @@ pub(crate) fn class_of_holder(lines: &[Line], index: usize, base: &[u8]) -> Opti
 }
 
 /// Returns the index of the line that declares a field with a name, of the class that begins at an index; `None` if there is none.
-pub(crate) fn find_field(lines: &[Line], class: usize, name: &[u8]) -> Option<usize> {
+pub fn find_field(lines: &[Line], class: usize, name: &[u8]) -> Option<usize> {
     for (index, line) in lines.iter().enumerate() {
         if index > class {
             match role(line) {
@@ -166,16 +166,16 @@ pub(crate) fn find_field(lines: &[Line], class: usize, name: &[u8]) -> Option<us
 }
 
 /// The index of the line that begins the first class, procedure or operation with a name; `None` if there is none.
-pub(crate) fn line_of_item(lines: &[Line], name: &[u8]) -> Option<usize> {
+pub fn line_of_item(lines: &[Line], name: &[u8]) -> Option<usize> {
     Some(find_item(lines, name)?.line)
 }
 
 /// The index of the line that declares the local with a name, in the body of a line and before that line; `None` if there is none.
-pub(crate) fn line_of_local(lines: &[Line], index: usize, name: &[u8]) -> Option<usize> {
+pub fn line_of_local(lines: &[Line], index: usize, name: &[u8]) -> Option<usize> {
     Some(find_local(lines, index, name)?.line)
 }
 
 /// The index of the line that declares the field with a name, of the class that begins last up to a line; `None` if there is none.
-pub(crate) fn line_of_field(lines: &[Line], index: usize, name: &[u8]) -> Option<usize> {
+pub fn line_of_field(lines: &[Line], index: usize, name: &[u8]) -> Option<usize> {
     find_field(lines, class_before(lines, index)?, name)
 }

@@ -12,7 +12,10 @@ use crate::spaces::{body_of, class_of_holder, find_field, find_item, find_local,
 use crate::words::{is_field, is_parameter};
 use wb_lines::words::{after_first_of, before_first, is_name, is_reserved, parameter_type_of_word};
 use wb_model::script_lines::{ItemKind, LineKind, OperandPlace, ParameterType};
-use wb_pages::{Fragment, Page, Span, Spot};
+use wb_pages::{Page, Shown, Spot};
+
+/// What is said of a name that nothing can have.
+const RESERVED: &str = "the name is reserved and can't be declared";
 
 /// Where a name was looked for.
 #[derive(Clone, Copy)]
@@ -24,21 +27,18 @@ enum Space {
     Fields(usize),
 }
 
-/// An unknown name: its bytes, the part of the line where it is, and where it was looked for.
+/// An unknown name: its bytes, the column where it begins, and where it was looked for.
 #[derive(Clone, Copy)]
 struct Unknown<'a> {
     name: &'a [u8],
-    span: Span,
+    column: usize,
     space: Space,
 }
 
 fn unknown_at<'a>(name: &'a [u8], column: usize, space: Space) -> Option<Unknown<'a>> {
     Some(Unknown {
         name,
-        span: Span {
-            column,
-            length: name.len(),
-        },
+        column,
         space,
     })
 }
@@ -163,44 +163,41 @@ fn first_unknown<'a>(
     None
 }
 
-fn item_problem(kind: ItemKind) -> &'static str {
+fn item_word(kind: ItemKind) -> &'static str {
     match kind {
-        ItemKind::Class => "unknown name: the script has no class `",
-        ItemKind::Procedure => "unknown name: the script has no procedure `",
-        ItemKind::Operation => "unknown name: the script has no operation `",
-    }
-}
-
-fn help_of_item(kind: ItemKind) -> &'static str {
-    match kind {
-        ItemKind::Class => "define the class anywhere in the script, above or below this line",
-        ItemKind::Procedure =>
-            "define the procedure anywhere in the script, above or below this line",
-        ItemKind::Operation =>
-            "define the operation anywhere in the script, above or below this line",
+        ItemKind::Class => "class",
+        ItemKind::Procedure => "procedure",
+        ItemKind::Operation => "operation",
     }
 }
 
 /// Says what is unknown, and where it was looked for.
-fn explain_problem<'x>(page: &mut Page, lines: &[Line<'x>], spot: Spot<'x>, space: Space) {
+fn explain_problem(page: &mut Page, lines: &[Line], spot: Spot, space: Space) {
+    let name = spot.shown_word();
     match space {
-        Space::Items(kind) => page.mark_word(spot, item_problem(kind), "`"),
-        Space::Locals => page.mark_word(spot, "unknown name: this body declares no `", "`"),
-        Space::Fields(class) => page.mark(
+        Space::Items(kind) => page.mark(
             spot,
-            &[
-                Fragment::Text("unknown name: class `"),
-                Fragment::Word(class_name(lines, class)),
-                Fragment::Text("` has no field `"),
-                Fragment::Word(spot.word),
-                Fragment::Text("`"),
-            ],
+            format_args!(
+                "unknown name: the script has no {} `{name}`",
+                item_word(kind)
+            ),
         ),
+        Space::Locals => page.mark(
+            spot,
+            format_args!("unknown name: this body declares no `{name}`"),
+        ),
+        Space::Fields(class) => {
+            let class = Shown::word(class_name(lines, class));
+            page.mark(
+                spot,
+                format_args!("unknown name: class `{class}` has no field `{name}`"),
+            );
+        }
     }
 }
 
 /// The name of the class that a line begins.
-pub(crate) fn class_name<'a>(lines: &[Line<'a>], class: usize) -> &'a [u8] {
+pub fn class_name<'a>(lines: &[Line<'a>], class: usize) -> &'a [u8] {
     match lines.get(class) {
         Some(line) => line.text_at(1),
         None => &[],
@@ -246,7 +243,7 @@ fn help_of_local(name: &[u8]) -> &'static str {
     } else if name.starts_with(b"KErr") {
         CODE_AS_NUMBER
     } else if is_reserved(name) {
-        "the name is reserved and can't be declared"
+        RESERVED
     } else {
         "declare it above the first statement, with `ptr`, `int`, `buf` or `view`"
     }
@@ -269,32 +266,35 @@ fn returns_code(line: &Line, name: &[u8]) -> bool {
     matches!(line.line_kind(), Some(LineKind::ReturnPointer)) && name.starts_with(b"KErr")
 }
 
-/// What to do if no name is near.
-fn help_of(found: Unknown) -> &'static str {
+/// Says what to do if no name is near.
+fn help_with_declaration(page: &mut Page, found: Unknown) {
     match found.space {
-        Space::Locals => help_of_local(found.name),
-        Space::Items(ItemKind::Class) if is_reserved(found.name) => {
-            "no class can have this name; `ptr NAME` and `field NAME` declare pointers without a class"
+        Space::Locals => page.write_help_text(help_of_local(found.name)),
+        Space::Items(ItemKind::Class) if is_reserved(found.name) => page.write_help_text(
+            "no class can have this name; `ptr NAME` and `field NAME` declare pointers without a class",
+        ),
+        _ if is_reserved(found.name) => page.write_help_text(RESERVED),
+        Space::Items(kind) => {
+            let what = item_word(kind);
+            page.write_help(format_args!(
+                "define the {what} anywhere in the script, above or below this line"
+            ));
         }
-        _ if is_reserved(found.name) => "the name is reserved and can't be declared",
-        Space::Items(kind) => help_of_item(kind),
-        Space::Fields(_) => "declare it in the class, with `field NAME`",
+        Space::Fields(_) => page.write_help_text("declare it in the class, with `field NAME`"),
     }
 }
 
 /// Says which declared name may be meant.
 fn help_with_candidate(page: &mut Page, near: Candidate) {
-    page.write_help(&[
-        Fragment::Text("did you mean `"),
-        Fragment::Word(near.word),
-        Fragment::Text("`, declared on line "),
-        Fragment::Number(near.line),
-        Fragment::Text("?"),
-    ]);
+    page.write_help(format_args!(
+        "did you mean `{}`, declared on line {}?",
+        Shown::word(near.word),
+        near.line
+    ));
 }
 
 /// Says which name of a line is declared nowhere.
-pub(crate) fn explain_unknown_name(page: &mut Page, lines: &[Line], index: usize) {
+pub fn explain_unknown_name(page: &mut Page, lines: &[Line], index: usize) {
     if let Some(line) = lines.get(index)
         && let Some((found, operand_place)) = first_unknown(lines, index, line)
     {
@@ -303,15 +303,15 @@ pub(crate) fn explain_unknown_name(page: &mut Page, lines: &[Line], index: usize
 }
 
 /// Says what is known of an unknown name, in this operand.
-fn explain_unknown<'x>(
+fn explain_unknown<'a>(
     page: &mut Page,
-    lines: &[Line<'x>],
+    lines: &[Line<'a>],
     index: usize,
-    line: &Line<'x>,
-    found: Unknown<'x>,
+    line: &Line<'a>,
+    found: Unknown<'a>,
     operand_place: OperandPlace,
 ) {
-    let spot = line.spot_of(found.span, found.name);
+    let spot = line.part(found.column, found.name);
     explain_problem(page, lines, spot, found.space);
     mark_space(page, lines, index, found.space);
     let elsewhere = find_elsewhere(lines, index, found);
@@ -322,9 +322,10 @@ fn explain_unknown<'x>(
         (_, Some(Elsewhere::FieldOfClass(_))) => {}
         (Some(near), _) => help_with_candidate(page, near),
         (None, Some(Elsewhere::OtherKind(..))) => help_with_operand(page, line, operand_place),
-        (None, _) => page.write_help_text(help_of_number_kind(line, found.name).unwrap_or(help_of(
-            found,
-        ))),
+        (None, _) => match help_of_number_kind(line, found.name) {
+            Some(help) => page.write_help_text(help),
+            None => help_with_declaration(page, found),
+        },
     }
     if returns_code(line, found.name) {
         page.write_help_text(NUMBER_RETURNED);

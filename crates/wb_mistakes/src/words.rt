@@ -5,16 +5,16 @@ use wb_lines::words::{
 };
 
 /// Whether a word has a byte.
-pub(crate) fn has_byte(byte: u8, word: &[u8]) -> bool {
+pub fn has_byte(byte: u8, word: &[u8]) -> bool {
     word.contains(&byte)
 }
 
-pub(crate) fn is_field(word: &[u8]) -> bool {
+pub fn is_field(word: &[u8]) -> bool {
     base_name(word).is_some() && field_name(word).is_some()
 }
 
 /// The digits of a number, without its sign.
-pub(crate) fn digits<'a>(word: &'a [u8]) -> &'a [u8] {
+pub fn digits<'a>(word: &'a [u8]) -> &'a [u8] {
     match word {
         [b'-', digits @ ..] => digits,
         _ => word,
@@ -22,7 +22,7 @@ pub(crate) fn digits<'a>(word: &'a [u8]) -> &'a [u8] {
 }
 
 /// Whether a word is some digits, with or without `-` before them.
-pub(crate) fn is_numeral(word: &[u8]) -> bool {
+pub fn is_numeral(word: &[u8]) -> bool {
     let digits = digits(word);
     for byte in digits {
         if !is_digit(*byte) {
@@ -32,15 +32,15 @@ pub(crate) fn is_numeral(word: &[u8]) -> bool {
     !digits.is_empty()
 }
 
-pub(crate) fn is_literal(word: &[u8]) -> bool {
+pub fn is_literal(word: &[u8]) -> bool {
     literal_of(word).is_some()
 }
 
-pub(crate) fn is_parameter(word: &[u8]) -> bool {
+pub fn is_parameter(word: &[u8]) -> bool {
     parameter_name(word).is_some() && parameter_type_of_word(word).is_some()
 }
 
 /// Whether a word is a parameter with a name.
-pub(crate) fn is_parameter_named(word: &[u8], name: &[u8]) -> bool {
+pub fn is_parameter_named(word: &[u8], name: &[u8]) -> bool {
     matches!(word.strip_prefix(name), Some([b':', ..])) && is_parameter(word)
 }

@@ -5,18 +5,10 @@ use wb_lines::words::{after_first_of, before_first, is_digit, is_name, is_reserv
 use wb_model::script_lines::{Keyword, OperandPlace};
 
 /// What is wrong with a word, and a hint, which may be empty.
-#[derive(Clone, Copy)]
-pub(crate) struct Complaint {
-    pub problem: &'static str,
-    pub hint: &'static str,
-}
-
-fn complaint_with(problem: &'static str, hint: &'static str) -> Complaint {
-    Complaint { problem, hint }
-}
+pub type Complaint = (&'static str, &'static str);
 
 /// What is expected as an operand.
-pub(crate) fn expectation_of(operand_place: OperandPlace) -> &'static str {
+pub fn expectation_of(operand_place: OperandPlace) -> &'static str {
     match operand_place {
         OperandPlace::Declared => "the name to declare",
         OperandPlace::ItsPointer => "a name for the pointer that it takes",
@@ -64,21 +56,21 @@ fn takes_number(operand_place: OperandPlace) -> bool {
 
 fn numeral_complaint(operand_place: OperandPlace, word: &[u8]) -> Complaint {
     if !takes_number(operand_place) {
-        complaint_with("a number is not allowed here", "")
+        ("a number is not allowed here", "")
     } else if digits(word).len() > 9 {
-        complaint_with("the number is too long", "a number has one to nine digits")
+        ("the number is too long", "a number has one to nine digits")
     } else {
-        complaint_with("the number is below 0", "a size is 0 or more")
+        ("the number is below 0", "a size is 0 or more")
     }
 }
 
 fn quoted_complaint(word: &[u8]) -> Complaint {
     if is_literal(word) {
-        complaint_with("a text in quotes is not allowed here", "")
+        ("a text in quotes is not allowed here", "")
     } else if has_byte(b'\t', word) {
-        complaint_with("a text can't contain a tab", "use blanks instead")
+        ("a text can't contain a tab", "use blanks instead")
     } else {
-        complaint_with(
+        (
             "a text ends at its second quote",
             "the closing quote is followed by a blank, and a text can't contain a quote",
         )
@@ -88,21 +80,21 @@ fn quoted_complaint(word: &[u8]) -> Complaint {
 /// What is wrong with a word that has a colon, or is where a parameter is expected.
 fn parameter_complaint(operand_place: OperandPlace, word: &[u8]) -> Complaint {
     if matches!(operand_place, OperandPlace::ItsPointer) {
-        complaint_with(
+        (
             "a word with a colon is not allowed here",
             "an operation takes one pointer, and no kind is written after its name",
         )
     } else if !matches!(operand_place, OperandPlace::Parameter) {
-        complaint_with("a word with a colon is not allowed here", "")
+        ("a word with a colon is not allowed here", "")
     } else if is_reserved(before_first(b':', word)) {
         reserved_complaint()
     } else if !has_byte(b':', word) {
-        complaint_with(
+        (
             "the parameter has no kind",
             "write `:ptr`, `:int`, or `:` and a class after its name",
         )
     } else {
-        complaint_with("this is not a parameter", hint_at_end(word, ""))
+        ("this is not a parameter", hint_at_end(word, ""))
     }
 }
 
@@ -112,7 +104,7 @@ fn ends_as_in_c(word: &[u8]) -> bool {
 }
 
 /// What to do about the end of a word, if that is what is wrong; else another hint.
-pub(crate) fn hint_at_end(word: &[u8], other: &'static str) -> &'static str {
+pub fn hint_at_end(word: &[u8], other: &'static str) -> &'static str {
     if ends_as_in_c(word) {
         "words are separated by blanks, without `,` or `;`"
     } else {
@@ -126,7 +118,7 @@ fn is_chain(word: &[u8]) -> bool {
 }
 
 fn reserved_complaint() -> Complaint {
-    complaint_with(
+    (
         "the name is reserved",
         "`self`, `ptr`, `int`, `null`, `some`, `eq` and `less` can't be declared",
     )
@@ -137,8 +129,8 @@ fn name_complaint(operand_place: OperandPlace, word: &[u8]) -> Complaint {
     match operand_place {
         OperandPlace::Declared | OperandPlace::ItsPointer if is_reserved(word) =>
             reserved_complaint(),
-        _ if is_field(word) => complaint_with("a field is not allowed here", ""),
-        _ => complaint_with("a name is not allowed here", ""),
+        _ if is_field(word) => ("a field is not allowed here", ""),
+        _ => ("a name is not allowed here", ""),
     }
 }
 
@@ -146,13 +138,13 @@ fn name_complaint(operand_place: OperandPlace, word: &[u8]) -> Complaint {
 fn other_complaint(word: &[u8]) -> Complaint {
     match word {
         _ if is_chain(word) => {
-            complaint_with(
+            (
                 "a word can't name a field of a field",
                 "`set` a pointer of its class to the first field, and name the second field through that pointer",
             )
         }
         [first, ..] if is_digit(*first) => {
-            complaint_with(
+            (
                 "this is neither a number nor a name",
                 hint_at_end(
                     word,
@@ -160,8 +152,8 @@ fn other_complaint(word: &[u8]) -> Complaint {
                 ),
             )
         }
-        [b'+', ..] => complaint_with("this is not a number", "only a negative number has a sign"),
-        _ => complaint_with(
+        [b'+', ..] => ("this is not a number", "only a negative number has a sign"),
+        _ => (
             "this is not a name",
             hint_at_end(
                 word,
@@ -172,7 +164,7 @@ fn other_complaint(word: &[u8]) -> Complaint {
 }
 
 /// What is wrong with a word that isn't allowed as this operand.
-pub(crate) fn complaint_of(operand_place: OperandPlace, word: &[u8]) -> Complaint {
+pub fn complaint_of(operand_place: OperandPlace, word: &[u8]) -> Complaint {
     if matches!(word, [b'"', ..]) {
         quoted_complaint(word)
     } else if has_byte(b':', word) || matches!(operand_place, OperandPlace::Parameter) {

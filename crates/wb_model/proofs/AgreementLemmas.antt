@@ -18,7 +18,7 @@ use Rattle.wb_model.specs.runs.Agreement.{RefusesAtLeast, IsNoLimit, IsSameRun, 
 use Rattle.wb_model.proofs.AccountLemmas.{KeepsLines, before-lines, recorded-trace, recorded-lines, noted-lines}
 
 -- a note leaves the trace
-noted-trace : (space : Space) (q : Query) (a : Account) → (noted space q a).trace ≡ a.trace
+pub noted-trace : (space : Space) (q : Query) (a : Account) → (noted space q a).trace ≡ a.trace
 noted-trace space (heap_note count total) a = refl
 noted-trace space (available_note row) a = refl
 noted-trace space (compress_note top) a = refl

@@ -10,6 +10,7 @@ use Rattle.wb_model.specs.declared.heap.Item.{Item}
 use Rattle.wb_model.specs.declared.heap.Kind.{Kind}
 use Rattle.wb_model.specs.declared.heap.Kind.TheVariants as K
 use Rattle.wb_model.specs.declared.heap.Answer.{Answer}
+use Rattle.wb_model.specs.declared.heap.Answer.TheVariants.{Refused, Simulated}
 use Rattle.wb_model.specs.declared.heap.Panic.{Panic}
 use Rattle.wb_model.specs.declared.run.Why.TheVariants.{Budget, Ceiling}
 use Rattle.wb_model.specs.declared.text.Base.{Base}
@@ -72,11 +73,12 @@ StopsItself (is_cut Ceiling) = ⊥
 StopsItself no_cleanup = Unit {0}
 
 -- a fact about the states that a process shows, beside the numbers that attempts got before; each attempt tells whether the
--- setting at the time refuses it, and no stop is the ceiling's
+-- setting at the time refuses it, a refusal of either kind makes no difference, and no stop is the ceiling's
 abbrev pub Shows : (List ℕ → State → Type 0) → List ℕ → Process → Type 0
 Shows P ns (ends way st) = P ns st
 Shows P ns (stops stop st) = P ns st × StopsItself stop
-Shows P ns (asks t cut go) = P ns cut × (t.due ≡ is_due cut.heap.setting) × ((n : ℕ) (a : Answer) → Shows P (n ∷ ns) (go n a))
+Shows P ns (asks t cut go) =
+    P ns cut × (t.due ≡ is_due cut.heap.setting) × ((n : ℕ) → go n Refused ≡ go n Simulated) × ((n : ℕ) (a : Answer) → Shows P (n ∷ ns) (go n a))
 Shows P ns (notes q p) = ((st : State) × P ns st × IsNoteOf st q) × Shows P ns p
 
 -- content of the right kind stays so
@@ -124,8 +126,8 @@ module _ (L : Lasting) where
   and_then-same ns (ends way st) go go' k h = h ns way st k
   and_then-same ns (stops stop st) go go' k h = (refl, k)
   and_then-same ns (asks t cut answered) go go' k h = (
-    ap (asks t cut) (fun_ext (λ n. fun_ext (λ a. (and_then-same (n ∷ ns) (answered n a) go go' (k.2 n a) h).0))),
-    (k.0, k.1, λ n a. (and_then-same (n ∷ ns) (answered n a) go go' (k.2 n a) h).1),
+    ap (asks t cut) (fun_ext (λ n. fun_ext (λ a. (and_then-same (n ∷ ns) (answered n a) go go' (k.3 n a) h).0))),
+    (k.0, k.1, λ n. ap (λ p. and_then p go) (k.2 n), λ n a. (and_then-same (n ∷ ns) (answered n a) go go' (k.3 n a) h).1),
   )
   and_then-same ns (notes q p) go go' k h =
       let ih = and_then-same ns p go go' k.1 h in (ap (notes q) ih.0, (k.0, ih.1))
@@ -136,12 +138,12 @@ module _ (L : Lasting) where
       let same = and_then-same ns p go go' e.1 h in (same.0 ∙ ap (λ x. and_then x go') e.0, same.1)
 
   attempt-alike : {ns : List ℕ} (t : Request) (after : ℕ → Answer → AfterAnswer Content) (cut st : State) (go go' : Option Ptr → State → Process) →
-      Fine ns cut → t.due ≡ is_due cut.heap.setting → L.Counts st.steps → L.Prints st.lines → ((n : ℕ) (a : Answer) → L.Holds (n ∷ ns) (after n a).heap) →
+      Fine ns cut → t.due ≡ is_due cut.heap.setting → ((n : ℕ) → after n Refused ≡ after n Simulated) → L.Counts st.steps → L.Prints st.lines → ((n : ℕ) (a : Answer) → L.Holds (n ∷ ns) (after n a).heap) →
       ((ns : List ℕ) (o : Option Ptr) (st : State) → Fine ns st → Alike ns (go o st) (go' o st)) → Alike ns (attempt t after cut st go) (attempt t after cut st go')
   unfolding attempt
-  attempt-alike {ns = ns} t after cut st go go' fc due c lines h k = (
+  attempt-alike {ns = ns} t after cut st go go' fc due denied c lines h k = (
     ap (asks t cut) (fun_ext (λ n. fun_ext (λ a. (k (n ∷ ns) (after n a).given (set_heap st (after n a).heap) (c, h n a, lines)).0))),
-    (fc, due, λ n a. (k (n ∷ ns) (after n a).given (set_heap st (after n a).heap) (c, h n a, lines)).1),
+    (fc, due, λ n. ap (λ w. go w.given (set_heap st w.heap)) (denied n), λ n a. (k (n ∷ ns) (after n a).given (set_heap st (after n a).heap) (c, h n a, lines)).1),
   )
 
   pub plain_end-alike : {ns : List ℕ} (w : Way) (st : State) (go go' : State → Process) → Fine ns st →
@@ -208,7 +210,7 @@ module _ (L : Lasting) where
       ((ns : List ℕ) (o : Option Ptr) (st : State) → Fine ns st → Alike ns (go o st) (go' o st)) → Alike ns (allocate bytes kind fresh st go) (allocate bytes kind fresh st go')
   unfolding allocate
   allocate-alike {ns = ns} bytes kind fresh st _ _ suits f k =
-      attempt-alike _ _ st st _ _ f refl f.0 f.2 (λ n a. L.allocated ns st.heap bytes kind fresh n a suits f.1) k
+      attempt-alike _ _ st st _ _ f refl (λ n. refl) f.0 f.2 (λ n a. L.allocated ns st.heap bytes kind fresh n a suits f.1) k
 
   longer-alike : {ns : List ℕ} (b : Bool) (p : Ptr) (c : Cell Content) (bytes : ℕ) (cut st : State) (go go' : Option Ptr → State → Process) →
       nat_lt c.head.length (cell_length bytes) ≡ b → cell_at p st.heap.row ≡ Some c → st.heap ≡ cut.heap → Fine ns cut → Fine ns st →
@@ -216,7 +218,7 @@ module _ (L : Lasting) where
       Alike ns (reallocate_longer b c bytes cut st go) (reallocate_longer b c bytes cut st go')
   unfolding reallocate_longer
   longer-alike {ns = ns} true p c bytes cut st _ _ longer e same fc f k =
-      attempt-alike _ _ cut st _ _ fc (ap (λ h. is_due h.setting) same) f.0 f.2
+      attempt-alike _ _ cut st _ _ fc (ap (λ h. is_due h.setting) same) (λ n. refl) f.0 f.2
       (λ n a. L.reallocated ns st.heap p c bytes n a e (ltb-true c.head.length (cell_length bytes) longer) f.1) k
   longer-alike {ns = ns} false p c bytes cut st _ _ shorter e same fc f k =
       k ns _ _ (f.0, L.cut_down ns st.heap p c bytes e (ltb-false c.head.length (cell_length bytes) shorter) f.1, f.2)

@@ -23,7 +23,7 @@ module _ (L : Lasting) where
   shows_weaker ns low higher budget le (ends way st) k = ((omega (arith, le, k.0.0), k.0.1), k.1, k.2)
   shows_weaker ns low higher budget le (stops stop st) k = (((omega (arith, le, k.0.0.0), k.0.0.1), k.0.1, k.0.2), k.1)
   shows_weaker ns low higher budget le (asks t cut go) k =
-      (((omega (arith, le, k.0.0.0), k.0.0.1), k.0.1, k.0.2), k.1, λ n a. shows_weaker (n ∷ ns) low higher budget le (go n a) (k.2 n a))
+      (((omega (arith, le, k.0.0.0), k.0.0.1), k.0.1, k.0.2), k.1, k.2, λ n a. shows_weaker (n ∷ ns) low higher budget le (go n a) (k.3 n a))
   shows_weaker ns low higher budget le (notes q p) k =
       ((k.0.0, ((omega (arith, le, k.0.1.0.0), k.0.1.0.1), k.0.1.1, k.0.1.2), k.0.2), shows_weaker ns low higher budget le p k.1)
 

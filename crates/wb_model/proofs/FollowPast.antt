@@ -22,7 +22,7 @@ module _ (script : Script) (budget further : ℕ) where
   pub past-of : (ns : List ℕ) (p : Process) → Keeps (lateness script budget further) ns p → IsPast budget further p
   past-of ns (ends way st) k = is_late st k.0
   past-of ns (stops stop st) k = is_late st k.0.0
-  past-of ns (asks t cut go) k = (is_late cut k.0.0, λ n a. past-of (n ∷ ns) (go n a) (k.2 n a))
+  past-of ns (asks t cut go) k = (is_late cut k.0.0, λ n a. past-of (n ∷ ns) (go n a) (k.3 n a))
   past-of ns (notes q p) k = past-of ns p k.1
 
 -- a number of steps that is no less, whatever bounds the recursion

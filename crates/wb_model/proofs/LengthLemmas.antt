@@ -54,7 +54,7 @@ settled_uncut P l space ns (stops (is_cut Ceiling) st) a le k e = absurd k.1
 settled_uncut P l space ns (stops no_cleanup st) a le k e = cc
 settled_uncut P l space ns (asks t cut go) a le k e =
     let n = next_number a in
-    answered (answer_to (Limit l) n t) (limit_answers l n t le) (λ w. settled_uncut P l space (n ∷ ns) (go n w) (recorded space n t w a) le (k.2 n w)) e
+    answered (answer_to (Limit l) n t) (limit_answers l n t le) (λ w. settled_uncut P l space (n ∷ ns) (go n w) (recorded space n t w a) le (k.3 n w)) e
   where
     answered : (o : Option Answer) → IsSome o →
         ((w : Answer) → (settled (Limit l) space (go (next_number a) w) (recorded space (next_number a) t w a)).end ≢ stopped (is_cut Ceiling)) →

@@ -42,9 +42,12 @@ pub mod FreeSlots
 pub mod FreeSlotLemmas
 pub mod Payloads
 pub mod Rows
+pub mod SetLemmas
 pub mod Settings
 pub mod Spellings
+pub mod RefusedSets
 pub mod ResumeLemmas
+pub mod RiseLemmas
 pub mod WorkedCases
 pub mod MeaningLemmas
 pub mod Measures

@@ -7,6 +7,7 @@ use Rattle.wb_model.specs.declared.heap.Ptr.{Ptr}
 use Rattle.wb_model.specs.declared.heap.Rule.{Rule}
 use Rattle.wb_model.specs.declared.heap.Shape.{Shape}
 use Rattle.wb_model.specs.declared.heap.Answer.{Answer}
+use Rattle.wb_model.specs.declared.heap.Answer.TheVariants.{Refused, Simulated}
 use Rattle.wb_model.specs.declared.run.Leak.{Leak}
 use Rattle.wb_model.specs.declared.run.Why.TheVariants.{Ceiling}
 use Rattle.wb_model.specs.declared.run.Outcome.TheVariants.{Ended}
@@ -68,7 +69,7 @@ throughout L P is ns (asks t cut go) k counted = (
   λ a.
       let n = length ns + 1 in
       let longer : length (n ∷ ns) ≡ length ns + 1 = omega arith in
-      subst (λ m. Throughout P m (go n a)) longer (throughout L P is (n ∷ ns) (go n a) (k.2 n a) (refl, counted)),
+      subst (λ m. Throughout P m (go n a)) longer (throughout L P is (n ∷ ns) (go n a) (k.3 n a) (refl, counted)),
 )
 throughout L P is ns (notes q p) k counted = ((k.0.0, is ns k.0.0 counted k.0.1, k.0.2), throughout L P is ns p k.1 counted)
 
@@ -98,11 +99,28 @@ process-prints script budget =
 tells : (L : Lasting) (ns : List ℕ) (p : Process) → Keeps L ns p → TellsSettings p
 tells L ns (ends way st) k = tt
 tells L ns (stops stop st) k = tt
-tells L ns (asks t cut go) k = (k.1, λ n a. tells L (n ∷ ns) (go n a) (k.2 n a))
+tells L ns (asks t cut go) k = (k.1, λ n a. tells L (n ∷ ns) (go n a) (k.3 n a))
 tells L ns (notes q p) k = tells L ns p k.1
 
 pub process-tells : (script : Script) (budget : ℕ) → TellsSettings (process script budget)
 process-tells script budget = tells (between (anything script) 0 budget) [] (process script budget) (process-keeps (anything script) budget tt tt)
+
+-- a refusal of either kind makes no difference to what follows
+abbrev pub TakesRefusalsAlike : Process → Type 0
+TakesRefusalsAlike (ends way st) = Unit {0}
+TakesRefusalsAlike (stops stop st) = Unit {0}
+TakesRefusalsAlike (asks t cut go) = ((n : ℕ) → go n Refused ≡ go n Simulated) × ((n : ℕ) (answer : Answer) → TakesRefusalsAlike (go n answer))
+TakesRefusalsAlike (notes q p) = TakesRefusalsAlike p
+
+takes-alike : (L : Lasting) (ns : List ℕ) (p : Process) → Keeps L ns p → TakesRefusalsAlike p
+takes-alike L ns (ends way st) k = tt
+takes-alike L ns (stops stop st) k = tt
+takes-alike L ns (asks t cut go) k = (k.2, λ n a. takes-alike L (n ∷ ns) (go n a) (k.3 n a))
+takes-alike L ns (notes q p) k = takes-alike L ns p k.1
+
+pub process-takes-alike : (script : Script) (budget : ℕ) → TakesRefusalsAlike (process script budget)
+process-takes-alike script budget =
+    takes-alike (between (anything script) 0 budget) [] (process script budget) (process-keeps (anything script) budget tt tt)
 
 -- the state in which a run ends or stops
 settled-holds : (P : ℕ → State → Type 0) (rule : Rule) (space : Space) (p : Process) (a : Account) → Throughout P a.attempts p →
@@ -138,7 +156,7 @@ settled-shows P rule space ns (ends way st) a k = k
 settled-shows P rule space ns (stops stop st) a k = k.0
 settled-shows P rule space ns (asks t cut go) a k =
     told (answer_to rule (next_number a) t) (λ w.
-    settled-shows P rule space (next_number a ∷ ns) (go (next_number a) w) (recorded space (next_number a) t w a) (k.2 (next_number a) w))
+    settled-shows P rule space (next_number a ∷ ns) (go (next_number a) w) (recorded space (next_number a) t w a) (k.3 (next_number a) w))
   where
     told : (o : Option Answer) → ((w : Answer) → P (settled rule space (go (next_number a) w) (recorded space (next_number a) t w a)).state) →
         P (on_answer o (record { end = stopped (is_cut Ceiling); state = cut; account = a })

@@ -39,7 +39,7 @@ refusal-is rule number end w = simulated (simulates rule number)
     simulated true e = record { granted = λ g. cc; refused = λ r. cc }
     simulated false e = limited (limit_of rule) refl e
 
-line-is : (rule : Rule) (made : ℕ) (asked : Request) (w : Answer) → answer_to rule (made + 1) asked ≡ Some w → IsLine rule made asked (trace_line (made + 1) asked w)
+pub line-is : (rule : Rule) (made : ℕ) (asked : Request) (w : Answer) → answer_to rule (made + 1) asked ≡ Some w → IsLine rule made asked (trace_line (made + 1) asked w)
 line-is rule made asked w = due asked.due refl
   where
     end : ℕ

@@ -1,15 +1,22 @@
 -- Lines, words and forms, the checks of a script, and which bytes spell one.
+pub mod DeclaredAgain
+pub mod FaultOrder
+pub mod FirstLines
 pub mod Forms
 pub mod Grammar
 pub mod Kinds
 pub mod LineKinds
 pub mod Lines
+pub mod MissedFields
 pub mod Names
+pub mod PassedLimits
 pub mod Passes
+pub mod QuietBodies
 pub mod Resolved
 pub mod Scripts
 pub mod Sound
 pub mod Trees
 pub mod Undeclared
 pub mod Words
+pub mod WrongSorts
 pub mod Writing

@@ -8,10 +8,12 @@ pub mod Lengths
 pub mod Pairs
 pub mod Parts
 pub mod Rest
+pub mod RiseLines
 pub mod Rises
 pub mod Run
 pub mod RunEnds
 pub mod SameButNumbers
+pub mod Sets
 pub mod Sizes
 pub mod SweepAnswers
 pub mod Sweeps

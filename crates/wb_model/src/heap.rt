@@ -1,8 +1,11 @@
 //! What a heap is made of, what is asked of it, and what it answers. All places and lengths are in bytes, a
 //! place from where the chunk begins; the first attempt has number 1.
 
-ghost use Rattle.std.specs.Prelude.{◌≡◌, ◌+◌, ◌/◌, ◌^◌, ◌<◌, ◌≤◌};
+ghost use Rattle.std.specs.Prelude.{◌≡◌, ◌+◌, ◌/◌, ◌^◌, ◌<◌, ◌≤◌, IfOk};
 ghost use Rattle.wb_model.specs.heap.Row.{end_of, pointer_to, usable_of};
+
+use crate::items::Items;
+use crate::memory::NoMemory;
 
 /// A cell, by its place and its allocation number. Number 0 is null.
 #[derive(Clone, Copy, Debug, PartialEq, Eq)]
@@ -73,7 +76,7 @@ impl Header {
 }
 
 /// Which attempts a run refuses, beside what the script itself asks for.
-#[derive(Clone, Copy, Debug, PartialEq, Eq)]
+#[derive(Debug, Drop)]
 pub enum Rule {
     /// None.
     Unlimited,
@@ -86,7 +89,28 @@ pub enum Rule {
     Every(u32),
     /// The two with these numbers.
     Pair(u32, u32),
+    /// Those with these numbers, however many.
+    Set(Numbers),
 }
+
+impl Rule {
+    /// The same rule, its numbers in memory of their own. `NoMemory` where memory was refused.
+    pub fn try_copy(&self) -> Result<Rule, NoMemory>
+        ensures { IfOk result (λ copy. copy ≡ self.now) }
+    {
+        Ok(match self {
+            Rule::Unlimited => Rule::Unlimited,
+            Rule::Limit(limit) => Rule::Limit(*limit),
+            Rule::Number(number) => Rule::Number(*number),
+            Rule::Every(rate) => Rule::Every(*rate),
+            Rule::Pair(first, second) => Rule::Pair(*first, *second),
+            Rule::Set(numbers) => Rule::Set(numbers.try_copy()?),
+        })
+    }
+}
+
+/// Numbers of attempts.
+pub type Numbers = Items<u32>;
 
 /// The heap's minimum length and growth step, in bytes.
 ///
@@ -101,7 +125,7 @@ pub struct Shape {
 #[derive(Clone, Copy, Debug, PartialEq, Eq)]
 pub enum Answer {
     Granted,
-    /// Refused by the script's own setting, or by `Rule::Number`, `Rule::Every` or `Rule::Pair`.
+    /// Refused by the script's own setting, or by `Rule::Number`, `Rule::Every`, `Rule::Pair` or `Rule::Set`.
     Simulated,
     /// Refused by `Rule::Limit`.
     Refused,

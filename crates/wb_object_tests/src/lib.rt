@@ -19,6 +19,8 @@ mod objects;
 #[cfg(test)]
 mod pointers;
 #[cfg(test)]
+mod rules;
+#[cfg(test)]
 mod stacks;
 #[cfg(test)]
 mod texts;

@@ -1,13 +1,14 @@
 //! `wb_cleanup`: worked cleanup stacks, by what each call answers, and what the words of the cell are then.
 
 use crate::pointers::{Cell, pointer};
+use crate::rules::Refuses;
 use crate::worked_stacks::{Entry, STACKS, Step, WorkedStack};
 use std::alloc::Global;
 use std::marker::Model;
 use std::test::Fail;
 use wb_cleanup::{Cleanup, Pushed};
 use wb_debug::{DebugFault, DebugHeap};
-use wb_model::heap::{Gave, Header, Item, Kind, Panic, Ptr, Rule, Shape};
+use wb_model::heap::{Gave, Header, Item, Kind, Panic, Ptr, Shape};
 use wb_model::limits::CEILING;
 
 const SHAPE: Shape = Shape { min: 0, step: 4096 };
@@ -40,8 +41,8 @@ fn first_other(alloc: Global, worked: &WorkedStack) -> Result<Option<usize>, Deb
 }
 
 /// The stack that begins under a rule, or `None` where it is refused.
-fn start_stack(alloc: Global, rule: Rule) -> Result<Option<Stacked>, DebugFault> {
-    let mut heap = DebugHeap::new(alloc, rule, SHAPE)?;
+fn start_stack(alloc: Global, rule: Refuses) -> Result<Option<Stacked>, DebugFault> {
+    let mut heap = DebugHeap::new(alloc, rule.rule(), SHAPE)?;
     match Cleanup::start(&mut heap)? {
         Some(stack) => Ok(Some(Stacked {
             heap,
@@ -205,21 +206,21 @@ fn worked_stacks(rt: HostRuntime) -> Result<(), Fail> {
 }
 
 /// Rules, and whether a stack begins under each: its cell of 144 bytes is attempt 1.
-static FIRST_CELLS: &[(Rule, bool)] = &[
-    (Rule::Limit(0), false),
-    (Rule::Limit(143), false),
-    (Rule::Number(1), false),
-    (Rule::Every(1), false),
-    (Rule::Pair(1, 2), false),
-    (Rule::Limit(144), true),
-    (Rule::Number(2), true),
-    (Rule::Number(0), true),
-    (Rule::Every(2), true),
-    (Rule::Every(0), true),
-    (Rule::Pair(2, 3), true),
+static FIRST_CELLS: &[(Refuses, bool)] = &[
+    (Refuses::Past(0), false),
+    (Refuses::Past(143), false),
+    (Refuses::Number(1), false),
+    (Refuses::Every(1), false),
+    (Refuses::Pair(1, 2), false),
+    (Refuses::Past(144), true),
+    (Refuses::Number(2), true),
+    (Refuses::Number(0), true),
+    (Refuses::Every(2), true),
+    (Refuses::Every(0), true),
+    (Refuses::Pair(2, 3), true),
 ];
 
-fn has_begun(alloc: Global, rule: Rule) -> Result<bool, DebugFault> {
+fn has_begun(alloc: Global, rule: Refuses) -> Result<bool, DebugFault> {
     Ok(start_stack(alloc, rule)?.is_some())
 }
 

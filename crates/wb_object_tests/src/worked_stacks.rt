@@ -1,8 +1,9 @@
 //! The table of worked cleanup stacks: what is called, and what each call must answer. `stacks` makes the calls.
 
 use crate::pointers::Cell;
+use crate::rules::Refuses;
 use wb_cleanup::Pushed;
-use wb_model::heap::{Panic, Rule};
+use wb_model::heap::Panic;
 
 /// An item by the cell that it is about.
 #[derive(Clone, Copy)]
@@ -46,14 +47,14 @@ pub(crate) enum Step {
 pub(crate) struct WorkedStack {
     /// What it shows.
     pub about: &'static str,
-    pub rule: Rule,
+    pub rule: Refuses,
     pub steps: &'static [Step],
 }
 
 pub(crate) static STACKS: [WorkedStack; 13] = [
     WorkedStack {
         about: "the words of slots",
-        rule: Rule::Unlimited,
+        rule: Refuses::Nothing,
         steps: &[
             Step::Push(Entry::Free((144, 2)), Pushed::Fine),
             Step::Push(Entry::Delete((0, 0)), Pushed::Fine),
@@ -70,7 +71,7 @@ pub(crate) static STACKS: [WorkedStack; 13] = [
     },
     WorkedStack {
         about: "a stack that is full has four slots more",
-        rule: Rule::Unlimited,
+        rule: Refuses::Nothing,
         steps: &[
             Step::Stands((0, 1), 144),
             Step::PushMany(7),
@@ -94,7 +95,7 @@ pub(crate) static STACKS: [WorkedStack; 13] = [
     },
     WorkedStack {
         about: "a growth that moves the cell takes the items along",
-        rule: Rule::Unlimited,
+        rule: Refuses::Nothing,
         steps: &[
             Step::PushMany(3),
             Step::Alloc(16),
@@ -108,7 +109,7 @@ pub(crate) static STACKS: [WorkedStack; 13] = [
     },
     WorkedStack {
         about: "a growth that the setting refuses leaves the item on the stack",
-        rule: Rule::Unlimited,
+        rule: Refuses::Nothing,
         steps: &[
             Step::FailNext(1),
             Step::PushMany(6),
@@ -138,7 +139,7 @@ pub(crate) static STACKS: [WorkedStack; 13] = [
     },
     WorkedStack {
         about: "a growth that the limit refuses, twice",
-        rule: Rule::Limit(144),
+        rule: Refuses::Past(144),
         steps: &[
             Step::PushMany(7),
             Step::Push(Entry::Free((7, 7)), Pushed::Leave),
@@ -151,7 +152,7 @@ pub(crate) static STACKS: [WorkedStack; 13] = [
     },
     WorkedStack {
         about: "the second growth is refused by its number",
-        rule: Rule::Number(3),
+        rule: Refuses::Number(3),
         steps: &[
             Step::PushMany(11),
             Step::Push(Entry::Free((11, 11)), Pushed::Leave),
@@ -161,7 +162,7 @@ pub(crate) static STACKS: [WorkedStack; 13] = [
     },
     WorkedStack {
         about: "a growth past the ceiling leaves the stack as it was",
-        rule: Rule::Unlimited,
+        rule: Refuses::Nothing,
         steps: &[
             Step::Alloc(16_777_056),
             Step::PushMany(7),
@@ -175,7 +176,7 @@ pub(crate) static STACKS: [WorkedStack; 13] = [
     },
     WorkedStack {
         about: "items that were popped leave their words, and the next ones take their slots",
-        rule: Rule::Unlimited,
+        rule: Refuses::Nothing,
         steps: &[
             Step::Push(Entry::Call((144, 2), 5), Pushed::Fine),
             Step::Pop(0, 1, None),
@@ -186,7 +187,7 @@ pub(crate) static STACKS: [WorkedStack; 13] = [
     },
     WorkedStack {
         about: "a pop takes no item of the floor",
-        rule: Rule::Unlimited,
+        rule: Refuses::Nothing,
         steps: &[
             Step::PushMany(3),
             Step::Pop(0, 4, Some(Panic::POP_BELOW_TRAP)),
@@ -203,7 +204,7 @@ pub(crate) static STACKS: [WorkedStack; 13] = [
     },
     WorkedStack {
         about: "an item is expected by place and number",
-        rule: Rule::Unlimited,
+        rule: Refuses::Nothing,
         steps: &[
             Step::PopExpected(0, (0, 0), Some(Panic::POP_BELOW_TRAP)),
             Step::Push(Entry::Free((144, 2)), Pushed::Fine),
@@ -222,7 +223,7 @@ pub(crate) static STACKS: [WorkedStack; 13] = [
     },
     WorkedStack {
         about: "the newest item above a floor",
-        rule: Rule::Unlimited,
+        rule: Refuses::Nothing,
         steps: &[
             Step::PushMany(2),
             Step::Take(2, None),
@@ -235,7 +236,7 @@ pub(crate) static STACKS: [WorkedStack; 13] = [
     },
     WorkedStack {
         about: "many items",
-        rule: Rule::Unlimited,
+        rule: Refuses::Nothing,
         steps: &[
             Step::PushMany(1000),
             Step::Used(1000),
@@ -247,7 +248,7 @@ pub(crate) static STACKS: [WorkedStack; 13] = [
     },
     WorkedStack {
         about: "a stack that just fits under the limit",
-        rule: Rule::Limit(208),
+        rule: Refuses::Past(208),
         steps: &[
             Step::PushMany(8),
             Step::Stands((0, 1), 208),

@@ -3,12 +3,12 @@
 //! Plain functions from values to text. No report rests on them, and what the messages say is written in the crates above.
 #![tactic(auto)]
 
-pub mod fragments;
 pub mod page;
+pub mod shown;
 pub mod spots;
 pub mod words;
 
-pub use fragments::Fragment;
 pub use page::Page;
+pub use shown::Shown;
 pub use spots::{Span, Spot};
 pub use words::Word;

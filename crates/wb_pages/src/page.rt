@@ -1,25 +1,17 @@
-//! The text of an explanation as it is written, fragment by fragment and line by line. What the messages are isn't said here.
+//! The text of an explanation as it is written, line by line. What the messages are isn't said here: they are formats, `format_args!(..)`,
+//! or plain texts.
 
 ghost use Rattle.std.specs.Prelude.{◌≡◌, ◌++◌, [], ◌∷◌, codes, false, true, string_bytes, IfOk, IsErr};
 ghost use Rattle.std.specs.Char.{encode_utf8};
 ghost use Rattle.std.specs.Fmt.{decimal};
 
-use crate::fragments::Fragment;
+use crate::shown::{ELLIPSIS, MOST_COLUMNS, Visible};
 use crate::spots::{Span, Spot};
 use std::alloc::{AllocError, Global};
-use std::fmt::Write;
-
-/// The most columns of a script's line that are shown.
-const MOST_COLUMNS: usize = 100;
+use std::fmt::{Display, Write};
 
 /// How many columns are shown before the part that is meant, if the line is too long to be shown whole.
 const COLUMNS_BEFORE: usize = 40;
-
-/// The most bytes of a word that are written in a message.
-const LONGEST_WORD: usize = 70;
-
-/// What is written in the place of what is left out.
-const ELLIPSIS: &str = "...";
 
 /// What comes before a line that is shown.
 const INDENT: &str = "    ";
@@ -30,15 +22,6 @@ pub struct Page<'f> {
     file: &'f str,
     text: String,
     is_cut: bool,
-}
-
-/// The character that is shown for a byte of a script: a blank for each kind of blank, a question mark for what can't be shown.
-fn visible_char(byte: u8) -> char {
-    match byte {
-        b' '..=b'~' => byte as char,
-        b'\t' | b'\r' => ' ',
-        _ => '?',
-    }
 }
 
 impl<'f> Page<'f> {
@@ -94,20 +77,7 @@ impl<'f> Page<'f> {
     }
 
     fn add_bytes(&mut self, bytes: &[u8]) {
-        for byte in bytes {
-            self.add_char(visible_char(*byte));
-        }
-    }
-
-    /// Writes the beginning of a word, and that there is more of it if there is.
-    fn add_word(&mut self, word: &[u8]) {
-        match word.split_at_checked(LONGEST_WORD) {
-            Some((begin, [_, ..])) => {
-                self.add_bytes(begin);
-                self.add_text(ELLIPSIS);
-            }
-            _ => self.add_bytes(word),
-        }
+        self.write(Visible(bytes));
     }
 
     fn add_number(&mut self, number: usize)
@@ -118,29 +88,6 @@ impl<'f> Page<'f> {
     {
         if !self.is_cut {
             self.is_cut = write!(self.text, "{number}").is_err();
-        }
-    }
-
-    fn add_value(&mut self, value: i64) {
-        if !self.is_cut {
-            self.is_cut = write!(self.text, "{value}").is_err();
-        }
-    }
-
-    fn add_place(&mut self, place: u32) {
-        if !self.is_cut {
-            self.is_cut = write!(self.text, "{place:08x}").is_err();
-        }
-    }
-
-    fn add(&mut self, fragment: Fragment) {
-        match fragment {
-            Fragment::Text(text) => self.add_text(text),
-            Fragment::Word(word) => self.add_word(word),
-            Fragment::Line(line) => self.add_line(line, 0),
-            Fragment::Number(number) => self.add_number(number),
-            Fragment::Value(value) => self.add_value(value),
-            Fragment::Place(place) => self.add_place(place),
         }
     }
 
@@ -161,13 +108,6 @@ impl<'f> Page<'f> {
         }
     }
 
-    /// Writes fragments of a line that goes on.
-    pub fn write(&mut self, fragments: &[Fragment]) {
-        for fragment in fragments {
-            self.add(*fragment);
-        }
-    }
-
     /// Writes a text of a line that goes on.
     pub fn write_text(&mut self, part: &str)
         ensures before { self.new.is_cut ≡ false → self.old.is_cut ≡ false }
@@ -178,11 +118,11 @@ impl<'f> Page<'f> {
         self.add_text(part);
     }
 
-    /// Writes a word of a line that goes on, between two texts.
-    pub fn write_word(&mut self, before: &str, word: &[u8], after: &str) {
-        self.add_text(before);
-        self.add_word(word);
-        self.add_text(after);
+    /// Writes a part of a line that goes on.
+    pub fn write<D: Display + Drop>(&mut self, message: D) {
+        if !self.is_cut {
+            self.is_cut = write!(self.text, "{message}").is_err();
+        }
     }
 
     /// Ends a line.
@@ -244,9 +184,9 @@ impl<'f> Page<'f> {
     }
 
     /// Writes a message about the whole file.
-    pub fn write_file_message(&mut self, fragments: &[Fragment]) {
+    pub fn write_file_message<D: Display + Drop>(&mut self, message: D) {
         self.begin_file_message();
-        self.write(fragments);
+        self.write(message);
         self.end_line();
     }
 
@@ -264,24 +204,10 @@ impl<'f> Page<'f> {
     }
 
     /// Writes a message about a part of the script, and shows that part.
-    pub fn mark(&mut self, spot: Spot, fragments: &[Fragment]) {
+    pub fn mark<D: Display + Drop>(&mut self, spot: Spot, message: D) {
         self.begin_message(spot.number);
-        self.write(fragments);
+        self.write(message);
         self.end_line();
-        self.show(spot);
-    }
-
-    /// Writes a message about a word of the script, the word between two texts, and shows where it is.
-    pub fn mark_word(&mut self, spot: Spot, before: &str, after: &str) {
-        self.begin_message(spot.number);
-        self.write_word(before, spot.word, after);
-        self.end_line();
-        self.show(spot);
-    }
-
-    /// Writes a message about a part of the script, by one text, and shows that part.
-    pub fn mark_text(&mut self, spot: Spot, text: &str) {
-        self.write_message(spot.number, text);
         self.show(spot);
     }
 
@@ -319,16 +245,16 @@ impl<'f> Page<'f> {
     }
 
     /// Writes a row of a table, below a message.
-    pub fn write_row(&mut self, fragments: &[Fragment]) {
+    pub fn write_row<D: Display + Drop>(&mut self, message: D) {
         self.begin_row();
-        self.write(fragments);
+        self.write(message);
         self.end_line();
     }
 
     /// Writes what to do.
-    pub fn write_help(&mut self, fragments: &[Fragment]) {
+    pub fn write_help<D: Display + Drop>(&mut self, advice: D) {
         self.begin_help();
-        self.write(fragments);
+        self.write(advice);
         self.end_line();
     }
 
@@ -342,13 +268,6 @@ impl<'f> Page<'f> {
     {
         self.begin_help();
         self.add_text(advice);
-        self.end_line();
-    }
-
-    /// Writes what to do, with a word between two texts.
-    pub fn write_help_word(&mut self, before: &str, word: &[u8], after: &str) {
-        self.begin_help();
-        self.write_word(before, word, after);
         self.end_line();
     }
 

@@ -2,6 +2,7 @@
 
 ghost use Rattle.std.specs.Prelude.{◌≡◌, length, slice_get, MatchOption};
 
+use crate::shown::Shown;
 use crate::words::Word;
 
 /// A part of a line: the column in which it begins, counted from 0, and its length in bytes.
@@ -22,6 +23,11 @@ pub struct Spot<'a> {
 }
 
 impl<'a> Spot<'a> {
+    /// The word as messages show it.
+    pub fn shown_word(&self) -> Shown<'a> {
+        Shown::word(self.word)
+    }
+
     /// The whole line, and no word of it.
     pub fn of_line(number: usize, text: &'a [u8]) -> Spot<'a>
         ensures number { result.number ≡ number }

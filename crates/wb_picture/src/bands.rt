@@ -1,13 +1,18 @@
 //! Numbers over time in a panel: the marks, the TRAPs and the cleanup stack as bands below the frame, and the committed length as a
-//! line in it. What changes within a column is drawn as the greatest value of the column.
+//! line in it. What changes within a column is drawn as the greatest value of the column. A band is as high in each panel of a picture.
 
-use crate::labels::{close_rect, close_text, open_rect, open_text};
-use crate::scale::{Area, Scale, share_of};
+use crate::labels::{
+    close_rect, close_text, open_rect, open_text, put_digits, put_number, width_of_number,
+};
+use crate::places::share_of;
+use crate::scale::{Area, Scale};
 use crate::series::Series;
 use std::alloc::{AllocError, Global};
 
-/// How high a band is, in pixels.
+/// How high a band is, and the least height of a value in which it is written, in pixels.
 pub const BAND: u32 = 14;
+
+const LEAST_WITH_TEXT: u32 = 11;
 
 /// Columns one after the other over which a number has the same greatest value.
 #[derive(Clone, Copy)]
@@ -17,12 +22,13 @@ struct Stretch {
     value: u32,
 }
 
-/// Draws a band at this height, with its name on the left.
+/// Draws a band at this height, with its name on the left, and on the right the greatest value that it has in a run of the picture.
 pub fn put_band(
     text: &mut String,
     name: &str,
     scale: &Scale,
     series: &Series,
+    greatest: u32,
     top: u32,
 ) -> Result<(), AllocError> {
     let left = scale.frame.left.saturating_sub(6);
@@ -31,7 +37,7 @@ pub fn put_band(
     text.push_str(name)?;
     close_text(text)?;
     put_ground(text, scale, bottom)?;
-    let greatest = series.greatest();
+    put_greatest(text, scale, greatest, bottom)?;
     let stretches = stretches_of(*text.allocator(), series, scale)?;
     for stretch in stretches.as_slice() {
         if stretch.value != 0 {
@@ -45,6 +51,22 @@ pub fn put_band(
 fn put_ground(text: &mut String, scale: &Scale, y: u32) -> Result<(), AllocError> {
     let (left, right) = (scale.frame.left, scale.frame.right());
     write!(text, "<path class=\"grid\" d=\"M{left} {y}H{right}\"/>\n")
+}
+
+/// Says up to which value a band is drawn; nothing if it is empty.
+fn put_greatest(
+    text: &mut String,
+    scale: &Scale,
+    greatest: u32,
+    bottom: u32,
+) -> Result<(), AllocError> {
+    if greatest == 0 {
+        return Ok(());
+    }
+    let x = scale.frame.right().saturating_add(6);
+    open_text(text, "dim", x, bottom.saturating_sub(3))?;
+    write!(text, "up to {greatest}")?;
+    close_text(text)
 }
 
 fn put_stretch(
@@ -71,7 +93,15 @@ fn put_stretch(
         .saturating_sub(1)
         .min(scale.last);
     write!(text, "{name}: {value}, in steps {first} to {last}")?;
-    close_rect(text)
+    close_rect(text)?;
+    if area.width() < width_of_number(value).saturating_add(6) {
+        return Ok(());
+    }
+    let x = area.left.saturating_add(3);
+    if height < LEAST_WITH_TEXT {
+        return put_number(text, "", x, area.top.saturating_sub(1), value);
+    }
+    put_number(text, "in", x, bottom.saturating_sub(3), value)
 }
 
 /// Draws a length over time as one line through the frame, at its upper edge where it is above; nothing if all of it is above.
@@ -82,7 +112,7 @@ pub fn put_length(
     series: &Series,
 ) -> Result<(), AllocError> {
     let stretches = stretches_of(*text.allocator(), series, scale)?;
-    if series.least() > scale.reach {
+    if series.least() > scale.places.reach {
         return Ok(());
     }
     write!(text, "<path class=\"{class}\" d=\"")?;
@@ -90,10 +120,20 @@ pub fn put_length(
     for stretch in stretches.as_slice() {
         let (x, end) = (scale.x(stretch.from), scale.x(stretch.until));
         let y = scale.y(stretch.value);
-        write!(text, "{letter}{x} {y}H{end}")?;
+        text.push(letter)?;
+        put_point(text, x, y, end)?;
         letter = 'L';
     }
     text.push_str("\"/>\n")
+}
+
+/// Writes a point of a path, and up to where it goes on level.
+fn put_point(text: &mut String, x: u32, y: u32, end: u32) -> Result<(), AllocError> {
+    put_digits(text, x)?;
+    text.push(' ')?;
+    put_digits(text, y)?;
+    text.push('H')?;
+    put_digits(text, end)
 }
 
 /// The stretches over which a number has the same greatest value.
@@ -139,6 +179,9 @@ fn greatest_in_columns(
             Some(next) => next.step.saturating_sub(1).max(change.step),
             None => scale.last,
         };
+        if until < columns.first {
+            continue;
+        }
         for column in columns.column(change.step)..=columns.column(until) {
             raise(&mut greatest, column, change.value);
         }

@@ -1,32 +1,37 @@
 //! The columns of a picture: how many steps each of them is.
 
-/// The columns over the steps of a run, from step 0 on.
+/// The columns over the steps of a run, or over its last ones.
 #[derive(Clone, Copy)]
 pub struct Columns {
+    /// The step that the first column begins with.
+    pub first: u32,
     pub count: u32,
     /// How many steps each column is, at least 1.
     pub steps: u32,
 }
 
 impl Columns {
-    /// The columns up to a last step, at most this many.
-    pub fn up_to(last: u32, most: u32) -> Columns {
-        let all = last.saturating_add(1);
+    /// The columns from one step up to another, at most this many.
+    pub fn between(first: u32, last: u32, most: u32) -> Columns {
+        let after = last.saturating_sub(first);
+        let all = after.saturating_add(1);
         let steps = all.div_ceil(most.max(1)).max(1);
         Columns {
-            count: (last / steps).saturating_add(1),
+            first,
+            count: (after / steps).saturating_add(1),
             steps,
         }
     }
 
-    /// The column of a step.
+    /// The column of a step; the first one of a step before.
     pub fn column(&self, step: u32) -> u32 {
-        let column = step.checked_div(self.steps).unwrap_or(0);
+        let after = step.saturating_sub(self.first);
+        let column = after.checked_div(self.steps).unwrap_or(0);
         column.min(self.count.saturating_sub(1))
     }
 
     /// The first step of a column.
     pub fn first_step(&self, column: u32) -> u32 {
-        column.saturating_mul(self.steps)
+        column.saturating_mul(self.steps).saturating_add(self.first)
     }
 }

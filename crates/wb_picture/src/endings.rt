@@ -12,7 +12,7 @@ use wb_model::run_end::RunEnd;
 /// How far above the frame the words are, in pixels.
 const ABOVE: u32 = 24;
 
-/// Draws the end of a run that panicked or was cut, or that ended before the other run of its picture.
+/// Draws the end of a run that panicked, left or was cut, or that ended before the other run of its picture.
 pub fn put_ending(
     text: &mut String,
     lines: &ScriptLines<'_>,
@@ -22,7 +22,8 @@ pub fn put_ending(
     let x = match &run.result.outcome {
         Outcome::Panicked(_) => middle_of_last(scale),
         Outcome::Cut(_) => scale.end(),
-        Outcome::Ended { .. } | Outcome::NoCleanup if scale.end() == scale.frame.right() => {
+        Outcome::Ended { left: None, .. } | Outcome::NoCleanup
+            if scale.end() == scale.frame.right() => {
             return Ok(());
         }
         Outcome::Ended { .. } | Outcome::NoCleanup => scale.end(),
@@ -34,10 +35,9 @@ pub fn put_ending(
         bottom: scale.frame.bottom(),
     };
     open_line(text, class_of(&run.result.outcome), line)?;
-    put_outcome(text, &run.result.outcome)?;
-    lines.put_line(text, run.course.line)?;
+    put_words(text, lines, run)?;
     close_line(text)?;
-    put_label(text, scale, run, x)
+    put_label(text, lines, scale, run, x)
 }
 
 /// The style of the line at an end.
@@ -53,14 +53,35 @@ fn middle_of_last(scale: &Scale) -> u32 {
     left.saturating_add(scale.end().saturating_sub(left) / 2)
 }
 
-/// Writes how the run ended above its line.
-fn put_label(text: &mut String, scale: &Scale, run: &WatchedRun, x: u32) -> Result<(), AllocError> {
-    let is_right = x > scale.frame.left.saturating_add(scale.frame.width / 2);
-    let class = if is_right { "e" } else { "" };
-    open_text(text, class, x, scale.frame.top.saturating_sub(ABOVE))?;
+/// Says how the run ended, and at which line.
+fn put_words(
+    text: &mut String,
+    lines: &ScriptLines<'_>,
+    run: &WatchedRun,
+) -> Result<(), AllocError> {
     put_outcome(text, &run.result.outcome)?;
-    let (step, line) = (run.course.steps, run.course.line);
-    write!(text, ", in step {step}, line {line}")?;
+    lines.put_line(text, run.last_line())
+}
+
+/// Writes that above the line at an end, to its left or its right, whichever has room.
+fn put_label(
+    text: &mut String,
+    lines: &ScriptLines<'_>,
+    scale: &Scale,
+    run: &WatchedRun,
+    x: u32,
+) -> Result<(), AllocError> {
+    let third = scale.frame.width / 3;
+    let after = x.saturating_sub(scale.frame.left);
+    let class = if after < third {
+        ""
+    } else if after < third.saturating_mul(2) {
+        "c"
+    } else {
+        "e"
+    };
+    open_text(text, class, x, scale.frame.top.saturating_sub(ABOVE))?;
+    put_words(text, lines, run)?;
     close_text(text)
 }
 

@@ -5,6 +5,9 @@ use crate::colours::Paint;
 use crate::scale::{Area, Scale};
 use std::alloc::{AllocError, Global};
 
+/// How wide a leak is at least, in pixels.
+const LEAST_LEAK: u32 = 6;
+
 /// How often the marks of a picture get twice as coarse before all of it is one.
 const MOST_HALVINGS: u32 = 12;
 
@@ -48,14 +51,71 @@ impl Look {
     }
 }
 
-/// The groups of these parts, at most about this many.
+/// Which parts a panel shows.
+#[derive(Clone, Copy, PartialEq, Eq)]
+enum Shown {
+    /// All that are there in one of its steps.
+    Present,
+    /// Of these, those that begin or end in them.
+    Changing,
+}
+
+impl Shown {
+    fn has(self, part: &Part, scale: &Scale) -> bool {
+        let first = scale.columns.first;
+        if part.gone <= first && first > 0 {
+            return false;
+        }
+        self == Shown::Present || part.from >= first || part.gone <= scale.last
+    }
+}
+
+/// The groups of the parts that a panel shows.
+#[derive(Drop)]
+pub struct Groups {
+    pub groups: Vec<Group>,
+    /// Whether parts are left out that don't change in the panel's steps.
+    pub is_partial: bool,
+}
+
+/// The groups of these parts, at most about this many. Where the end of a run is drawn, and too much is there, what doesn't change is
+/// left out.
 pub fn groups_of(
     alloc: Global,
     parts: &[Part],
     scale: &Scale,
     most: usize,
+) -> Result<Groups, AllocError> {
+    let is_partial = scale.columns.first > 0 && count_present(parts, scale) > most;
+    let shown = if is_partial {
+        Shown::Changing
+    } else {
+        Shown::Present
+    };
+    let looks = looks_of(alloc, parts, scale, shown)?;
+    let groups = merge_up_to(alloc, parts, scale, looks, most)?;
+    Ok(Groups { groups, is_partial })
+}
+
+/// How many parts are there in one of a panel's steps.
+fn count_present(parts: &[Part], scale: &Scale) -> usize {
+    let mut count = 0usize;
+    for part in parts {
+        if Shown::Present.has(part, scale) {
+            count = count.saturating_add(1);
+        }
+    }
+    count
+}
+
+/// The groups of parts that look so: each alone, or, if they are too many, those that look the same if marks are coarser.
+fn merge_up_to(
+    alloc: Global,
+    parts: &[Part],
+    scale: &Scale,
+    mut looks: Vec<PartLook>,
+    most: usize,
 ) -> Result<Vec<Group>, AllocError> {
-    let mut looks = looks_of(alloc, parts, scale, 1)?;
     if looks.len() <= most {
         return each_alone(alloc, &looks);
     }
@@ -67,23 +127,36 @@ pub fn groups_of(
             return Ok(groups);
         }
         unit = unit.saturating_mul(2);
-        looks = looks_of(alloc, parts, scale, unit)?;
+        for look in looks.as_mut_slice() {
+            look.make_coarser(parts, scale, unit);
+        }
     }
     looks.sort_unstable();
     merge(alloc, &looks)
 }
 
-/// How each part is drawn, in multiples of a unit of pixels.
+impl PartLook {
+    /// How the part is drawn in multiples of a unit of pixels.
+    fn make_coarser(&mut self, parts: &[Part], scale: &Scale, unit: u32) {
+        if let Some(part) = parts.get(self.index) {
+            self.look = look_of(part, scale, unit);
+        }
+    }
+}
+
+/// How each part is drawn, of those that are shown.
 fn looks_of(
     alloc: Global,
     parts: &[Part],
     scale: &Scale,
-    unit: u32,
+    shown: Shown,
 ) -> Result<Vec<PartLook>, AllocError> {
     let mut looks = Vec::new(alloc);
     for index in 0..parts.len() {
-        if let Some(part) = parts.get(index) {
-            let look = look_of(part, scale, unit);
+        if let Some(part) = parts.get(index)
+            && shown.has(part, scale)
+        {
+            let look = look_of(part, scale, 1);
             looks.push(PartLook { look, index })?;
         }
     }
@@ -91,17 +164,20 @@ fn looks_of(
 }
 
 fn look_of(part: &Part, scale: &Scale, unit: u32) -> Look {
-    let area = area_of(part, scale).at_least(1, 2);
+    let (least, paint) = if part.leaks {
+        (LEAST_LEAK, Paint::Leak)
+    } else {
+        (1, Paint::of(part.kind))
+    };
+    let area = area_of(part, scale).at_least(least, 2);
+    // a leak may go past the frame
+    let most = scale.frame.right().saturating_add(least).saturating_sub(1);
     Look {
         left: floor_to(area.left, unit),
-        right: ceil_to(area.right, unit).min(scale.frame.right()),
+        right: ceil_to(area.right, unit).min(most),
         top: floor_to(area.top, unit).max(scale.frame.top),
         bottom: ceil_to(area.bottom, unit).min(scale.frame.bottom()),
-        paint: if part.leaks {
-            Paint::Leak
-        } else {
-            Paint::of(part.kind)
-        },
+        paint,
     }
 }
 

@@ -3,6 +3,7 @@
 
 use crate::bands::put_length;
 use crate::labels::{close_line, close_text, open_line, open_text, put_number, width_of_number};
+use crate::leaks::{LeakLabel, is_free};
 use crate::lines::ScriptLines;
 use crate::scale::{Area, Scale};
 use crate::watch::{LocatedAttempt, WatchedRun};
@@ -49,17 +50,20 @@ impl Name {
     }
 }
 
-/// The attempts that made the heap longer than all before them.
+/// The attempts of a run, from a step on, that made the heap longer than all before them.
 pub fn rises_of(
     alloc: Global,
-    attempts: &[LocatedAttempt],
+    run: &WatchedRun,
+    first: u32,
 ) -> Result<Vec<LocatedAttempt>, AllocError> {
     let mut rises = Vec::new(alloc);
     let mut top = 0;
-    for it in attempts {
+    for it in run.course.attempts.as_slice() {
         if it.is_granted() && it.top() > top {
             top = it.top();
-            rises.push(*it)?;
+            if it.step >= first {
+                rises.push(*it)?;
+            }
         }
     }
     Ok(rises)
@@ -80,13 +84,13 @@ pub fn longest_end(attempts: &[LocatedAttempt]) -> u32 {
 pub fn put_lengths(text: &mut String, scale: &Scale, run: &WatchedRun) -> Result<(), AllocError> {
     let mut labels = Vec::new(*text.allocator());
     let longest = longest_end(run.course.attempts.as_slice());
-    let name = match run.rule {
+    let name = match &run.rule {
         Rule::Unlimited | Rule::Number(0) | Rule::Every(0) => Name::Required,
         _ => Name::Longest,
     };
     put_across(text, scale, name, longest, &mut labels)?;
-    if let Rule::Limit(limit) = run.rule {
-        put_across(text, scale, Name::Limit, limit, &mut labels)?;
+    if let Rule::Limit(limit) = &run.rule {
+        put_across(text, scale, Name::Limit, *limit, &mut labels)?;
     }
     put_length(text, Name::Committed.class(), scale, &run.course.committed)?;
     labels.push(label_of(scale, Name::Committed, run.course.committed.greatest()))?;
@@ -140,6 +144,7 @@ fn put_labels(text: &mut String, scale: &Scale, labels: &Vec<Label>) -> Result<(
         free = y.saturating_add(APART);
         open_text(text, "dim", x, y)?;
         put_name(text, label.name, label.length)?;
+        text.push_str(" bytes")?;
         if !scale.shows(label.length) {
             text.push_str(" (above)")?;
         }
@@ -163,23 +168,28 @@ struct Pen {
     y: u32,
 }
 
-/// Draws each rise as a line, from its step up to the next, with its attempt's number where there is room.
+/// Draws each rise as a line, from its step up to the next, with its attempt's number where there is room beside other labels.
 pub fn put_rises(
     text: &mut String,
     lines: &ScriptLines<'_>,
     scale: &Scale,
     rises: &[LocatedAttempt],
+    labels: &[LeakLabel],
 ) -> Result<(), AllocError> {
     let mut pen = Pen { x: 0, y: u32::MAX };
     let mut step = None;
     for rise in rises {
         if let Some(done) = extend(&mut step, scale, rise) {
             let end = scale.x_of_step(rise.step);
-            put_rise(text, lines, scale, &done, end, &mut pen)?;
+            let line = line_of(scale, &done, end);
+            put_rise(text, lines, &done, line)?;
+            put_rise_number(text, &done.last, line, labels, &mut pen)?;
         }
     }
     if let Some(done) = step {
-        put_rise(text, lines, scale, &done, scale.end(), &mut pen)?;
+        let line = line_of(scale, &done, scale.end());
+        put_rise(text, lines, &done, line)?;
+        put_rise_number(text, &done.last, line, labels, &mut pen)?;
     }
     Ok(())
 }
@@ -204,26 +214,26 @@ fn extend(
     })
 }
 
-fn put_rise(
-    text: &mut String,
-    lines: &ScriptLines<'_>,
-    scale: &Scale,
-    step: &ColumnRises,
-    end: u32,
-    pen: &mut Pen,
-) -> Result<(), AllocError> {
-    let x = scale.x(step.column);
+/// The line of rises, up to where the next begins.
+fn line_of(scale: &Scale, step: &ColumnRises, end: u32) -> Area {
     let y = scale.y(step.last.top());
-    let line = Area {
-        left: x,
+    Area {
+        left: scale.x(step.column),
         top: y,
         right: end,
         bottom: y,
-    };
+    }
+}
+
+fn put_rise(
+    text: &mut String,
+    lines: &ScriptLines<'_>,
+    step: &ColumnRises,
+    line: Area,
+) -> Result<(), AllocError> {
     open_line(text, "rise strong", line)?;
     put_rise_title(text, lines, step)?;
-    close_line(text)?;
-    put_rise_number(text, scale, step.column, &step.last, pen)
+    close_line(text)
 }
 
 fn put_rise_title(
@@ -244,23 +254,29 @@ fn put_rise_title(
     lines.put_line(text, step.first.line)
 }
 
-/// Writes the number of a rise above the beginning of its line, unless it would be over the last one or past the frame.
+/// Writes the number of a rise above the beginning of its line, unless it would be past the line, or over the last one or a leak's label.
 fn put_rise_number(
     text: &mut String,
-    scale: &Scale,
-    column: u32,
     rise: &LocatedAttempt,
+    line: Area,
+    labels: &[LeakLabel],
     pen: &mut Pen,
 ) -> Result<(), AllocError> {
-    let (x, y) = (scale.x(column), scale.y(rise.top()));
     let width = width_of_number(rise.number);
-    let is_clear = y.saturating_add(11) < pen.y
-        || x > pen.x.saturating_add(width).saturating_add(4);
-    let left = x.saturating_add(3);
-    if !is_clear || left.saturating_add(width) > scale.frame.right() {
+    let left = line.left.saturating_add(3);
+    let bottom = line.top.saturating_sub(3);
+    let number = Area {
+        left,
+        top: bottom.saturating_sub(9),
+        right: left.saturating_add(width),
+        bottom,
+    };
+    let is_clear = line.top.saturating_add(11) < pen.y
+        || line.left > pen.x.saturating_add(width).saturating_add(4);
+    if !is_clear || number.right > line.right || !is_free(labels, &number) {
         return Ok(());
     }
-    pen.x = x;
-    pen.y = y;
-    put_number(text, "", left, y.saturating_sub(3), rise.number)
+    pen.x = line.left;
+    pen.y = line.top;
+    put_number(text, "", left, bottom, rise.number)
 }

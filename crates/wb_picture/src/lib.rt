@@ -4,25 +4,34 @@
 //! by turn.
 #![tactic(auto)]
 
+mod axes;
 mod bands;
+mod boxes;
 mod cells;
 mod colours;
 mod columns;
+mod end_of_run;
 mod endings;
 mod escape;
+mod folding;
 mod groups;
 mod labels;
+mod leaks;
+mod legend;
 mod lengths;
 mod lines;
 mod marks;
 mod page;
 mod panel;
 mod pictures;
+mod places;
 mod ranges;
 mod refusals;
 mod scale;
 mod series;
+mod sheet;
 mod titles;
+mod undoing;
 mod watch;
 
 pub use lines::ScriptFile;

@@ -51,12 +51,14 @@ impl<'a> ScriptLines<'a> {
         put_escaped(text, line)
     }
 
+    /// The name of a class, by its index; empty if there is no such class.
+    pub fn class_name(&self, class: u16) -> &'a str {
+        self.classes.get(class as usize).copied().unwrap_or("")
+    }
+
     /// Writes the name of a class, by its index.
     pub fn put_class(&self, text: &mut String, class: u16) -> Result<(), AllocError> {
-        match self.classes.get(class as usize) {
-            Some(name) => put_escaped(text, name),
-            None => Ok(()),
-        }
+        put_escaped(text, self.class_name(class))
     }
 
     /// How many classes the script has.

@@ -60,7 +60,7 @@ pub fn put_ranges(
         if !scale.shows(range.from) {
             break;
         }
-        let until = end_of_range(ranges, index).min(scale.reach);
+        let until = end_of_range(ranges, index).min(scale.places.reach);
         let stretch = stretch_with(open.take(), range, until);
         if stretch.height(scale) < LEAST {
             open = Some(stretch);

@@ -6,8 +6,8 @@ use crate::scale::{Area, Scale};
 use crate::watch::LocatedAttempt;
 use std::alloc::AllocError;
 
-/// How far the table is from the frame, and how wide its bar is, in pixels.
-pub const BESIDE: u32 = 150;
+/// How far the table is from the frame, with room for labels between, and how wide its bar is, in pixels.
+pub const BESIDE: u32 = 212;
 
 pub const BAR: u32 = 12;
 

@@ -1,6 +1,7 @@
 //! Where steps and places are in a panel. What is drawn there is said elsewhere.
 
 use crate::columns::Columns;
+use crate::places::{Places, share_of};
 
 /// The frame of a panel, in pixels from the picture's upper left corner; y grows downwards.
 #[derive(Clone, Copy)]
@@ -25,8 +26,7 @@ pub struct Area {
 pub struct Scale {
     pub frame: Frame,
     pub columns: Columns,
-    /// The place at the upper edge, in bytes.
-    pub reach: u32,
+    pub places: Places,
     /// The last step of the run.
     pub last: u32,
 }
@@ -48,6 +48,14 @@ impl Area {
 
     pub fn height(&self) -> u32 {
         self.bottom.saturating_sub(self.top)
+    }
+
+    /// Whether a point is in both areas.
+    pub fn meets(&self, other: &Area) -> bool {
+        self.left < other.right
+            && other.left < self.right
+            && self.top < other.bottom
+            && other.top < self.bottom
     }
 
     /// The middle of its height.
@@ -96,14 +104,16 @@ impl Scale {
 
     /// The height of a place; one past the reach is at the upper edge.
     pub fn y(&self, place: u32) -> u32 {
-        let height = self.frame.height;
-        let above = share_of(place.min(self.reach), self.reach, height);
+        let places = &self.places;
+        let drawn = places.drawn_up_to(place.min(places.reach));
+        let all = places.drawn_up_to(places.reach);
+        let above = share_of(drawn, all, self.frame.height);
         self.frame.bottom().saturating_sub(above)
     }
 
     /// Whether a place is in the frame.
     pub fn shows(&self, place: u32) -> bool {
-        place <= self.reach
+        place <= self.places.reach
     }
 
     /// The area of what is at these places, from one step on and up to before another.
@@ -115,11 +125,4 @@ impl Scale {
             bottom: self.y(place),
         }
     }
-}
-
-/// A part of a whole, on a length; 0 if the whole is.
-pub fn share_of(part: u32, whole: u32, length: u32) -> u32 {
-    let product = u64::from(part).saturating_mul(u64::from(length));
-    let quotient = product.checked_div(u64::from(whole)).unwrap_or(0);
-    u32::try_from(quotient).unwrap_or(u32::MAX)
 }

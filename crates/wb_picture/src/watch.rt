@@ -5,6 +5,7 @@ ghost use Rattle.wb_model.specs.language.Sound.{is_script};
 
 use crate::cells::Cells;
 use crate::series::Series;
+use crate::undoing::UndoingLines;
 use std::alloc::{AllocError, Global};
 use wb_machine::{Machine, RunFault, Turn};
 use wb_model::heap::{Answer, Attempt, Rule, Shape};
@@ -14,7 +15,7 @@ use wb_model::run::{Outcome, RunResult};
 use wb_model::script::Script;
 
 /// How a run is made: the attempts that are refused, the greatest number of steps, and the heap's shape.
-#[derive(Clone, Copy, Debug, PartialEq, Eq)]
+#[derive(Debug, Drop)]
 pub struct Setting {
     pub rule: Rule,
     pub budget: u32,
@@ -57,6 +58,9 @@ pub struct Course {
     /// How many steps were counted so far, and the line that was begun last.
     pub steps: u32,
     pub line: u32,
+    /// The line that was begun last outside of operations and destructors.
+    line_outside: u32,
+    undoing: UndoingLines,
 }
 
 /// A run that is over, and what was seen of it.
@@ -67,9 +71,20 @@ pub struct WatchedRun {
     pub rule: Rule,
 }
 
+impl WatchedRun {
+    /// The line at which the run ended: the one that panicked or left, or the last of `main`, whatever ran after it to undo; 0 if none
+    /// was begun.
+    pub fn last_line(&self) -> u32 {
+        match &self.result.outcome {
+            Outcome::Ended { .. } => self.course.line_outside,
+            Outcome::Panicked(_) | Outcome::NoCleanup | Outcome::Cut(_) => self.course.line,
+        }
+    }
+}
+
 impl Course {
-    fn new(alloc: Global) -> Course {
-        Course {
+    fn new(alloc: Global, script: &Script) -> Result<Course, AllocError> {
+        Ok(Course {
             attempts: Vec::new(alloc),
             cells: Cells::new(alloc),
             committed: Series::new(alloc),
@@ -78,13 +93,18 @@ impl Course {
             items: Series::new(alloc),
             steps: 0,
             line: 0,
-        }
+            line_outside: 0,
+            undoing: UndoingLines::of(alloc, script)?,
+        })
     }
 
     /// Sees a turn that the machine has just taken.
     fn see_turn(&mut self, machine: &Machine<'_>) -> Result<(), AllocError> {
         self.steps = machine.steps();
         self.line = machine.line();
+        if !self.undoing.has(self.line) {
+            self.line_outside = self.line;
+        }
         let attempt = self.newest_attempt(machine);
         if let Some(attempt) = attempt {
             self.attempts.push(attempt)?;
@@ -153,8 +173,8 @@ pub fn watch_run(
         budget,
         shape,
     } = setting;
-    let mut course = Course::new(alloc);
-    let mut machine = match Machine::new(alloc, script, rule, budget, shape) {
+    let mut course = Course::new(alloc, script)?;
+    let mut machine = match Machine::new(alloc, script, rule.try_copy()?, budget, shape) {
         Ok(machine) => machine,
         Err(RunFault::BadShape) => return Ok(None),
         Err(RunFault::NoMemory) => return Err(NoMemory),

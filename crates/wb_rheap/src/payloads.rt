@@ -1,6 +1,6 @@
 //! The words of payloads. Words and their halves are counted from 0; the half 2k is the low half of word k.
 
-ghost use Rattle.std.specs.Prelude.{◌≡◌, ◌+◌, ◌*◌, ◌<◌, ◌≤◌, ◌++◌, length, take, drop, replicate, slice_index};
+ghost use Rattle.std.specs.Prelude.{◌≡◌, ◌+◌, ◌*◌, ◌<◌, ◌≤◌, ◌++◌, true, length, take, drop, replicate, slice_index};
 ghost use Rattle.std.specs.Prelude.{slice_set, IsSome};
 ghost use Rattle.wb_chunk.specs.Halves.{half_of, halves_from, with_half, with_halves};
 ghost use Rattle.wb_model.specs.cells.CellRow.{payload_of};
@@ -17,6 +17,19 @@ impl Heap {
         ensures { result ≡ slice_index (payload_of ptr self.now.row) i }
     {
         self.cells.payload(ptr, i)
+    }
+
+    /// Whether a payload of so many words is that of another heap, at the same place. Where neither was written since it was zeros,
+    /// nothing is read.
+    pub fn has_payload_of(&self, ptr: Ptr, other: &Heap, there: Ptr, n: u32) -> bool
+        requires live { IsSome (cell_at ptr self.now.row) }
+        requires other_live { IsSome (cell_at there other.now.row) }
+        requires words { length (payload_of ptr self.now.row) ≡ n }
+        requires other_words { length (payload_of there other.now.row) ≡ n }
+        requires place { there.place ≡ ptr.place }
+        ensures { result ≡ true → payload_of there other.now.row ≡ payload_of ptr self.now.row }
+    {
+        self.cells.has_payload_of(ptr, &other.cells, there, n)
     }
 
     /// Changes a word of a payload, and nothing else.

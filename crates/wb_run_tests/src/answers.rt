@@ -4,8 +4,7 @@ ghost use Rattle.std.specs.Prelude.{IsTrue};
 ghost use Rattle.wb_command_line.specs.Command.{is_answerable};
 
 use std::alloc::Global;
-use std::io;
-use std::io::{ErrorKind, Read, Write};
+use std::io::{self, ErrorKind, Read, Write};
 use std::test::Fail;
 use wb_model::heap::{Rule, Shape};
 use workbench::answer::answer;
@@ -168,6 +167,7 @@ fn command_in(of_lengths: bool, json: bool) -> Command
         },
         json,
         picture: None,
+        follow: None,
     }
 }
 

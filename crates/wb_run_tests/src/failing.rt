@@ -3,6 +3,7 @@
 ghost use Rattle.std.specs.Prelude.{IsTrue};
 ghost use Rattle.wb_command_line.specs.Command.{is_answerable};
 
+use crate::rules::Refuses;
 use std::alloc::Global;
 use std::test::Fail;
 use wb_machine::run;
@@ -33,7 +34,7 @@ pub(crate) const SETS_NONE: &[u8] =
     b"proc main\nptr a\nfailevery 1\nfailnone\nrepeat 3\nalloc a 1\nfree a\nend\nend\n";
 
 /// The answers to the attempts of a run.
-fn answers_of(alloc: Global, script: &[u8], rule: Rule) -> Result<Vec<Answer>, Fail> {
+pub(crate) fn answers_of(alloc: Global, script: &[u8], rule: Rule) -> Result<Vec<Answer>, Fail> {
     let script = read(alloc, script)?;
     let told = run(alloc, &script, rule, 99, SHAPE)?;
     let mut answers = Vec::new(alloc);
@@ -47,10 +48,10 @@ fn answers_of(alloc: Global, script: &[u8], rule: Rule) -> Result<Vec<Answer>, F
 pub(crate) fn are_answered(
     alloc: Global,
     script: &[u8],
-    rule: Rule,
+    rule: Refuses,
     wanted: &[Answer],
 ) -> Result<bool, Fail> {
-    Ok(answers_of(alloc, script, rule)?.as_slice() == wanted)
+    Ok(answers_of(alloc, script, rule.rule())?.as_slice() == wanted)
 }
 
 /// What a sweep of a script finds among these failures, or why it has no answer.
@@ -92,6 +93,7 @@ fn command_of(wanted: &Wanted) -> Command
         shape: SHAPE,
         json: wanted.json,
         picture: None,
+        follow: None,
     }
 }
 

@@ -13,7 +13,7 @@ enum Fault {
 }
 
 /// Words after the program's name, and their fault.
-static FAULTS: [(&[&str], Fault); 23] = [
+static FAULTS: [(&[&str], Fault); 28] = [
     (&["run", "--limit", "176", "--fail", "2"], Fault::Both),
     (&["run", "--limit", "176", "--every", "2"], Fault::Both),
     (&["run", "--fail", "2", "--every", "2"], Fault::Both),
@@ -29,6 +29,12 @@ static FAULTS: [(&[&str], Fault); 23] = [
         &["run", "--also", "1", "--fail", "2", "--every", "2"],
         Fault::Both,
     ),
+    (&["run", "--set", "3,4", "--limit", "176"], Fault::Both),
+    (&["run", "--fail=2", "a.oom", "--set=3"], Fault::Both),
+    (
+        &["run", "--set=3", "--also=2", "--every=2", "--min=8"],
+        Fault::Both,
+    ),
     (&["sweep", "--every", "--pairs"], Fault::Both),
     (&["sweep", "--pairs", "a.oom", "--every"], Fault::Both),
     (&["check", "--pairs", "--every", "--json"], Fault::Both),
@@ -42,6 +48,8 @@ static FAULTS: [(&[&str], Fault); 23] = [
     (&["run", "--also=16777216", "--fail=16777216"], Fault::Also),
     (&["run", "--also", "3", "--every", "2"], Fault::Also),
     (&["run", "--also", "3", "--limit", "2"], Fault::Also),
+    (&["run", "--also", "5", "--set", "3,4"], Fault::Also),
+    (&["run", "--set=3", "--also=4", "--step=40"], Fault::Also),
     (&["run", "--also", "2", "--step", "40"], Fault::Also),
     (&["run", "--also=3", "--fail=2", "--step=40"], Fault::Shape),
     (&["sweep", "--pairs", "--min", "8"], Fault::Shape),

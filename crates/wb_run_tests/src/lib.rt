@@ -1,5 +1,5 @@
-//! Nothing but tests: of turns of a machine, shapes that no heap has, lengths that a table gives, attempts that fail at a rate or two
-//! at once, and of the program over words, hosts and streams in memory, with what it reports of a sweep, by the public calls of the
+//! Nothing but tests: of turns of a machine, shapes that no heap has, lengths that a table gives, attempts that fail at a rate, two
+//! at once or as a set, and of the program over words, hosts and streams in memory, with what it reports of a sweep, by the public calls of the
 //! crates that have these. They are here so that those crates are proved once, and not again with their tests. What a worked case
 //! can show is in none of them.
 #![tactic(auto)]
@@ -25,7 +25,13 @@ mod progress;
 #[cfg(test)]
 mod rates;
 #[cfg(test)]
+mod rules;
+#[cfg(test)]
+mod sets;
+#[cfg(test)]
 mod shapes;
+#[cfg(test)]
+mod tasks;
 #[cfg(test)]
 mod turns;
 #[cfg(test)]

@@ -1,39 +1,44 @@
 //! Runs, sweeps and reports where two attempts fail.
 
 use crate::failing::{FALLBACK, SETS, SETS_NONE, Wanted, are_answered, found_in, is_answered};
+use crate::rules::Refuses;
 use std::test::Fail;
 use wb_model::failures::{Failing, Failures};
+use wb_model::heap::Answer;
 use wb_model::heap::Answer::{Granted, Simulated};
-use wb_model::heap::{Answer, Rule};
 use wb_model::run::Why;
 use wb_sweep::fault::SweepFault;
 
 /// Scripts, rules, and how the attempts of the run are answered.
-static RUNS: [(&[u8], Rule, &[Answer]); 9] = [
-    (FALLBACK, Rule::Pair(1, 2), &[Simulated]),
+static RUNS: [(&[u8], Refuses, &[Answer]); 9] = [
+    (FALLBACK, Refuses::Pair(1, 2), &[Simulated]),
     (
         FALLBACK,
-        Rule::Pair(2, 3),
+        Refuses::Pair(2, 3),
         &[Granted, Simulated, Simulated, Granted],
     ),
     // The second is made in the place of the first.
     (
         FALLBACK,
-        Rule::Pair(2, 4),
+        Refuses::Pair(2, 4),
         &[Granted, Simulated, Granted, Simulated],
     ),
     // Only where attempt 2 fails is there a fourth.
-    (FALLBACK, Rule::Pair(3, 4), &[Granted, Granted, Simulated]),
-    (FALLBACK, Rule::Pair(4, 5), &[Granted, Granted, Granted]),
     (
         FALLBACK,
-        Rule::Pair(2, 16_777_216),
+        Refuses::Pair(3, 4),
+        &[Granted, Granted, Simulated],
+    ),
+    (FALLBACK, Refuses::Pair(4, 5), &[Granted, Granted, Granted]),
+    (
+        FALLBACK,
+        Refuses::Pair(2, 16_777_216),
         &[Granted, Simulated, Granted, Granted],
     ),
     // Of these the setting refuses one too: each is refused once.
     (
         SETS,
-        Rule::Pair(3, 4),
+        Refuses::Pair(3, 4),
         &[
             Granted, Granted, Simulated, Simulated, Granted, Simulated, Granted, Simulated,
         ],
@@ -41,7 +46,7 @@ static RUNS: [(&[u8], Rule, &[Answer]); 9] = [
     // A pair counts from attempt 1, and not from the setting's line.
     (
         SETS,
-        Rule::Pair(5, 7),
+        Refuses::Pair(5, 7),
         &[
             Granted, Granted, Granted, Simulated, Simulated, Simulated, Simulated, Simulated,
         ],
@@ -49,7 +54,7 @@ static RUNS: [(&[u8], Rule, &[Answer]); 9] = [
     // The script can't end a pair.
     (
         SETS_NONE,
-        Rule::Pair(2, 4),
+        Refuses::Pair(2, 4),
         &[Granted, Simulated, Granted, Simulated],
     ),
 ];

@@ -121,7 +121,7 @@ static COMMANDS: [(&[&str], Wanted); 4] = [
 ];
 
 /// Words after the program's name that are no command. What is said of them is in worked cases.
-static REFUSED: [&[&str]; 28] = [
+static REFUSED: [&[&str]; 31] = [
     &["run", "-", "--limit", "176", "--fail", "2"],
     &["run", "-", "--limit", "176", "--every", "2"],
     &["run", "-", "--fail", "2", "--every", "2"],
@@ -129,6 +129,9 @@ static REFUSED: [&[&str]; 28] = [
     &["run", "-", "--also", "2"],
     &["run", "-", "--fail", "2", "--also"],
     &["run", "-", "--fail", "2", "--also", "2"],
+    &["run", "-", "--set", "3,3"],
+    &["run", "-", "--set", "3,3", "--fail", "2"],
+    &["run", "-", "--set", "3", "--fail", "2"],
     &["run", "-", "--pairs"],
     &["size", "-", "--every"],
     &["size", "-", "--pairs"],

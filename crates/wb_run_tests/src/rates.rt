@@ -1,26 +1,27 @@
 //! Runs, sweeps and reports where every attempt fails whose number is a multiple of a rate.
 
 use crate::failing::{FALLBACK, SETS, SETS_NONE, Wanted, are_answered, found_in, is_answered};
+use crate::rules::Refuses;
 use std::test::Fail;
 use wb_model::failures::{Failing, Failures};
+use wb_model::heap::Answer;
 use wb_model::heap::Answer::{Granted, Simulated};
-use wb_model::heap::{Answer, Rule};
 
 /// Scripts, rules, and how the attempts of the run are answered.
-static RUNS: [(&[u8], Rule, &[Answer]); 9] = [
-    (FALLBACK, Rule::Every(0), &[Granted, Granted, Granted]),
-    (FALLBACK, Rule::Every(1), &[Simulated]),
+static RUNS: [(&[u8], Refuses, &[Answer]); 9] = [
+    (FALLBACK, Refuses::Every(0), &[Granted, Granted, Granted]),
+    (FALLBACK, Refuses::Every(1), &[Simulated]),
     (
         FALLBACK,
-        Rule::Every(2),
+        Refuses::Every(2),
         &[Granted, Simulated, Granted, Simulated],
     ),
-    (FALLBACK, Rule::Every(3), &[Granted, Granted, Simulated]),
-    (FALLBACK, Rule::Every(4), &[Granted, Granted, Granted]),
+    (FALLBACK, Refuses::Every(3), &[Granted, Granted, Simulated]),
+    (FALLBACK, Refuses::Every(4), &[Granted, Granted, Granted]),
     // The setting alone: it counts from its own line.
     (
         SETS,
-        Rule::Every(0),
+        Refuses::Every(0),
         &[
             Granted, Granted, Granted, Simulated, Granted, Simulated, Granted, Simulated,
         ],
@@ -28,7 +29,7 @@ static RUNS: [(&[u8], Rule, &[Answer]); 9] = [
     // The rate counts from attempt 1, so that it refuses 3 and 6, of which the setting refuses one too.
     (
         SETS,
-        Rule::Every(3),
+        Refuses::Every(3),
         &[
             Granted, Granted, Simulated, Simulated, Granted, Simulated, Granted, Simulated,
         ],
@@ -36,7 +37,7 @@ static RUNS: [(&[u8], Rule, &[Answer]); 9] = [
     // From the setting's line on this would be attempt 7.
     (
         SETS,
-        Rule::Every(5),
+        Refuses::Every(5),
         &[
             Granted, Granted, Granted, Simulated, Simulated, Simulated, Granted, Simulated,
         ],
@@ -44,7 +45,7 @@ static RUNS: [(&[u8], Rule, &[Answer]); 9] = [
     // The script can't end a rate.
     (
         SETS_NONE,
-        Rule::Every(2),
+        Refuses::Every(2),
         &[Granted, Simulated, Granted, Simulated],
     ),
 ];

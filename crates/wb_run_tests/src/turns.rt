@@ -1,9 +1,10 @@
 //! The turns of a machine: what each answers, and whether it makes an attempt.
 
+use crate::rules::Refuses;
 use std::alloc::Global;
 use std::test::Fail;
 use wb_machine::{Machine, Turn};
-use wb_model::heap::{Rule, Shape};
+use wb_model::heap::Shape;
 use wb_script::read;
 
 const SHAPE: Shape = Shape {
@@ -27,7 +28,7 @@ const TWO_ROUNDS: &[u8] =
 const TWO_CELLS: &[u8] = b"proc main\nptr a\nrepeat 2\nalloc a 1\nfree a\nend\nend\n";
 
 /// A script, a rule and a budget.
-type Setting = (&'static [u8], Rule, u32);
+type Setting = (&'static [u8], Refuses, u32);
 
 /// Whether the machine will make an attempt, what its turn answers, and how many attempts were made by then.
 type TurnResult = (bool, Turn, u32);
@@ -35,7 +36,7 @@ type TurnResult = (bool, Turn, u32);
 /// Runs, and what their turns report, from the first of them past the last.
 static TURNS: [(Setting, &[TurnResult]); 2] = [
     (
-        (TWO_CELLS, Rule::Unlimited, 9),
+        (TWO_CELLS, Refuses::Nothing, 9),
         &[
             (true, Turn::GoesOn, 1),
             // The head of the `repeat`, and its first turn.
@@ -51,7 +52,7 @@ static TURNS: [(Setting, &[TurnResult]); 2] = [
     ),
     // What the ceiling cuts is asked for, and not counted.
     (
-        (SIXTEEN_LARGEST, Rule::Unlimited, 99),
+        (SIXTEEN_LARGEST, Refuses::Nothing, 99),
         &[
             (true, Turn::GoesOn, 1),
             // Fifteen cells.
@@ -97,61 +98,61 @@ fn turns_return(machine: &mut Machine, turns: &[TurnResult]) -> bool {
 
 /// Runs whose attempts lie in calls, turns and TRAPs, or aren't made where a statement is refused before.
 static SETTINGS: [Setting; 22] = [
-    (TWO_CELLS, Rule::Unlimited, 9),
-    (TWO_CELLS, Rule::Number(1), 9),
-    (TWO_CELLS, Rule::Number(2), 9),
+    (TWO_CELLS, Refuses::Nothing, 9),
+    (TWO_CELLS, Refuses::Number(1), 9),
+    (TWO_CELLS, Refuses::Number(2), 9),
     // The budget cuts before the second request.
-    (TWO_CELLS, Rule::Unlimited, 5),
+    (TWO_CELLS, Refuses::Nothing, 5),
     (
         b"proc make n:int\nptr a\nalloc a n\nreturn a\nend\nproc main\nptr p\ncallto p make 9\nfree p\nend",
-        Rule::Unlimited,
+        Refuses::Nothing,
         9,
     ),
     (
         b"proc main\nptr a\nint c\ntrap c\nallocl a 9\nend\ntrap c\nallocl a 9\nend\nend",
-        Rule::Number(2),
+        Refuses::Number(2),
         9,
     ),
     (
         b"proc main\nptr a\nhnewl a 9\nhrealloc a a 2\nhrealloc a a 40\nend",
-        Rule::Unlimited,
+        Refuses::Nothing,
         9,
     ),
     // A cell that shrinks asks for none, and one that grows does, as does none at all.
     (
         b"proc main\nptr a\nrealloc a a 99\nrealloc a a 9\nreallocl a a 999\nend",
-        Rule::Unlimited,
+        Refuses::Nothing,
         9,
     ),
     // Panics come before the request.
-    (b"proc main\nptr a\nalloc a -1\nend", Rule::Unlimited, 9),
+    (b"proc main\nptr a\nalloc a -1\nend", Refuses::Nothing, 9),
     (
         b"proc main\nptr a\nalloc a 9\nfree a\nrealloc a a 99\nend",
-        Rule::Unlimited,
+        Refuses::Nothing,
         9,
     ),
     (
         b"proc main\nptr a\nfailnext 1\nrepeat 2\nalloc a 9\nend\nend",
-        Rule::Unlimited,
+        Refuses::Nothing,
         9,
     ),
     (
         b"proc main\nptr a\nleaveifnull a\nalloc a 9\nend",
-        Rule::Unlimited,
+        Refuses::Nothing,
         9,
     ),
     // Some pushes ask for an attempt, and others and the lines that take items off ask for none.
-    (GROWS_THREE_TIMES, Rule::Unlimited, 99),
-    (GROWS_THREE_TIMES, Rule::Number(4), 99),
-    (GROWS_THREE_TIMES, Rule::Limit(383), 99),
-    (TWO_CELLS, Rule::Every(2), 9),
-    (GROWS_THREE_TIMES, Rule::Every(4), 99),
-    (TWO_CELLS, Rule::Pair(2, 3), 9),
-    (TWO_ROUNDS, Rule::Pair(4, 12), 99),
-    (TWO_ROUNDS, Rule::Number(10), 99),
+    (GROWS_THREE_TIMES, Refuses::Nothing, 99),
+    (GROWS_THREE_TIMES, Refuses::Number(4), 99),
+    (GROWS_THREE_TIMES, Refuses::Past(383), 99),
+    (TWO_CELLS, Refuses::Every(2), 9),
+    (GROWS_THREE_TIMES, Refuses::Every(4), 99),
+    (TWO_CELLS, Refuses::Pair(2, 3), 9),
+    (TWO_ROUNDS, Refuses::Pair(4, 12), 99),
+    (TWO_ROUNDS, Refuses::Number(10), 99),
     // The budget cuts before the 8th push, and before an item is destroyed.
-    (GROWS_THREE_TIMES, Rule::Unlimited, 17),
-    (GROWS_THREE_TIMES, Rule::Unlimited, 40),
+    (GROWS_THREE_TIMES, Refuses::Nothing, 17),
+    (GROWS_THREE_TIMES, Refuses::Nothing, 40),
 ];
 
 /// Whether a machine announces exactly before those turns that make an attempt that they do, up to the end of its run, and of
@@ -180,7 +181,7 @@ fn returns(alloc: Global, setting: &Setting, turns: &[TurnResult]) -> Result<boo
         return Ok(false);
     }
     let script = read(alloc, script)?;
-    let mut machine = Machine::new(alloc, &script, rule, budget, SHAPE)?;
+    let mut machine = Machine::new(alloc, &script, rule.rule(), budget, SHAPE)?;
     let first = turns_return(&mut machine, turns);
     Ok(first && returns_attempts(&mut machine, budget))
 }

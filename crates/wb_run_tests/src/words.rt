@@ -1,11 +1,13 @@
 //! That words are taken at all, which no clause says, since any growth may be refused.
 
+use crate::rules::Refuses;
+use crate::tasks::Asks;
 use std::alloc::Global;
 use std::test::Fail;
 use wb_model::failures::Failures;
-use wb_model::heap::{Rule, Shape};
+use wb_model::heap::Shape;
 use wb_model::part::Part;
-use workbench::{Command, CommandFault, FileName, Task, command};
+use workbench::{Command, CommandFault, FileName, command};
 
 const DEFAULT_SHAPE: Shape = Shape {
     min: 4096,
@@ -13,12 +15,12 @@ const DEFAULT_SHAPE: Shape = Shape {
 };
 
 /// The subcommands, and what each asks for where no option is given.
-static SUBCOMMANDS: [(&str, Task); 5] = [
-    ("run", Task::Run(Rule::Unlimited)),
-    ("size", Task::Size),
-    ("lengths", Task::Lengths),
-    ("sweep", Task::Sweep(Failures::Single, Part::WHOLE)),
-    ("check", Task::Check(Failures::Single)),
+static SUBCOMMANDS: [(&str, Asks); 5] = [
+    ("run", Asks::Run(Refuses::Nothing)),
+    ("size", Asks::Size),
+    ("lengths", Asks::Lengths),
+    ("sweep", Asks::Sweep(Failures::Single, Part::WHOLE)),
+    ("check", Asks::Check(Failures::Single)),
 ];
 
 /// The budget, the shape, whether JSON is asked for, and the file.
@@ -102,82 +104,82 @@ static AFTER_EACH: [(&[&str], Spelled); 16] = [
 ];
 
 /// Words that spell a run of the default budget, its rule, its shape and its file.
-static RUNS: [(&[&str], Rule, Shape, Option<&str>); 25] = [
+static RUNS: [(&[&str], Refuses, Shape, Option<&str>); 25] = [
     (
         &["workbench", "run", "a.oom"],
-        Rule::Unlimited,
+        Refuses::Nothing,
         DEFAULT_SHAPE,
         Some("a.oom"),
     ),
     (
         &["another/name", "run", "run"],
-        Rule::Unlimited,
+        Refuses::Nothing,
         DEFAULT_SHAPE,
         Some("run"),
     ),
     (
         &["workbench", "run", "-"],
-        Rule::Unlimited,
+        Refuses::Nothing,
         DEFAULT_SHAPE,
         Some("-"),
     ),
     (
         &["workbench", "run", ""],
-        Rule::Unlimited,
+        Refuses::Nothing,
         DEFAULT_SHAPE,
         Some(""),
     ),
     (
         &["workbench", "run", "--", "--help"],
-        Rule::Unlimited,
+        Refuses::Nothing,
         DEFAULT_SHAPE,
         Some("--help"),
     ),
     (
         &["workbench", "run", "--", "--"],
-        Rule::Unlimited,
+        Refuses::Nothing,
         DEFAULT_SHAPE,
         Some("--"),
     ),
     (
         &["workbench", "run", "a.oom", "--"],
-        Rule::Unlimited,
+        Refuses::Nothing,
         DEFAULT_SHAPE,
         Some("a.oom"),
     ),
     (
         &["workbench", "run", "--limit", "303"],
-        Rule::Limit(303),
+        Refuses::Past(303),
         DEFAULT_SHAPE,
         None,
     ),
     (
         &["workbench", "run", "--limit=0"],
-        Rule::Limit(0),
+        Refuses::Past(0),
         DEFAULT_SHAPE,
         None,
     ),
     (
         &["workbench", "run", "--limit", "16777216"],
-        Rule::Limit(16_777_216),
+        Refuses::Past(16_777_216),
         DEFAULT_SHAPE,
         None,
     ),
     (
         &["workbench", "run", "--min", "256", "--step", "64"],
-        Rule::Unlimited,
+        Refuses::Nothing,
         Shape { min: 256, step: 64 },
         None,
     ),
     (
         &["workbench", "run", "--step=16", "--min=0"],
-        Rule::Unlimited,
+        Refuses::Nothing,
         Shape { min: 0, step: 16 },
         None,
     ),
     (
         &["workbench", "run", "--min=1048576", "--step=1048576"],
-        Rule::Unlimited,
+        Refuses::Nothing,
         Shape {
             min: 1_048_576,
             step: 1_048_576,
@@ -186,7 +188,7 @@ static RUNS: [(&[&str], Rule, Shape, Option<&str>); 25] = [
     ),
     (
         &["workbench", "run", "--limit", "+5", "--min", "0000032"],
-        Rule::Limit(5),
+        Refuses::Past(5),
         Shape {
             min: 32,
             step: 4096,
@@ -195,61 +197,61 @@ static RUNS: [(&[&str], Rule, Shape, Option<&str>); 25] = [
     ),
     (
         &["workbench", "run", "--fail", "3"],
-        Rule::Number(3),
+        Refuses::Number(3),
         DEFAULT_SHAPE,
         None,
     ),
     (
         &["workbench", "run", "--fail", "0"],
-        Rule::Number(0),
+        Refuses::Number(0),
         DEFAULT_SHAPE,
         None,
     ),
     (
         &["workbench", "run", "--fail=16777216"],
-        Rule::Number(16_777_216),
+        Refuses::Number(16_777_216),
         DEFAULT_SHAPE,
         None,
     ),
     (
         &["workbench", "run", "--fail", "2", "--also", "4"],
-        Rule::Pair(2, 4),
+        Refuses::Pair(2, 4),
         DEFAULT_SHAPE,
         None,
     ),
     (
         &["workbench", "run", "--also=16777216", "a.oom", "--fail=+1"],
-        Rule::Pair(1, 16_777_216),
+        Refuses::Pair(1, 16_777_216),
         DEFAULT_SHAPE,
         Some("a.oom"),
     ),
     (
         &["workbench", "run", "--fail=1", "--also=2", "--", "--also"],
-        Rule::Pair(1, 2),
+        Refuses::Pair(1, 2),
         DEFAULT_SHAPE,
         Some("--also"),
     ),
     (
         &["workbench", "run", "--every", "3"],
-        Rule::Every(3),
+        Refuses::Every(3),
         DEFAULT_SHAPE,
         None,
     ),
     (
         &["workbench", "run", "--every=0", "--", "--every"],
-        Rule::Every(0),
+        Refuses::Every(0),
         DEFAULT_SHAPE,
         Some("--every"),
     ),
     (
         &["workbench", "run", "a.oom", "--every", "+0016777216"],
-        Rule::Every(16_777_216),
+        Refuses::Every(16_777_216),
         DEFAULT_SHAPE,
         Some("a.oom"),
     ),
     (
         &["workbench", "run", "--min=32", "--fail", "2", "--step=16"],
-        Rule::Number(2),
+        Refuses::Number(2),
         Shape { min: 32, step: 16 },
         None,
     ),
@@ -264,34 +266,34 @@ static RUNS: [(&[&str], Rule, Shape, Option<&str>); 25] = [
             "--step",
             "16",
         ],
-        Rule::Limit(190),
+        Refuses::Past(190),
         Shape { min: 32, step: 16 },
         Some("a.oom"),
     ),
 ];
 
 /// The subcommands that take the flags `--every`, `--pairs` and `--all`, and what each asks for with one of them.
-static WITH_A_FLAG: [(&str, &str, Task); 6] = [
-    ("sweep", "--all", Task::All(Failures::Single, Part::WHOLE)),
-    ("check", "--all", Task::CheckAll(Failures::Single)),
+static WITH_A_FLAG: [(&str, &str, Asks); 6] = [
+    ("sweep", "--all", Asks::All(Failures::Single, Part::WHOLE)),
+    ("check", "--all", Asks::CheckAll(Failures::Single)),
     (
         "sweep",
         "--every",
-        Task::Sweep(Failures::Every, Part::WHOLE),
+        Asks::Sweep(Failures::Every, Part::WHOLE),
     ),
-    ("check", "--every", Task::Check(Failures::Every)),
+    ("check", "--every", Asks::Check(Failures::Every)),
     (
         "sweep",
         "--pairs",
-        Task::Sweep(Failures::Pairs, Part::WHOLE),
+        Asks::Sweep(Failures::Pairs, Part::WHOLE),
     ),
-    ("check", "--pairs", Task::Check(Failures::Pairs)),
+    ("check", "--pairs", Asks::Check(Failures::Pairs)),
 ];
 
 /// Whether the command has this task and these options.
-fn is_spelled(command: &Command, task: Task, spelled: Spelled) -> bool {
+fn is_spelled(command: &Command, asks: Asks, spelled: Spelled) -> bool {
     let (budget, shape, json, file) = spelled;
-    command.task == task
+    asks.is(&command.task)
         && command.budget == budget
         && command.shape == shape
         && command.json == json
@@ -300,13 +302,13 @@ fn is_spelled(command: &Command, task: Task, spelled: Spelled) -> bool {
 
 #[test]
 fn takes_words_after_each_subcommand(rt: HostRuntime) -> Result<(), Fail> {
-    for (name, task) in &SUBCOMMANDS {
+    for (name, asks) in &SUBCOMMANDS {
         for (index, (rest, spelled)) in AFTER_EACH.iter().enumerate() {
             let mut words = vec![in rt.alloc(); "workbench", name]?;
             words.extend_from_slice(rest)?;
             let command = command(rt.alloc(), words.as_slice())?;
             assert!(rt;
-                is_spelled(&command, *task, *spelled),
+                is_spelled(&command, *asks, *spelled),
                 "{name}, row {index}"
             );
         }
@@ -317,13 +319,13 @@ fn takes_words_after_each_subcommand(rt: HostRuntime) -> Result<(), Fail> {
 /// The flag comes first, before all that every subcommand takes, so that a word after it is no number of its own.
 #[test]
 fn takes_flags_for_failures(rt: HostRuntime) -> Result<(), Fail> {
-    for (name, flag, task) in &WITH_A_FLAG {
+    for (name, flag, asks) in &WITH_A_FLAG {
         for (index, (rest, spelled)) in AFTER_EACH.iter().enumerate() {
             let mut words = vec![in rt.alloc(); "workbench", name, flag]?;
             words.extend_from_slice(rest)?;
             let command = command(rt.alloc(), words.as_slice())?;
             assert!(rt;
-                is_spelled(&command, *task, *spelled),
+                is_spelled(&command, *asks, *spelled),
                 "{name} {flag}, row {index}"
             );
         }
@@ -337,7 +339,7 @@ fn takes_words_of_a_run(rt: HostRuntime) -> Result<(), Fail> {
         let command = command(rt.alloc(), words)?;
         let spelled = (10_000, *shape, false, *file);
         assert!(rt;
-            is_spelled(&command, Task::Run(*rule), spelled),
+            is_spelled(&command, Asks::Run(*rule), spelled),
             "row {index}"
         );
     }

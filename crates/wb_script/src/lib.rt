@@ -4,6 +4,7 @@
 //! the forms; the tree is made of lines that no check refuses.
 #![tactic(auto)]
 
+pub mod check_laws;
 mod checks;
 pub mod laws;
 mod reading;

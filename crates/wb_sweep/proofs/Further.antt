@@ -21,6 +21,12 @@ of-same old lead same P is =
     subst (λ (s : Script). P s old.budget old.shape) same.script
     (subst (λ (b : ℕ). P lead.script b old.shape) same.budget (subst (λ (h : Shape). P lead.script lead.budget h) same.shape is))
 
+-- and the other way round
+pub to-same : (old lead : Seen) → IsOfSameRun old lead → (P : Script → ℕ → Shape → Type 0) → P old.script old.budget old.shape → P lead.script lead.budget lead.shape
+to-same old lead same P is =
+    subst (λ (s : Script). P s lead.budget lead.shape) (sym same.script)
+    (subst (λ (b : ℕ). P old.script b lead.shape) (sym same.budget) (subst (λ (h : Shape). P old.script old.budget h) (sym same.shape) is))
+
 pub same-runs : (family : Family) (old lead : Seen) (n : ℕ) → IsOfSameRun old lead → runs_beside family lead n ≡ runs_beside family old n
 same-runs family old lead n same =
     ap (λ (s : Script). runs_under (failing_in family) s lead.budget lead.shape n) same.script

@@ -2,6 +2,10 @@ mod AnswerLemmas
 mod FamilyLemmas
 mod FoundPairs
 mod Further
+mod MeetingLemmas
+mod SettledPairs
+mod StepsFurther
 mod PartFound
 mod TellLemmas
+mod PairScouts
 mod PairsFurther

@@ -1,5 +1,5 @@
 -- What is found, or cut, among the numbers of a part is the least of all failures of the part; and what is fine of it.
-use Rattle.std.proofs.Common.{◌≡◌, ℕ, ◌+◌, ◌≤◌, inl, inr, arith, true, min, refl, sym, subst}
+use Rattle.std.proofs.Common.{◌≡◌, ◌≢◌, ℕ, ◌+◌, ◌≤◌, inl, inr, arith, true, min, refl, sym, subst, Option, None, Some, IfSome}
 use Rattle.std.proofs.Math.Nat.{min-eq_left, min-eq_right, min-le_left, min-le_right}
 use Rattle.std.proofs.lemmas.Bool.{cases_lt}
 use Rattle.wb_model.specs.declared.failures.Failing.{Failing}
@@ -17,6 +17,10 @@ use Rattle.wb_model.specs.runs.Parts.{last_attempt, run_at, IsFoundIn, IsLeastCu
 use Rattle.wb_model.specs.runs.Sweeps.{failing_at, is_fine, runs_of}
 use Rattle.wb_model.specs.runs.Run.{is_bad}
 use Rattle.wb_model.proofs.PartAnswers.{bad_is_uncut, before-number, tried-at}
+use Rattle.wb_sweep.specs.declared.family.Family.TheVariants.{Of}
+use Rattle.wb_sweep.specs.declared.scout.Known.{Known}
+use Rattle.wb_sweep.specs.declared.scout.Scout.{Scout}
+use Rattle.wb_sweep.specs.Meetings.{IsKnown, IsScout, KnowsSteps}
 use Rattle.wb_sweep.specs.Stretches.{AreFineFrom, AreNumbersFine, ArePairsFineOf, IsCutFrom, IsFoundFrom}
 
 -- a number of a part is no greater than the last that is tried
@@ -66,6 +70,16 @@ module _ (failures : Failures) (part : Part) (script : Script) (budget : ℕ) (s
         least = before-number failures part script budget shape n is.least;
       } in
       subst (λ f. IsLeastCutIn failures part script budget shape f why) (sym failing) cut
+
+  -- what a scout knows of the numbers up to the last that is tried, it knows of the part
+  pub known-of-part : end ≡ min part.to last → (scout : Option Scout) (known : Option Known) →
+      IfSome known (λ k. IfSome scout (λ s. s.known ≡ k) × (scout ≢ None)) → IfSome scout (IsScout (Of failures) script budget shape) →
+      KnowsSteps (runs_of failures script budget shape) part.from (end + 1) scout → IfSome known (IsKnown (runs_of failures script budget shape) part last)
+  known-of-part e scout None same is steps = _
+  known-of-part e None (Some known) same is steps = absurd (same.1 refl)
+  known-of-part e (Some scout) (Some known) same is steps =
+      subst (IsKnown (runs_of failures script budget shape) part last) same.0
+      (record { first = is.known; within = λ n number. let le = number-within part last n number in steps n number.from (omega (arith, le, e)) })
 
 -- the run without failure is the least failure of a part with number 0
 pub first-found : (failures : Failures) (part : Part) (script : Script) (budget : ℕ) (shape : Shape) → part.from ≡ 0 →

@@ -1,5 +1,5 @@
 -- What a sweep tells that looks at each number of a part.
-use Rattle.std.specs.Prelude.{◌≡◌, ℕ, List, [], ◌∷◌, if◌then◌else◌, Option, Some, None, IfSome}
+use Rattle.std.specs.Prelude.{◌≡◌, ℕ, ◌<◌, List, [], ◌∷◌, if◌then◌else◌, Option, Some, None, IfSome}
 use Rattle.wb_model.specs.declared.failures.Failures.{Failures}
 use Rattle.wb_model.specs.declared.heap.Shape.{Shape}
 use Rattle.wb_model.specs.declared.number_ends.NumberEnd.{NumberEnd}
@@ -24,7 +24,7 @@ IsFoundAsFirst failures script budget shape ends (Some found) =
     (n : ℕ) × (first_bad ends ≡ Some n) × (found.at ≡ failing_at failures n) × (found.result ≡ runs_of failures script budget shape n)
 
 -- The numbers of the part whose run isn't fine, up to the last attempt, each with its run's end; how many leak or panic, and of the least
--- of these its run. The run without failure isn't cut.
+-- of these its run. The run without failure isn't cut, and each number past the last attempt gives it.
 pub record AreAllNumbers (failures : Failures) (part : Part) (script : Script) (budget : ℕ) (shape : Shape) (all : AllNumbers) : Type 0 where
   pub uncut : IsUncut failures script budget shape
   pub attempts : all.attempts ≡ last_attempt failures script budget shape
@@ -33,3 +33,4 @@ pub record AreAllNumbers (failures : Failures) (part : Part) (script : Script) (
   pub found : IfSome all.found (λ found. (n : ℕ) × (found.at ≡ failing_at failures n)
       × IsLeastBadOf (runs_of failures script budget shape) part n found.result)
   pub none : all.found ≡ None → IsNoBadOf (runs_of failures script budget shape) part
+  pub later : (n : ℕ) → last_attempt failures script budget shape < n → runs_of failures script budget shape n ≡ runs_of failures script budget shape 0

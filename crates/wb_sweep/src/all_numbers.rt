@@ -1,19 +1,25 @@
 //! A sweep that looks at each number of a part: how its run ended, unless that is fine, and the least whose run leaks or panics.
 
-ghost use Rattle.std.specs.Prelude.{◌≡◌, ◌≢◌, ◌↔◌, ◌||◌, ◌++◌, ◌+◌, ◌-◌, ◌<◌, ◌≤◌, true, false, IfOk, IsTrue, OnOk};
+ghost use Rattle.std.specs.Prelude.{◌≡◌, ◌≢◌, ◌↔◌, ◌||◌, ◌++◌, ◌+◌, ◌-◌, ◌<◌, ◌≤◌, true, false, IfOk, IfSome, IsTrue, OnOk};
 ghost use Rattle.wb_model.specs.language.Sound.{is_script};
 ghost use Rattle.wb_model.specs.heap.Space.{is_shape};
 ghost use Rattle.wb_model.specs.runs.AllNumbers.{bad_count, first_bad, unfine_in, unfine_numbers};
 ghost use Rattle.wb_model.specs.runs.Parts.{last_attempt, IsCutWithout};
 ghost use Rattle.wb_model.specs.runs.RunEnds.{is_bad_end, is_cut_end};
-ghost use Rattle.wb_model.specs.runs.Sweeps.{is_cut_outcome, rule_of, runs_of};
+ghost use Rattle.wb_model.specs.runs.Sweeps.{is_cut_outcome, is_fine, rule_of, runs_of};
 ghost use Rattle.wb_model.specs.declared.run.Outcome.TheVariants as outcomes;
 ghost use Rattle.wb_model.specs.declared.run.Why.{Why};
+ghost use Rattle.wb_sweep.specs.Meetings.{ForkedSays, IsScout, IsKnownRun};
+ghost use Rattle.wb_sweep.specs.declared.family.Family.TheVariants.{Of};
+ghost use Rattle.wb_model.specs.declared.run.RunResult.{RunResult};
 ghost use Rattle.wb_sweep.specs.AllOfAPart.{line_of, AreAllNumbers, IsFoundAsFirst};
 
+use crate::family::Family;
 use crate::fault::SweepFault;
-use crate::fork::result_under;
+use crate::followed::{Forked, follow_next};
 use crate::found::{AllNumbers, Found};
+use crate::scout::{Known, Meeting, Scout, scout_beside};
+use crate::sweeping::known_if_fine;
 use crate::walk::attempts_in;
 use std::alloc::Global;
 use wb_machine::{Heap, Machine, RunFault, run};
@@ -25,7 +31,7 @@ use wb_model::memory::NoMemory;
 use wb_model::number_ends::{NumberEnd, NumberEnds};
 use wb_model::part::Part;
 use wb_model::progress::Progress;
-use wb_model::run::{Outcome, RunResult};
+use wb_model::run::{Outcome, RunResult, Why};
 use wb_model::run_end::RunEnd;
 use wb_model::script::Script;
 
@@ -45,6 +51,24 @@ fn tell(ends: &mut NumberEnds, number: u32, run_result: &RunResult) -> Result<()
         ends.push(NumberEnd { number, end })?;
     }
     Ok(())
+}
+
+/// Adds what is told of a number by a fork in which it fails: nothing if that met the scout and its budget allows it as many steps.
+fn tell_fork(ends: &mut NumberEnds, number: u32, forked: &Forked) -> Result<(), NoMemory>
+    ensures { OnOk result ((run_result : RunResult) → ForkedSays forked.now run_result →
+        ends.new ≡ ends.old ++ line_of number run_result) }
+{
+    match forked {
+        Forked::Met(Meeting::Fine(_)) => Ok(()),
+        Forked::Met(Meeting::PastBudget) => {
+            ends.push(NumberEnd {
+                number,
+                end: RunEnd::of(&Outcome::Cut(Why::Budget)),
+            })?;
+            Ok(())
+        }
+        Forked::Ran(run_result) => tell(ends, number, run_result),
+    }
 }
 
 /// Adds what is told of number 0 by its run, where the part has that number; `Cut` where the run is cut.
@@ -71,19 +95,25 @@ fn tell_first(
 }
 
 /// Adds what is told of the attempt that the lead makes next, of this number, by the run in which it is the first to fail: nothing
-/// where the next turn makes none, and where the number is less than `from`. Its copy takes the spare memory, and leaves its own.
+/// where the next turn makes none, and where the number is less than `from`. It is followed until it meets the scout, if there is one.
+/// Its copy takes the spare memory, and leaves its own.
 fn tell_next<P: Progress>(
     ends: &mut NumberEnds,
     lead: &Machine,
     failures: Failures,
     from: u32,
     number: u32,
+    scout: &mut Option<Scout>,
     spare: &mut Option<Heap>,
     progress: &mut P,
 ) -> Result<(), NoMemory>
     requires number { number ≡ lead.now.attempts + 1 }
     requires rule { lead.now.rule ≡ rule_of failures 0 }
     requires lines { lead.now.keeps_rises ≡ false }
+    requires scout { IfSome scout.old
+        (IsScout (Of failures) lead.now.script lead.now.budget lead.now.shape) }
+    ensures scout { OnOk result (IfSome scout.new
+        (IsScout (Of failures) lead.now.script lead.now.budget lead.now.shape)) }
     ensures told { OnOk result (lead.now.asks ≡ true → from ≤ number → ends.new ≡ ends.old
         ++ line_of number
         (runs_of failures lead.now.script lead.now.budget lead.now.shape number)) }
@@ -98,8 +128,8 @@ fn tell_next<P: Progress>(
     }
     let failing = failures.at(number);
     progress.begin_failure(failing);
-    let run_result = result_under(lead, failing.rule(), spare)?;
-    tell(ends, number, &run_result)
+    let forked = follow_next(lead, Family::Of(failures), number, scout, spare)?;
+    tell_fork(ends, number, &forked)
 }
 
 /// Adds what is told of the numbers from `from` to `last`, which is no greater than the last attempt of the run without failure.
@@ -110,6 +140,7 @@ fn tell_along<P: Progress>(
     failures: Failures,
     from: u32,
     last: u32,
+    scout: &mut Option<Scout>,
     progress: &mut P,
 ) -> Result<(), NoMemory>
     requires rule { lead.old.rule ≡ rule_of failures 0 }
@@ -118,6 +149,8 @@ fn tell_along<P: Progress>(
     requires lines { lead.old.keeps_rises ≡ false }
     requires last { last
         ≤ last_attempt failures lead.old.script lead.old.budget lead.old.shape }
+    requires scout { IfSome scout.old
+        (IsScout (Of failures) lead.old.script lead.old.budget lead.old.shape) }
     requires told { ends.old ≡ unfine_numbers
         (runs_of failures lead.old.script lead.old.budget lead.old.shape) from (1 - from) }
     ensures { OnOk result (ends.new ≡ unfine_numbers
@@ -126,7 +159,16 @@ fn tell_along<P: Progress>(
     let mut spare = None;
     let mut made = lead.attempts();
     while made < last {
-        tell_next(ends, lead, failures, from, made + 1, &mut spare, progress)?;
+        tell_next(
+            ends,
+            lead,
+            failures,
+            from,
+            made + 1,
+            scout,
+            &mut spare,
+            progress,
+        )?;
         lead.step()?;
         made = lead.attempts();
     }
@@ -182,7 +224,7 @@ fn find_first(
 }
 
 /// Adds what is told of the later numbers of a part. The run without failure makes `last` attempts; what is told of number 0 is
-/// there, where it is the part's.
+/// there, where it is the part's. This is known of the run if it is fine.
 fn tell_later<P: Progress>(
     ends: &mut NumberEnds,
     alloc: Global,
@@ -192,12 +234,14 @@ fn tell_later<P: Progress>(
     budget: u32,
     shape: Shape,
     last: u32,
+    known: Option<Known>,
     progress: &mut P,
 ) -> Result<(), RunFault>
     requires script { IsTrue (is_script script.now) }
     requires least { 1 ≤ budget }
     requires greatest { budget ≤ LARGEST_BUDGET }
     requires last { last ≡ last_attempt failures script.now budget shape }
+    requires known { IfSome known (IsKnownRun (runs_of failures script.now budget shape 0)) }
     requires told { ends.old ≡
         unfine_numbers (runs_of failures script.now budget shape) part.from (1 - part.from) }
     ensures told { OnOk result
@@ -205,8 +249,11 @@ fn tell_later<P: Progress>(
     ensures shape { result ≡ Err RunFault.BadShape → is_shape shape ≡ false }
 {
     let mut lead = Machine::new(alloc, script, failures.at(0).rule(), budget, shape)?;
+    let mut scout = scout_beside(&lead, Family::Of(failures), known, budget)?;
     let end = part.to.min(last);
-    tell_along(ends, &mut lead, failures, part.from, end, progress)?;
+    tell_along(
+        ends, &mut lead, failures, part.from, end, &mut scout, progress,
+    )?;
     Ok(())
 }
 
@@ -231,11 +278,12 @@ fn tell_all<P: Progress>(
     let none = failures.at(0);
     let first = run(alloc, script, none.rule(), budget, shape)?;
     let attempts = attempts_in(first.trace.as_slice());
+    let known = known_if_fine(&first);
     let mut ends = Items::new(alloc);
     tell_first(&mut ends, part, none, &first)?;
     progress.begin_failures(part.to.min(attempts));
     tell_later(
-        &mut ends, alloc, script, failures, part, budget, shape, attempts, progress,
+        &mut ends, alloc, script, failures, part, budget, shape, attempts, known, progress,
     )?;
     let found = find_first(alloc, script, failures, budget, shape, &ends)?;
     Ok(AllNumbers {

@@ -2,6 +2,7 @@
 
 ghost use Rattle.std.specs.Prelude.{◌≡◌};
 ghost use Rattle.wb_sweep.specs.Families.{failing_in};
+ghost use Rattle.wb_sweep.specs.Meetings.{last_failing};
 
 use wb_model::failures::{Failing, Failures};
 
@@ -23,6 +24,17 @@ impl Family {
             Family::Of(failures) => failures.at(n),
             Family::With(first) if n <= first => Failing::Number(first),
             Family::With(first) => Failing::Pair(first, n),
+        }
+    }
+
+    /// The last attempt that fails under the failure that is tried as `n`; `None` for rates, under which there is always a later one.
+    pub fn last_failing(self, n: u32) -> Option<u32>
+        ensures { result ≡ last_failing self n }
+    {
+        match self {
+            Family::Of(Failures::Single | Failures::Pairs) => Some(n),
+            Family::Of(Failures::Every) => None,
+            Family::With(first) => Some(first.max(n)),
         }
     }
 }

@@ -9,6 +9,37 @@ use wb_model::heap::Rule;
 use wb_model::memory::NoMemory;
 use wb_model::run::RunResult;
 
+/// A copy of a run under way that goes on under another rule, which refuses the same of the attempts made so far; neither is a
+/// limit. The run itself stays as it is.
+///
+/// The copy takes the memory of `spare`, where there is one.
+pub(crate) fn fork_under<'a>(
+    lead: &Machine<'a>,
+    rule: Rule,
+    spare: &mut Option<Heap>,
+) -> Result<Machine<'a>, NoMemory>
+    requires same { SameSoFar rule lead.now.rule lead.now.attempts }
+    requires going { lead.now.over ≡ false }
+    requires well { lead.now.failed ≡ false }
+    requires lines { lead.now.keeps_rises ≡ false }
+    ensures { IfOk result (λ fork. fork ≡ record lead.now { rule = rule }) }
+{
+    let mut fork = lead.try_copy_over(spare.take())?;
+    fork.set_rule(rule);
+    Ok(fork)
+}
+
+/// What a fork comes to at its end. Its memory is left in `spare`; on `Err` none is.
+pub(crate) fn end_fork(fork: Machine, spare: &mut Option<Heap>) -> Result<RunResult, NoMemory>
+    requires lines { fork.keeps_rises ≡ false }
+    ensures { IfOk result (λ run_result.
+        run_result ≡ run fork.entry.script fork.entry.rule fork.entry.budget fork.entry.shape) }
+{
+    let Finished { result, heap } = fork.finish()?;
+    *spare = Some(heap);
+    Ok(result)
+}
+
 /// What a run under way comes to under another rule, which refuses the same of the attempts made so far; neither is a limit. A
 /// copy goes on to its end, and the run itself stays as it is. The machine is one made by `Machine::new`.
 ///
@@ -25,9 +56,5 @@ pub fn result_under(
     ensures { IfOk result (λ run_result.
         run_result ≡ run lead.now.script rule lead.now.budget lead.now.shape) }
 {
-    let mut fork = lead.try_copy_over(spare.take())?;
-    fork.set_rule(rule);
-    let Finished { result, heap } = fork.finish()?;
-    *spare = Some(heap);
-    Ok(result)
+    end_fork(fork_under(lead, rule, spare)?, spare)
 }

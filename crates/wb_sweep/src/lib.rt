@@ -3,11 +3,15 @@
 #![tactic(auto)]
 
 mod all_numbers;
+mod alone;
 mod family;
 pub mod fault;
+mod followed;
 pub mod fork;
 pub mod found;
+mod pace;
 mod pairs;
+mod scout;
 pub mod sweeping;
 mod walk;
 

@@ -1,13 +1,16 @@
 //! A sweep over failures: one run without failure, which each of the others parts from at the first attempt that it lets fail.
 
-ghost use Rattle.std.specs.Prelude.{◌≡◌, ◌^◌, ◌<◌, ◌≤◌, ◌↔◌, None, false, true, IfErr, IfOk, IfSome, IsTrue};
+ghost use Rattle.std.specs.Prelude.{◌≡◌, ◌≢◌, ◌^◌, ◌<◌, ◌≤◌, ◌↔◌, None, false, true, IfErr, IfOk, IfSome};
+ghost use Rattle.std.specs.Prelude.{IsTrue};
 ghost use Rattle.wb_model.specs.language.Sound.{is_script};
 ghost use Rattle.wb_model.specs.heap.Space.{is_shape};
 ghost use Rattle.wb_model.specs.runs.Parts.{last_attempt, IsCutIn, IsFoundIn, IsLeastCutIn, IsNoneIn, IsUncut};
 ghost use Rattle.wb_model.specs.runs.SweepAnswers.{IsCutShort};
-ghost use Rattle.wb_model.specs.runs.Sweeps.{is_cut_outcome, is_fine, runs_of};
+ghost use Rattle.wb_model.specs.runs.Sweeps.{is_cut_outcome, is_fine, rule_of, runs_of};
 ghost use Rattle.wb_model.specs.declared.run.Outcome.TheVariants as outcomes;
 ghost use Rattle.wb_model.specs.declared.run.Why.{Why};
+ghost use Rattle.wb_sweep.specs.declared.family.Family.TheVariants.{Of};
+ghost use Rattle.wb_sweep.specs.Meetings.{IsKnown, IsKnownRun, IsScout};
 ghost use Rattle.wb_sweep.specs.Stretches.{AreNumbersFine};
 ghost use Rattle.wb_sweep.specs.Sweeping.{IsBadAt, IsSweep, IsSweepIn};
 
@@ -15,6 +18,7 @@ use crate::family::Family;
 use crate::fault::SweepFault;
 use crate::found::{Found, Sweep};
 use crate::pairs::find_pair;
+use crate::scout::{Known, Scout, scout_beside};
 use crate::walk::{attempts_in, find_among, judge_run};
 use std::alloc::Global;
 use wb_machine::{Machine, run};
@@ -23,13 +27,14 @@ use wb_model::heap::Shape;
 use wb_model::limits::LARGEST_BUDGET;
 use wb_model::part::Part;
 use wb_model::progress::Progress;
-use wb_model::run::RunResult;
+use wb_model::run::{Outcome, RunResult};
 use wb_model::script::Script;
 
 /// What the run without failure amounts to: found where it is bad and the part has number 0, and `Cut` where it is cut.
 fn judge_first(part: Part, at: Failing, first: RunResult) -> Result<Option<Found>, SweepFault>
     ensures fine { IfOk result (λ found. found ≡ None → part.from ≡ 0 → is_fine first ≡ true) }
-    ensures bad { IfOk result (λ found. IfSome found (λ bad. (part.from ≡ 0) × IsBadAt at first bad)) }
+    ensures bad { IfOk result (λ found. IfSome found (λ bad.
+        (part.from ≡ 0) × IsBadAt at first bad)) }
     ensures uncut { IfOk result (λ found. is_cut_outcome first.outcome ≡ false) }
     ensures cut { IfErr result (λ fault.
         (why : Why) × (fault ≡ SweepFault.Cut at why) × (first.outcome ≡ outcomes.Cut why)) }
@@ -41,9 +46,89 @@ fn judge_first(part: Part, at: Failing, first: RunResult) -> Result<Option<Found
     Ok(found)
 }
 
-/// The least failure of a part, of those that are tried as its numbers, whose run is bad, of pairs the least single one; `None` if
-/// they are all fine. The run without failure isn't cut, is fine where the part has number 0, and makes `last` attempts.
-fn find_in_order<P: Progress>(
+/// What is known of a run that is fine; `None` where it is bad or cut.
+pub(crate) fn known_if_fine(run_result: &RunResult) -> Option<Known>
+    ensures { IfSome result (IsKnownRun run_result.now) }
+{
+    let is_fine = match &run_result.outcome {
+        Outcome::Ended { leaks, .. } => leaks.len() == 0,
+        Outcome::Panicked(_) | Outcome::Cut(_) => false,
+        Outcome::NoCleanup => true,
+    };
+    is_fine.then_some(Known {
+        steps: run_result.steps,
+        most: run_result.steps,
+    })
+}
+
+/// What was found among the numbers of a part, and what is known of their runs' steps, where the run without failure is fine.
+#[derive(Drop)]
+struct Tried {
+    found: Option<Found>,
+    known: Option<Known>,
+}
+
+/// What is known by a scout, where there is one.
+fn known_by(scout: &Option<Scout>) -> Option<Known>
+    ensures { IfSome result (λ known.
+        IfSome scout.now (λ s. s.known ≡ known) × (scout.now ≢ None)) }
+{
+    match scout {
+        Some(scout) => Some(scout.known),
+        None => None,
+    }
+}
+
+/// Tries the failures of a part as its numbers, of pairs the single ones. Found is the least whose run is bad; `None` if they are all
+/// fine. The lead is at the start of the run without failure, which isn't cut, is fine where the part has number 0, and makes `last`
+/// attempts.
+fn try_in_order<P: Progress>(
+    lead: &mut Machine,
+    failures: Failures,
+    part: Part,
+    last: u32,
+    scout: &mut Option<Scout>,
+    progress: &mut P,
+) -> Result<Tried, SweepFault>
+    requires rule { lead.old.rule ≡ rule_of failures 0 }
+    requires start { (lead.old.begun ≡ false) × (lead.old.attempts ≡ 0) × (lead.old.steps ≡ 0) }
+    requires well { lead.old.failed ≡ false }
+    requires lines { lead.old.keeps_rises ≡ false }
+    requires uncut { IsUncut failures lead.old.script lead.old.budget lead.old.shape }
+    requires fine { part.from ≡ 0 →
+        is_fine (runs_of failures lead.old.script lead.old.budget lead.old.shape 0) ≡ true }
+    requires last { last ≡ last_attempt failures lead.old.script lead.old.budget lead.old.shape }
+    requires scout { IfSome scout.old
+        (IsScout (Of failures) lead.old.script lead.old.budget lead.old.shape) }
+    ensures fine { IfOk result (λ tried. tried.found ≡ None →
+        AreNumbersFine (runs_of failures lead.old.script lead.old.budget lead.old.shape) part
+        (last_attempt failures lead.old.script lead.old.budget lead.old.shape)) }
+    ensures known { IfOk result (λ tried. tried.found ≡ None → IfSome tried.known
+        (IsKnown (runs_of failures lead.old.script lead.old.budget lead.old.shape) part
+        (last_attempt failures lead.old.script lead.old.budget lead.old.shape))) }
+    ensures found { IfOk result (λ tried. IfSome tried.found (λ bad.
+        IsFoundIn failures part lead.old.script lead.old.budget lead.old.shape bad.at bad.result)) }
+    ensures cut { (at : Failing) (why : Why) → result ≡ Err (SweepFault.Cut at why) →
+        IsLeastCutIn failures part lead.old.script lead.old.budget lead.old.shape at why }
+    ensures shape { result ≢ Err SweepFault.BadShape }
+{
+    let found = find_among(
+        lead,
+        Family::Of(failures),
+        part.from,
+        part.to.min(last),
+        scout,
+        &mut None,
+        progress,
+    )?;
+    Ok(Tried {
+        found,
+        known: known_by(scout),
+    })
+}
+
+/// The same from the start of the run without failure, of which this is known if it is fine.
+fn try_numbers<P: Progress>(
     alloc: Global,
     script: &Script,
     failures: Failures,
@@ -51,8 +136,9 @@ fn find_in_order<P: Progress>(
     budget: u32,
     shape: Shape,
     last: u32,
+    known: Option<Known>,
     progress: &mut P,
-) -> Result<Option<Found>, SweepFault>
+) -> Result<Tried, SweepFault>
     requires script { IsTrue (is_script script.now) }
     requires least { 1 ≤ budget }
     requires greatest { budget ≤ LARGEST_BUDGET }
@@ -60,29 +146,26 @@ fn find_in_order<P: Progress>(
     requires fine { part.from ≡ 0 →
         is_fine (runs_of failures script.now budget shape 0) ≡ true }
     requires last { last ≡ last_attempt failures script.now budget shape }
-    ensures fine { IfOk result (λ found. found ≡ None →
+    requires known { IfSome known (IsKnownRun (runs_of failures script.now budget shape 0)) }
+    ensures fine { IfOk result (λ tried. tried.found ≡ None →
         AreNumbersFine (runs_of failures script.now budget shape) part
         (last_attempt failures script.now budget shape)) }
-    ensures found { IfOk result (λ found. IfSome found (λ bad.
+    ensures known { IfOk result (λ tried. tried.found ≡ None → IfSome tried.known
+        (IsKnown (runs_of failures script.now budget shape) part
+        (last_attempt failures script.now budget shape))) }
+    ensures found { IfOk result (λ tried. IfSome tried.found (λ bad.
         IsFoundIn failures part script.now budget shape bad.at bad.result)) }
     ensures cut { (at : Failing) (why : Why) → result ≡ Err (SweepFault.Cut at why) →
         IsLeastCutIn failures part script.now budget shape at why }
     ensures shape { result ≡ Err SweepFault.BadShape → is_shape shape ≡ false }
 {
     let mut lead = Machine::new(alloc, script, failures.at(0).rule(), budget, shape)?;
-    let end = part.to.min(last);
-    find_among(
-        &mut lead,
-        Family::Of(failures),
-        part.from,
-        end,
-        &mut None,
-        progress,
-    )
+    let mut scout = scout_beside(&lead, Family::Of(failures), known, budget)?;
+    try_in_order(&mut lead, failures, part, last, &mut scout, progress)
 }
 
 /// The least failure of a part that makes a run bad; `None` if none does. The run without failure isn't cut, is fine where the part
-/// has number 0, and makes `last` attempts.
+/// has number 0, and makes `last` attempts; this is known of it if it is fine.
 fn find_later<P: Progress>(
     alloc: Global,
     script: &Script,
@@ -91,6 +174,7 @@ fn find_later<P: Progress>(
     budget: u32,
     shape: Shape,
     last: u32,
+    known: Option<Known>,
     progress: &mut P,
 ) -> Result<Option<Found>, SweepFault>
     requires script { IsTrue (is_script script.now) }
@@ -100,6 +184,7 @@ fn find_later<P: Progress>(
     requires fine { part.from ≡ 0 →
         is_fine (runs_of failures script.now budget shape 0) ≡ true }
     requires last { last ≡ last_attempt failures script.now budget shape }
+    requires known { IfSome known (IsKnownRun (runs_of failures script.now budget shape 0)) }
     ensures none { IfOk result (λ found. found ≡ None →
         IsNoneIn failures part script.now budget shape) }
     ensures found { IfOk result (λ found. IfSome found (λ bad.
@@ -108,15 +193,16 @@ fn find_later<P: Progress>(
         IsLeastCutIn failures part script.now budget shape at why }
     ensures shape { result ≡ Err SweepFault.BadShape → is_shape shape ≡ false }
 {
-    if let Some(found) = find_in_order(
-        alloc, script, failures, part, budget, shape, last, progress,
-    )? {
-        return Ok(Some(found));
+    let Tried { found, known } = try_numbers(
+        alloc, script, failures, part, budget, shape, last, known, progress,
+    )?;
+    if found.is_some() {
+        return Ok(found);
     }
     match failures {
         Failures::Single => Ok(None),
         Failures::Every => Ok(None),
-        Failures::Pairs => find_pair(alloc, script, part, budget, shape, last, progress),
+        Failures::Pairs => find_pair(alloc, script, part, budget, shape, last, known, progress),
     }
 }
 
@@ -144,6 +230,7 @@ fn find_least<P: Progress>(
     let none = failures.at(0);
     let first = run(alloc, script, none.rule(), budget, shape)?;
     let attempts = attempts_in(first.trace.as_slice());
+    let known = known_if_fine(&first);
     if let Some(found) = judge_first(part, none, first)? {
         return Ok(Sweep {
             attempts,
@@ -152,7 +239,7 @@ fn find_least<P: Progress>(
     }
     progress.begin_failures(part.to.min(attempts));
     match find_later(
-        alloc, script, failures, part, budget, shape, attempts, progress,
+        alloc, script, failures, part, budget, shape, attempts, known, progress,
     ) {
         Ok(found) => Ok(Sweep { attempts, found }),
         Err(fault) => Err(fault),
@@ -164,12 +251,13 @@ fn find_least<P: Progress>(
 ///
 /// Runs the script without failure, and then, up to the first that is bad or cut, under the failures from 1 to the last
 /// attempt of that run; what it finds is of every failure. Each of these goes on from where that run makes the attempt that is
-/// the first to fail. Pairs are tried once no single number's run is bad or cut: in the order of their first attempts, and those
-/// with the same one in the order of their second, which is any that the run with the first failure makes after it. `Cut` names
+/// the first to fail, until it has come to the same as that run, but for allocation numbers, or to its end. Pairs are tried once no
+/// single number's run is bad or cut: in the order of their first attempts, and those with the same one in the order of their second,
+/// which is any that the run with the first failure makes after it. Those that single numbers settle aren't tried. `Cut` names
 /// the least failure whose run is cut, where no lesser failure's run is bad. `BadShape` comes exactly where the shape is none
-/// that a heap may have. At most three runs are under way at once.
+/// that a heap may have. At most five runs are under way at once, of pairs; else three.
 ///
-/// `progress` is notified that the sweep begins, of each failure before its run, and that the sweep is over.
+/// `progress` is notified that the sweep begins, of each failure that is tried before its run, and that the sweep is over.
 pub fn sweep<P: Progress>(
     alloc: Global,
     script: &Script,
@@ -200,7 +288,7 @@ pub fn sweep<P: Progress>(
 /// and no greater than the last attempt of the run without failure.
 ///
 /// The run without failure is made whatever the part is, and its attempts are counted. It is judged only where the part has number
-/// 0; but where it is cut, this is the answer. The run beside which failures are tried goes on to the part without any copy.
+/// 0; but where it is cut, this is the answer. The run beside which failures are tried goes on to the part before any of them is.
 pub fn sweep_part<P: Progress>(
     alloc: Global,
     script: &Script,

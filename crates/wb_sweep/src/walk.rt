@@ -3,20 +3,24 @@
 ghost use Rattle.std.specs.Prelude.{◌≡◌, ◌≢◌, ◌⊎◌, ◌+◌, ◌≤◌, None, true, false, length, IfOk, IfErr, IfSome};
 ghost use Rattle.wb_model.specs.runs.Sweeps.{is_cut_outcome, is_fine};
 ghost use Rattle.wb_model.specs.declared.run.Outcome.TheVariants as outcomes;
+ghost use Rattle.wb_model.specs.declared.run.RunResult.{RunResult};
 ghost use Rattle.wb_model.specs.declared.run.Why.{Why};
 ghost use Rattle.wb_sweep.specs.Families.{failing_in, next_failing, next_run, rule_in, runs_beside};
+ghost use Rattle.wb_sweep.specs.Meetings.{ForkedSays, HasLearned, IsScout, KnowsSteps};
+ghost use Rattle.wb_sweep.specs.Meetings.{steps_followed};
 ghost use Rattle.wb_sweep.specs.Stretches.{AreFineFrom, IsCutFrom, IsFoundFrom};
 ghost use Rattle.wb_sweep.specs.Sweeping.{IsBadAt, IsNumbered};
 
 use crate::family::Family;
 use crate::fault::SweepFault;
-use crate::fork::result_under;
+use crate::followed::{Forked, follow_next};
 use crate::found::Found;
+use crate::scout::{Meeting, Scout};
 use wb_machine::{Heap, Machine};
 use wb_model::failures::Failing;
 use wb_model::heap::Attempt;
 use wb_model::progress::Progress;
-use wb_model::run::{Outcome, RunResult};
+use wb_model::run::{Outcome, RunResult, Why};
 
 /// What the run under a failure amounts to: found where it is bad, `Cut` where it is cut, and `None` if it is fine. A
 /// leave alone is fine, and so is a run without its cleanup stack.
@@ -39,6 +43,28 @@ pub(crate) fn judge_run(at: Failing, run_result: RunResult) -> Result<Option<Fou
     }))
 }
 
+/// The same by what is known of a fork: it is fine if it met the scout and its budget allows it as many steps.
+fn judge_fork(at: Failing, forked: Forked) -> Result<Option<Found>, SweepFault>
+    ensures fine { IfOk result (λ found. found ≡ None → (run_result : RunResult) →
+        ForkedSays forked run_result → is_fine run_result ≡ true) }
+    ensures steps { IfOk result (λ found. found ≡ None → (run_result : RunResult) →
+        ForkedSays forked run_result → steps_followed forked ≡ run_result.steps) }
+    ensures bad { IfOk result (λ found. IfSome found (λ bad. (run_result : RunResult) →
+        ForkedSays forked run_result → IsBadAt at run_result bad)) }
+    ensures cut { IfErr result (λ fault. (why : Why) × (fault ≡ SweepFault.Cut at why)
+        × ((run_result : RunResult) → ForkedSays forked run_result →
+        run_result.outcome ≡ outcomes.Cut why)) }
+{
+    match forked {
+        Forked::Met(Meeting::Fine(_)) => Ok(None),
+        Forked::Met(Meeting::PastBudget) => Err(SweepFault::Cut {
+            at,
+            why: Why::Budget,
+        }),
+        Forked::Ran(run_result) => judge_run(at, run_result),
+    }
+}
+
 /// How many attempts a trace has: the number of the last.
 pub(crate) fn attempts_in(trace: &[Attempt]) -> u32
     requires { IsNumbered trace.now }
@@ -51,21 +77,29 @@ pub(crate) fn attempts_in(trace: &[Attempt]) -> u32
 }
 
 /// The run in which the attempt that the lead makes next, of this number, is the first to fail: found where it is bad; `None` if
-/// it is fine, if the next turn makes no attempt, and if the number is less than `from`. Its copy takes the spare memory, and
-/// leaves its own.
+/// it is fine, if the next turn makes no attempt, and if the number is less than `from`. It is followed until it meets the scout, if
+/// there is one. Its copy takes the spare memory, and leaves its own.
 fn try_next<P: Progress>(
     lead: &Machine,
     family: Family,
     from: u32,
     number: u32,
+    scout: &mut Option<Scout>,
     spare: &mut Option<Heap>,
     progress: &mut P,
 ) -> Result<Option<Found>, SweepFault>
     requires number { number ≡ lead.now.attempts + 1 }
     requires rule { lead.now.rule ≡ rule_in family 0 }
     requires lines { lead.now.keeps_rises ≡ false }
+    requires scout { IfSome scout.old
+        (IsScout family lead.now.script lead.now.budget lead.now.shape) }
+    ensures scout { IfOk result (λ found. found ≡ None → IfSome scout.new
+        (IsScout family lead.now.script lead.now.budget lead.now.shape)) }
     ensures fine { IfOk result (λ found. found ≡ None → lead.now.asks ≡ true → from ≤ number →
         is_fine (next_run family lead.now) ≡ true) }
+    ensures kept { IfOk result (λ found. found ≡ None → HasLearned scout.old scout.new 0) }
+    ensures learned { IfOk result (λ found. found ≡ None → lead.now.asks ≡ true → from ≤ number →
+        HasLearned scout.old scout.new (next_run family lead.now).steps) }
     ensures bad { IfOk result (λ found. IfSome found (λ bad. (from ≤ number)
         × IsBadAt (next_failing family lead.now) (next_run family lead.now) bad)) }
     ensures cut { IfErr result (λ fault. (fault ≡ SweepFault.NoMemory) ⊎ ((why : Why) ×
@@ -80,19 +114,20 @@ fn try_next<P: Progress>(
     }
     let failing = family.at(number);
     progress.begin_failure(failing);
-    let run_result = result_under(lead, failing.rule(), spare)?;
-    judge_run(failing, run_result)
+    let forked = follow_next(lead, family, number, scout, spare)?;
+    judge_fork(failing, forked)
 }
 
 /// The least failure of a family whose run is bad, among those from one number on up to a last one, which is no greater than the
 /// last attempt of the lead's own run, under the family's failure 0; `None` if they are all fine. Those up to the attempts that the
-/// lead has made are, and lesser numbers than the first aren't looked at. Each copy takes the memory of the one before, the first
-/// the spare one.
+/// lead has made are, and lesser numbers than the first aren't looked at. Each copy is followed until it meets the scout, if there is
+/// one, and takes the memory of the one before, the first the spare one.
 pub(crate) fn find_among<P: Progress>(
     lead: &mut Machine,
     family: Family,
     from: u32,
     last: u32,
+    scout: &mut Option<Scout>,
     spare: &mut Option<Heap>,
     progress: &mut P,
 ) -> Result<Option<Found>, SweepFault>
@@ -102,9 +137,17 @@ pub(crate) fn find_among<P: Progress>(
     requires well { lead.old.failed ≡ false }
     requires lines { lead.old.keeps_rises ≡ false }
     requires last { last ≤ length (runs_beside family lead.old 0).trace }
+    requires scout { IfSome scout.old
+        (IsScout family lead.old.script lead.old.budget lead.old.shape) }
+    requires steps { KnowsSteps (runs_beside family lead.old) from (lead.old.attempts + 1)
+        scout.old }
     requires fine { AreFineFrom (runs_beside family lead.old) from (lead.old.attempts + 1) }
     ensures fine { IfOk result (λ found. found ≡ None →
         AreFineFrom (runs_beside family lead.old) from (last + 1)) }
+    ensures scout { IfOk result (λ found. found ≡ None → IfSome scout.new
+        (IsScout family lead.old.script lead.old.budget lead.old.shape)) }
+    ensures steps { IfOk result (λ found. found ≡ None →
+        KnowsSteps (runs_beside family lead.old) from (last + 1) scout.new) }
     ensures found { IfOk result (λ found. IfSome found (λ bad. IsFoundFrom (failing_in family) from
         last lead.old.script lead.old.budget lead.old.shape bad.at bad.result)) }
     ensures cut { (at : Failing) (why : Why) → result ≡ Err (SweepFault.Cut at why) →
@@ -113,7 +156,15 @@ pub(crate) fn find_among<P: Progress>(
     ensures shape { result ≢ Err SweepFault.BadShape }
 {
     while lead.attempts() < last {
-        let found = try_next(lead, family, from, lead.attempts() + 1, spare, progress)?;
+        let found = try_next(
+            lead,
+            family,
+            from,
+            lead.attempts() + 1,
+            scout,
+            spare,
+            progress,
+        )?;
         if found.is_some() {
             return Ok(found);
         }

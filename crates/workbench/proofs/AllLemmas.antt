@@ -36,6 +36,7 @@ module _ (failures : Failures) (part : Part) (script : Script) (budget : ℕ) (s
       go : (found : Option Found) → all.found ≡ found → IsAllReport failures part script budget shape text values status
       go None is = inr (inl (record {
         uncut = are.uncut;
+        later = are.later;
         none = are.none is;
         text_is = (rw is at text_is) ∙ lines;
         values_are = (rw is at values_are) ∙ (λ i. all_values (are.attempts i) (are.ends i) Never);
@@ -46,6 +47,7 @@ module _ (failures : Failures) (part : Part) (script : Script) (budget : ℕ) (s
           inl (
             record {
               uncut = are.uncut;
+              later = are.later;
               number = found.0;
               result = least.result;
               least = found.2;

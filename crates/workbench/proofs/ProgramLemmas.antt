@@ -1,8 +1,9 @@
 -- What the program has done, by what its words came to.
-use Rattle.std.proofs.Common.{◌≡◌, List, true, Some, Result, Ok, Err, MatchResult, inl, refl, sym, subst}
+use Rattle.std.proofs.Common.{◌≡◌, List, true, false, Some, Result, Ok, Err, MatchResult, inl, refl, sym, subst}
 use Rattle.clap.specs.Words.{Text, takes}
 use Rattle.wb_command_line.specs.CommandLine.{command_line}
 use Rattle.wb_command_line.specs.Fault.{IsAfterUsage, IsFaultOf}
+use Rattle.wb_command_line.specs.Spelled.{spell_no_list}
 use Rattle.workbench.specs.Program.{IsDone, IsReadAs, IsRefused, answered_of}
 use Rattle.wb_command_line.specs.declared.command.Command.{Command}
 use Rattle.wb_command_line.specs.declared.command.CommandFault.{CommandFault}
@@ -14,7 +15,7 @@ use Rattle.workbench.specs.declared.program.Exit.{Exit}
 -- words that could be had, and that `command` refuses
 pub read_as_fault : {V E : Type 0} (words : Result V E) (had : V) (texts : V → List Text) (told : List Text) (unread : E → WordsFault) (fault : CommandFault)
     (read : Result Command WordsFault) → words ≡ Ok had → texts had ≡ told → read ≡ Err (Refused fault) → IsFaultOf told fault
-    → (takes command_line told ≡ true → IsAfterUsage fault)
+    → (takes command_line told ≡ true → spell_no_list told ≡ false → IsAfterUsage fault)
     → MatchResult words (λ v. IsReadAs (texts v) read) (λ e. read ≡ Err (unread e))
 read_as_fault words had texts told unread fault read is same gave found taken =
     subst (λ w. MatchResult w (λ v. IsReadAs (texts v) read) (λ e. read ≡ Err (unread e))) (sym is)

@@ -1,5 +1,5 @@
 -- Words that spell a command with its numbers in their ranges have no fault.
-use Rattle.std.proofs.Common.{◌≡◌, List, refl, sym, ◌∙◌, ap, subst, true, false, Some, IsTrue, arith}
+use Rattle.std.proofs.Common.{◌≡◌, List, refl, sym, ◌∙◌, ap, subst, true, false, inl, inr, Some, IsTrue, arith}
 use Rattle.clap.specs.Words.{IsAmong, Text, kind_of}
 use Rattle.wb_command_line.specs.Command.{is_answerable, is_filled, is_sixteenfold}
 use Rattle.wb_command_line.specs.Fault.{IsFaultOf}
@@ -19,7 +19,8 @@ filled command e = grind (arith, e)
 
 only_memory : (words : List Text) (command : Command) (fault : CommandFault) → IsSpelledBy words command → is_answerable command ≡ true → IsFaultOf words fault
     → Refused fault ≡ Refused NoMemory
-only_memory words command (Usage e) spelled ranges found = absurd (subst (IsAmong (kind_of e)) spelled.faultless found.1)
+only_memory words command (Usage e) spelled ranges (inl among) = absurd (subst (IsAmong (kind_of e)) spelled.faultless among.1)
+only_memory words command (Usage e) spelled ranges (inr mislisted) = let no = spelled.listed in let yes = mislisted.1.mislisted in cc
 only_memory words command Both spelled ranges found = let no = spelled.one_rule in let yes = found.doubled in cc
 only_memory words command Also spelled ranges found = let no = spelled.in_order in let yes = found.disordered in cc
 only_memory words command Misshapen spelled ranges found =

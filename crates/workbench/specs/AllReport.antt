@@ -1,6 +1,6 @@
 -- What `--all` says, as lines and as values, and what that means of runs: the numbers of a part up to the last attempt of the run
 -- without failure whose run leaks, panics or is cut, each with its run's end.
-use Rattle.std.specs.Prelude.{◌≡◌, ◌⊎◌, ℕ, List, [], ◌∷◌, ◌++◌, codes}
+use Rattle.std.specs.Prelude.{◌≡◌, ◌⊎◌, ℕ, ◌<◌, List, [], ◌∷◌, ◌++◌, codes}
 use Rattle.std.specs.Fmt.{decimal}
 use Rattle.std.specs.List.{flat_map}
 use Rattle.std.specs.Option.{option_map_or}
@@ -74,11 +74,17 @@ told_status all = option_map_or (λ bad. 1) all.found (fine_status all.ends)
 abbrev pub told_of : Failures → Part → Script → ℕ → Shape → List NumberEnd
 told_of failures part script budget shape = unfine_in (runs_of failures script budget shape) part
 
+-- each number past the last attempt gives the run without failure, so that none is left out
+abbrev pub AreLaterAsNone : Failures → Script → ℕ → Shape → Type 0
+AreLaterAsNone failures script budget shape =
+    (n : ℕ) → attempts_of failures script budget shape < n → runs_of failures script budget shape n ≡ runs_of failures script budget shape 0
+
 -- Exactly the numbers of the part up to the last attempt are told of whose run leaks, panics or is cut. Some run leaks or panics,
 -- and that of the least such number is printed.
 pub record IsToldWithBad (failures : Failures) (part : Part) (script : Script) (budget : ℕ) (shape : Shape)
     (text : List ℕ) (values : ReportValues) : Type 0 where
   pub uncut : IsUncut failures script budget shape
+  pub later : AreLaterAsNone failures script budget shape
   pub number : ℕ
   pub result : RunResult
   pub least : IsLeastBadOf (runs_of failures script budget shape) part number result
@@ -91,6 +97,7 @@ pub record IsToldWithBad (failures : Failures) (part : Part) (script : Script) (
 pub record IsToldWithoutBad (failures : Failures) (part : Part) (script : Script) (budget : ℕ) (shape : Shape)
     (text : List ℕ) (values : ReportValues) (status : ℕ) : Type 0 where
   pub uncut : IsUncut failures script budget shape
+  pub later : AreLaterAsNone failures script budget shape
   pub none : IsNoBadOf (runs_of failures script budget shape) part
   pub text_is : text ≡ all_text failures (attempts_of failures script budget shape) (told_of failures part script budget shape)
   pub values_are : values ≡ all_values (attempts_of failures script budget shape) (told_of failures part script budget shape) Never

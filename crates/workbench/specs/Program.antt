@@ -8,7 +8,7 @@ use Rattle.clap.specs.Words.{Text, takes}
 use Rattle.wb_command_line.specs.Command.{is_answerable}
 use Rattle.wb_command_line.specs.CommandLine.{command_line}
 use Rattle.wb_command_line.specs.Fault.{IsAfterUsage, IsFaultOf, refusal_status}
-use Rattle.wb_command_line.specs.Spelled.{IsSpelledBy}
+use Rattle.wb_command_line.specs.Spelled.{IsSpelledBy, spell_no_list}
 use Rattle.wb_command_line.specs.declared.command.Command.{Command}
 use Rattle.wb_command_line.specs.declared.command.CommandFault.TheVariants.{NoMemory}
 use Rattle.workbench.specs.declared.answer.Answered.{Answered}
@@ -34,7 +34,7 @@ words_status (Refused fault) = refusal_status fault
 -- a fault of words that could be had
 abbrev pub IsWordsFault : List Text → WordsFault → Type 0
 IsWordsFault words NotUtf8 = ⊥
-IsWordsFault words (Refused fault) = IsFaultOf words fault × (takes command_line words ≡ true → IsAfterUsage fault)
+IsWordsFault words (Refused fault) = IsFaultOf words fault × (takes command_line words ≡ true → spell_no_list words ≡ false → IsAfterUsage fault)
 
 -- the command that the words spell, with its numbers in their ranges, or a fault of theirs
 abbrev pub IsReadAs : List Text → Result Command WordsFault → Type 0

@@ -202,7 +202,7 @@ fn lay_out(
     ensures findings { IfOk result (λ m. AreFindings bytes.items report.values m.findings) }
 {
     let json = if command.json {
-        Some(json_text(alloc, command.task, &report)?)
+        Some(json_text(alloc, &command.task, &report)?)
     } else {
         None
     };

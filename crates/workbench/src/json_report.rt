@@ -33,10 +33,10 @@ const LATER_VERSION: u32 = 3;
 
 /// The report of a task as a JSON object without blanks, and a line feed. The only error is that memory ran out.
 #[tactic(auto, using(crate::proofs::JsonLemmas::report_has_none))]
-pub fn json_text(alloc: Global, task: Task, report: &Report) -> Result<Vec<u8>, NoMemory>
+pub fn json_text(alloc: Global, task: &Task, report: &Report) -> Result<Vec<u8>, NoMemory>
     requires { HasPrintableLines report.now.text.items }
     ensures { IfOk result (λ text. text.items
-        ≡ json_text task report.now.text.items report.now.values report.now.status) }
+        ≡ json_text task.now report.now.text.items report.now.values report.now.status) }
 {
     let mut text = report_object(alloc, task, report)?.to_vec(alloc)?;
     text.extend_from_slice(b"\n")?;
@@ -45,10 +45,10 @@ pub fn json_text(alloc: Global, task: Task, report: &Report) -> Result<Vec<u8>, 
 
 /// The object. Its keys come in the order of their letters.
 #[tactic(auto, unfolding(crate::specs::JsonReport::report_object))]
-fn report_object(alloc: Global, task: Task, report: &Report) -> Result<Value, AllocError>
+fn report_object(alloc: Global, task: &Task, report: &Report) -> Result<Value, AllocError>
     requires { HasPrintableLines report.now.text.items }
     ensures { IfOk result (λ object. view object
-        ≡ report_object task report.now.text.items report.now.values report.now.status) }
+        ≡ report_object task.now report.now.text.items report.now.values report.now.status) }
 {
     let mut members = common_members(alloc, task, report)?;
     put_ranges(&mut members, alloc, task, &report.values.ranges)?;
@@ -60,12 +60,12 @@ fn report_object(alloc: Global, task: Task, report: &Report) -> Result<Value, Al
 #[tactic(auto, unfolding(crate::specs::JsonReport::common_members))]
 fn common_members(
     alloc: Global,
-    task: Task,
+    task: &Task,
     report: &Report,
 ) -> Result<Map<String, Value>, AllocError>
     requires { HasPrintableLines report.now.text.items }
     ensures { IfOk result (λ members. members_view members.entries
-        ≡ common_members task report.now.text.items report.now.values report.now.status) }
+        ≡ common_members task.now report.now.text.items report.now.values report.now.status) }
 {
     let values = &report.values;
     let mut members = Map::new(alloc);
@@ -95,11 +95,11 @@ fn common_members(
 fn put_ranges(
     members: &mut Map<String, Value>,
     alloc: Global,
-    task: Task,
+    task: &Task,
     ranges: &Option<LengthTable>,
 ) -> Result<(), AllocError>
     ensures { OnOk result (members_view members.new.entries
-        ≡ with_ranges task ranges.now (members_view members.old.entries)) }
+        ≡ with_ranges task.now ranges.now (members_view members.old.entries)) }
 {
     match task {
         Task::Lengths => {
@@ -115,11 +115,11 @@ fn put_ranges(
 fn put_told(
     members: &mut Map<String, Value>,
     alloc: Global,
-    task: Task,
+    task: &Task,
     ends: &Option<NumberEnds>,
 ) -> Result<(), AllocError>
     ensures { OnOk result (members_view members.new.entries
-        ≡ with_all task ends.now (members_view members.old.entries)) }
+        ≡ with_all task.now ends.now (members_view members.old.entries)) }
 {
     match task {
         Task::All(..) | Task::CheckAll(_) => {
@@ -131,8 +131,8 @@ fn put_told(
 }
 
 /// The version of the form that a task's report has.
-fn version_of(task: Task) -> u32
-    ensures { result ≡ version_of task }
+fn version_of(task: &Task) -> u32
+    ensures { result ≡ version_of task.now }
 {
     match task {
         Task::Lengths | Task::All(..) | Task::CheckAll(_) => LATER_VERSION,
@@ -141,12 +141,12 @@ fn version_of(task: Task) -> u32
 }
 
 /// Which failures a task tries, or that it tries all lengths; `null` where it tries none. The report makes no difference.
-fn kind_of(alloc: Global, task: Task) -> Result<Value, AllocError>
-    ensures { IfOk result (λ value. view value ≡ kind_of task) }
+fn kind_of(alloc: Global, task: &Task) -> Result<Value, AllocError>
+    ensures { IfOk result (λ value. view value ≡ kind_of task.now) }
 {
     match task {
-        Task::Sweep(failures, _) | Task::All(failures, _) => failures_kind(alloc, failures),
-        Task::Check(failures) | Task::CheckAll(failures) => failures_kind(alloc, failures),
+        Task::Sweep(failures, _) | Task::All(failures, _) => failures_kind(alloc, *failures),
+        Task::Check(failures) | Task::CheckAll(failures) => failures_kind(alloc, *failures),
         Task::Lengths => Value::try_from_str(alloc, "lengths"),
         Task::Run(_) | Task::Size => Ok(Value::Null),
     }

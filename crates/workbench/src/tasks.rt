@@ -46,19 +46,19 @@ pub fn carry_out<P: Progress>(
         command.now.budget command.now.shape r.text.items r.values r.status) }
 {
     let (budget, shape) = (command.budget, command.shape);
-    match command.task {
-        Task::Run(rule) => run_report(alloc, script, rule, budget, shape),
+    match &command.task {
+        Task::Run(rule) => run_report(alloc, script, rule.try_copy()?, budget, shape),
         Task::Size => size_report(alloc, script, budget, shape),
         Task::Lengths => lengths_report(alloc, script, budget, shape, progress),
         Task::Sweep(failures, part) => {
-            report_over(alloc, script, failures, part, budget, shape, progress)
+            report_over(alloc, script, *failures, *part, budget, shape, progress)
         }
         Task::All(failures, part) => {
-            all_report(alloc, script, failures, part, budget, shape, progress)
+            all_report(alloc, script, *failures, *part, budget, shape, progress)
         }
-        Task::Check(failures) => check_report(alloc, script, failures, budget, shape, progress),
+        Task::Check(failures) => check_report(alloc, script, *failures, budget, shape, progress),
         Task::CheckAll(failures) => {
-            check_all_report(alloc, script, failures, budget, shape, progress)
+            check_all_report(alloc, script, *failures, budget, shape, progress)
         }
     }
 }

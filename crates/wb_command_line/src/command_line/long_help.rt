@@ -29,7 +29,12 @@ pub(crate) fn long_about(name: &str) -> &'static str {
 
 const RUN: &str = "Runs a script once and reports
 
+With --follow: also writes the run to standard error, a line for each step, with what it does to the heap and
+to the cleanup stack; of a long run the first steps and the last
+
 Example: workbench run --fail 3 examples/leak-under-failure.oom
+Example: workbench run --set 3,4,5 examples/loader-leaks.oom
+Example: workbench run --follow examples/leak.oom
 
 Exit status: 0 nothing found, 1 a panic or a leak, 2 the script is refused, 3 the run was cut,
 4 no memory, 5 reading or writing failed, 6 command line";

@@ -1,8 +1,10 @@
-//! What options take that take a number, and what the help says of it. The options themselves are in `parser`.
+//! What options take that take a number or a list of them, and what the help says of it. The options themselves are in `parser`.
 
 ghost use Rattle.std.specs.Prelude.{◌≡◌, pos};
 
 use super::GRANULE;
+use super::following::{DEFAULT_FOLLOWED, MOST_FOLLOWED};
+use super::set_list::MOST_NUMBERS;
 use clap::builder::ValueParser;
 use clap::value_parser;
 use std::alloc::{AllocError, Global};
@@ -11,13 +13,15 @@ use wb_model::limits::{
     LARGEST_STEP, SMALLEST_STEP,
 };
 
-/// The help on options that take a number: its bounds, and its default where it has one.
+/// The help on options that take a number, or a list of them: its bounds, and its default where it has one.
 #[derive(Drop)]
 pub(crate) struct NumberHelp {
     pub limit: String,
     pub fail: String,
     pub also: String,
     pub every: String,
+    pub set: String,
+    pub follow_steps: String,
     pub from: String,
     pub to: String,
     pub budget: String,
@@ -39,6 +43,13 @@ impl NumberHelp {
             )?,
             every: format!(in alloc;
                 "Makes every N-th attempt fail, N from 0 to {CEILING}; with 0 none fails"
+            )?,
+            set: format!(in alloc;
+                "Makes the attempts of LIST fail: 1 to {MOST_NUMBERS} ascending numbers from 1 to {CEILING}, as in 2,3,5"
+            )?,
+            follow_steps: format!(in alloc;
+                "With --follow: writes the first N steps and the last N, N from 1 to {MOST_FOLLOWED} \
+                 [default: {DEFAULT_FOLLOWED}]"
             )?,
             from: format!(in alloc;
                 "Tries numbers from I on, I from 0 to {CEILING}; of pairs those with such a first number \

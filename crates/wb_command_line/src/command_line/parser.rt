@@ -5,11 +5,13 @@ ghost use Rattle.clap.specs.Words.{app_of, rule_of, with_rule, with_subcommand};
 ghost use Rattle.clap.specs.declared.builder.command.Command.TheViews.{out-Command as fields_of};
 ghost use Rattle.wb_command_line.specs.CommandLine.{all_flag, command_line, file_argument, json_flag, line_of};
 ghost use Rattle.wb_command_line.specs.CommandLine.{number_option, option_rule, own_options, pairs_flag, part_options};
-ghost use Rattle.wb_command_line.specs.CommandLine.{picture_option, rates_flag};
+ghost use Rattle.wb_command_line.specs.CommandLine.{picture_option, rates_flag, rule_options};
 ghost use Rattle.wb_command_line.specs.CommandLine.{shared_options, with_level, with_option, with_rules};
 
+use crate::command_line::following::with_following;
 use crate::command_line::long_help::{BEGIN, long_about};
 use crate::command_line::number_help::{NumberHelp, between};
+use crate::command_line::set_list::set_argument;
 use clap::{Arg, ArgAction};
 use std::alloc::{AllocError, Global};
 use wb_model::limits::{CEILING, LARGEST_BUDGET, LARGEST_MINIMUM, LARGEST_STEP, SMALLEST_STEP};
@@ -17,7 +19,8 @@ use wb_model::limits::{CEILING, LARGEST_BUDGET, LARGEST_MINIMUM, LARGEST_STEP, S
 /// Which options a subcommand has beside those of all.
 #[derive(Clone, Copy)]
 enum Takes {
-    /// Those that give a rule: a limit, the number of an attempt and of a second one, or a rate.
+    /// Those that give a rule: a limit, the number of an attempt and of a second one, a rate, or a set; and those that ask for the
+    /// steps.
     Rule,
     /// The flags that ask for rates to be tried, or pairs of attempts, and not single attempts alone, and that which asks for
     /// all that is found.
@@ -37,12 +40,12 @@ struct Level {
 
 /// An option that takes a number, and what its help says of it.
 #[derive(Clone, Copy)]
-struct NumberOption<'a> {
-    name: &'a str,
-    value: &'a str,
-    least: u32,
-    most: u32,
-    help: &'a str,
+pub(super) struct NumberOption<'a> {
+    pub(super) name: &'a str,
+    pub(super) value: &'a str,
+    pub(super) least: u32,
+    pub(super) most: u32,
+    pub(super) help: &'a str,
 }
 
 impl<'a> NumberOption<'a> {
@@ -155,7 +158,7 @@ fn with_own_options<'a>(
         (λ more. (fields_of more).has_globals ≡ (fields_of line.entry).has_globals) }
 {
     match takes {
-        Takes::Rule => with_rule_options(alloc, line, help),
+        Takes::Rule => with_following(alloc, with_rule_options(alloc, line, help)?, help),
         Takes::Failures => with_failures(alloc, line),
         Takes::Part => with_part_options(alloc, with_failures(alloc, line)?, help),
         Takes::Neither => Ok(line),
@@ -169,11 +172,11 @@ fn with_rule_options<'a>(
     help: &'a NumberHelp,
 ) -> Result<clap::Command<'a>, AllocError>
     ensures added { IfOk result
-        (λ more. app_of more ≡ with_rules (app_of line.entry) (own_options Takes.Rule)) }
+        (λ more. app_of more ≡ with_rules (app_of line.entry) rule_options) }
     ensures own { IfOk result
         (λ more. (fields_of more).has_globals ≡ (fields_of line.entry).has_globals) }
 {
-    with_numbers(
+    let line = with_numbers(
         alloc,
         line,
         &[
@@ -182,7 +185,8 @@ fn with_rule_options<'a>(
             NumberOption::up_to_ceiling("also", "J", help.also.as_str()),
             NumberOption::up_to_ceiling("every", "N", help.every.as_str()),
         ],
-    )
+    )?;
+    with_argument(line, set_argument(alloc, help.set.as_str()))
 }
 
 /// The subcommand with the flags that say which failures are tried, and whether all that are found are told of.
@@ -263,7 +267,7 @@ fn with_shared_options<'a>(
 }
 
 /// The subcommand with further options.
-fn with_numbers<'a>(
+pub(super) fn with_numbers<'a>(
     alloc: Global,
     line: clap::Command<'a>,
     options: &[NumberOption<'a>],
@@ -362,7 +366,7 @@ fn all<'a>(alloc: Global) -> Arg<'a>
 }
 
 /// The command with one argument more.
-fn with_argument<'a>(
+pub(super) fn with_argument<'a>(
     line: clap::Command<'a>,
     argument: Arg<'a>,
 ) -> Result<clap::Command<'a>, AllocError>

@@ -1,13 +1,22 @@
-//! What else is written where things are counted: one unit is requested, two units are; a 16-byte cell, and an 80-byte cell.
+//! How things are written that are counted: one unit is requested, two units are; a 16-byte cell, and an 80-byte cell.
 
-/// What follows the name of things, as many as this.
-pub fn plural(count: i64) -> &'static str {
-    if count == 1 { "" } else { "s" }
+use std::fmt;
+use std::fmt::{Display, Formatter, Write};
+
+/// A number of things, by the word for one of them: it is written as `1 unit` or `2 units`.
+#[derive(Clone, Copy)]
+pub struct Many(pub i64, pub &'static str);
+
+impl Display for Many {
+    fn fmt<W: Write>(&self, f: &mut Formatter<W>) -> fmt::Result {
+        let (count, word) = (self.0, self.1);
+        write!(f, "{count} {word}{}", if count == 1 { "" } else { "s" })
+    }
 }
 
-/// What one thing is, and two are.
-pub fn is_or_are(count: i64) -> &'static str {
-    if count == 1 { "is" } else { "are" }
+/// What follows as many things in a sentence: `is` or `are`, for example.
+pub fn of_one_or_more(count: i64, of_one: &'static str, of_more: &'static str) -> &'static str {
+    if count == 1 { of_one } else { of_more }
 }
 
 /// The article before a number of things: `an` before 8, 11, 18, 80, 800 and 11,000, for example, and else `a`.

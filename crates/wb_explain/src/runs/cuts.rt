@@ -1,59 +1,51 @@
 //! What is said of a run that was cut: where, and what to raise.
 
-use crate::runs::counts::plural;
-use crate::runs::script_page::{ScriptPage, number};
-use crate::runs::watch::Seen;
-use std::alloc::AllocError;
+use crate::runs::counts::Many;
+use crate::runs::script_page::{ScriptPage, Written};
+use wb_history::WatchedRun;
 use wb_model::limits::{CEILING, LARGEST_BUDGET};
 use wb_model::run::Why;
-use wb_pages::Fragment::Text;
 
 /// Says where a run was cut, and what to do.
-pub fn put_cut(
-    page: &mut ScriptPage<'_>,
-    why: Why,
-    budget: u32,
-    seen: &Seen,
-) -> Result<(), AllocError> {
+pub fn put_cut(page: &mut ScriptPage<'_>, why: Why, run: &WatchedRun<'_>) -> Written {
+    let line = run.history.last_line();
     match why {
-        Why::Budget => put_budget(page, seen.last(), budget),
-        Why::Ceiling => put_ceiling(page, seen.last()),
+        Why::Budget => put_budget(page, line, run.parameters.budget),
+        Why::Ceiling => put_ceiling(page, line),
     }
 }
 
-fn put_budget(page: &mut ScriptPage<'_>, line: u32, budget: u32) -> Result<(), AllocError> {
+fn put_budget(page: &mut ScriptPage<'_>, line: u32, budget: u32) -> Written {
+    let steps = Many(i64::from(budget), "step");
     page.mark(
         line,
-        &[
-            Text("the run was cut after this line: it took "),
-            number(budget),
-            Text(" step"),
-            Text(plural(i64::from(budget))),
-            Text(", its whole budget"),
-        ],
+        format_args!("the run was cut after this line: it took {steps}, its whole budget"),
     )?;
     if budget >= LARGEST_BUDGET {
         page.page.write_help_text(
             "no run may take more steps; make sure that what repeats here comes to an end",
         );
-        return Ok(());
     }
-    page.page.write_help(&[
-        Text("raise the budget, for example with `--budget "),
-        number(budget.saturating_mul(10).min(LARGEST_BUDGET)),
-        Text("`, unless what repeats here never ends"),
-    ]);
+    put_budget_help(page, budget, "here");
     Ok(())
 }
 
-fn put_ceiling(page: &mut ScriptPage<'_>, line: u32) -> Result<(), AllocError> {
+/// Says how the budget is raised, if it can be, of a run that repeats something in a place.
+pub fn put_budget_help(page: &mut ScriptPage<'_>, budget: u32, place: &str) {
+    let raised = budget.saturating_mul(10).min(LARGEST_BUDGET);
+    if budget < LARGEST_BUDGET {
+        page.page.write_help(format_args!(
+            "raise the budget, for example with `--budget {raised}`, unless what repeats {place} never ends"
+        ));
+    }
+}
+
+fn put_ceiling(page: &mut ScriptPage<'_>, line: u32) -> Written {
     page.mark(
         line,
-        &[
-            Text("the run was cut here: the cell would end past "),
-            number(CEILING),
-            Text(" bytes, the most that a heap may have"),
-        ],
+        format_args!(
+            "the run was cut here: the cell would end past {CEILING} bytes, the most that a heap may have"
+        ),
     )?;
     page.page.write_help_text("this limit can't be raised; ask for less, or free cells earlier");
     Ok(())

@@ -1,9 +1,12 @@
-//! What panics mean that come of the destruction of items and objects, or of the end of `main`, and what to look for.
+//! What panics mean that come of the destruction of items and objects, and what to look for.
 
+use crate::runs::panics::Meaning;
+use wb_history::End;
 use wb_model::heap::Panic;
 
-/// What a panic means that an item of the cleanup stack raised when it was destroyed, and what to look for.
-pub fn of_item(panic: Panic) -> (&'static str, &'static str) {
+/// What a panic means that an item of the cleanup stack raised when it was destroyed, and what to look for. `end` is how its cell's
+/// life ended, if it did.
+pub fn of_item(panic: Panic, end: Option<End>) -> Meaning {
     match panic {
         Panic::NULL_OR_STALE => (
             "the cleanup stack destroyed an item whose object had already been deleted or freed",
@@ -17,7 +20,21 @@ pub fn of_item(panic: Panic) -> (&'static str, &'static str) {
             "the cleanup stack destroyed an item whose body would be the 129th running at once",
             "look for procedures that call one another without end, or objects that delete one another",
         ),
-        _ => (
+        _ => of_item_without_cell(end),
+    }
+}
+
+fn of_item_without_cell(end: Option<End>) -> Meaning {
+    match end {
+        Some(End::Moved) => (
+            "the cleanup stack destroyed an item whose cell had moved",
+            "pop the item after the line that moves its cell, not before, since that line may leave; then push the new pointer",
+        ),
+        Some(End::Freed | End::Deleted) => (
+            "the cleanup stack destroyed an item whose cell had already been freed",
+            "pop an item before its cell is freed elsewhere",
+        ),
+        None => (
             "the cleanup stack destroyed an item whose cell had already been freed or had moved",
             "pop an item before its cell is freed elsewhere",
         ),
@@ -25,13 +42,7 @@ pub fn of_item(panic: Panic) -> (&'static str, &'static str) {
 }
 
 /// What the panic means that the release of an object raised after its destructor, and what to look for.
-pub const OF_OBJECT: (&str, &str) = (
+pub const OF_OBJECT: Meaning = (
     "the object's cell was freed while its destructor ran",
     "`delete` frees the cell itself, after `destroy` has run",
-);
-
-/// What the panic means that the end of `main` raised, and what to look for.
-pub const OF_MAIN: (&str, &str) = (
-    "`main` ended after this line with items still on the cleanup stack",
-    "pop what was pushed, with `pop` or `popdestroy`, before `main` ends",
 );

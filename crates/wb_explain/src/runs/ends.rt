@@ -1,76 +1,67 @@
 //! What is said of the end of a run: its panic, its leaks, or why it was cut.
 
-use crate::runs::Setting;
 use crate::runs::attempts::put_refused;
 use crate::runs::blame::{class_of, line_of};
 use crate::runs::cuts::put_cut;
-use crate::runs::destroyed::{OF_MAIN, OF_OBJECT, of_item};
-use crate::runs::panics::{meaning_of, meaning_of_check, symbian_of};
-use crate::runs::script_page::{ScriptPage, number};
+use crate::runs::destroyed::{OF_OBJECT, of_item};
+use crate::runs::end_words::PanicName;
+use crate::runs::heap_checks::{meaning_of_check, put_counted, put_counts};
+use crate::runs::items_left::{
+    OF_MAIN, POP_FIRST, cure_of_another, put_another, put_items, put_items_left, put_too_many,
+};
+use crate::runs::leaks::put_leaks;
+use crate::runs::panics::{Meaning, meaning_of, symbian_of};
+use crate::runs::paths::{put_path, put_traps};
+use crate::runs::pointers::{cure_of, put_fault};
+use crate::runs::script_page::{ScriptPage, Written};
 use crate::runs::sentences::put_values;
-use crate::runs::watch::Seen;
-use std::alloc::AllocError;
+use crate::runs::told::put_life;
+use wb_history::{End, Life, Meant, PointerState, Values, WatchedRun};
 use wb_machine::{Raised, Raiser};
 use wb_model::heap::{Panic, Rule};
-use wb_model::run::{Leak, Outcome};
-use wb_model::script::Script;
-use wb_pages::Fragment::{Number, Place, Text, Value};
-
-/// The most leaks that are listed one by one.
-const MOST_LEAKS: usize = 20;
+use wb_model::run::Outcome;
 
 /// Says what a run found: first which attempts failed, if any were to, and then its end.
-pub fn put_findings(
-    page: &mut ScriptPage<'_>,
-    script: &Script,
-    setting: Setting,
-    seen: &Seen,
-) -> Result<(), AllocError> {
-    let panicked_at = seen.raised.map(|raised| line_of(raised, seen));
-    put_refused(page, setting.rule, panicked_at, seen)?;
-    match &seen.result.outcome {
+pub fn put_findings(page: &mut ScriptPage<'_>, run: &WatchedRun<'_>) -> Written {
+    put_refused(page, &run.parameters.rule, run)?;
+    match &run.outcome {
         Outcome::Ended { left, leaks } => {
             if let Some(code) = *left
-                && (leaks.len() > 0 || refuses(setting.rule))
+                && (leaks.len() > 0 || refuses(&run.parameters.rule))
             {
-                put_left(page, code, seen)?;
+                put_left(page, code, run)?;
             }
-            put_leaks(page, leaks.as_slice(), seen)
+            put_leaks(page, leaks.as_slice(), run)
         }
-        Outcome::Panicked(_) => match seen.raised {
-            Some(raised) => put_panic(page, script, raised, seen),
+        Outcome::Panicked(_) => match run.end.raised {
+            Some(raised) => put_panic(page, raised, run),
             None => Ok(()),
         },
         Outcome::NoCleanup => Ok(()),
-        Outcome::Cut(why) => put_cut(page, *why, setting.budget, seen),
+        Outcome::Cut(why) => put_cut(page, *why, run),
     }
 }
 
 /// Whether a rule may refuse anything. A leave of a run under another is what the script means to do.
-fn refuses(rule: Rule) -> bool {
+fn refuses(rule: &Rule) -> bool {
     match rule {
         Rule::Unlimited | Rule::Number(0) | Rule::Every(0) => false,
-        Rule::Number(_) | Rule::Every(_) | Rule::Pair(..) | Rule::Limit(_) => true,
+        Rule::Number(_) | Rule::Every(_) | Rule::Pair(..) | Rule::Set(_) | Rule::Limit(_) => true,
     }
 }
 
 /// Says where `main` left, and with which code.
-fn put_left(page: &mut ScriptPage<'_>, code: i32, seen: &Seen) -> Result<(), AllocError> {
-    let line = seen.last_at(1);
-    let code_value = Value(i64::from(code));
+fn put_left(page: &mut ScriptPage<'_>, code: i32, run: &WatchedRun<'_>) -> Written {
+    let line = run.history.calls.line_at(1);
     match name_of(code) {
-        "" => page.mark(line, &[Text("`main` left here with "), code_value]),
-        name => page.mark(
-            line,
-            &[
-                Text("`main` left here with "),
-                Text(name),
-                Text(" ("),
-                code_value,
-                Text(")"),
-            ],
-        ),
+        "" => page.mark(line, format_args!("`main` left here with {code}"))?,
+        name => page.mark(line, format_args!("`main` left here with {name} ({code})"))?,
     }
+    if let Some(leave) = run.history.traps.last_leave() {
+        let lines = run.history.calls.lines_of(leave.at.path)?;
+        put_path(page, &run.history.bodies, lines.as_slice());
+    }
+    Ok(())
 }
 
 /// Symbian's name of a code that scripts often leave with; empty for others.
@@ -92,72 +83,130 @@ fn name_of(code: i32) -> &'static str {
     }
 }
 
-/// Says what the panic was, and shows its line, with carets under the operand that it is about, or else the first word.
-fn put_panic(
-    page: &mut ScriptPage<'_>,
-    script: &Script,
-    raised: Raised,
-    seen: &Seen,
-) -> Result<(), AllocError> {
-    let line = line_of(raised, seen);
-    let word = page.first_word(line);
-    let (says, help) = said_of(raised, word, seen.lowest);
+/// Says what the panic was, and shows its line, with carets under the operand that it is about, or else the first word. Then come
+/// the lines that led to it.
+fn put_panic(page: &mut ScriptPage<'_>, raised: Raised, run: &WatchedRun<'_>) -> Written {
+    let line = line_of(raised, run);
+    let name = page.word(line, 0);
     page.page.begin_message(line as usize);
-    put_panic_name(page, raised.panic);
-    page.page.write(&[Text(": "), Text(word), Text(": ")]);
-    let meant = put_meaning(page, says, seen);
+    page.page
+        .write(format_args!("{}: {name}: ", PanicName(raised.panic)));
+    let word = put_meaning(page, line, raised, run);
     page.page.end_line();
-    let spot = page.spot(line, meant)?;
+    let spot = page.spot(line, word)?;
     page.page.show(spot);
-    // the destructor that ended is of the object's own class
-    if let Some(class) = class_of(raised, script, seen) {
-        page.mark_word(class, 1, &[Text("this is the class of the object")])?;
-    }
-    put_lowest(page, seen)?;
-    put_remarks(page, symbian_of(raised.panic, seen.lowest), help);
+    put_way(page, line, raised, run)?;
+    put_path(page, &run.history.bodies, run.end.path.as_slice());
+    put_traps(page, run.history.traps.open_traps());
+    put_remarks(page, symbian_note(raised, run), help_of(line, raised, run));
     Ok(())
 }
 
-/// Says with which values the line panicked, or else what the panic means. Returns the index of the word that is meant.
-fn put_meaning(page: &mut ScriptPage<'_>, says: &str, seen: &Seen) -> usize {
-    match seen.values {
-        Some(meant) => {
-            put_values(page, meant.values);
-            meant.word
+/// Says what raised the panic: the pointer or the values that it is about, or else what the panic means. Returns the index of the
+/// word that is meant.
+fn put_meaning(
+    page: &mut ScriptPage<'_>,
+    line: u32,
+    raised: Raised,
+    run: &WatchedRun<'_>,
+) -> usize {
+    if let Some(fault) = run.end.pointer {
+        put_fault(page, line, fault);
+        return fault.word;
+    }
+    if let Some(Meant { word, values }) = run.end.values {
+        match values {
+            Values::TooManyItems { wanted } => put_too_many(page, wanted, run),
+            _ => put_values(&mut page.page, values),
         }
-        None => {
-            page.page.write_text(says);
-            0
+        return word;
+    }
+    match (&run.end.counted, raised.panic) {
+        (Some(counted), _) => put_counts(page, counted),
+        (None, Panic::ITEMS_LEFT) => put_items_left(page, raised, run),
+        (None, Panic::ANOTHER_ITEM_ON_TOP) => {
+            put_another(page, line, run);
+            return 1;
         }
+        _ => page.page.write_text(meaning(raised, run).0),
+    }
+    0
+}
+
+/// Tells of the lines that led to a panic: what became of the cell that it is about, the items of the cleanup stack, the cells that a
+/// check counted, and the class of an object.
+fn put_way(page: &mut ScriptPage<'_>, line: u32, raised: Raised, run: &WatchedRun<'_>) -> Written {
+    page.begin_way(line)?;
+    // the destructor that ended is of the object's own class
+    if let Some(class) = class_of(raised, run) {
+        page.mark_word(class, 1, "this is the class of the object")?;
+    }
+    if let Some(life) = life_of(raised, run) {
+        put_life(page, &run.history, life)?;
+    }
+    put_items(page, raised, run)?;
+    match &run.end.counted {
+        Some(counted) => put_counted(page, counted, run),
+        None => Ok(()),
     }
 }
 
-/// What a panic means and what to look for, by what raised it, by the first word of the line that is named for it, and by the
-/// lowest cell that a failed check counted.
-fn said_of(raised: Raised, word: &str, lowest: Option<u32>) -> (&'static str, &'static str) {
-    if let Panic::Alloc(_) = raised.panic {
-        return meaning_of_check(lowest);
-    }
+/// The life of the cell that a panic is about.
+fn life_of(raised: Raised, run: &WatchedRun<'_>) -> Option<Life> {
     match raised.raiser {
-        Raiser::Statement | Raiser::TrapEnd => meaning_of(raised.panic, word),
-        Raiser::Holder => meaning_of(raised.panic, ""),
-        Raiser::MainEnd => OF_MAIN,
-        Raiser::Item => of_item(raised.panic),
-        Raiser::Release => OF_OBJECT,
+        Raiser::Item => run.history.lives.find(run.history.last_item?.pointer()),
+        Raiser::Release => run.history.lives.find(run.history.last_deleted),
+        _ => match run.end.pointer?.state {
+            PointerState::Gone(life) => life,
+            PointerState::Null | PointerState::ViewOfNothing => None,
+        },
     }
 }
 
-/// Says which line made the lowest cell that a failed check counted, if it counted any.
-fn put_lowest(page: &mut ScriptPage<'_>, seen: &Seen) -> Result<(), AllocError> {
-    let Some(maker) = seen.lowest.and_then(|place| seen.maker_at(place)) else {
-        return Ok(());
-    };
-    let said = if maker.deed.reallocates {
-        "the lowest cell that was counted was made, moved or grown here"
-    } else {
-        "the lowest cell that was counted was made here"
-    };
-    page.mark_word(maker.line, 1, &[Text(said)])
+/// What to do about a panic; empty if there is no more to say.
+fn help_of(line: u32, raised: Raised, run: &WatchedRun<'_>) -> &'static str {
+    match run.end.pointer {
+        Some(fault) => cure_of(run, line, fault),
+        None
+            if raised.panic == Panic::POP_BELOW_TRAP && run.history.traps.open_traps().is_empty() =>
+            { "each item that is popped was pushed before: pop as many as there are" }
+        None if raised.panic == Panic::ANOTHER_ITEM_ON_TOP => cure_of_another(run),
+        None => meaning(raised, run).1,
+    }
+}
+
+/// How the life of the cell ended whose item raised a panic.
+fn end_of_item(raised: Raised, run: &WatchedRun<'_>) -> Option<End> {
+    let ended = life_of(raised, run)?.ended?;
+    Some(ended.end)
+}
+
+/// What a panic means and what to look for, by what raised it.
+fn meaning(raised: Raised, run: &WatchedRun<'_>) -> Meaning {
+    if let Some(counted) = &run.end.counted {
+        return meaning_of_check(counted);
+    }
+    match (raised.raiser, run.end.statement) {
+        (Raiser::TrapEnd, _) => ("", POP_FIRST),
+        (Raiser::MainEnd, _) => OF_MAIN,
+        (Raiser::Item, _) => of_item(raised.panic, end_of_item(raised, run)),
+        (Raiser::Release, _) => OF_OBJECT,
+        (Raiser::Statement | Raiser::Holder, Some(statement)) => {
+            meaning_of(raised.panic, statement)
+        }
+        (Raiser::Statement | Raiser::Holder, None) => ("", ""),
+    }
+}
+
+/// What is said of Symbian's own panic; empty if there is none.
+fn symbian_note(raised: Raised, run: &WatchedRun<'_>) -> &'static str {
+    match run.end.pointer {
+        Some(fault) if raised.panic == Panic::NULL_OR_STALE && fault.state == PointerState::Null =>
+            {
+                "KERN-EXEC 3 in Symbian: an unhandled exception, here by a null pointer that is used"
+            }
+        _ => symbian_of(raised.panic, run.end.counted.as_ref()),
+    }
 }
 
 /// Writes where Symbian raises the panic, and what to look for; nothing of what is empty.
@@ -168,59 +217,4 @@ fn put_remarks(page: &mut ScriptPage<'_>, note: &str, help: &str) {
     if !help.is_empty() {
         page.page.write_help_text(help);
     }
-}
-
-/// The panic as the report names it.
-pub fn put_panic_name(page: &mut ScriptPage<'_>, panic: Panic) {
-    match panic {
-        Panic::User(code) => page
-            .page
-            .write(&[Text("panic USER "), number(u32::from(code))]),
-        Panic::Alloc(place) => page.page.write(&[Text("panic ALLOC "), Place(place)]),
-        Panic::Workbench(code) => page
-            .page
-            .write(&[Text("panic WORKBENCH "), number(u32::from(code))]),
-    }
-}
-
-/// Says of each leak which line made the cell, up to as many as anybody reads.
-fn put_leaks(page: &mut ScriptPage<'_>, leaks: &[Leak], seen: &Seen) -> Result<(), AllocError> {
-    for leak in leaks.iter().take(MOST_LEAKS) {
-        put_leak(page, *leak, seen)?;
-    }
-    let more = leaks.len().saturating_sub(MOST_LEAKS);
-    if more == 0 {
-        return Ok(());
-    }
-    let leak = if more == 1 {
-        " more cell leaks"
-    } else {
-        " more cells leak"
-    };
-    page.page.write_file_message(&[Number(more), Text(leak)]);
-    Ok(())
-}
-
-/// Says which line made a cell that leaks, and shows the pointer that got it.
-fn put_leak(page: &mut ScriptPage<'_>, leak: Leak, seen: &Seen) -> Result<(), AllocError> {
-    let Some((_, maker)) = seen.attempt(leak.number) else {
-        return Ok(());
-    };
-    let made = if maker.deed.reallocates {
-        ", made or moved here, was never freed: "
-    } else {
-        ", made here, was never freed: "
-    };
-    page.mark_word(
-        maker.line,
-        1,
-        &[
-            Text("leak: the cell of attempt "),
-            number(leak.number),
-            Text(made),
-            number(leak.length),
-            Text(" bytes at place "),
-            number(leak.place),
-        ],
-    )
 }

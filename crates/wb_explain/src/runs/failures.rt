@@ -1,13 +1,11 @@
 //! What is said of an attempt that failed: the line that made it, and where the run went on.
 
+use crate::runs::blame::panicked_at;
 use crate::runs::counts::article_of;
-use crate::runs::makers::Maker;
-use crate::runs::script_page::{ScriptPage, number};
-use crate::runs::watch::Seen;
-use std::alloc::AllocError;
+use crate::runs::script_page::{ScriptPage, Written};
+use wb_history::{AttemptMade, Maker, WatchedRun};
 use wb_model::heap::Attempt;
 use wb_model::run::Outcome;
-use wb_pages::Fragment::Text;
 
 /// Where a run went on after an attempt that failed, as far as it is said.
 #[derive(Clone, Copy, Debug, PartialEq, Eq)]
@@ -35,21 +33,19 @@ impl Next {
 /// Says which line's attempt failed, and where the run went on.
 pub fn put_failed(
     page: &mut ScriptPage<'_>,
-    attempt: Attempt,
-    maker: Maker,
-    panicked_at: Option<u32>,
-    seen: &Seen,
-) -> Result<(), AllocError> {
+    made: AttemptMade<'_>,
+    run: &WatchedRun<'_>,
+) -> Written {
+    let AttemptMade { attempt, maker, .. } = made;
     if maker.line == 0 {
-        page.page.write_file_message(&[
-            Text("attempt "),
-            number(attempt.number),
-            Text(" (the cell of the cleanup stack) failed, so `main` did not begin"),
-        ]);
+        page.page.write_file_message(format_args!(
+            "attempt {} (the cell of the cleanup stack) failed, so `main` did not begin",
+            attempt.number
+        ));
         return Ok(());
     }
     put_failed_here(page, attempt, maker.line, "")?;
-    put_next(page, next_after(maker, panicked_at, seen))
+    put_next(page, next_after(maker, run))
 }
 
 /// Says that an attempt failed in this line; `also` is what follows the word `here`, with a blank before it, or nothing.
@@ -58,27 +54,23 @@ pub fn put_failed_here(
     attempt: Attempt,
     line: u32,
     also: &str,
-) -> Result<(), AllocError> {
+) -> Written {
     page.mark(
         line,
-        &[
-            Text("attempt "),
-            number(attempt.number),
-            Text(" ("),
-            Text(article_of(attempt.length)),
-            Text(" "),
-            number(attempt.length),
-            Text("-byte cell) failed here"),
-            Text(also),
-        ],
+        format_args!(
+            "attempt {} ({} {}-byte cell) failed here{also}",
+            attempt.number,
+            article_of(attempt.length),
+            attempt.length
+        ),
     )
 }
 
 /// Where the run went on after an attempt that failed, which a line of the script made.
-pub fn next_after(maker: Maker, panicked_at: Option<u32>, seen: &Seen) -> Next {
-    let again = maker.idle >= 2 && maker.deed.gives_null;
+pub fn next_after(maker: Maker<'_>, run: &WatchedRun<'_>) -> Next {
+    let again = maker.idle >= 2 && maker.gives_null();
     let line = if again { maker.line } else { maker.after };
-    if panicked_at == Some(line) {
+    if panicked_at(run) == Some(line) {
         return Next::Unsaid;
     }
     if again {
@@ -87,17 +79,17 @@ pub fn next_after(maker: Maker, panicked_at: Option<u32>, seen: &Seen) -> Next {
     if line != 0 {
         return Next::Line(line);
     }
-    match &seen.result.outcome {
+    match &run.outcome {
         Outcome::Ended { left: None, .. } => Next::End,
         _ => Next::Unsaid,
     }
 }
 
 /// Says where the run went on. Of a line that went on with itself the place alone is shown.
-pub fn put_next(page: &mut ScriptPage<'_>, next: Next) -> Result<(), AllocError> {
+pub fn put_next(page: &mut ScriptPage<'_>, next: Next) -> Written {
     match next {
         Next::Unsaid => Ok(()),
-        Next::Line(line) => page.mark(line, &[Text("the run went on here")]),
+        Next::Line(line) => page.mark(line, "the run went on here"),
         Next::Again(line) => {
             page.page.write_message(
                 line as usize,

@@ -1,20 +1,17 @@
 //! What is said of all that a sweep finds: at which lines a failed attempt leads to a leak or a panic. Those of one line whose runs
 //! end alike are told once.
 
-use crate::runs::heaps::put_end;
-use crate::runs::script_page::{ScriptPage, number};
-use crate::runs::watch::Seen;
+use crate::runs::end_words::EndInWords;
+use crate::runs::number_lists::{MOST_NUMBERS, put_list};
+use crate::runs::script_page::{ScriptPage, Written};
 use std::alloc::{AllocError, Global};
+use wb_history::Attempts;
 use wb_model::failures::Failures;
 use wb_model::number_ends::NumberEnd;
 use wb_model::run_end::RunEnd;
-use wb_pages::Fragment::{Line, Number, Text};
 
 /// The most groups that are told.
 const MOST_GROUPS: usize = 20;
-
-/// The most numbers of a group that are told.
-const MOST_NUMBERS: usize = 4;
 
 /// Numbers whose runs end alike, and in which the attempt that fails first is of the same line.
 #[derive(Clone, Copy, Debug, PartialEq, Eq)]
@@ -53,7 +50,7 @@ struct Groups {
 }
 
 impl Groups {
-    fn add(&mut self, line: u32, told: NumberEnd) -> Result<(), AllocError> {
+    fn add(&mut self, line: u32, told: NumberEnd) -> Written {
         for group in self.told.as_mut_slice() {
             if group.line == line && group.end == told.end {
                 group.add(told.number);
@@ -69,15 +66,27 @@ impl Groups {
     }
 }
 
-/// Says at which lines a failed attempt leads to a leak or a panic, group by group. `seen` is the run without failure.
+/// Returns the greatest number whose run leaks or panics; 0 if there is none.
+pub fn last_bad(ends: &[NumberEnd]) -> u32 {
+    let mut last = 0;
+    for told in ends {
+        if told.end.is_bad() {
+            last = told.number.max(last);
+        }
+    }
+    last
+}
+
+/// Says at which lines a failed attempt leads to a leak or a panic, group by group. `attempts` are those of the run without
+/// failure.
 pub fn put_numbers(
     page: &mut ScriptPage<'_>,
     alloc: Global,
-    seen: &Seen,
+    attempts: &Attempts<'_>,
     failures: Failures,
     ends: &[NumberEnd],
-) -> Result<(), AllocError> {
-    let Groups { told, more } = groups_of(alloc, seen, ends)?;
+) -> Written {
+    let Groups { told, more } = groups_of(alloc, attempts, ends)?;
     if told.is_empty() {
         return Ok(());
     }
@@ -87,21 +96,24 @@ pub fn put_numbers(
         put_group(page, failures, group);
     }
     if more > 0 {
-        page.page
-            .write_row(&[Text("and "), Number(more), Text(" more")]);
+        page.page.write_row(format_args!("and {more} more"));
     }
     Ok(())
 }
 
 /// The groups of the numbers whose run leaks or panics, by the least number of each.
-fn groups_of(alloc: Global, seen: &Seen, ends: &[NumberEnd]) -> Result<Groups, AllocError> {
+fn groups_of(
+    alloc: Global,
+    attempts: &Attempts<'_>,
+    ends: &[NumberEnd],
+) -> Result<Groups, AllocError> {
     let mut groups = Groups {
         told: Vec::new(alloc),
         more: 0,
     };
     for told in ends {
         if told.end.is_bad() {
-            groups.add(line_of(seen, told.number), *told)?;
+            groups.add(line_of(attempts, told.number), *told)?;
         }
     }
     Ok(groups)
@@ -109,31 +121,33 @@ fn groups_of(alloc: Global, seen: &Seen, ends: &[NumberEnd]) -> Result<Groups, A
 
 /// The line of the attempt that fails first under a number or a rate: up to it the run is the one without failure. 0 if none
 /// fails.
-fn line_of(seen: &Seen, number: u32) -> u32 {
-    match seen.attempt(number) {
-        Some((_, maker)) => maker.line,
+fn line_of(attempts: &Attempts<'_>, number: u32) -> u32 {
+    match attempts.find(number) {
+        Some(made) => made.maker.line,
         None => 0,
     }
 }
 
 /// The row of a group: its numbers, the line, and how the runs end.
 fn put_group(page: &mut ScriptPage<'_>, failures: Failures, group: &Group) {
+    let Group {
+        line,
+        end,
+        count,
+        ..
+    } = *group;
     page.page.begin_row();
-    if group.line == 0 {
+    if line == 0 {
         page.page.write_text("without failure");
     } else {
         put_group_numbers(page, failures, group);
-        let each = if group.count == 1 {
-            ", line "
-        } else {
-            ", each at line "
-        };
-        let shown = page.line(group.line);
+        let each = if count == 1 { "" } else { "each at " };
+        let shown = page.line(line);
         page.page
-            .write(&[Text(each), number(group.line), Text(": "), Line(shown)]);
+            .write(format_args!(", {each}line {line}: {shown}"));
     }
-    page.page.write_text("; the run ");
-    put_end(page, group.end);
+    page.page
+        .write(format_args!("; the run {}", EndInWords(end)));
     page.page.end_line();
 }
 
@@ -144,29 +158,6 @@ fn put_group_numbers(page: &mut ScriptPage<'_>, failures: Failures, group: &Grou
         Failures::Every => "rate",
     };
     let s = if group.count == 1 { " " } else { "s " };
-    page.page.write(&[Text(word), Text(s)]);
-    let more = group.count.saturating_sub(MOST_NUMBERS);
-    let shown = group.count.min(MOST_NUMBERS);
-    for (index, told) in group.numbers.iter().enumerate() {
-        if index < shown {
-            let is_last = more == 0 && index + 1 == shown;
-            page.page
-                .write(&[Text(joint(index, is_last)), number(*told)]);
-        }
-    }
-    if more > 0 {
-        page.page
-            .write(&[Text(" and "), Number(more), Text(" more")]);
-    }
-}
-
-/// What stands before a number of a row.
-fn joint(index: usize, is_last: bool) -> &'static str {
-    if index == 0 {
-        ""
-    } else if is_last {
-        " and "
-    } else {
-        ", "
-    }
+    page.page.write(format_args!("{word}{s}"));
+    put_list(page, &group.numbers, group.count);
 }

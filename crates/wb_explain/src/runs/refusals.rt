@@ -1,10 +1,7 @@
-//! Which attempt a heap refuses first, by its length: the first one that ends past it, in the run in the longest heap. The run is
-//! made once more for this, up to the last of these attempts that is asked for.
+//! Which attempt a heap refuses first, by its length: the first one that ends past it, in the run in the longest heap.
 
-use wb_machine::{Machine, Turn};
-use wb_model::heap::Answer;
+use wb_history::AttemptMade;
 use wb_model::limits::CEILING;
-use wb_model::memory::NoMemory;
 
 /// An attempt, and the line that made it; 0 of the first, which no line makes.
 #[derive(Clone, Copy, Debug, PartialEq, Eq)]
@@ -13,11 +10,12 @@ pub struct Refused {
     pub line: u32,
 }
 
-/// The run in the longest heap, and the attempt at which it is.
-#[derive(Drop)]
+/// The attempts of the run in the longest heap, and the one at which this is.
+#[derive(Clone, Copy)]
 pub struct Refusals<'a> {
-    machine: Machine<'a>,
-    budget: u32,
+    attempts: &'a [AttemptMade<'a>],
+    /// How many of them come before the one at which this is, or with it.
+    passed: usize,
     /// The attempt that was asked for last: what heaps refuse first that are shorter than `until`, and no shorter than all before
     /// it asks for; `None` if there is none.
     pub first: Option<Refused>,
@@ -26,51 +24,38 @@ pub struct Refusals<'a> {
 }
 
 impl<'a> Refusals<'a> {
-    /// No attempt yet. The machine is at the start of the run in the longest heap.
-    pub fn new(machine: Machine<'a>, budget: u32) -> Refusals<'a> {
+    /// No attempt yet. The attempts are those of the run in the longest heap.
+    pub fn new(attempts: &'a [AttemptMade<'a>]) -> Refusals<'a> {
         Refusals {
-            machine,
-            budget,
+            attempts,
+            passed: 0,
             first: None,
             until: 0,
         }
     }
 
-    /// Goes on to what a heap of this length refuses first, in bytes, unless it is there: takes turns until an attempt ends past
-    /// that, at most one for each step of the budget, the first, and the one that ends the run. Lengths come in ascending order.
-    pub fn go_past(&mut self, length: u32) -> Result<(), NoMemory> {
+    /// Goes on to what a heap of this length refuses first, in bytes, unless it is there: the next attempt that ends past that.
+    /// Lengths come in ascending order.
+    pub fn go_past(&mut self, length: u32) {
         if self.until > length {
-            return Ok(());
+            return;
         }
-        for _ in 0..=self.budget.saturating_add(1) {
-            let before = self.machine.attempts();
-            let turn = self.machine.step()?;
-            if self.machine.attempts() > before && self.sees_end_past(length) {
-                return Ok(());
-            }
-            if turn == Turn::Ended {
-                break;
+        let (_, rest) = self
+            .attempts
+            .split_at_checked(self.passed)
+            .unwrap_or((&[], &[]));
+        for made in rest {
+            self.passed = self.passed.saturating_add(1);
+            if made.is_rise && made.top() > length {
+                self.first = Some(Refused {
+                    number: made.attempt.number,
+                    line: made.maker.line,
+                });
+                self.until = made.top().min(CEILING + 1);
+                return;
             }
         }
         self.first = None;
         self.until = CEILING + 1;
-        Ok(())
-    }
-
-    /// Whether the newest attempt ends past a length. The script's own failures say nothing of lengths.
-    fn sees_end_past(&mut self, length: u32) -> bool {
-        let Some(attempt) = self.machine.last_attempt() else {
-            return false;
-        };
-        let end = attempt.place.saturating_add(attempt.length);
-        if attempt.answer == Answer::Simulated || end <= length {
-            return false;
-        }
-        self.first = Some(Refused {
-            number: attempt.number,
-            line: self.machine.line(),
-        });
-        self.until = end.min(CEILING + 1);
-        true
     }
 }

@@ -1,31 +1,32 @@
 //! A page about a script: messages about its lines, which are shown with carets under the word that is meant.
 
 use std::alloc::{AllocError, Global};
+use std::fmt::Display;
+use wb_history::ScriptLines;
 use wb_pages::words::{trim, words_of};
-use wb_pages::{Fragment, Page, Spot};
+use wb_pages::{Page, Shown, Spot};
 
-/// The name of a script's file, and the text that it holds.
-#[derive(Clone, Copy, Debug)]
-pub struct ScriptFile<'a> {
-    pub name: &'a str,
-    pub text: &'a str,
-}
+/// That something was written. The only error is that memory ran out.
+pub type Written = Result<(), AllocError>;
 
 /// What is written so far about a script.
 #[derive(Drop)]
 pub struct ScriptPage<'a> {
     alloc: Global,
-    script: &'a str,
+    pub lines: &'a ScriptLines<'a>,
     pub page: Page<'a>,
+    /// The lines that the messages about what led to the last finding have told of, so that none is told twice.
+    told: Vec<u32>,
 }
 
 impl<'a> ScriptPage<'a> {
     /// An empty page about a script.
-    pub fn new(alloc: Global, file: ScriptFile<'a>) -> ScriptPage<'a> {
+    pub fn new(alloc: Global, lines: &'a ScriptLines<'a>) -> ScriptPage<'a> {
         ScriptPage {
             alloc,
-            script: file.text,
-            page: Page::new(alloc, file.name),
+            lines,
+            page: Page::new(alloc, lines.name),
+            told: Vec::new(alloc),
         }
     }
 
@@ -35,52 +36,61 @@ impl<'a> ScriptPage<'a> {
     }
 
     /// Returns a line without the blanks around it, by its number from 1; empty if there is none.
-    pub fn line(&self, number: u32) -> &'a [u8] {
-        let at = number.saturating_sub(1) as usize;
-        match self.script.lines().nth(at) {
-            Some(line) => trim(line.as_bytes()),
-            None => &[],
-        }
+    pub fn line(&self, number: u32) -> Shown<'a> {
+        Shown::line(self.text_of(number))
     }
 
-    /// Returns the first word of a line; empty if there is none.
-    pub fn first_word(&self, number: u32) -> &'a str {
-        let at = number.saturating_sub(1) as usize;
-        let Some(line) = self.script.lines().nth(at) else {
-            return "";
-        };
-        match line.split_whitespace().next() {
-            Some(word) => word,
-            None => "",
-        }
+    fn text_of(&self, number: u32) -> &'a [u8] {
+        trim(self.lines.line(number).as_bytes())
+    }
+
+    /// Returns a word of a line, by its index from 0; empty if there is none.
+    pub fn word(&self, number: u32, index: usize) -> &'a str {
+        self.lines.word(number, index)
     }
 
     /// Returns where the word with an index, counted from 0, is in a line. The only error is that memory ran out.
     pub fn spot(&self, number: u32, index: usize) -> Result<Spot<'a>, AllocError> {
-        let line = self.line(number);
+        let line = self.text_of(number);
         let words = words_of(self.alloc, line)?;
         Ok(Spot::of_word(number as usize, line, words.as_slice(), index))
     }
 
     /// Writes a message about a line, and shows it with carets under the word with an index.
-    pub fn mark_word(
+    pub fn mark_word<D: Display + Drop>(
         &mut self,
         number: u32,
         index: usize,
-        fragments: &[Fragment],
-    ) -> Result<(), AllocError> {
+        message: D,
+    ) -> Written {
         let spot = self.spot(number, index)?;
-        self.page.mark(spot, fragments);
+        self.page.mark(spot, message);
         Ok(())
     }
 
     /// Writes a message about a line, and shows it with carets under its first word.
-    pub fn mark(&mut self, number: u32, fragments: &[Fragment]) -> Result<(), AllocError> {
-        self.mark_word(number, 0, fragments)
+    pub fn mark<D: Display + Drop>(&mut self, number: u32, message: D) -> Written {
+        self.mark_word(number, 0, message)
     }
-}
 
-/// A count or a number of the script's run, to be written in decimal digits.
-pub fn number(count: u32) -> Fragment<'static> {
-    Fragment::Number(count as usize)
+    /// Begins what led to another finding, whose line is told of.
+    pub fn begin_way(&mut self, line: u32) -> Written {
+        self.told.clear();
+        self.told.push(line)?;
+        Ok(())
+    }
+
+    /// Does what `mark_word` does, unless the line was told of before. 0 is no line.
+    pub fn mark_new<D: Display + Drop>(
+        &mut self,
+        number: u32,
+        index: usize,
+        message: D,
+    ) -> Written {
+        if number == 0 || self.told.iter().any(|it| *it == number) {
+            return Ok(());
+        }
+        self.told.push(number)?;
+        self.mark_word(number, index, message)
+    }
 }

@@ -1,5 +1,7 @@
 //! Lengths of heap of which the same is said, as their least, their greatest, and how many they are.
 
+use std::fmt;
+use std::fmt::{Display, Formatter, Write};
 use wb_model::lengths::LengthRange;
 use wb_model::limits::CEILING;
 
@@ -33,6 +35,28 @@ impl Spread {
     /// Whether all lengths between the least and the greatest are among them.
     pub fn is_whole(self) -> bool {
         self.count == Spread::of(self.least, self.greatest.saturating_add(1)).count
+    }
+}
+
+/// The lengths, and how many they are if some between them aren't among them.
+impl Display for Spread {
+    fn fmt<W: Write>(&self, f: &mut Formatter<W>) -> fmt::Result {
+        let Spread {
+            least,
+            greatest,
+            count,
+        } = *self;
+        if greatest == CEILING && self.is_whole() {
+            return write!(f, "{least} bytes or more");
+        }
+        if greatest == least {
+            return write!(f, "{least} bytes");
+        }
+        write!(f, "{least} to {greatest} bytes")?;
+        if self.is_whole() {
+            return Ok(());
+        }
+        write!(f, ", {count} of these lengths")
     }
 }
 

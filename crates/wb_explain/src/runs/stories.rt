@@ -2,10 +2,10 @@
 //! same story is told once.
 
 use crate::runs::refusals::{Refusals, Refused};
+use crate::runs::script_page::Written;
 use crate::runs::spread::{Spread, lengths_of};
 use std::alloc::{AllocError, Global};
 use wb_model::lengths::LengthRange;
-use wb_model::memory::NoMemory;
 use wb_model::run_end::RunEnd;
 
 /// The most stories that are told.
@@ -48,7 +48,7 @@ pub struct Stories {
 }
 
 impl Stories {
-    fn add(&mut self, story: Story) -> Result<(), AllocError> {
+    fn add(&mut self, story: Story) -> Written {
         for told in self.told.as_mut_slice() {
             if told.is_told_as(&story) {
                 told.take_in(&story);
@@ -69,7 +69,7 @@ pub fn stories_of(
     alloc: Global,
     refusals: &mut Refusals<'_>,
     ranges: &[LengthRange],
-) -> Result<Stories, NoMemory> {
+) -> Result<Stories, AllocError> {
     let mut stories = Stories {
         told: Vec::new(alloc),
         more: 0,
@@ -90,13 +90,13 @@ fn add_range(
     refusals: &mut Refusals<'_>,
     spread: Spread,
     end: RunEnd,
-) -> Result<(), NoMemory> {
+) -> Written {
     let mut from = spread.least;
     for _ in 0..spread.count {
         if from > spread.greatest {
             break;
         }
-        refusals.go_past(from)?;
+        refusals.go_past(from);
         let until = refusals.until.min(spread.greatest.saturating_add(1));
         stories.add(Story {
             spread: Spread::of(from, until),

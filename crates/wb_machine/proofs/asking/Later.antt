@@ -189,7 +189,7 @@ module _ (script : Script) (budget : ℕ) where
   any_numbers : (low : ℕ) (ns ms : List ℕ) (p : Process) → Keeps (between (anything script) low budget) ns p → Keeps (between (anything script) low budget) ms p
   any_numbers low ns ms (ends way st) k = k
   any_numbers low ns ms (stops stop st) k = k
-  any_numbers low ns ms (asks t cut go) k = (k.0, k.1, λ n a. any_numbers low (n ∷ ns) (n ∷ ms) (go n a) (k.2 n a))
+  any_numbers low ns ms (asks t cut go) k = (k.0, k.1, k.2, λ n a. any_numbers low (n ∷ ns) (n ∷ ms) (go n a) (k.3 n a))
   any_numbers low ns ms (notes q p) k = (k.0, any_numbers low ns ms p k.1)
 
   -- and counts no more steps than the budget

@@ -1,5 +1,5 @@
 -- Two machines between two turns whose states and pieces are the same but for numbers: the rest of one run is that of the other.
-use Rattle.std.proofs.Common.{◌≡◌, ◌≢◌, ◌≤◌, true, false, refl, sym, ◌∙◌, ap, subst, inl}
+use Rattle.std.proofs.Common.{◌≡◌, ◌≢◌, ◌≤◌, true, false, sym, ◌∙◌, ap, subst}
 use Rattle.wb_model.specs.declared.run.Outcome.TheVariants.{Cut}
 use Rattle.wb_model.specs.declared.run.Why.TheVariants.{Budget}
 use Rattle.wb_model.specs.declared.script.Script.{Script}
@@ -11,11 +11,10 @@ use Rattle.wb_model.specs.runs.SameButNumbers.{Renaming, IsRenaming, AllBeside, 
 use Rattle.wb_model.proofs.FollowEither.{rests-together}
 use Rattle.wb_machine.specs.declared.machine.Machine.TheInside.{Inside}
 use Rattle.wb_machine.specs.declared.pieces.Ending.TheVariants.{GoesOn}
-use Rattle.wb_machine.specs.Alike.{reached_by, GoesOnLike}
+use Rattle.wb_machine.specs.Alike.{reached_by, whole_run_under, GoesOnLike}
 use Rattle.wb_machine.specs.Flow.{pending_in, progress_of}
 use Rattle.wb_machine.specs.RunState.{state_of, account_of}
 use Rattle.wb_machine.specs.SamePieces.{ArePendingAlike}
-use Rattle.wb_machine.specs.Seen.{whole_run_of}
 use Rattle.wb_machine.specs.Whole.{seen, progress_in, rest_in, IsMachine}
 
 -- what the comparison of two machines finds
@@ -41,10 +40,6 @@ going-on m begun ending =
     ap (λ b. progress_of b m.control.ending (pending_in m.state.callers m.control.pieces.items) (state_of m.script.now m.state)) begun
     ∙ ap (λ e. progress_of true e (pending_in m.state.callers m.control.pieces.items) (state_of m.script.now m.state)) ending
 
--- the rest of a run by its own rule is the whole run
-own-rest : (m : Inside) → IsMachine m → m.failed ≡ false → rest_in m.state.debug.rule m ≡ whole_run_of (seen m)
-own-rest m is well = is.keeps well m.state.debug.rule (inl refl)
-
 same-progress : (w : Renaming) (m other : Inside) → other.script.now ≡ m.script.now → AreAlike w m other → IsSameProgress w.names (progress_in m) (progress_in other)
 same-progress w m other script are =
     subst (λ p. IsSameProgress w.names p (progress_in other)) (sym (going-on m are.begun are.ending))
@@ -62,11 +57,13 @@ reached-come m begun ending = ap (λ n. record { attempts = m.state.debug.attemp
 -- the one that was compared first is `m`; the other goes on like it
 pub goes-on-like : (w : Renaming) (m other : Inside) → IsMachine m → IsMachine other → other.script.now ≡ m.script.now → AreAlike w m other →
     GoesOnLike (seen other) (seen m)
-goes-on-like w m other is other_is script are uncut alike =
+goes-on-like w m other is other_is script are r s fits other_fits uncut alike =
     let p = progress_in m in
     let q = progress_in other in
-    let x = rest_in m.state.debug.rule m in
-    let y = rest_in other.state.debug.rule other in
+    let x = rest_in r m in
+    let y = rest_in s other in
+    let ran : x ≡ whole_run_under r (seen m) = is.keeps are.well r fits in
+    let other_ran : y ≡ whole_run_under s (seen other) = other_is.keeps are.other_well s other_fits in
     let here = reached-come m are.begun are.ending in
     let there = reached-come other are.other_begun are.other_ending in
     let within : steps_of p ≤ m.budget = subst (λ n. n ≤ m.budget) (sym (steps-come m are.begun are.ending)) (is.sound are.well).between.within in
@@ -74,18 +71,19 @@ goes-on-like w m other is other_is script are uncut alike =
     subst (λ n. n ≤ m.budget) (sym (steps-come other are.other_begun are.other_ending))
     (subst (λ b. other.state.steps ≤ b) are.budget (other_is.sound are.other_well).between.within) in
     let rests : RestsAgree m.budget (reached p (account_of m.state)) (reached q (account_of other.state))
-    (rest m.script.now m.budget m.state.debug.shape m.state.debug.rule p (account_of m.state))
-    (rest m.script.now m.budget other.state.debug.shape other.state.debug.rule q (account_of other.state)) =
-    rests-together m.script.now m.budget m.state.debug.shape other.state.debug.shape m.state.debug.rule other.state.debug.rule w p q (account_of m.state) (account_of other.state)
+    (rest m.script.now m.budget m.state.debug.shape r p (account_of m.state))
+    (rest m.script.now m.budget other.state.debug.shape s q (account_of other.state)) =
+    rests-together m.script.now m.budget m.state.debug.shape other.state.debug.shape r s w p q (account_of m.state) (account_of other.state)
     are.renaming (same-progress w m other script are) within other_within are.made are.other_made
-    (subst (λ r. RefusesAlike m.state.debug.rule other.state.debug.rule r (reached q (account_of other.state))) (sym here)
-    (subst (λ r. RefusesAlike m.state.debug.rule other.state.debug.rule (reached_by (seen m)) r) (sym there) alike))
-    (subst (λ (z : WholeRun). z.result.outcome ≢ Cut Budget) (sym (own-rest m is are.well)) uncut) in
-    let second : rest m.script.now m.budget other.state.debug.shape other.state.debug.rule q (account_of other.state) ≡ y =
-    ap (λ s. rest s m.budget other.state.debug.shape other.state.debug.rule q (account_of other.state)) (sym script)
-    ∙ ap (λ b. rest other.script.now b other.state.debug.shape other.state.debug.rule q (account_of other.state)) (sym are.budget) in
-    subst (λ b. RestsAgree b (reached_by (seen m)) (reached_by (seen other)) (whole_run_of (seen m)) (whole_run_of (seen other))) (sym are.budget)
-    (subst (λ z. RestsAgree m.budget (reached_by (seen m)) (reached_by (seen other)) z (whole_run_of (seen other))) (own-rest m is are.well)
-    (subst (λ z. RestsAgree m.budget (reached_by (seen m)) (reached_by (seen other)) x z) (second ∙ own-rest other other_is are.other_well)
-    (subst (λ r. RestsAgree m.budget r (reached_by (seen other)) x (rest m.script.now m.budget other.state.debug.shape other.state.debug.rule q (account_of other.state))) here
-    (subst (λ r. RestsAgree m.budget (reached p (account_of m.state)) r x (rest m.script.now m.budget other.state.debug.shape other.state.debug.rule q (account_of other.state))) there rests))))
+    (subst (λ z. RefusesAlike r s z (reached q (account_of other.state))) (sym here)
+    (subst (λ z. RefusesAlike r s (reached_by (seen m)) z) (sym there) alike))
+    (subst (λ (z : WholeRun). z.result.outcome ≢ Cut Budget) (sym ran) uncut) in
+    let second : rest m.script.now m.budget other.state.debug.shape s q (account_of other.state) ≡ y =
+    ap (λ c. rest c m.budget other.state.debug.shape s q (account_of other.state)) (sym script)
+    ∙ ap (λ b. rest other.script.now b other.state.debug.shape s q (account_of other.state)) (sym are.budget) in
+    let there_rests = rest m.script.now m.budget other.state.debug.shape s q (account_of other.state) in
+    subst (λ b. RestsAgree b (reached_by (seen m)) (reached_by (seen other)) (whole_run_under r (seen m)) (whole_run_under s (seen other))) (sym are.budget)
+    (subst (λ z. RestsAgree m.budget (reached_by (seen m)) (reached_by (seen other)) z (whole_run_under s (seen other))) ran
+    (subst (λ z. RestsAgree m.budget (reached_by (seen m)) (reached_by (seen other)) x z) (second ∙ other_ran)
+    (subst (λ z. RestsAgree m.budget z (reached_by (seen other)) x there_rests) here
+    (subst (λ z. RestsAgree m.budget (reached p (account_of m.state)) z x there_rests) there rests))))

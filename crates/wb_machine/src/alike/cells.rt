@@ -1,7 +1,7 @@
 //! Cells and items of the cleanup stack that are the same but for allocation numbers. Cells are compared by place, and the first
 //! difference ends it.
 
-ghost use Rattle.std.specs.Prelude.{◌≡◌, ◌+◌, ◌^◌, ◌<◌, ℕ, List, true, Some, length, slice_index, IfSome, OnSome};
+ghost use Rattle.std.specs.Prelude.{◌≡◌, ◌+◌, ◌^◌, ◌<◌, ℕ, List, true, Some, length, slice_index, IfSome, IsSome, OnSome};
 ghost use Rattle.wb_model.specs.cells.CellRow.{payload_of};
 ghost use Rattle.wb_model.specs.declared.script.Script.{Script};
 ghost use Rattle.wb_model.specs.heap.Debug.{IsSoundDebug};
@@ -25,21 +25,6 @@ fn same_header(names: &mut Names, header: Header, other: Header) -> bool
         && header.kind == other.kind
         && header.level == other.level
         && names.relate(header.number, other.number)
-}
-
-/// Whether two payloads of so many words are the same.
-fn same_words(heap: &DebugHeap, ptr: Ptr, other_heap: &DebugHeap, other: Ptr, count: u32) -> bool
-    requires words { length (payload_of ptr heap.now.heap.row) ≡ count }
-    requires others { length (payload_of other other_heap.now.heap.row) ≡ count }
-    ensures { result ≡ true →
-        payload_of other other_heap.now.heap.row ≡ payload_of ptr heap.now.heap.row }
-{
-    for i in 0..count {
-        if heap.payload(ptr, i) != other_heap.payload(other, i) {
-            return false;
-        }
-    }
-    true
 }
 
 /// The pointer in two words of a payload.
@@ -81,8 +66,8 @@ fn same_fields(
     true
 }
 
-/// Whether two payloads of so many words hold the same but for numbers, as a kind of cell reads them. What the cleanup stack's cell
-/// holds are its items.
+/// Whether two payloads of so many words, at the same place, hold the same but for numbers, as a kind of cell reads them. What the
+/// cleanup stack's cell holds are its items.
 fn same_content(
     names: &mut Names,
     kind: Kind,
@@ -92,15 +77,18 @@ fn same_content(
     other: Ptr,
     count: u32,
 ) -> bool
+    requires live { IsSome (cell_at ptr heap.now.heap.row) }
+    requires other_live { IsSome (cell_at other other_heap.now.heap.row) }
     requires words { length (payload_of ptr heap.now.heap.row) ≡ count }
     requires others { length (payload_of other other_heap.now.heap.row) ≡ count }
+    requires place { other.place ≡ ptr.place }
     ensures same { result ≡ true → AreWordsAlike names.new.names kind
         (payload_of ptr heap.now.heap.row) (payload_of other other_heap.now.heap.row) }
     ensures grown { IsGrown names.old names.new }
 {
     match kind {
-        Kind::Raw => same_words(heap, ptr, other_heap, other, count),
-        Kind::Text => same_words(heap, ptr, other_heap, other, count),
+        Kind::Raw => heap.has_payload_of(ptr, other_heap, other, count),
+        Kind::Text => heap.has_payload_of(ptr, other_heap, other, count),
         Kind::Object(_) => same_fields(names, heap, ptr, other_heap, other, count),
         Kind::Cleanup => true,
     }
@@ -117,10 +105,13 @@ fn end_if_same(
     ensures same { OnSome result ((script : Script) (c d : Cell (List ℕ)) →
         cell_at ptr heap.now.heap.row ≡ Some c → cell_at other other_heap.now.heap.row ≡ Some d →
         IsSameCell names.new.names (read_cell script c) (read_cell script d)) }
-    ensures end { IfSome result (λ end. (c : Cell (List ℕ)) → cell_at ptr heap.now.heap.row ≡ Some c →
-        end ≡ end_of c.head) }
+    ensures end { IfSome result (λ end. (c : Cell (List ℕ)) →
+        cell_at ptr heap.now.heap.row ≡ Some c → end ≡ end_of c.head) }
     ensures grown { IsGrown names.old names.new }
 {
+    if ptr.place != other.place {
+        return None;
+    }
     let Some(cell) = heap.header(ptr) else {
         return None;
     };

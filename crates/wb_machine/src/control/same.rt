@@ -148,6 +148,20 @@ fn same_pieces(names: &mut Names, pieces: &[PendingPiece], others: &[PendingPiec
     true
 }
 
+/// Whether as many turns are left of each `repeat` that is pending, as far as pieces stand beside one another: what is quickly said.
+fn same_turns_left(pieces: &[PendingPiece], others: &[PendingPiece]) -> bool {
+    for i in 0..pieces.len().min(others.len()) {
+        if let (PendingPiece::Turns(_, left, _), PendingPiece::Turns(_, other_left, _)) = (
+            &pieces[i], &others[i],
+        ) {
+            if left != other_left {
+                return false;
+            }
+        }
+    }
+    true
+}
+
 impl<'a> Control<'a> {
     /// The line of the statement that begins next; `None` if the piece on top begins with none.
     fn next_line(&self) -> Option<u32> {
@@ -155,15 +169,21 @@ impl<'a> Control<'a> {
         Some(first.line)
     }
 
-    /// Whether as much is pending as in another run, by the number of pieces and the line that comes next, and both go on.
+    /// Whether another run is at the same line, with as many pieces pending.
+    pub fn is_at_line_of(&self, other: &Control) -> bool {
+        self.pieces.len() == other.pieces.len() && self.next_line() == other.next_line()
+    }
+
+    /// Whether as much is pending as in another run, by the number of pieces, the line that comes next and the turns that are left, and
+    /// both go on.
     pub fn is_at_place_of(&self, other: &Control) -> bool
         ensures here { result ≡ true → self.now.ending ≡ GoesOn }
         ensures there { result ≡ true → other.now.ending ≡ GoesOn }
     {
-        self.pieces.len() == other.pieces.len()
-            && self.next_line() == other.next_line()
+        self.is_at_line_of(other)
             && goes_on(self.ending)
             && goes_on(other.ending)
+            && same_turns_left(self.pieces.as_slice(), other.pieces.as_slice())
     }
 
     /// Whether what is pending is the same as in another run but for numbers.

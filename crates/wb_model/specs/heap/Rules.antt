@@ -1,8 +1,9 @@
 -- What a rule and the script's own setting say of an attempt.
 use Rattle.std.specs.Prelude.{ℕ, zero, suc, ◌+◌, ◌%◌, Bool, false, ◌||◌, nat_eq, nat_lt, if◌then◌else◌, Option, Some, None}
+use Rattle.std.specs.List.{list_any}
 use Rattle.wb_model.specs.declared.limits.TheConstants.{CEILING}
 use Rattle.wb_model.specs.declared.heap.Rule.{Rule}
-use Rattle.wb_model.specs.declared.heap.Rule.TheVariants.{Limit, Number, Every, Pair}
+use Rattle.wb_model.specs.declared.heap.Rule.TheVariants.{Limit, Number, Every, Pair, Set}
 use Rattle.wb_model.specs.declared.heap.Answer.{Answer}
 use Rattle.wb_model.specs.declared.heap.Answer.TheVariants.{Granted, Simulated, Refused}
 
@@ -16,6 +17,7 @@ abbrev pub simulates : Rule → ℕ → Bool
 simulates (Number n) number = nat_eq n number
 simulates (Every n) number = if nat_eq n 0 then false else nat_eq (number % n) 0
 simulates (Pair i j) number = nat_eq i number || nat_eq j number
+simulates (Set numbers) number = list_any (λ it. nat_eq it number) numbers
 simulates _ number = false
 
 -- what is refused of an end past a limit

@@ -17,7 +17,7 @@ use Rattle.wb_lines.proofs.TypedLemmas.{both}
 use Rattle.wb_script.proofs.names.AbsentNames.{or_false, is_known_here}
 
 -- one more line declares a name, or leaves those that its body declares
-this_after : (form : Form Text) (known : NamesSoFar) → has_this (body_after (body_in form) known.body) ≡ (if begins_body (role_of_form form) then is_of_object (role_of_form form) else (has_this known.body || is_of_object (role_of_form form)))
+pub this_after : (form : Form Text) (known : NamesSoFar) → has_this (body_after (body_in form) known.body) ≡ (if begins_body (role_of_form form) then is_of_object (role_of_form form) else (has_this known.body || is_of_object (role_of_form form)))
 this_after (Line line_kind.Constructor operands) known = refl
 this_after (Line line_kind.Destructor operands) known = refl
 this_after (Line line_kind.Proc operands) known = refl

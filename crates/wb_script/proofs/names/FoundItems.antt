@@ -23,7 +23,7 @@ where_within p (n ∷ ns) i is = go (p n) (first_where p ns) (where_within p ns)
 pub place_within : (names : List Text) (name : Text) (i : ℕ) → first_declaration_of names name ≡ Some i → i < length names
 place_within names name i is = where_within (λ n. bytes_eq n name) names i is
 
-same_as_itself : (kind : ItemKind) → is_same_kind kind kind ≡ true
+pub same_as_itself : (kind : ItemKind) → is_same_kind kind kind ≡ true
 same_as_itself item.Class = refl
 same_as_itself item.Procedure = refl
 same_as_itself item.Operation = refl

@@ -80,7 +80,7 @@ module _ (forms before : List (Form Text)) (form : Form Text) (typed : AreTyped 
   uses : uses_unknown items here form ≡ ((local_absent || item_absent) || uses_undeclared_field forms before form)
   uses = unknown_is_absent items here (names_and_kinds before typed) form
 
-  undeclared : uses_unknown items here form ≡ true → UsesUndeclared forms before form
+  pub undeclared : uses_unknown items here form ≡ true → UsesUndeclared forms before form
   undeclared is = go (which (local_absent || item_absent) (uses_undeclared_field forms before form) (sym uses ∙ is))
     where
       by_name : (local_absent ≡ true) ⊎ (item_absent ≡ true) → UsesUndeclared forms before form
@@ -96,7 +96,7 @@ module _ (forms before : List (Form Text)) (form : Form Text) (typed : AreTyped 
       go (inl some) = by_name (which local_absent item_absent some)
       go (inr field) = inr field
 
-  is_unknown : UsesUndeclared forms before form → uses_unknown items here form ≡ true
+  pub is_unknown : UsesUndeclared forms before form → uses_unknown items here form ≡ true
   is_unknown (inl (name, is)) = uses ∙ either_true (local_absent || item_absent) (uses_undeclared_field forms before form) (inl (either_true local_absent item_absent (go is)))
     where
       go : ((is_among (used_in local_used form) name ≡ true) × (IsDeclared before name → ⊥)) ⊎ ((is_among (used_in item_used form) name ≡ true) × (is_among (names_of items) name ≡ false)) → (local_absent ≡ true) ⊎ (item_absent ≡ true)
@@ -154,7 +154,7 @@ first_undeclared forms n typed is =
 pub all_declared : (forms : List (Form Text)) → AreTyped forms → first_unknown forms ≡ None → UsesDeclaredUpTo forms (length forms)
 all_declared forms typed none = declared_up_to forms (length forms) typed (λ m e. let clash : ⊥ = cc (none, e) in absurd clash)
 
-typed_lines : (bytes : List ℕ) → is_too_long bytes ≡ false → AreTyped (forms_of (lines_of bytes))
+pub typed_lines : (bytes : List ℕ) → is_too_long bytes ≡ false → AreTyped (forms_of (lines_of bytes))
 typed_lines bytes short = lines_typed (lines_of bytes) (lines_within 65536 bytes (at_most bytes short))
 
 pub unknown_undeclared : (bytes : List ℕ) (n : ℕ) → IsFaultOf bytes (UnknownName n) → IsFirstUndeclaredLine (forms_of (lines_of bytes)) n

@@ -9,7 +9,7 @@ use Rattle.wb_command_line.proofs.MatchesLemmas.{after_usage, fault_by, if_spell
 use Rattle.wb_command_line.proofs.command_line.command.Goals as goal
 
 pub returns-in_err-matches-clause-taken : goal.returns-in_err-matches-clause-taken
-returns-in_err-matches-clause-taken g c = λ takes_words.
+returns-in_err-matches-clause-taken g c = λ takes_words is_list.
     let words = map g.S.AsStr.text c.args.words.now in
     let line : app_of c.in_ok-parser.field-0 ≡ command_line = search rules in
     let want = c.in_err-matches.ensures.passes (ap (λ a. takes a words) line ∙ takes_words) in
@@ -45,6 +45,6 @@ returns g c =
     record {
       spelled = if_spelled words parse.matches name rows met read c.command_in.ensures.meant;
       numbers = c.command_in.ensures.numbers;
-      taken = λ takes_words. IfErr-weaker read _ _ (after_usage words parse.matches name rows met) c.command_in.ensures.fault;
+      taken = λ takes_words is_list. IfErr-weaker read _ _ (after_usage words parse.matches name rows met is_list) c.command_in.ensures.fault;
       fault = IfErr-weaker read _ _ (fault_by words parse.matches name rows met) c.command_in.ensures.fault;
     }

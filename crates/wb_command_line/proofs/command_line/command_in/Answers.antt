@@ -20,7 +20,7 @@ returns-in_err-shape-clause-fault c =
     let rows = rows_of (found_of c.args.options.now) in
     let misshapen : AreMisshapen c.args.name.now rows = record {
       command = command_with rows c.in_ok-task.task;
-      meant = record { one_rule = c.in_ok-task.ensures.alone; in_order = c.in_ok-task.ensures.ordered; meaning = ap (option_map (command_with rows)) c.in_ok-task.ensures.ok };
+      meant = record { listed = c.in_ok-task.ensures.list; one_rule = c.in_ok-task.ensures.alone; in_order = c.in_ok-task.ensures.ordered; meaning = ap (option_map (command_with rows)) c.in_ok-task.ensures.ok };
       misshapen = c.in_err-shape.ensures.misshapen;
     } in
     passed_up c.from_residual-in_err-shape.result _ (IsFaultOfOptions c.args.name.now rows) c.from_residual-in_err-shape.ensures.1
@@ -33,7 +33,7 @@ returns-in_err-check_part_of-clause-fault c =
     let shape : shape_of rows ≡ c.in_ok-shape.shape = sym c.in_ok-shape.ensures.ok in
     let reversed : AreReversed c.args.name.now rows = record {
       command = command_with rows task;
-      meant = record { one_rule = c.in_ok-task.ensures.alone; in_order = c.in_ok-task.ensures.ordered; meaning = ap (option_map (command_with rows)) c.in_ok-task.ensures.ok };
+      meant = record { listed = c.in_ok-task.ensures.list; one_rule = c.in_ok-task.ensures.alone; in_order = c.in_ok-task.ensures.ordered; meaning = ap (option_map (command_with rows)) c.in_ok-task.ensures.ok };
       shapely = ap is_sixteenfold shape ∙ shapely c.in_ok-shape.shape c.in_ok-shape.ensures.range;
       empty = c.in_err-check_part_of.ensures.empty;
     } in
@@ -44,9 +44,10 @@ pub returns-clause-meant : goal.returns-clause-meant
 returns-clause-meant c =
     let rows = rows_of (found_of c.args.options.now) in
     let task = c.in_ok-task.task in
-    let command : ◌≡◌ {A = Command} (command_with rows task) (record { task = task; file = c.in_ok-file_in.field-0; budget = c.budget_in.result; shape = c.in_ok-shape.shape; json = c.json_in.result; picture = c.in_ok-picture_in.field-0 }) =
-    λ i. record { task = task; file = sym c.in_ok-file_in.ensures i; budget = sym c.budget_in.ensures.is i; shape = sym c.in_ok-shape.ensures.ok i; json = sym c.json_in.ensures i; picture = sym c.in_ok-picture_in.ensures i } in
+    let command : ◌≡◌ {A = Command} (command_with rows task) (record { task = task; file = c.in_ok-file_in.field-0; budget = c.budget_in.result; shape = c.in_ok-shape.shape; json = c.json_in.result; picture = c.in_ok-picture_in.field-0; follow = c.follow_in.result }) =
+    λ i. record { task = task; file = sym c.in_ok-file_in.ensures i; budget = sym c.budget_in.ensures.is i; shape = sym c.in_ok-shape.ensures.ok i; json = sym c.json_in.ensures i; picture = sym c.in_ok-picture_in.ensures i; follow = sym c.follow_in.ensures.is i } in
     record {
+      listed = c.in_ok-task.ensures.list;
       one_rule = c.in_ok-task.ensures.alone;
       in_order = c.in_ok-task.ensures.ordered;
       meaning = ap (option_map (command_with rows)) c.in_ok-task.ensures.ok ∙ ap (λ x. Some x) command;

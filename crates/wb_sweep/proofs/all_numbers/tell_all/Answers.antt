@@ -1,9 +1,13 @@
 -- Proof: tell_all. What is told is of the numbers of the part, and what is found is the least bad one.
-use Rattle.std.proofs.Common.{rules, ◌≡◌, ◌++◌, Err, length, ap, ◌∙◌, sym, subst}
+use Rattle.std.proofs.Common.{rules, ◌≡◌, ◌≢◌, ◌++◌, false, Err, length, ap, ◌∙◌, sym, subst}
+use Rattle.std.proofs.lemmas.Bool.{true≢false}
 use Rattle.wb_model.specs.declared.heap.Rule.{Rule}
+use Rattle.wb_model.specs.declared.run.Outcome.TheVariants as outcomes
 use Rattle.wb_model.specs.declared.run.RunResult.{RunResult}
+use Rattle.wb_model.specs.declared.run.Why.TheVariants.{Ceiling}
 use Rattle.wb_model.specs.runs.Run.{run}
 use Rattle.wb_model.specs.runs.Sweeps.{is_cut_outcome, rule_for, rule_of, runs_of}
+use Rattle.wb_model.proofs.SameRuns.{past_the_last}
 use Rattle.wb_model.proofs.TraceLemmas.{run-numbered}
 use Rattle.wb_sweep.specs.declared.fault.SweepFault.TheVariants.{Cut}
 use Rattle.wb_sweep.specs.AllOfAPart.{line_of}
@@ -32,6 +36,9 @@ tell_later-requires-clause-told g c =
     (λ start. first.told start ∙ ap (λ ends. ends ++ line_of 0 c.in_ok-first.first) c.new-ends.ensures ∙ ap (line_of 0) ran)
     (λ later. first.later later ∙ c.new-ends.ensures)
 
+uncut-of : (result : RunResult) → is_cut_outcome result.outcome ≡ false → result.outcome ≢ outcomes.Cut Ceiling
+uncut-of result uncut e = true≢false (sym (ap is_cut_outcome e) ∙ uncut)
+
 pub returns-clause-told : goal.returns-clause-told
 returns-clause-told g c =
     let failures = c.args.failures in
@@ -52,6 +59,8 @@ returns-clause-told g c =
       bad = c.bad_count.ensures;
       found = found-first-bad failures part script budget shape ends told found is;
       none = none-is-bad failures part script budget shape ends told found is;
+      later = λ n later. past_the_last failures script budget shape n (uncut-of (runs_of failures script budget shape 0)
+          (ap (λ (r : RunResult). is_cut_outcome r.outcome) (sym ran) ∙ c.in_ok-tell_first.ensures.uncut)) later;
     }
 
 -- what is cut is the run without failure

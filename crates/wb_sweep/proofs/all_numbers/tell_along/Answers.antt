@@ -1,5 +1,5 @@
 -- Proof: tell_along. What is told as the lead goes on is of the numbers up to the attempts that it has made.
-use Rattle.std.proofs.Common.{◌≡◌, ◌+◌, ◌-◌, ◌≤◌, ◌++◌, ℕ, true, arith, length, sym, ap, ◌∙◌}
+use Rattle.std.proofs.Common.{◌≡◌, ◌+◌, ◌-◌, ◌≤◌, ◌++◌, ℕ, true, arith, length, sym, ap, ◌∙◌, IfSome}
 use Rattle.wb_model.specs.declared.heap.Rule.{Rule}
 use Rattle.wb_model.specs.declared.heap.Shape.{Shape}
 use Rattle.wb_model.specs.declared.run.RunResult.{RunResult}
@@ -9,7 +9,8 @@ use Rattle.wb_model.specs.runs.Run.{run}
 use Rattle.wb_model.specs.runs.Sweeps.{rule_of, runs_of}
 use Rattle.wb_sweep.specs.declared.family.Family.TheVariants.{Of}
 use Rattle.wb_sweep.specs.AllOfAPart.{line_of}
-use Rattle.wb_sweep.proofs.Further.{IsOfSameRun, same-runs}
+use Rattle.wb_sweep.specs.Meetings.{IsScout}
+use Rattle.wb_sweep.proofs.Further.{IsOfSameRun, of-same, same-runs, to-same}
 use Rattle.wb_sweep.proofs.TellLemmas.{lines-further, made-further}
 use Rattle.wb_sweep.proofs.all_numbers.tell_along.Goals as goal
 
@@ -58,7 +59,14 @@ loop-made-preserved g c =
           (λ e. made-further new.met_ceiling new.over made next last (λ met. so_far ∙ after.turned.made.asked e met ∙ sym here) after.turned.ceiling ended c.loop-made-test.true more)
           (λ e begun. c.in_ok-tell_next.ensures.told e begun ∙ ap (λ more. c.loop-made.ends ++ more) line)
           c.in_ok-tell_next.ensures.unasked c.in_ok-tell_next.ensures.before;
+      scout = of-same old lead same (λ (s : Script) (b : ℕ) (h : Shape). IfSome c.tell_next.new.scout (IsScout (Of failures) s b h)) c.in_ok-tell_next.ensures.scout;
     }
+
+pub tell_next-requires-clause-scout : goal.tell_next-requires-clause-scout
+tell_next-requires-clause-scout g c =
+    let before = c.loop-made.invariant in
+    let same : IsOfSameRun c.args.lead.now c.loop-made.lead = record { script = before.script; budget = before.budget; shape = before.shape } in
+    to-same c.args.lead.now c.loop-made.lead same (λ (s : Script) (b : ℕ) (h : Shape). IfSome c.loop-made.scout (IsScout (Of c.args.failures) s b h)) before.scout
 
 pub returns : goal.returns
 returns g c =

@@ -1,15 +1,17 @@
 -- Proof: find_beside. What is found with one first attempt is the least pair of the part, since those with a smaller one are fine.
-use Rattle.std.proofs.Common.{rules, ◌≡◌, ◌+◌, ◌≤◌, ℕ, true, arith, Err, IfSome, min, sym, subst, ap, ◌∙◌}
+use Rattle.std.proofs.Common.{rules, ◌≡◌, ◌+◌, ◌≤◌, ℕ, arith, Err, IfSome, min, sym, subst, ap, ◌∙◌}
 use Rattle.wb_model.specs.declared.failures.Failures.TheVariants.{Pairs, Single}
 use Rattle.wb_model.specs.declared.heap.Shape.{Shape}
 use Rattle.wb_model.specs.declared.script.Script.{Script}
 use Rattle.wb_model.specs.runs.Pairs.{failing_with, pair_run, ArePairsFineWith}
 use Rattle.wb_model.specs.runs.Parts.{last_attempt, IsNumberOf}
-use Rattle.wb_model.specs.runs.Sweeps.{is_fine, runs_of, IsCutAmong, IsFoundAmong}
+use Rattle.wb_model.specs.runs.Sweeps.{runs_of, IsCutAmong, IsFoundAmong}
 use Rattle.wb_sweep.specs.declared.fault.SweepFault.TheVariants.{Cut}
 use Rattle.wb_sweep.proofs.AnswerLemmas.{map_some, nothing}
 use Rattle.wb_sweep.proofs.FoundPairs.{pair-cut, pair-found}
-use Rattle.wb_sweep.proofs.Further.{IsOfSameRun, of-same}
+use Rattle.wb_sweep.specs.Stretches.{AreNumbersFine}
+use Rattle.wb_sweep.proofs.Further.{IsOfSameRun, of-same, to-same}
+use Rattle.wb_sweep.proofs.PairScouts.{pair-scout-back, pair-scout-there}
 use Rattle.wb_sweep.proofs.PairsFurther.{pairs-further}
 use Rattle.wb_sweep.proofs.PartFound.{number-within, within-number}
 use Rattle.wb_sweep.proofs.pairs.find_beside.Goals as goal
@@ -50,20 +52,42 @@ returns-then-is_some-clause-found g c =
     (within-number part last first is.0 (omega (arith, c.loop-part-test.true, c.attempts.ensures.so_far, made, end))) c.requires.uncut c.requires.alone
     (λ a one from less. before.fine a one from (omega (arith, less, made))) bad.at bad.result is.1) found
 
--- the run of the attempt alone is fine, where it is one of the part
-pub find_with_next-requires-clause-alone : goal.find_with_next-requires-clause-alone
-find_with_next-requires-clause-alone g c begun =
+pub find_with_next-requires-clause-scout : goal.find_with_next-requires-clause-scout
+find_with_next-requires-clause-scout g c =
     let old = c.args.lead.now in
     let lead = c.loop-part.lead in
+    let before = c.loop-part.invariant in
+    let same : IsOfSameRun old lead = record { script = before.script; budget = before.budget; shape = before.shape } in
+    pair-scout-there old lead same c.args.part c.args.last c.requires.last c.loop-part.scout before.scout
+
+pub find_with_next-requires-clause-tried : goal.find_with_next-requires-clause-tried
+find_with_next-requires-clause-tried g c begun =
+    let old = c.args.lead.now in
     let part = c.args.part in
     let last = last_attempt Pairs old.script old.budget old.shape in
-    let before = c.loop-part.invariant in
     let made = c.attempts-in-loop-part.ensures.so_far in
     let first = c.attempts-in-loop-part.result + 1 in
     let end = c.min-end.ensures ∙ ap (min part.to) c.requires.last in
-    let same : IsOfSameRun lead old = record { script = sym before.script; budget = sym before.budget; shape = sym before.shape } in
-    of-same lead old same (λ (s : Script) (b : ℕ) (h : Shape). is_fine (runs_of Single s b h first) ≡ true)
-    (c.requires.alone first (within-number part last first begun (omega (arith, c.loop-part-test.true, c.attempts.ensures.so_far, made, end))))
+    subst (λ n. IsNumberOf part n first) (sym c.requires.last)
+    (within-number part last first begun (omega (arith, c.loop-part-test.true, c.attempts.ensures.so_far, made, end)))
+
+-- the runs of the part's attempts alone are fine
+pub find_with_next-requires-clause-alone : goal.find_with_next-requires-clause-alone
+find_with_next-requires-clause-alone g c =
+    let old = c.args.lead.now in
+    let lead = c.loop-part.lead in
+    let before = c.loop-part.invariant in
+    let same : IsOfSameRun old lead = record { script = before.script; budget = before.budget; shape = before.shape } in
+    to-same old lead same (λ (s : Script) (b : ℕ) (h : Shape). AreNumbersFine (runs_of Single s b h) c.args.part c.args.last)
+    (subst (AreNumbersFine (runs_of Single old.script old.budget old.shape) c.args.part) (sym c.requires.last) c.requires.alone)
+
+pub find_with_next-requires-clause-last : goal.find_with_next-requires-clause-last
+find_with_next-requires-clause-last g c =
+    let old = c.args.lead.now in
+    let lead = c.loop-part.lead in
+    let before = c.loop-part.invariant in
+    let same : IsOfSameRun old lead = record { script = before.script; budget = before.budget; shape = before.shape } in
+    to-same old lead same (λ (s : Script) (b : ℕ) (h : Shape). c.args.last ≡ last_attempt Pairs s b h) c.requires.last
 
 pub loop-part-preserved : goal.loop-part-preserved
 loop-part-preserved g c =
@@ -84,6 +108,7 @@ loop-part-preserved g c =
       first = λ e. let begun = after.turned.begun in cc;
       well = after.turned.well;
       lines = after.same.keeps_rises ∙ before.lines;
+      scout = pair-scout-back old lead same c.args.part c.args.last c.requires.last c.find_with_next.new.scout c.in_ok-found.ensures.scout;
       fine = pairs-further (pair_run old.script old.budget old.shape) lead c.step.new.self c.args.part.from before.fine after.more after.turned.made.unasked (λ asked begun.
           subst (λ n. ArePairsFineWith (pair_run old.script old.budget old.shape) (n + 1)) made
           (of-same old lead same (λ (s : Script) (b : ℕ) (h : Shape). ArePairsFineWith (pair_run s b h) first)

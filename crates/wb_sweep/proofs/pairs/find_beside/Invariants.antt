@@ -1,10 +1,13 @@
-use Rattle.std.proofs.Common.{◌≡◌, ◌+◌, ◌-◌, ◌≤◌, false, cond}
+use Rattle.std.proofs.Common.{◌≡◌, ◌+◌, ◌-◌, ◌≤◌, false, cond, IfSome}
+use Rattle.wb_model.specs.declared.failures.Failures.TheVariants.{Pairs}
 use Rattle.wb_model.specs.declared.heap.Rule.TheVariants as rules
 use Rattle.wb_model.specs.runs.Pairs.{pair_run}
+use Rattle.wb_model.specs.runs.Parts.{last_attempt}
+use Rattle.wb_sweep.specs.Meetings.{IsPairScout}
 use Rattle.wb_sweep.proofs.PairsFurther.{ArePairsFineUpTo}
 use Rattle.wb_sweep.proofs.pairs.find_beside.Given as goal
 
--- the run is the same, without failure, and the pairs of the part whose first attempt was made so far are fine
+-- the run is the same, without failure, the scout is of that run, and the pairs of the part whose first attempt was made so far are fine
 abbrev pub invariant-loop-part : goal.invariant-loop-part
 invariant-loop-part g l =
     record {
@@ -16,6 +19,7 @@ invariant-loop-part g l =
       first : l.lead.begun ≡ false → l.lead.steps ≡ 0;
       well : l.lead.failed ≡ false;
       lines : l.lead.keeps_rises ≡ false;
+      scout : IfSome l.scout (IsPairScout l.fn.lead l.fn.part (last_attempt Pairs l.fn.lead.script l.fn.lead.budget l.fn.lead.shape));
       fine : ArePairsFineUpTo (pair_run l.fn.lead.script l.fn.lead.budget l.fn.lead.shape) l.fn.part.from l.lead.attempts;
     }
 

@@ -1,4 +1,4 @@
-use Rattle.std.proofs.Common.{◌≡◌, Err, None, IfOk, IfSome, sym, subst}
+use Rattle.std.proofs.Common.{rules, ◌≡◌, Err, None, Some, IfOk, IfSome, ap, ◌∙◌, sym, subst}
 use Rattle.wb_machine.specs.Seen.{Seen}
 use Rattle.wb_model.specs.declared.failures.Failing.{Failing}
 use Rattle.wb_model.specs.declared.failures.Failures.TheVariants.{Pairs, Single}
@@ -8,12 +8,35 @@ use Rattle.wb_model.specs.runs.Parts.{last_attempt, IsFoundIn, IsLeastCutIn}
 use Rattle.wb_model.specs.runs.Sweeps.{runs_of}
 use Rattle.wb_sweep.specs.declared.fault.SweepFault.TheVariants.{Cut}
 use Rattle.wb_sweep.specs.Stretches.{AreNumbersFine, ArePairsFineOf}
+use Rattle.wb_sweep.specs.Meetings.{IsKnown, IsPairScout}
+use Rattle.wb_sweep.proofs.AnswerLemmas.{map_some}
 use Rattle.wb_sweep.proofs.pairs.find_pair.Goals as goal
 
 pub find_beside-requires-clause-alone : goal.find_beside-requires-clause-alone
 find_beside-requires-clause-alone g c =
     subst (λ (s : Seen). AreNumbersFine (runs_of Single s.script s.budget s.shape) c.args.part (last_attempt Pairs s.script s.budget s.shape))
     (sym c.in_ok-lead.ensures.seen) c.requires.alone
+
+pub find_beside-requires-clause-scout : goal.find_beside-requires-clause-scout
+find_beside-requires-clause-scout g c =
+    let is : IfSome c.in_ok-scout.scout (λ s. (c.args.known ≡ Some s.known) × (s.machine ≡ c.in_ok-lead.lead) × (s.budget ≡ c.args.budget)) = search rules in
+    map_some c.in_ok-scout.scout (λ s made.
+    let known : IsKnown (runs_of Single c.args.script.now c.args.budget c.args.shape) c.args.part (last_attempt Pairs c.args.script.now c.args.budget c.args.shape) s.known =
+    subst (λ k. IfSome k (IsKnown (runs_of Single c.args.script.now c.args.budget c.args.shape) c.args.part (last_attempt Pairs c.args.script.now c.args.budget c.args.shape)))
+    made.0 c.requires.known in
+    subst (λ (m : Seen). IsPairScout m c.args.part (last_attempt Pairs m.script m.budget m.shape) s) (sym c.in_ok-lead.ensures.seen)
+    (record {
+      along = record {
+        rule = ap (λ (m : Seen). m.rule) (made.1 ∙ c.in_ok-lead.ensures.seen);
+        same_script = ap (λ (m : Seen). m.script) (made.1 ∙ c.in_ok-lead.ensures.seen);
+        same_budget = ap (λ (m : Seen). m.budget) (made.1 ∙ c.in_ok-lead.ensures.seen);
+        same_shape = ap (λ (m : Seen). m.shape) (made.1 ∙ c.in_ok-lead.ensures.seen);
+        lines = ap (λ (m : Seen). m.keeps_rises) (made.1 ∙ c.in_ok-lead.ensures.seen);
+        allowed = made.2;
+        known = known.first;
+      };
+      steps = known.within;
+    })) is
 
 pub returns-clause-none : goal.returns-clause-none
 returns-clause-none g c =

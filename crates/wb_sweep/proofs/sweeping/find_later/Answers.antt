@@ -1,31 +1,23 @@
--- Proof: find_later. Where nothing is found in order there is nothing, but for pairs, which come next.
-use Rattle.std.proofs.Common.{rules, ◌≡◌, Err, None, subst, sym}
+-- Proof: find_later. Where no number of the part shows anything there is nothing, but for pairs, which come next.
+use Rattle.std.proofs.Common.{rules, ◌≡◌, Err, IfSome, subst, sym, ◌∙◌}
 use Rattle.wb_model.specs.declared.failures.Failures.{Failures}
-use Rattle.wb_model.specs.runs.Parts.{last_attempt, IsFoundIn, IsLeastCutIn, IsNoneIn, IsUncut}
+use Rattle.wb_model.specs.runs.Parts.{last_attempt, IsLeastCutIn, IsNoneIn, IsUncut}
 use Rattle.wb_model.specs.runs.Sweeps.{runs_of}
 use Rattle.wb_sweep.specs.declared.fault.SweepFault.TheVariants.{Cut}
+use Rattle.wb_sweep.specs.Meetings.{IsKnown}
 use Rattle.wb_sweep.specs.Stretches.{AreNumbersFine}
-use Rattle.wb_sweep.proofs.AnswerLemmas.{map_ok, map_some}
+use Rattle.wb_sweep.proofs.AnswerLemmas.{map_ok, nothing}
 use Rattle.wb_sweep.proofs.PartFound.{none-pairs, none-rates, none-single}
 use Rattle.wb_sweep.proofs.sweeping.find_later.Goals as goal
 
 pub returns-in_err-found-clause-cut : goal.returns-in_err-found-clause-cut
 returns-in_err-found-clause-cut g c at why e =
-    let is : c.find_in_order.result ≡ Err (Cut at why) = search rules in
-    c.find_in_order.ensures.cut at why is
-
-pub find_pair-requires-clause-uncut : goal.find_pair-requires-clause-uncut
-find_pair-requires-clause-uncut g c = subst (λ (f : Failures). IsUncut f c.args.script.now c.args.budget c.args.shape) c.in-Pairs.is c.requires.uncut
-
-pub find_pair-requires-clause-alone : goal.find_pair-requires-clause-alone
-find_pair-requires-clause-alone g c =
-    let none : c.in_ok-found.field-0 ≡ None = search rules in
-    subst (λ (f : Failures). AreNumbersFine (runs_of f c.args.script.now c.args.budget c.args.shape) c.args.part (last_attempt f c.args.script.now c.args.budget c.args.shape))
-    c.in-Pairs.is (c.in_ok-found.ensures.fine none)
+    let is : c.try_numbers.result ≡ Err (Cut at why) = search rules in
+    c.try_numbers.ensures.cut at why is
 
 pub returns-in-Single-clause-none : goal.returns-in-Single-clause-none
 returns-in-Single-clause-none g c e =
-    let none : c.in_ok-found.field-0 ≡ None = search rules in
+    let none = nothing c.in_ok-found.field-0.found (sym c.is_some.ensures ∙ c.if-is_some.false) in
     let uncut = subst (λ (f : Failures). IsUncut f c.args.script.now c.args.budget c.args.shape) c.in-Single.is c.requires.uncut in
     let fine = subst (λ (f : Failures). AreNumbersFine (runs_of f c.args.script.now c.args.budget c.args.shape) c.args.part (last_attempt f c.args.script.now c.args.budget c.args.shape))
     c.in-Single.is (c.in_ok-found.ensures.fine none) in
@@ -34,16 +26,29 @@ returns-in-Single-clause-none g c e =
 
 pub returns-in-Every-clause-none : goal.returns-in-Every-clause-none
 returns-in-Every-clause-none g c e =
-    let none : c.in_ok-found.field-0 ≡ None = search rules in
+    let none = nothing c.in_ok-found.field-0.found (sym c.is_some.ensures ∙ c.if-is_some.false) in
     let uncut = subst (λ (f : Failures). IsUncut f c.args.script.now c.args.budget c.args.shape) c.in-Every.is c.requires.uncut in
     let fine = subst (λ (f : Failures). AreNumbersFine (runs_of f c.args.script.now c.args.budget c.args.shape) c.args.part (last_attempt f c.args.script.now c.args.budget c.args.shape))
     c.in-Every.is (c.in_ok-found.ensures.fine none) in
     subst (λ (f : Failures). IsNoneIn f c.args.part c.args.script.now c.args.budget c.args.shape) (sym c.in-Every.is)
     (none-rates c.args.part c.args.script.now c.args.budget c.args.shape uncut fine)
 
-pub returns-in-Pairs-clause-none : goal.returns-in-Pairs-clause-none
-returns-in-Pairs-clause-none g c =
-    let none : c.in_ok-found.field-0 ≡ None = search rules in
+pub find_pair-requires-clause-alone : goal.find_pair-requires-clause-alone
+find_pair-requires-clause-alone g c =
+    let none = nothing c.in_ok-found.field-0.found (sym c.is_some.ensures ∙ c.if-is_some.false) in
+    subst (λ (f : Failures). AreNumbersFine (runs_of f c.args.script.now c.args.budget c.args.shape) c.args.part (last_attempt f c.args.script.now c.args.budget c.args.shape))
+    c.in-Pairs.is (c.in_ok-found.ensures.fine none)
+
+pub find_pair-requires-clause-known : goal.find_pair-requires-clause-known
+find_pair-requires-clause-known g c =
+    let none = nothing c.in_ok-found.field-0.found (sym c.is_some.ensures ∙ c.if-is_some.false) in
+    subst (λ (f : Failures). IfSome c.in_ok-found.field-0.known
+    (IsKnown (runs_of f c.args.script.now c.args.budget c.args.shape) c.args.part (last_attempt f c.args.script.now c.args.budget c.args.shape)))
+    c.in-Pairs.is (c.in_ok-found.ensures.known none)
+
+pub returns-clause-none : goal.returns-clause-none
+returns-clause-none g c =
+    let none = nothing c.in_ok-found.field-0.found (sym c.is_some.ensures ∙ c.if-is_some.false) in
     let uncut = subst (λ (f : Failures). IsUncut f c.args.script.now c.args.budget c.args.shape) c.in-Pairs.is c.requires.uncut in
     let fine = subst (λ (f : Failures). AreNumbersFine (runs_of f c.args.script.now c.args.budget c.args.shape) c.args.part (last_attempt f c.args.script.now c.args.budget c.args.shape))
     c.in-Pairs.is (c.in_ok-found.ensures.fine none) in
@@ -51,11 +56,6 @@ returns-in-Pairs-clause-none g c =
     subst (λ (f : Failures). IsNoneIn f c.args.part c.args.script.now c.args.budget c.args.shape) (sym c.in-Pairs.is)
     (none-pairs c.args.part c.args.script.now c.args.budget c.args.shape uncut fine (pairs nothing))) c.find_pair.ensures.none
 
-pub returns-in-Pairs-clause-found : goal.returns-in-Pairs-clause-found
-returns-in-Pairs-clause-found g c =
-    map_ok c.find_pair.result (λ found. map_some found (λ bad is.
-    subst (λ (f : Failures). IsFoundIn f c.args.part c.args.script.now c.args.budget c.args.shape bad.at bad.result) (sym c.in-Pairs.is) is)) c.find_pair.ensures.found
-
-pub returns-in-Pairs-clause-cut : goal.returns-in-Pairs-clause-cut
-returns-in-Pairs-clause-cut g c at why e =
+pub returns-clause-cut : goal.returns-clause-cut
+returns-clause-cut g c at why e =
     subst (λ (f : Failures). IsLeastCutIn f c.args.part c.args.script.now c.args.budget c.args.shape at why) (sym c.in-Pairs.is) (c.find_pair.ensures.cut at why e)

@@ -1,15 +1,19 @@
 -- Proof: find_among. What is found as the lead goes on is the least, since those before are fine.
-use Rattle.std.proofs.Common.{rules, ◌≡◌, ◌⊎◌, ◌+◌, ◌≤◌, Result, Option, Err, IfErr, inl, inr, arith, sym, ◌∙◌, ap, subst}
+use Rattle.std.proofs.Common.{rules, ◌≡◌, ◌⊎◌, ◌+◌, ◌≤◌, ℕ, Result, Option, Err, IfErr, IfSome, inl, inr, arith, sym, ◌∙◌, ap, subst}
+use Rattle.wb_model.specs.declared.heap.Shape.{Shape}
 use Rattle.wb_model.specs.declared.run.Outcome.TheVariants as outcomes
 use Rattle.wb_model.specs.declared.run.RunResult.{RunResult}
 use Rattle.wb_model.specs.declared.run.Why.{Why}
+use Rattle.wb_model.specs.declared.script.Script.{Script}
 use Rattle.wb_model.specs.runs.Run.{is_bad}
 use Rattle.wb_sweep.specs.declared.fault.SweepFault.{SweepFault}
 use Rattle.wb_sweep.specs.declared.fault.SweepFault.TheVariants.{Cut, NoMemory}
 use Rattle.wb_sweep.specs.declared.found.Found.{Found}
+use Rattle.wb_sweep.specs.Meetings.{IsScout}
 use Rattle.wb_sweep.specs.Families.{next_failing, next_run}
 use Rattle.wb_sweep.proofs.AnswerLemmas.{map_some, nothing}
-use Rattle.wb_sweep.proofs.Further.{IsOfSameRun, fine-further, same-runs}
+use Rattle.wb_sweep.proofs.Further.{IsOfSameRun, fine-further, of-same, same-runs, to-same}
+use Rattle.wb_sweep.proofs.StepsFurther.{steps-further}
 use Rattle.wb_sweep.proofs.walk.find_among.Goals as goal
 
 pub loop-family-preserved : goal.loop-family-preserved
@@ -30,7 +34,17 @@ loop-family-preserved g c =
       lines = after.same.keeps_rises ∙ before.lines;
       fine = fine-further c.args.family c.args.lead.now c.loop-family.lead c.step.new.self c.args.from same before.fine after.more after.turned.made.unasked
           (λ asked begun. c.in_ok-found.ensures.fine none asked (omega (arith, begun, made)));
+      scout = of-same c.args.lead.now c.loop-family.lead same (λ (s : Script) (b : ℕ) (h : Shape). IfSome c.try_next.new.scout (IsScout c.args.family s b h))
+          (c.in_ok-found.ensures.scout none);
+      steps = steps-further c.args.family c.args.lead.now c.loop-family.lead c.step.new.self c.args.from c.loop-family.scout c.try_next.new.scout same before.steps after.more
+          after.turned.made.unasked (c.in_ok-found.ensures.kept none) (λ asked begun. c.in_ok-found.ensures.learned none asked (omega (arith, begun, made)));
     }
+
+pub try_next-requires-clause-scout : goal.try_next-requires-clause-scout
+try_next-requires-clause-scout g c =
+    let before = c.loop-family.invariant in
+    let same : IsOfSameRun c.args.lead.now c.loop-family.lead = record { script = before.script; budget = before.budget; shape = before.shape } in
+    to-same c.args.lead.now c.loop-family.lead same (λ (s : Script) (b : ℕ) (h : Shape). IfSome c.loop-family.scout (IsScout c.args.family s b h)) before.scout
 
 pub returns-then-is_some-clause-found : goal.returns-then-is_some-clause-found
 returns-then-is_some-clause-found g c =

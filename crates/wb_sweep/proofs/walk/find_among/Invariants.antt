@@ -1,9 +1,11 @@
-use Rattle.std.proofs.Common.{◌≡◌, ◌+◌, ◌-◌, ◌≤◌, false, cond}
+use Rattle.std.proofs.Common.{◌≡◌, ◌+◌, ◌-◌, ◌≤◌, false, cond, IfSome}
 use Rattle.wb_sweep.specs.Families.{rule_in, runs_beside}
+use Rattle.wb_sweep.specs.Meetings.{IsScout, KnowsSteps}
 use Rattle.wb_sweep.specs.Stretches.{AreFineFrom}
 use Rattle.wb_sweep.proofs.walk.find_among.Given as goal
 
--- the run is the same, under the family's failure 0, and the failures up to the number of attempts made so far are fine
+-- the run is the same, under the family's failure 0, the failures up to the number of attempts made so far are fine, and the scout is
+-- of that run and knows how many steps they take at most
 abbrev pub invariant-loop-family : goal.invariant-loop-family
 invariant-loop-family g l =
     record {
@@ -16,6 +18,8 @@ invariant-loop-family g l =
       well : l.lead.failed ≡ false;
       lines : l.lead.keeps_rises ≡ false;
       fine : AreFineFrom (runs_beside l.fn.family l.fn.lead) l.fn.from (l.lead.attempts + 1);
+      scout : IfSome l.scout (IsScout l.fn.family l.fn.lead.script l.fn.lead.budget l.fn.lead.shape);
+      steps : KnowsSteps (runs_beside l.fn.family l.fn.lead) l.fn.from (l.lead.attempts + 1) l.scout;
     }
 
 -- the steps that are left, the first turn, and the end

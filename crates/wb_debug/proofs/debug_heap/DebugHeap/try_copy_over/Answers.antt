@@ -1,4 +1,5 @@
 use Rattle.std.proofs.Common.{sym, subst}
+use Rattle.wb_model.specs.declared.heap.Rule.{Rule}
 use Rattle.wb_model.specs.heap.LimitedHeap.{LimitedHeap}
 use Rattle.wb_debug.specs.Debug.{IsKept}
 use Rattle.wb_debug.specs.Log.{Log}
@@ -9,6 +10,7 @@ use Rattle.wb_debug.proofs.debug_heap.DebugHeap.try_copy_over.Goals as goal
 pub invariant_of-result : goal.invariant_of-result
 invariant_of-result c =
     let i = c.self.inside in
-    subst (λ (h : LimitedHeap). IsKept (record i { heap = h; log = c.in_ok-try_copy.field-0; tally = c.copy.result })) (sym c.in_ok-try_copy_over.ensures)
-    (subst (λ (l : Log). IsKept (record i { log = l; tally = c.copy.result })) (sym c.in_ok-try_copy.ensures)
-    (subst (λ (t : Tally). IsKept (record i { tally = t })) (sym c.copy.ensures) c.self.invariant))
+    subst (λ (h : LimitedHeap). IsKept (record i { heap = h; rule = c.in_ok-try_copy.field-0; log = c.in_ok-try_copy-2.field-0; tally = c.copy.result })) (sym c.in_ok-try_copy_over.ensures)
+    (subst (λ (r : Rule). IsKept (record i { rule = r; log = c.in_ok-try_copy-2.field-0; tally = c.copy.result })) (sym c.in_ok-try_copy.ensures)
+    (subst (λ (l : Log). IsKept (record i { log = l; tally = c.copy.result })) (sym c.in_ok-try_copy-2.ensures)
+    (subst (λ (t : Tally). IsKept (record i { tally = t })) (sym c.copy.ensures) c.self.invariant)))

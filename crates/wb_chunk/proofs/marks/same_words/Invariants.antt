@@ -1,0 +1,6 @@
+-- The words before this one are the same.
+use Rattle.wb_chunk.specs.Marks.{AreSameWords}
+use Rattle.wb_chunk.proofs.marks.same_words.Given as goal
+
+abbrev pub invariant-loop-i : goal.invariant-loop-i
+invariant-loop-i l = AreSameWords l.words l.others l.first l.i

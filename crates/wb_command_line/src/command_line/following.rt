@@ -1,0 +1,87 @@
+//! The options of `run` that ask for its steps, and what they spell.
+
+ghost use Rattle.std.specs.Prelude.{◌≡◌, ◌≤◌, IfOk, IfSome, codes, false};
+ghost use Rattle.clap.specs.Words.{app_of, found_of, rows_of, rule_of};
+ghost use Rattle.clap.specs.declared.builder.command.Command.TheViews.{out-Command as fields_of};
+ghost use Rattle.wb_command_line.specs.CommandLine.{follow_flag, following_options, joined_level, with_rules};
+ghost use Rattle.wb_command_line.specs.Passed.{RowsPass};
+ghost use Rattle.wb_command_line.specs.Spelled.{flag_of, follow_of, followed_of};
+
+use crate::command_line::number_help::NumberHelp;
+use crate::command_line::parser::{NumberOption, with_argument, with_numbers};
+use clap::{Arg, ArgAction, ArgMatches};
+use std::alloc::{AllocError, Global};
+
+/// How many of the first steps are followed, and how many of the last, if no number is given.
+pub const DEFAULT_FOLLOWED: u32 = 1000;
+
+/// The greatest such number.
+pub const MOST_FOLLOWED: u32 = 1_000_000;
+
+/// The subcommand with the options that ask for the steps of its run.
+pub(super) fn with_following<'a>(
+    alloc: Global,
+    line: clap::Command<'a>,
+    help: &'a NumberHelp,
+) -> Result<clap::Command<'a>, AllocError>
+    ensures added { IfOk result
+        (λ more. app_of more ≡ with_rules (app_of line.entry) following_options) }
+    ensures own { IfOk result
+        (λ more. (fields_of more).has_globals ≡ (fields_of line.entry).has_globals) }
+{
+    let line = with_argument(line, follow(alloc))?;
+    with_numbers(
+        alloc,
+        line,
+        &[NumberOption {
+            name: "follow-steps",
+            value: "N",
+            least: 1,
+            most: MOST_FOLLOWED,
+            help: help.follow_steps.as_str(),
+        }],
+    )
+}
+
+/// The flag that asks for the steps.
+fn follow<'a>(alloc: Global) -> Arg<'a>
+    ensures rule { rule_of result ≡ follow_flag }
+    ensures own { result.global ≡ false }
+{
+    Arg::new(alloc, "follow")
+        .long("follow")
+        .action(ArgAction::SetTrue)
+        .help("Writes each step of the run to standard error, with what it does")
+}
+
+/// How many of the first steps, and of the last, the options ask for; `None` if they ask for none. A number alone asks for none.
+pub(super) fn follow_in(options: &ArgMatches) -> Option<u32>
+    requires { RowsPass joined_level.rules (rows_of (found_of options.now)) }
+    ensures is { result ≡ follow_of (rows_of (found_of options.now)) }
+    ensures range { IfSome result (λ steps. (1 ≤ steps) × (steps ≤ MOST_FOLLOWED)) }
+{
+    let steps = followed_in(options);
+    if follows_in(options) {
+        Some(steps)
+    } else {
+        None
+    }
+}
+
+/// Whether they ask for steps.
+fn follows_in(options: &ArgMatches) -> bool
+    requires { RowsPass joined_level.rules (rows_of (found_of options.now)) }
+    ensures { result ≡ flag_of (codes "follow") (rows_of (found_of options.now)) }
+{
+    options.get_flag("follow")
+}
+
+/// The number that they give, or the default.
+fn followed_in(options: &ArgMatches) -> u32
+    requires { RowsPass joined_level.rules (rows_of (found_of options.now)) }
+    ensures is { result ≡ followed_of (rows_of (found_of options.now)) }
+    ensures least { 1 ≤ result }
+    ensures most { result ≤ MOST_FOLLOWED }
+{
+    options.get_one("follow-steps").unwrap_or(DEFAULT_FOLLOWED)
+}

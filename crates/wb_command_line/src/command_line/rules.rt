@@ -1,0 +1,100 @@
+//! The rule that the options of `run` spell.
+
+ghost use Rattle.std.specs.Prelude.{◌≡◌, ◌≢◌, IfErr, IfOk, IsTrue, OnErr, OnOk, false, true};
+ghost use Rattle.clap.specs.Words.{found_of, rows_of};
+ghost use Rattle.wb_command_line.specs.Command.{is_in_range};
+ghost use Rattle.wb_command_line.specs.CommandLine.{joined_level};
+ghost use Rattle.wb_command_line.specs.Fault.{IsFaultOfRule};
+ghost use Rattle.wb_command_line.specs.Passed.{RowsPass};
+ghost use Rattle.wb_command_line.specs.Spelled.{IsPairOf, comes_before, first_rule_of, gives_disorder, gives_no_list};
+ghost use Rattle.wb_command_line.specs.Spelled.{gives_several, gives_several_numbers, numbered_rule_of};
+ghost use Rattle.wb_command_line.specs.Spelled.{rule_of as spelled_rule};
+
+use crate::command::{CommandFault, Task};
+use crate::command_line::set_list::set_in;
+use clap::ArgMatches;
+use std::alloc::Global;
+use wb_model::heap::{Numbers, Rule};
+
+/// The rule that the options of `run` spell, or `Usage`, `Both` or `Also`.
+pub(super) fn rule_in(alloc: Global, options: &ArgMatches) -> Result<Rule, CommandFault>
+    requires { RowsPass joined_level.rules (rows_of (found_of options.now)) }
+    ensures ok { IfOk result (λ rule. rule ≡ spelled_rule (rows_of (found_of options.now))) }
+    ensures range { IfOk result (λ rule. IsTrue (is_in_range (Task.Run rule))) }
+    ensures list { OnOk result (gives_no_list (rows_of (found_of options.now)) ≡ false) }
+    ensures alone { OnOk result (gives_several (rows_of (found_of options.now)) ≡ false) }
+    ensures ordered { OnOk result (gives_disorder (rows_of (found_of options.now)) ≡ false) }
+    ensures fault { IfErr result (IsFaultOfRule (rows_of (found_of options.now))) }
+{
+    let first = first_rule_in(alloc, options)?;
+    match options.get_one::<u32>("also") {
+        None => Ok(first),
+        Some(second) => with_second(first, second),
+    }
+}
+
+/// The rule that these options spell without `--also`, or `Usage` or `Both`.
+fn first_rule_in(alloc: Global, options: &ArgMatches) -> Result<Rule, CommandFault>
+    requires { RowsPass joined_level.rules (rows_of (found_of options.now)) }
+    ensures ok { IfOk result (λ rule. rule ≡ first_rule_of (rows_of (found_of options.now))) }
+    ensures range { IfOk result (λ rule. IsTrue (is_in_range (Task.Run rule))) }
+    ensures list { OnOk result (gives_no_list (rows_of (found_of options.now)) ≡ false) }
+    ensures alone { OnOk result (gives_several (rows_of (found_of options.now)) ≡ false) }
+    ensures fault { IfErr result (IsFaultOfRule (rows_of (found_of options.now))) }
+{
+    let set = set_in(alloc, options)?;
+    let numbered = numbered_rule_in(options)?;
+    match set {
+        None => Ok(numbered),
+        Some(numbers) => with_set(numbered, numbers),
+    }
+}
+
+/// The rule by which the attempts of a set fail, or `Both` if there is another.
+fn with_set(other: Rule, numbers: Numbers) -> Result<Rule, CommandFault>
+    ensures ok { IfOk result (λ rule. rule ≡ Rule.Set numbers) }
+    ensures alone { OnOk result (other ≡ Rule.Unlimited) }
+    ensures fault { IfErr result (λ fault. fault ≡ CommandFault.Both) }
+    ensures both { OnErr result (other ≢ Rule.Unlimited) }
+{
+    match other {
+        Rule::Unlimited => Ok(Rule::Set(numbers)),
+        _ => Err(CommandFault::Both),
+    }
+}
+
+/// The rule that these options spell without `--also` and `--set`, or `Both`.
+fn numbered_rule_in(options: &ArgMatches) -> Result<Rule, CommandFault>
+    requires { RowsPass joined_level.rules (rows_of (found_of options.now)) }
+    ensures ok { IfOk result (λ rule. rule ≡ numbered_rule_of (rows_of (found_of options.now))) }
+    ensures range { IfOk result (λ rule. IsTrue (is_in_range (Task.Run rule))) }
+    ensures alone { OnOk result (gives_several_numbers (rows_of (found_of options.now)) ≡ false) }
+    ensures fault { IfErr result (λ fault. fault ≡ CommandFault.Both) }
+    ensures both { OnErr result (gives_several_numbers (rows_of (found_of options.now)) ≡ true) }
+{
+    match (
+        options.get_one::<u32>("limit"),
+        options.get_one::<u32>("fail"),
+        options.get_one::<u32>("every"),
+    ) {
+        (None, None, None) => Ok(Rule::Unlimited),
+        (Some(limit), None, None) => Ok(Rule::Limit(limit)),
+        (None, Some(number), None) => Ok(Rule::Number(number)),
+        (None, None, Some(rate)) => Ok(Rule::Every(rate)),
+        (Some(_), Some(_), _) => Err(CommandFault::Both),
+        (Some(_), None, Some(_)) => Err(CommandFault::Both),
+        (None, Some(_), Some(_)) => Err(CommandFault::Both),
+    }
+}
+
+/// The rule by which the attempt with a second number fails as well, or `Also`.
+fn with_second(first: Rule, second: u32) -> Result<Rule, CommandFault>
+    ensures ok { IfOk result (IsPairOf first second) }
+    ensures fault { IfErr result (λ fault. fault ≡ CommandFault.Also) }
+    ensures disordered { OnErr result (comes_before first second ≡ false) }
+{
+    match first {
+        Rule::Number(number) if 1 <= number && number < second => Ok(Rule::Pair(number, second)),
+        _ => Err(CommandFault::Also),
+    }
+}

@@ -1,0 +1,38 @@
+//! How a run ends, in the words of explanations.
+
+use crate::runs::counts::Many;
+use std::fmt;
+use std::fmt::{Display, Formatter, Write};
+use wb_model::heap::Panic;
+use wb_model::run_end::RunEnd;
+
+/// A panic as the report names it.
+#[derive(Clone, Copy)]
+pub struct PanicName(pub Panic);
+
+impl Display for PanicName {
+    fn fmt<W: Write>(&self, f: &mut Formatter<W>) -> fmt::Result {
+        match self.0 {
+            Panic::User(code) => write!(f, "panic USER {code}"),
+            Panic::Alloc(place) => write!(f, "panic ALLOC {place:08x}"),
+            Panic::Workbench(code) => write!(f, "panic WORKBENCH {code}"),
+        }
+    }
+}
+
+/// How a run ends that leaks or panics; nothing of another.
+#[derive(Clone, Copy)]
+pub struct EndInWords(pub RunEnd);
+
+impl Display for EndInWords {
+    fn fmt<W: Write>(&self, f: &mut Formatter<W>) -> fmt::Result {
+        match self.0 {
+            RunEnd::Leaked(count) => {
+                let cells = Many(i64::try_from(count).unwrap_or(i64::MAX), "cell");
+                write!(f, "leaks {cells}")
+            }
+            RunEnd::Panicked(panic) => write!(f, "ends with {}", PanicName(panic)),
+            RunEnd::NoCleanup | RunEnd::Left(_) | RunEnd::Plain | RunEnd::Cut(_) => Ok(()),
+        }
+    }
+}

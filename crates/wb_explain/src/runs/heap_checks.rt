@@ -1,0 +1,105 @@
+//! What is said of a check of the heap that failed: how many cells it was to find and found, each of them with the line that made it,
+//! and which attempts failed by the script's own setting.
+
+use crate::runs::counts::{Many, of_one_or_more};
+use crate::runs::panics::Meaning;
+use crate::runs::script_page::{ScriptPage, Written};
+use std::fmt;
+use std::fmt::{Display, Formatter, Write};
+use wb_history::{Counted, WatchedRun};
+use wb_model::heap::Answer;
+
+/// The most cells and attempts that are told of.
+const MOST_ROWS: usize = 20;
+
+/// What a check of the heap means that found another number of cells, and what to look for.
+pub fn meaning_of_check(counted: &Counted) -> Meaning {
+    if i64::from(counted.found) > i64::from(counted.expected) {
+        (
+            "",
+            "free each cell that isn't meant to stay before the check",
+        )
+    } else {
+        (
+            "",
+            "look for a cell that was refused, freed too early, or made before the mark",
+        )
+    }
+}
+
+/// Says how many cells a check was to find, and how many it found.
+pub fn put_counts(page: &mut ScriptPage<'_>, counted: &Counted) {
+    let (expected, found) = (i64::from(counted.expected), i64::from(counted.found));
+    let cells = Many(expected, "cell");
+    let are = of_one_or_more(expected, "is", "are");
+    let were = of_one_or_more(found, "was", "were");
+    page.page.write(format_args!("{cells} {are} expected, but {found} {were} found"));
+}
+
+/// The place of a counted cell. That of the lowest is the panic's number, which is in hexadecimal.
+#[derive(Clone, Copy)]
+struct CountedPlace {
+    place: u32,
+    is_lowest: bool,
+}
+
+impl Display for CountedPlace {
+    fn fmt<W: Write>(&self, f: &mut Formatter<W>) -> fmt::Result {
+        let place = self.place;
+        if self.is_lowest && place > 9 {
+            write!(f, "{place}, which is {place:x} in hexadecimal")
+        } else {
+            write!(f, "{place}")
+        }
+    }
+}
+
+/// Tells which line made each cell that a check counted, and which attempts failed by the script's own setting.
+pub fn put_counted(page: &mut ScriptPage<'_>, counted: &Counted, run: &WatchedRun<'_>) -> Written {
+    for cell in counted.cells.iter().take(MOST_ROWS) {
+        let Some(life) = run.history.lives.find(*cell) else {
+            continue;
+        };
+        let (at, made) = match (life.grown.is_some(), life.is_reallocated) {
+            (true, _) => (life.grown, "made, moved or grown"),
+            (false, true) => (life.made, "made, moved or grown"),
+            (false, false) => (life.made, "made"),
+        };
+        let length = life.length;
+        let place = CountedPlace {
+            place: cell.place,
+            is_lowest: counted.lowest() == Some(*cell),
+        };
+        page.mark_word(
+            at.number(),
+            1,
+            format_args!("counted: a cell that was {made} here: {length} bytes at place {place}"),
+        )?;
+    }
+    let more = (counted.found as usize).saturating_sub(MOST_ROWS);
+    if more > 0 {
+        page.page
+            .write_file_message(format_args!("and {more} more"));
+    }
+    put_failed_by_script(page, run)
+}
+
+/// Tells which attempts failed by the script's own setting, if the rule names none.
+fn put_failed_by_script(page: &mut ScriptPage<'_>, run: &WatchedRun<'_>) -> Written {
+    let failed = run.history.attempts.failed_counts();
+    if failed.by_rule > 0 || failed.by_script == 0 {
+        return Ok(());
+    }
+    let mut told = 0;
+    for made in run.history.attempts.kept_attempts() {
+        if made.attempt.answer == Answer::Simulated && told < MOST_ROWS {
+            told = told.saturating_add(1);
+            let number = made.attempt.number;
+            page.mark(
+                made.maker.line,
+                format_args!("attempt {number} failed here by the script's own setting"),
+            )?;
+        }
+    }
+    Ok(())
+}

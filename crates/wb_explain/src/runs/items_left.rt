@@ -1,0 +1,179 @@
+//! What is said of the cleanup stack where a panic is about its items: those that are left, those that were to be popped, and the one
+//! on top.
+
+use crate::runs::counts::{Many, of_one_or_more};
+use crate::runs::panics::Meaning;
+use crate::runs::paths::AfterLine;
+use crate::runs::script_page::{ScriptPage, Written};
+use wb_history::{BodyKind, ItemOnStack, WatchedRun};
+use wb_machine::{Raised, Raiser};
+use wb_model::heap::Panic;
+
+/// The most items that are told of.
+const MOST_ITEMS: usize = 5;
+
+/// What to do about items that are left.
+pub const POP_FIRST: &str = "pop what was pushed, with `pop` or `popdestroy`, before the TRAP ends";
+
+/// What the panic means that the end of `main` raised.
+pub const OF_MAIN: Meaning = (
+    "",
+    "pop what was pushed, with `pop` or `popdestroy`, before `main` ends",
+);
+
+/// Says that a TRAP, or `main`, ended with items on its cleanup stack.
+pub fn put_items_left(page: &mut ScriptPage<'_>, raised: Raised, run: &WatchedRun<'_>) {
+    match (raised.raiser, run.history.traps.last_ended()) {
+        (Raiser::TrapEnd, Some(trap)) => {
+            page.page
+                .write(format_args!("the TRAP of line {}", trap.line));
+        }
+        (Raiser::TrapEnd, None) => page.page.write_text("the TRAP"),
+        _ => page.page.write_text("`main`"),
+    }
+    let count = i64::try_from(items_left(raised, run).len()).unwrap_or(i64::MAX);
+    let items = Many(count, "item");
+    page.page.write(format_args!(" ended after this line with {items} still on its cleanup stack"));
+}
+
+/// Says how many items were to be popped, and how many there are.
+pub fn put_too_many(page: &mut ScriptPage<'_>, wanted: i32, run: &WatchedRun<'_>) {
+    let count = i64::from(wanted);
+    let open = run.history.traps.open_traps().last();
+    let floor = open.map_or(0, |trap| trap.items);
+    let there = run.history.items.count().saturating_sub(floor);
+    let (items, were) = (Many(count, "item"), of_one_or_more(count, "was", "were"));
+    page.page.write(format_args!("{items} {were} to be popped, but the cleanup stack has {there}"));
+    if let Some(trap) = open {
+        page.page
+            .write(format_args!(" since the TRAP of line {}", trap.line));
+    }
+}
+
+/// Says that the newest item isn't the one that was to be popped.
+pub fn put_another(page: &mut ScriptPage<'_>, line: u32, run: &WatchedRun<'_>) {
+    let name = page.word(line, 1);
+    page.page.write(format_args!("the newest item on the cleanup stack is not that of `{name}`"));
+    if run.end.names.number == 0 {
+        page.page.write_text(", which is null");
+    }
+}
+
+/// Tells of the items that a panic of the cleanup stack is about; nothing of any other panic.
+pub fn put_items(page: &mut ScriptPage<'_>, raised: Raised, run: &WatchedRun<'_>) -> Written {
+    match raised.panic {
+        Panic::ITEMS_LEFT => put_each(page, items_left(raised, run), run),
+        Panic::ANOTHER_ITEM_ON_TOP => put_top(page, run),
+        Panic::POP_BELOW_TRAP => put_newest(page, run),
+        _ => Ok(()),
+    }
+}
+
+/// The items that are left of a TRAP that ended, or of `main`.
+fn items_left<'b>(raised: Raised, run: &'b WatchedRun<'_>) -> &'b [ItemOnStack] {
+    let all = run.history.items.all();
+    let floor = match (raised.raiser, run.history.traps.last_ended()) {
+        (Raiser::TrapEnd, Some(trap)) => trap.items,
+        _ => 0,
+    };
+    let (_, left) = all.split_at_checked(floor).unwrap_or((&[], &[]));
+    left
+}
+
+/// Tells where each item was pushed, and which body pushed it that has ended.
+fn put_each(page: &mut ScriptPage<'_>, items: &[ItemOnStack], run: &WatchedRun<'_>) -> Written {
+    for item in items.iter().rev().take(MOST_ITEMS) {
+        let line = item.pushed.line;
+        let path = run.history.calls.lines_of(item.pushed.path)?;
+        if path.len() > run.end.path.len() {
+            let name = body_name(page, line, run);
+            let depth = u32::try_from(path.len()).unwrap_or(0);
+            let end = AfterLine(run.history.calls.last_line_of(depth, item.pushed.step));
+            page.mark_new(
+                line,
+                1,
+                format_args!("this item was pushed here, and `{name}` ended{end} without a pop"),
+            )?;
+        } else {
+            page.mark_new(line, 1, "this item was pushed here and not popped")?;
+        }
+        for at in run.end.path.len()..path.len() {
+            if let Some(call) = at.checked_sub(1).and_then(|at| path.get(at)) {
+                page.mark_new(*call, 0, "it was called here")?;
+            }
+        }
+    }
+    Ok(())
+}
+
+/// The name of a line's body.
+fn body_name<'a>(page: &ScriptPage<'a>, line: u32, run: &WatchedRun<'_>) -> &'a str {
+    let body = run.history.bodies.body_of(line);
+    match body.kind {
+        BodyKind::Nothing => "main",
+        BodyKind::Procedure | BodyKind::Construct | BodyKind::Destructor | BodyKind::Operation =>
+            page.word(body.line, 1),
+    }
+}
+
+/// Tells where the newest item was pushed, and where the one that was expected in its place.
+fn put_top(page: &mut ScriptPage<'_>, run: &WatchedRun<'_>) -> Written {
+    put_newest(page, run)?;
+    if let Some(item) = item_meant(run) {
+        let line = item.pushed.line;
+        return page.mark_new(line, 1, "the one that is meant was pushed here");
+    }
+    match run.history.lives.find(run.end.names) {
+        Some(life) if life.popped.is_some() => {
+            let line = life.popped.number();
+            page.mark_new(line, 0, "the item that is meant was popped here")
+        }
+        Some(life) if life.pushed.is_none() && life.ended.is_none() => {
+            let name = page.word(run.history.last_line(), 1);
+            let deed = if life.is_reallocated {
+                "made or moved here, and not pushed since"
+            } else {
+                "made here and never pushed"
+            };
+            page.mark_new(
+                life.made.number(),
+                1,
+                format_args!("the cell of `{name}` was {deed}"),
+            )
+        }
+        _ => {
+            page.page
+                .write_file_text("the pointer that is meant is not on the cleanup stack");
+            Ok(())
+        }
+    }
+}
+
+/// The item of the pointer whose item was to be the newest; `None` if it has none.
+fn item_meant(run: &WatchedRun<'_>) -> Option<ItemOnStack> {
+    for item in run.history.items.all() {
+        if item.pointer() == run.end.names {
+            return Some(*item);
+        }
+    }
+    None
+}
+
+/// What to do where another item is the newest.
+pub fn cure_of_another(run: &WatchedRun<'_>) -> &'static str {
+    match (item_meant(run), run.history.lives.find(run.end.names)) {
+        (Some(_), _) => "items come off in the reverse of the order in which they were pushed",
+        (None, Some(life)) if life.popped.is_some() => {
+            "each item is popped once: check the pointer whose item is the newest"
+        }
+        (None, _) => "push the pointer before this line, or check the one whose item is the newest",
+    }
+}
+
+/// Tells where the newest item was pushed, if there is one.
+fn put_newest(page: &mut ScriptPage<'_>, run: &WatchedRun<'_>) -> Written {
+    match run.history.items.newest() {
+        Some(newest) => page.mark_new(newest.pushed.line, 1, "the newest item was pushed here"),
+        None => Ok(()),
+    }
+}

@@ -1,0 +1,204 @@
+//! What is said of each leak: which line made the cell, how it was lost, and what to do.
+
+use crate::runs::paths::{AfterLine, before_name};
+use crate::runs::pointers::cure_of_failed;
+use crate::runs::script_page::{ScriptPage, Written};
+use wb_history::{By, End, Ended, Held, Leave, Life, ShortLine, WatchedRun};
+use wb_model::heap::{Kind, Ptr};
+use wb_model::run::Leak;
+
+/// The most leaks that are listed one by one.
+const MOST_LEAKS: usize = 20;
+
+/// How a cell was lost.
+#[derive(Clone, Copy)]
+enum Loss {
+    /// The pointer that got it last got another value.
+    Overwritten(u32),
+    /// The object whose field it was is gone.
+    OwnerGone(Life, Ended),
+    /// A leave ended the body whose pointer it was, and no item held the cell.
+    Left(Leave),
+    /// A body ended whose pointer it was.
+    OutOfScope(Held),
+    /// It is still named.
+    StillNamed,
+}
+
+/// Says of each leak which line made the cell, up to as many as anybody reads. How it was lost is said of the first of each line.
+pub fn put_leaks(page: &mut ScriptPage<'_>, leaks: &[Leak], run: &WatchedRun<'_>) -> Written {
+    let mut last = ShortLine::NONE;
+    for leak in leaks.iter().take(MOST_LEAKS) {
+        let pointer = Ptr {
+            place: leak.place,
+            number: leak.number,
+        };
+        if let Some(life) = run.history.lives.find(pointer) {
+            put_leak(page, *leak, life)?;
+            if life.made != last {
+                put_loss(page, life, run)?;
+            }
+            last = life.made;
+        }
+    }
+    match leaks.len().saturating_sub(MOST_LEAKS) {
+        0 => {}
+        1 => page.page.write_file_text("1 more cell leaks"),
+        more => page
+            .page
+            .write_file_message(format_args!("{more} more cells leak")),
+    }
+    Ok(())
+}
+
+/// Says which line made a cell that leaks, and shows the pointer that got it.
+fn put_leak(page: &mut ScriptPage<'_>, leak: Leak, life: Life) -> Written {
+    let made = if life.is_reallocated {
+        "made or moved"
+    } else {
+        "made"
+    };
+    let Leak {
+        number,
+        length,
+        place,
+    } = leak;
+    page.mark_word(
+        life.made.number(),
+        1,
+        format_args!(
+            "leak: the cell of attempt {number}, {made} here, was never freed: {length} bytes at place {place}"
+        ),
+    )
+}
+
+/// Says how a cell was lost, and what to do.
+fn put_loss(page: &mut ScriptPage<'_>, life: Life, run: &WatchedRun<'_>) -> Written {
+    page.begin_way(life.made.number())?;
+    if let Some(held) = life.held {
+        let line = held.line.number();
+        let name = page.word(line, 1);
+        page.mark_new(line, 1, format_args!("`{name}` got it last, here"))?;
+    }
+    page.mark_new(life.popped.number(), 0, "its item was popped here")?;
+    let loss = loss_of(life, run);
+    if let Loss::OwnerGone(owner, ended) = loss
+        && ended.end != End::Deleted
+        && ended.by != By::Line
+    {
+        let pushed = owner.pushed.number();
+        page.mark_new(pushed, 0, "the object that owned it was pushed here")?;
+    }
+    put_cure(page, loss, life, run);
+    Ok(())
+}
+
+/// Says what to do about a cell that was lost.
+fn put_cure(page: &mut ScriptPage<'_>, loss: Loss, life: Life, run: &WatchedRun<'_>) {
+    let name = match life.held {
+        Some(held) => page.word(held.line.number(), 1),
+        None => "",
+    };
+    match loss {
+        Loss::Overwritten(line) => put_overwritten(page, line, name, run),
+        Loss::OwnerGone(_, ended) if ended.end != End::Deleted => page.page.write_help(
+            format_args!(
+                "line {} freed the object that owned it as a plain cell, so its destructor didn't run: push an object with `pushobj`",
+                ended.at.number()
+            ),
+        ),
+        Loss::OwnerGone(owner, ended) => {
+            let (line, class) = (ended.at.number(), class_name(page, owner));
+            page.page.write_help(format_args!(
+                "line {line} deleted the object that owned it: let the `destroy` of `{class}` free the field"
+            ));
+        }
+        Loss::Left(leave) => put_left_cure(page, leave, life),
+        Loss::OutOfScope(held) => put_out_of_scope(page, held, name, run),
+        Loss::StillNamed => page.page.write_help_text(match life.kind {
+            Kind::Object(_) => "delete the object before the end, or let what owns it delete it",
+            _ => "free the cell before the end, or let what owns it free it",
+        }),
+    }
+}
+
+/// Says which line overwrote the pointer of a cell; where an attempt to reallocate failed there, what to do about that.
+fn put_overwritten(page: &mut ScriptPage<'_>, line: u32, name: &str, run: &WatchedRun<'_>) {
+    match cure_of_failed(run, line) {
+        Some(cure) => page.page.write_help_text(cure),
+        None => page.page.write_help(format_args!(
+            "line {line} gave `{name}` another value: free the cell before that"
+        )),
+    }
+}
+
+/// Says which body ended whose pointer a cell was.
+fn put_out_of_scope(page: &mut ScriptPage<'_>, held: Held, name: &str, run: &WatchedRun<'_>) {
+    let body = run.history.bodies.body_of(held.line.number());
+    let (what, owner) = (before_name(body.kind), page.word(body.line, 1));
+    let line = held.caller.number();
+    let last = run
+        .history
+        .calls
+        .last_line_of(u32::from(held.depth), held.since);
+    let end = AfterLine(last);
+    page.page.write_help(format_args!(
+        "`{name}` went out of scope when {what}{owner}`, which line {line} called, ended{end}: free the cell before that, or return the pointer"
+    ));
+}
+
+/// Says which line left, and what to do before it.
+fn put_left_cure(page: &mut ScriptPage<'_>, leave: Leave, life: Life) {
+    page.page.begin_help();
+    page.page.write(format_args!("line {} left", leave.at.line));
+    if let Some(trap) = leave.caught {
+        page.page
+            .write(format_args!(", to the TRAP of line {},", trap.line));
+    }
+    page.page.write_text(if life.popped.is_some() {
+        " when its item was off the cleanup stack: pop that only when the cell has another owner"
+    } else {
+        " while no item held the cell: push it before that, and pop the item when it is freed or has another owner"
+    });
+    page.page.end_line();
+}
+
+/// The name of an object's class.
+fn class_name<'a>(page: &ScriptPage<'a>, object: Life) -> &'a str {
+    match object.kind {
+        Kind::Object(class) => page.lines.class_name(class),
+        Kind::Raw | Kind::Text | Kind::Cleanup => "",
+    }
+}
+
+fn loss_of(life: Life, run: &WatchedRun<'_>) -> Loss {
+    if life.overwritten.is_some() {
+        return Loss::Overwritten(life.overwritten.number());
+    }
+    let Some(held) = life.held else {
+        return Loss::StillNamed;
+    };
+    if held.is_field() {
+        return owner_of(held, run);
+    }
+    let leave = run.history.traps.last_leave();
+    if let Some(leave) = leave
+        && leave.at.step >= held.since
+    {
+        return Loss::Left(leave);
+    }
+    if held.depth > 1 {
+        return Loss::OutOfScope(held);
+    }
+    Loss::StillNamed
+}
+
+fn owner_of(held: Held, run: &WatchedRun<'_>) -> Loss {
+    let Some(owner) = run.history.lives.find(held.owner) else {
+        return Loss::StillNamed;
+    };
+    match owner.ended {
+        Some(ended) => Loss::OwnerGone(owner, ended),
+        None => Loss::StillNamed,
+    }
+}

@@ -1,0 +1,30 @@
+//! How numbers of attempts are written after one another, as `3, 7 and 11`.
+
+use crate::runs::script_page::ScriptPage;
+
+/// The most numbers that are written.
+pub const MOST_NUMBERS: usize = 4;
+
+/// Writes the first of so many numbers one by one, and then how many more there are.
+pub fn put_list(page: &mut ScriptPage<'_>, numbers: &[u32], count: usize) {
+    let more = count.saturating_sub(MOST_NUMBERS);
+    let shown = count.min(MOST_NUMBERS);
+    for (index, told) in numbers.iter().enumerate() {
+        if index < shown {
+            let joint = joint(index, more == 0 && index + 1 == shown);
+            page.page.write(format_args!("{joint}{told}"));
+        }
+    }
+    if more > 0 {
+        page.page.write(format_args!(" and {more} more"));
+    }
+}
+
+/// What stands before a number of a list.
+pub fn joint(index: usize, is_last: bool) -> &'static str {
+    match (index, is_last) {
+        (0, _) => "",
+        (_, true) => " and ",
+        (_, false) => ", ",
+    }
+}

@@ -1,0 +1,169 @@
+//! What is said of the pointer that a panic is about: that it is null, or what became of its cell, and what to do.
+
+use crate::runs::panics::CHECK_FIRST;
+use crate::runs::script_page::ScriptPage;
+use wb_history::{
+    AttemptMade, BodyKind, By, End, Ended, PointerFault, PointerState, WatchedRun, is_same_pointer,
+    target_of,
+};
+use wb_model::script::Statement;
+
+/// The word of the pointer; of a field whose holder is meant, the holder.
+fn name_of<'a>(page: &ScriptPage<'a>, line: u32, fault: PointerFault) -> &'a str {
+    let word = page.word(line, fault.word);
+    if fault.is_owner {
+        word.split('.').next().unwrap_or(word)
+    } else {
+        word
+    }
+}
+
+/// Says which pointer names no cell, and why.
+pub fn put_fault(page: &mut ScriptPage<'_>, line: u32, fault: PointerFault) {
+    let name = name_of(page, line, fault);
+    match fault.state {
+        PointerState::Null => page.page.write(format_args!("`{name}` is null")),
+        PointerState::ViewOfNothing => page.page.write(format_args!(
+            "the text that `{name}` shows is gone: its cell was freed or reallocated"
+        )),
+        PointerState::Gone(life) => match life.and_then(|life| life.ended) {
+            Some(ended) => put_ended(page, line, name, ended),
+            None => page.page.write(format_args!(
+                "`{name}` names no live cell: it was freed or has moved"
+            )),
+        },
+    }
+}
+
+fn put_ended(page: &mut ScriptPage<'_>, line: u32, name: &str, ended: Ended) {
+    let what = match ended.end {
+        End::Deleted => "the object of `",
+        End::Freed | End::Moved => "the cell of `",
+    };
+    let deed = match ended.end {
+        End::Deleted => "` was already deleted",
+        End::Freed => "` was already freed",
+        End::Moved => "` moved",
+    };
+    page.page.write(format_args!("{what}{name}{deed}"));
+    if ended.at.number() == line {
+        page.page.write_text(" by this line, an earlier time");
+    } else {
+        page.page
+            .write(format_args!(" at line {}", ended.at.number()));
+    }
+}
+
+/// Returns what to do about a pointer that names no cell.
+pub fn cure_of(run: &WatchedRun<'_>, line: u32, fault: PointerFault) -> &'static str {
+    match fault.state {
+        PointerState::Null => match failed_for(run, line, fault) {
+            Some(made) => cure_of_null(made),
+            None => CHECK_FIRST,
+        },
+        PointerState::ViewOfNothing =>
+            "a view shows its text only while the text's cell is there and keeps its place",
+        PointerState::Gone(life) => match life.and_then(|life| life.ended) {
+            Some(ended) => cure_of_ended(run, fault, ended),
+            None => "set the pointer to null when its cell is freed",
+        },
+    }
+}
+
+/// The attempt that failed last of those that were to give this pointer a cell, in the same body.
+fn failed_for<'a>(run: &WatchedRun<'a>, line: u32, fault: PointerFault) -> Option<AttemptMade<'a>> {
+    let operand = fault.operand?;
+    let body = run.history.bodies.body_of(line);
+    let mut last = None;
+    for made in run.history.attempts.kept_attempts() {
+        if let Some(statement) = made.maker.statement
+            && let Some(target) = target_of(statement)
+            && is_same_pointer(target, operand)
+            && run.history.bodies.body_of(made.maker.line) == body
+        {
+            last = if made.is_granted() { None } else { Some(*made) };
+        }
+    }
+    last
+}
+
+/// Returns what to do about a cell whose pointer a failed attempt to reallocate made null at a line; `None` if none did there.
+pub fn cure_of_failed(run: &WatchedRun<'_>, line: u32) -> Option<&'static str> {
+    for made in run.history.attempts.kept_attempts() {
+        if made.maker.line == line
+            && !made.is_granted()
+            && let Some(Statement::Realloc(..) | Statement::ReallocText(..)) = made
+                .maker
+                .statement
+        {
+            return Some(cure_of_null(*made));
+        }
+    }
+    None
+}
+
+/// What to do where a failed attempt left a pointer null.
+fn cure_of_null(made: AttemptMade<'_>) -> &'static str {
+    if !made.maker.gives_null() {
+        return "the line that was to make it left, and the run went on: look at the code that the TRAP gave, for example with `leaveiferror`";
+    }
+    match made.maker.statement {
+        Some(Statement::New(..)) => {
+            "after `new` check with `if some`; `newleave` leaves instead of giving null"
+        }
+        Some(Statement::Alloc(..)) => {
+            "after `alloc` check with `if some`; `allocl` leaves instead of giving null"
+        }
+        Some(Statement::NewText(..)) => {
+            "after `hnew` check with `if some`; `hnewl` leaves instead of giving null"
+        }
+        Some(Statement::ReallocText(..)) => {
+            "if `hrealloc` fails it gives null, and the old cell stays: let another pointer get its answer, and check that with `if some`"
+        }
+        Some(Statement::Realloc(..)) => {
+            "if `realloc` fails it gives null, and the old cell stays: let another pointer get its answer, and check that with `if some`; `reallocl` leaves instead"
+        }
+        _ => CHECK_FIRST,
+    }
+}
+
+/// Whether the line that panicked was to free or delete what the pointer names, and not only to use it.
+fn frees(run: &WatchedRun<'_>, fault: PointerFault) -> bool {
+    let is_freed = matches!(
+        run.end.statement,
+        Some(Statement::Free(_) | Statement::Delete(_))
+    );
+    is_freed && !fault.is_owner
+}
+
+/// What to do where a cell was gone.
+fn cure_of_ended(run: &WatchedRun<'_>, fault: PointerFault, ended: Ended) -> &'static str {
+    let is_in_destructor = run.history.bodies.body_of(ended.at.number()).kind
+        == BodyKind::Destructor;
+    match (ended.end, ended.by) {
+        (End::Moved, _) => {
+            "a cell that grew may have moved, and then only the result of that line names it"
+        }
+        (_, By::PopDestroy) => {
+            "`popdestroy` frees what it takes off: use `pop` if the cell is to stay, or set the pointer to null after it"
+        }
+        (_, By::Leave) => {
+            "a leave destroys all items since the TRAP began: `pop` the item once its cell has another owner, or set the pointer to null after the TRAP"
+        }
+        (End::Deleted, By::Line) if !frees(run, fault) => {
+            "delete the object after its last use: this line still uses it"
+        }
+        (End::Freed, By::Line) if !frees(run, fault) => {
+            "free the cell after its last use: this line still uses it"
+        }
+        (_, By::Line) if is_in_destructor => {
+            "the destructor has done this already: leave it to one of the two"
+        }
+        (End::Deleted, By::Line) => {
+            "set the pointer to null when its object is deleted: deleting null does nothing"
+        }
+        (End::Freed, By::Line) => {
+            "set the pointer to null, for example with `null`, when its cell is freed: freeing null does nothing"
+        }
+    }
+}

@@ -1,0 +1,123 @@
+//! What is said of attempts that were all to fail, one or more.
+
+use crate::runs::failures::{Next, next_after, put_failed, put_failed_here, put_next};
+use crate::runs::number_lists::put_list;
+use crate::runs::script_page::{ScriptPage, Written};
+use wb_history::{AttemptMade, WatchedRun};
+
+/// The most failed attempts that are shown with their lines.
+const MOST_SHOWN: usize = 8;
+
+/// Says which lines' attempts failed, those with these ascending numbers, and where the run went on after each. Of those that the run
+/// doesn't make it says that.
+pub fn put_set(page: &mut ScriptPage<'_>, numbers: &[u32], run: &WatchedRun<'_>) -> Written {
+    let count = made_among(numbers, run).min(numbers.len());
+    let made = &numbers[..count];
+    put_made(page, made, run)?;
+    if count < numbers.len() {
+        put_not_made(page, &numbers[count..], count > 0, run);
+    }
+    Ok(())
+}
+
+/// How many of these ascending numbers are those of attempts that the run made.
+fn made_among(numbers: &[u32], run: &WatchedRun<'_>) -> usize {
+    let last = run.history.attempts.count();
+    let mut count: usize = 0;
+    for number in numbers {
+        if *number <= last {
+            count = count.saturating_add(1);
+        }
+    }
+    count
+}
+
+/// Shows failed attempts with their lines, and says how many more there are.
+fn put_made(page: &mut ScriptPage<'_>, numbers: &[u32], run: &WatchedRun<'_>) -> Written {
+    let attempts = &run.history.attempts;
+    let shown = &numbers[..numbers.len().min(MOST_SHOWN)];
+    for (index, number) in shown.iter().enumerate() {
+        let later = match shown.get(index + 1) {
+            Some(later) => attempts.find(*later),
+            None => None,
+        };
+        if let Some(made) = attempts.find(*number) {
+            put_one(page, made, later, index > 0, run)?;
+        }
+    }
+    match numbers.len() - shown.len() {
+        0 => {}
+        1 => page.page.write_file_text("1 more attempt failed as well"),
+        more => {
+            page.page
+                .write_file_message(format_args!("{more} more attempts failed as well"));
+        }
+    }
+    Ok(())
+}
+
+/// Shows a failed attempt, and where the run went on, unless that is said of the next one that failed. If the first is the cell of the
+/// cleanup stack, the run makes no other.
+fn put_one(
+    page: &mut ScriptPage<'_>,
+    made: AttemptMade<'_>,
+    later: Option<AttemptMade<'_>>,
+    is_later: bool,
+    run: &WatchedRun<'_>,
+) -> Written {
+    if made.maker.line == 0 {
+        return put_failed(page, made, run);
+    }
+    let also = if is_later { " as well" } else { "" };
+    put_failed_here(page, made.attempt, made.maker.line, also)?;
+    let next = next_after(made.maker, run);
+    match later {
+        Some(later) => {
+            let later_next = next_after(later.maker, run);
+            if names_new_line(next, later.maker.line, later_next) {
+                put_next(page, next)?;
+            }
+            Ok(())
+        }
+        None => put_next(page, next),
+    }
+}
+
+/// Whether the run went on after a failure with a line that nothing names later: neither that of the next attempt that failed, nor
+/// that with which the run went on after it.
+fn names_new_line(next: Next, later_line: u32, later_next: Next) -> bool {
+    match next.line() {
+        Some(line) => line != later_line && later_next.line() != Some(line),
+        None => false,
+    }
+}
+
+/// Says that no attempt has these numbers; whether others of the set were made.
+fn put_not_made(
+    page: &mut ScriptPage<'_>,
+    numbers: &[u32],
+    others_made: bool,
+    run: &WatchedRun<'_>,
+) {
+    let (attempts, were) = match numbers.len() {
+        1 => ("attempt ", "was"),
+        _ => ("attempts ", "were"),
+    };
+    page.page.begin_file_message();
+    page.page.write_text(attempts);
+    put_list(page, numbers, numbers.len());
+    let so = no_failure_of(numbers.len(), others_made);
+    let made = run.history.attempts.count();
+    page.page.write(format_args!(" {were} never made, so {so}: the run makes only {made}"));
+    page.page.end_line();
+}
+
+/// What follows for so many attempts that weren't made.
+fn no_failure_of(count: usize, others_made: bool) -> &'static str {
+    match (count, others_made) {
+        (1, true) => "it could not fail as well",
+        (_, true) => "they could not fail as well",
+        (2, false) => "neither failed",
+        (_, false) => "none failed",
+    }
+}

@@ -1,0 +1,61 @@
+//! What is told of the life of a cell: where it was made, put on the cleanup stack, and freed, deleted or moved, and by what.
+
+use crate::runs::script_page::{ScriptPage, Written};
+use wb_history::{BodyKind, By, End, Ended, History, Life};
+
+/// Tells how the life of a cell ended, where it was pushed if its item wasn't popped, and where it was made.
+pub fn put_life(page: &mut ScriptPage<'_>, history: &History<'_>, life: Life) -> Written {
+    if let Some(ended) = life.ended {
+        put_end(page, history, ended)?;
+        if ended.by != By::Line || life.popped.is_none() {
+            page.mark_new(life.pushed.number(), 1, "it was pushed here")?;
+        }
+        put_other_holder(page, ended, life)?;
+    }
+    page.mark_new(life.made.number(), 1, "it was made here")
+}
+
+/// Tells which pointer got a cell that moved, if another line than that which made it gave it to one: that names the old place still.
+fn put_other_holder(page: &mut ScriptPage<'_>, ended: Ended, life: Life) -> Written {
+    match life.held {
+        Some(held) if ended.end == End::Moved && held.line != life.made => {
+            let line = held.line.number();
+            let name = page.word(line, 1);
+            page.mark_new(line, 1, format_args!("`{name}` got it last, here"))
+        }
+        _ => Ok(()),
+    }
+}
+
+/// Tells which line ended a cell's life, and what did it there: the line itself, the cleanup stack, or a body that undoes.
+fn put_end(page: &mut ScriptPage<'_>, history: &History<'_>, ended: Ended) -> Written {
+    let line = ended.at.number();
+    let deed = match ended.end {
+        End::Freed => "freed",
+        End::Deleted => "deleted",
+        End::Moved => return page.mark_new(line, 0, "it moved here"),
+    };
+    let body = history.bodies.body_of(line);
+    let name = page.word(body.line, 1);
+    match (ended.by, body.kind) {
+        (By::PopDestroy, _) => {
+            page.mark_new(line, 0, format_args!("the cleanup stack {deed} it here"))
+        }
+        (By::Leave, _) => page.mark_new(
+            line,
+            0,
+            format_args!("the cleanup stack {deed} it for the leave of this line"),
+        ),
+        (By::Line, BodyKind::Destructor) => page.mark_new(
+            line,
+            0,
+            format_args!("it was {deed} here, by the destructor of `{name}`"),
+        ),
+        (By::Line, BodyKind::Operation) => page.mark_new(
+            line,
+            0,
+            format_args!("it was {deed} here, by the operation `{name}`"),
+        ),
+        (By::Line, _) => page.mark_new(line, 0, format_args!("it was {deed} here")),
+    }
+}

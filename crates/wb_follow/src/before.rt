@@ -1,0 +1,119 @@
+//! What a machine shows before a turn, and no more after it.
+
+use wb_history::{Ahead, live_at};
+use wb_machine::Machine;
+use wb_model::heap::{Attempt, Header, Item, Ptr};
+use wb_model::script::{Condition, Number, Statement};
+
+/// What a statement's numbers, or its condition, come to.
+#[derive(Clone, Copy, Debug, PartialEq, Eq)]
+pub enum Value {
+    /// It has none that is worth saying.
+    None,
+    Number(i64),
+    Holds(bool),
+}
+
+/// What a machine shows before a turn.
+#[derive(Clone, Copy)]
+pub struct Before<'a> {
+    /// The statement that the turn is to begin; `None` if it begins none.
+    pub ahead: Option<Ahead<'a>>,
+    /// The live cell that the pointer names which that statement reads, or that of the newest item.
+    pub cell: Option<Header>,
+    pub value: Value,
+    pub steps: u32,
+    pub attempts: u32,
+    pub items: u32,
+    pub level: u32,
+    pub committed: u32,
+}
+
+impl<'a> Before<'a> {
+    /// Looks at a machine, of whose cleanup stack this is the newest item.
+    pub fn of(machine: &Machine<'a>, newest: Option<Item>) -> Before<'a> {
+        let ahead = Ahead::of(machine);
+        let (cell, value) = match ahead {
+            Some(ahead) => (
+                live_cell(machine, ahead.source),
+                value_of(machine, ahead.statement),
+            ),
+            None => (cell_of(machine, newest), Value::None),
+        };
+        Before {
+            ahead,
+            cell,
+            value,
+            steps: machine.steps(),
+            attempts: machine.attempts(),
+            items: machine.cleanup_depth(),
+            level: machine.level(),
+            committed: machine.committed(),
+        }
+    }
+
+    /// Returns the attempt that the turn made, if it made one.
+    pub fn attempt(&self, machine: &Machine<'a>) -> Option<Attempt> {
+        if machine.attempts() > self.attempts {
+            machine.last_attempt()
+        } else {
+            None
+        }
+    }
+}
+
+/// Returns the live cell that a pointer names; `None` if it names none.
+pub fn live_cell(machine: &Machine<'_>, pointer: Ptr) -> Option<Header> {
+    let cell = live_at(machine, pointer.place)?;
+    if cell.number == pointer.number {
+        Some(cell)
+    } else {
+        None
+    }
+}
+
+/// The cell that an item frees.
+fn cell_of(machine: &Machine<'_>, item: Option<Item>) -> Option<Header> {
+    match item {
+        Some(Item::Free(pointer)) => live_cell(machine, pointer),
+        Some(Item::Delete(_) | Item::Call(..)) | None => None,
+    }
+}
+
+fn value_of(machine: &Machine<'_>, statement: &Statement) -> Value {
+    match statement {
+        Statement::SetNumber(_, number)
+        | Statement::Pop(number)
+        | Statement::PopDestroy(number)
+        | Statement::Leave(number)
+        | Statement::LeaveIfError(number)
+        | Statement::Repeat(number, _) => Value::Number(i64::from(machine.number(*number))),
+        Statement::Add(local, number) => {
+            let before = i64::from(machine.number(Number::Variable(*local)));
+            Value::Number(before.saturating_add(i64::from(machine.number(*number))))
+        }
+        Statement::AllocLen(_, pointer) => number_of(machine.bytes(*pointer)),
+        Statement::GetLength(_, text) => number_of(machine.length(*text)),
+        Statement::GetMaximum(_, text) => number_of(machine.maximum(*text)),
+        Statement::If(condition, _) | Statement::IfElse(condition, _, _) => {
+            Value::Holds(holds(machine, *condition))
+        }
+        _ => Value::None,
+    }
+}
+
+fn number_of(count: Option<u32>) -> Value {
+    match count {
+        Some(count) => Value::Number(i64::from(count)),
+        None => Value::None,
+    }
+}
+
+fn holds(machine: &Machine<'_>, condition: Condition) -> bool {
+    match condition {
+        Condition::IsNull(pointer) => machine.pointer(pointer).number == 0,
+        Condition::NotNull(pointer) => machine.pointer(pointer).number != 0,
+        Condition::Equal(first, second) => machine.number(first) == machine.number(second),
+        Condition::Less(first, second) => machine.number(first) < machine.number(second),
+    }
+}

@@ -1,0 +1,30 @@
+//! What a turn begins, and where.
+
+use crate::open::{Doomed, ItemAt, RepeatAt};
+use wb_history::Ahead;
+
+/// What a turn begins.
+#[derive(Clone, Copy)]
+pub enum What<'a> {
+    /// The run: the cell of the cleanup stack is asked for.
+    Run,
+    Statement(Ahead<'a>),
+    /// A turn of a `repeat`.
+    TurnOf(RepeatAt),
+    /// The destruction of an item of the cleanup stack.
+    Item(ItemAt),
+    /// The destruction of an object.
+    Object(Doomed),
+    /// Nothing: the run is cut.
+    Nothing,
+}
+
+/// What a turn begins, at which line, and how many bodies run there.
+#[derive(Clone, Copy)]
+pub struct Begun<'a> {
+    pub what: What<'a>,
+    pub line: u32,
+    pub depth: u32,
+    /// The line that was begun before it while as many bodies ran; 0 if none was.
+    pub after: u32,
+}

@@ -1,0 +1,143 @@
+//! A run that is followed: its heading, its turns, and its end.
+
+ghost use Rattle.std.specs.Prelude.{◌≤◌, IsTrue};
+ghost use Rattle.wb_model.specs.language.Sound.{is_script};
+
+use crate::endings::{ending_of, put_ending};
+use crate::open::Open;
+use crate::rows::{RowSink, Rows, Widths};
+use crate::turns::{Plan, follow_turns};
+use std::alloc::Global;
+use wb_history::{RunParameters, ScriptLines, machine_of};
+use wb_model::limits::LARGEST_BUDGET;
+use wb_model::memory::NoMemory;
+use wb_model::script::Script;
+
+/// What is said where memory runs out, after the rows that were written.
+const NO_MEMORY: &str = "note: memory ran out, so the rest of the run isn't followed\n";
+
+/// The least width of the columns of steps and lines, which their headings have.
+const LEAST_WIDTH: usize = 4;
+
+/// The least width of the column of statements, and the greatest.
+const LEAST_STATEMENT: usize = 20;
+
+const MOST_STATEMENT: usize = 44;
+
+/// How many columns are left for what is moved to the right.
+const MOVED: usize = 4;
+
+/// Writes the run of a script with these parameters as rows, of which the first `most` steps are shown and the last. If memory runs
+/// out, the rows after that are left out, and a note says so.
+pub fn follow_run<O: RowSink>(
+    alloc: Global,
+    lines: &ScriptLines<'_>,
+    script: &Script,
+    parameters: &RunParameters,
+    most: u32,
+    sink: &mut O,
+)
+    requires script { IsTrue (is_script script.now) }
+    requires least { 1 ≤ parameters.now.budget }
+    requires greatest { parameters.now.budget ≤ LARGEST_BUDGET }
+{
+    if follow_all(alloc, lines, script, parameters, most, sink).is_err() {
+        sink.put(NO_MEMORY);
+    }
+}
+
+/// The same. The only error is that memory ran out.
+fn follow_all<O: RowSink>(
+    alloc: Global,
+    lines: &ScriptLines<'_>,
+    script: &Script,
+    parameters: &RunParameters,
+    most: u32,
+    sink: &mut O,
+) -> Result<(), NoMemory>
+    requires script { IsTrue (is_script script.now) }
+    requires least { 1 ≤ parameters.now.budget }
+    requires greatest { parameters.now.budget ≤ LARGEST_BUDGET }
+{
+    let Some(ending) = ending_of(alloc, script, parameters)? else {
+        return Ok(());
+    };
+    let plan = Plan {
+        lines,
+        script,
+        ending,
+        most,
+        budget: parameters.budget,
+    };
+    let mut rows = Rows::new(alloc, widths_of(lines, ending.steps));
+    put_heading(&mut rows, lines.name);
+    let followed = follow_machine(alloc, plan, parameters, &mut rows, sink);
+    rows.hand_to(sink)?;
+    followed
+}
+
+/// Writes the turns of a run, and its end.
+fn follow_machine<O: RowSink>(
+    alloc: Global,
+    plan: Plan<'_>,
+    parameters: &RunParameters,
+    rows: &mut Rows,
+    sink: &mut O,
+) -> Result<(), NoMemory>
+    requires script { IsTrue (is_script plan.script.now) }
+    requires least { 1 ≤ parameters.now.budget }
+    requires greatest { parameters.now.budget ≤ LARGEST_BUDGET }
+{
+    let Some(mut machine) = machine_of(alloc, plan.script, parameters)? else {
+        return Ok(());
+    };
+    let mut open = Open::new(alloc)?;
+    if follow_turns(&mut machine, &mut open, plan, rows, sink)? {
+        put_ending(rows, plan.ending);
+    }
+    Ok(())
+}
+
+/// Writes the name of the file, and the headings of the columns.
+fn put_heading(rows: &mut Rows, name: &str) {
+    rows.begin(true);
+    rows.text(name);
+    rows.text(": the run, step by step");
+    rows.end();
+    rows.begin(true);
+    rows.head_words("step", "line");
+    rows.text("statement");
+    rows.effect_text("what it does");
+    rows.end();
+}
+
+/// The widths of the columns of a run with so many steps.
+fn widths_of(lines: &ScriptLines<'_>, steps: u32) -> Widths {
+    let mut longest: usize = 0;
+    for number in 1..=lines.count() {
+        let line = lines.line(number).trim();
+        if !line.starts_with('#') {
+            longest = longest.max(line.len());
+        }
+    }
+    Widths {
+        step: digits_of(steps).max(LEAST_WIDTH),
+        line: digits_of(lines.count()).max(LEAST_WIDTH),
+        statement: longest
+            .saturating_add(MOVED)
+            .clamp(LEAST_STATEMENT, MOST_STATEMENT),
+    }
+}
+
+/// How many decimal digits a number has.
+fn digits_of(number: u32) -> usize {
+    match number {
+        0..=9 => 1,
+        10..=99 => 2,
+        100..=999 => 3,
+        1_000..=9_999 => 4,
+        10_000..=99_999 => 5,
+        100_000..=999_999 => 6,
+        _ => 7,
+    }
+}

@@ -1,0 +1,344 @@
+//! What is open in a run: items of the cleanup stack, TRAPs, turns of a `repeat`, and objects whose destructor runs; each with its
+//! line.
+
+use crate::before::{Before, Value, live_cell};
+use crate::begun::{Begun, What};
+use std::alloc::{AllocError, Global};
+use wb_history::{Ahead, has_panicked};
+use wb_machine::Machine;
+use wb_model::heap::{Header, Item, Ptr};
+use wb_model::limits::MOST_FRAMES;
+use wb_model::script::Statement;
+
+/// An item of the cleanup stack, and the line that pushed it.
+#[derive(Clone, Copy)]
+pub struct ItemAt {
+    pub item: Item,
+    pub line: u32,
+}
+
+/// A line, and how many bodies run there.
+#[derive(Clone, Copy)]
+pub struct At {
+    pub line: u32,
+    pub depth: u32,
+}
+
+/// A TRAP of the script, and how many items were on the cleanup stack when it began.
+#[derive(Clone, Copy)]
+pub struct TrapAt {
+    pub at: At,
+    pub items: u32,
+}
+
+/// A `repeat`, where it is, and how many of its turns were begun.
+#[derive(Clone, Copy)]
+pub struct RepeatAt {
+    pub line: u32,
+    depth: u32,
+    traps: usize,
+    pub begun: i64,
+    pub turns: i64,
+}
+
+/// All that is open.
+#[derive(Drop)]
+pub struct Open {
+    items: Vec<ItemAt>,
+    traps: Vec<TrapAt>,
+    repeats: Vec<RepeatAt>,
+    /// The cells of objects whose destructor runs; those that it freed itself have number 0.
+    deleted: Vec<Header>,
+    /// The place of the cleanup stack's cell.
+    stack: u32,
+    /// The object that the next turn begins to destroy; `None` if it begins something else.
+    doomed: Option<Doomed>,
+    /// The line because of which items are destroyed, and how many bodies run there.
+    undone_at: At,
+    /// The line and the depth of what was begun last.
+    last: At,
+    /// For each number of bodies that run, the line that was begun last.
+    lines: Vec<u32>,
+}
+
+/// An object that is to be destroyed, with its cell; `None` if the pointer names none.
+#[derive(Clone, Copy)]
+pub struct Doomed {
+    pub pointer: Ptr,
+    pub cell: Option<Header>,
+}
+
+const NOWHERE: At = At { line: 0, depth: 1 };
+
+impl Open {
+    /// Nothing is open yet. The only error is that memory ran out.
+    pub fn new(alloc: Global) -> Result<Open, AllocError> {
+        let mut lines = Vec::new(alloc);
+        lines.resize(MOST_FRAMES as usize + 2, 0)?;
+        Ok(Open {
+            items: Vec::new(alloc),
+            traps: Vec::new(alloc),
+            repeats: Vec::new(alloc),
+            deleted: Vec::new(alloc),
+            stack: 0,
+            doomed: None,
+            undone_at: NOWHERE,
+            last: NOWHERE,
+            lines,
+        })
+    }
+
+    /// Returns the newest item on the cleanup stack; `None` if there is none.
+    pub fn newest(&self) -> Option<Item> {
+        self.items.last().map(|it| it.item)
+    }
+
+    /// Returns how many objects have a destructor that runs, and how many TRAPs are open.
+    pub fn counts(&self) -> (usize, usize) {
+        (self.deleted.len(), self.traps.len())
+    }
+
+    /// The line that was begun last while this many bodies ran; 0 if none was.
+    fn line_at(&self, depth: u32) -> u32 {
+        self.lines.get(depth as usize).copied().unwrap_or(0)
+    }
+
+    /// Sees what the last turn began. The only error is that memory ran out.
+    pub fn begin<'a>(
+        &mut self,
+        machine: &Machine<'a>,
+        before: &Before<'a>,
+    ) -> Result<Begun<'a>, AllocError> {
+        let mut begun = self.begun_by(machine, before);
+        begun.after = self.line_at(begun.depth);
+        self.last = At {
+            line: begun.line,
+            depth: begun.depth,
+        };
+        if let What::Statement(ahead) = begun.what {
+            if let Some(line) = self.lines.get_mut(begun.depth as usize) {
+                *line = begun.line;
+            }
+            if !has_panicked(machine) {
+                self.see_statement(machine, before, ahead)?;
+            }
+        }
+        self.see_destruction(machine, begun.what)?;
+        Ok(begun)
+    }
+
+    /// Sees an object that is to be destroyed, or that is, and a cell that the cleanup stack frees.
+    fn see_destruction(&mut self, machine: &Machine<'_>, what: What<'_>) -> Result<(), AllocError> {
+        match what {
+            What::Item(
+                ItemAt {
+                    item: Item::Delete(object),
+                    ..
+                },
+            ) => self.doom(machine, object),
+            What::Item(
+                ItemAt {
+                    item: Item::Free(pointer),
+                    ..
+                },
+            ) => self.forget(pointer),
+            What::Object(
+                Doomed {
+                    cell: Some(cell),
+                    ..
+                },
+            ) => self.deleted.push(cell)?,
+            _ => {}
+        }
+        Ok(())
+    }
+
+    fn begun_by<'a>(&mut self, machine: &Machine<'a>, before: &Before<'a>) -> Begun<'a> {
+        if machine.steps() == before.steps {
+            let is_first = machine.steps() == 0 && machine.line() == 0;
+            let what = if is_first { What::Run } else { What::Nothing };
+            return begun_at(what, NOWHERE);
+        }
+        if let Some(ahead) = before.ahead {
+            let at = At {
+                line: machine.line(),
+                depth: machine.depth(),
+            };
+            return begun_at(What::Statement(ahead), at);
+        }
+        if let Some(doomed) = self.doomed {
+            self.doomed = None;
+            return begun_at(What::Object(doomed), self.last);
+        }
+        if machine.cleanup_depth() < before.items
+            && let Some(newest) = self.items.pop()
+        {
+            return begun_at(What::Item(newest), self.undone_at);
+        }
+        let repeat = self.next_turn();
+        let at = At {
+            line: repeat.line,
+            depth: repeat.depth,
+        };
+        begun_at(What::TurnOf(repeat), at)
+    }
+
+    /// The turn of the innermost `repeat` that isn't over. Those that are over, or were left, stay until then.
+    fn next_turn(&mut self) -> RepeatAt {
+        for _ in 0..self.repeats.len() {
+            if let Some(repeat) = self.repeats.last_mut()
+                && repeat.begun < repeat.turns
+            {
+                repeat.begun = repeat.begun.saturating_add(1);
+                return *repeat;
+            }
+            self.repeats.pop();
+        }
+        NO_REPEAT
+    }
+
+    fn see_statement<'a>(
+        &mut self,
+        machine: &Machine<'a>,
+        before: &Before<'a>,
+        ahead: Ahead<'a>,
+    ) -> Result<(), AllocError> {
+        if let Some(item) = ahead.item()
+            && machine.cleanup_depth() > before.items
+        {
+            let line = self.last.line;
+            self.items.push(ItemAt { item, line })?;
+        }
+        self.items.truncate(machine.cleanup_depth() as usize);
+        match (ahead.statement, before.value) {
+            (Statement::Delete(_), _) => self.doom(machine, ahead.source),
+            (Statement::Free(_), _) => self.forget(ahead.source),
+            (Statement::PopDestroy(_), _) => self.undone_at = self.last,
+            (Statement::Trap(..), _) => self.traps.push(TrapAt {
+                at: self.last,
+                items: before.items,
+            })?,
+            (Statement::Repeat(..), Value::Number(turns)) => self.begin_repeat(turns)?,
+            (Statement::Return | Statement::ReturnPointer(_), _) => self.end_repeats(),
+            _ => {}
+        }
+        Ok(())
+    }
+
+    /// An object is to be destroyed, in the next turn.
+    fn doom(&mut self, machine: &Machine<'_>, pointer: Ptr) {
+        if pointer.number != 0 {
+            let cell = live_cell(machine, pointer);
+            self.doomed = Some(Doomed { pointer, cell });
+        }
+    }
+
+    fn begin_repeat(&mut self, turns: i64) -> Result<(), AllocError> {
+        for _ in 0..self.repeats.len() {
+            let is_over = self.repeats.last().is_some_and(|it| it.begun >= it.turns);
+            if !is_over {
+                break;
+            }
+            self.repeats.pop();
+        }
+        self.repeats.push(RepeatAt {
+            line: self.last.line,
+            depth: self.last.depth,
+            traps: self.traps.len(),
+            begun: 0,
+            turns,
+        })?;
+        Ok(())
+    }
+
+    /// The body that runs returns, out of all that it repeats.
+    fn end_repeats(&mut self) {
+        for _ in 0..self.repeats.len() {
+            let depth = self.repeats.last().map_or(0, |it| it.depth);
+            if depth < self.last.depth {
+                break;
+            }
+            self.repeats.pop();
+        }
+    }
+
+    /// A leave ends all bodies and blocks inside the innermost TRAP, and what it destroys is destroyed because of its line. Returns
+    /// that TRAP; `None` if `main` is left.
+    pub fn leave(&mut self) -> Option<TrapAt> {
+        let caught = self.traps.pop();
+        let traps = self.traps.len();
+        for _ in 0..self.repeats.len() {
+            let is_inside = match (caught, self.repeats.last()) {
+                (Some(_), Some(last)) => last.traps > traps,
+                (None, Some(_)) => true,
+                (_, None) => false,
+            };
+            if !is_inside {
+                break;
+            }
+            self.repeats.pop();
+        }
+        self.undone_at = At {
+            line: self.last.line,
+            depth: caught.map_or(1, |it| it.at.depth),
+        };
+        caught
+    }
+
+    /// Takes the next TRAP off that has ended; `None` if all are open that were.
+    pub fn next_ended(&mut self, machine: &Machine<'_>) -> Option<TrapAt> {
+        if self.traps.len() > machine.open_traps() {
+            self.traps.pop()
+        } else {
+            None
+        }
+    }
+
+    /// Takes the next cell off whose object is destroyed; `None` if the newest destructor still runs, and if that freed its own
+    /// cell.
+    pub fn next_released(&mut self, machine: &Machine<'_>) -> Option<Header> {
+        let newest = *self.deleted.last()?;
+        if live_cell(machine, newest.pointer()).is_some() {
+            return None;
+        }
+        self.deleted.pop();
+        if newest.number == 0 {
+            return None;
+        }
+        self.forget(newest.pointer());
+        Some(newest)
+    }
+
+    /// A cell is freed, which may be that of an object whose destructor runs.
+    fn forget(&mut self, pointer: Ptr) {
+        for cell in self.deleted.as_mut_slice() {
+            if cell.number == pointer.number {
+                cell.number = 0;
+            }
+        }
+    }
+
+    /// Returns the place of the cleanup stack's cell, which is at another now.
+    pub fn move_stack(&mut self, place: u32) -> u32 {
+        let before = self.stack;
+        self.stack = place;
+        before
+    }
+}
+
+const NO_REPEAT: RepeatAt = RepeatAt {
+    line: 0,
+    depth: 1,
+    traps: 0,
+    begun: 0,
+    turns: 0,
+};
+
+fn begun_at<'a>(what: What<'a>, at: At) -> Begun<'a> {
+    Begun {
+        what,
+        line: at.line,
+        depth: at.depth,
+        after: 0,
+    }
+}

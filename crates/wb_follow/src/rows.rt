@@ -1,0 +1,199 @@
+//! The rows of a run that is followed: their columns, and how they go out.
+
+use std::alloc::Global;
+use std::fmt::Write;
+use wb_model::memory::NoMemory;
+
+/// How many bytes of whole rows are kept before they go out.
+const MOST_KEPT: usize = 8192;
+
+/// The most columns of a statement that are shown.
+const MOST_COLUMNS: usize = 100;
+
+/// By how many columns a statement is moved to the right for each body that runs around its own.
+const INDENT: usize = 2;
+
+/// The most bodies for which it is.
+const MOST_INDENTS: u32 = 8;
+
+/// Where rows go.
+pub trait RowSink {
+    /// Takes whole rows. Returns `false` if it takes no more.
+    fn put(&mut self, rows: &str) -> bool;
+}
+
+/// How wide the columns are.
+#[derive(Clone, Copy)]
+pub struct Widths {
+    pub step: usize,
+    pub line: usize,
+    pub statement: usize,
+}
+
+/// Rows that are being written. If memory runs out the rest is left out, and `hand_to` says so.
+#[derive(Drop)]
+pub struct Rows {
+    widths: Widths,
+    /// Whole rows that haven't gone out.
+    whole: String,
+    /// The row that is being written.
+    row: String,
+    /// Whether it is to be shown, and whether it says something of what its step does.
+    is_shown: bool,
+    has_effect: bool,
+    is_cut: bool,
+}
+
+impl Rows {
+    /// No row yet.
+    pub fn new(alloc: Global, widths: Widths) -> Rows {
+        Rows {
+            widths,
+            whole: String::new(alloc),
+            row: String::new(alloc),
+            is_shown: false,
+            has_effect: false,
+            is_cut: false,
+        }
+    }
+
+    /// Whether so much is written that it should go out.
+    pub fn is_long(&self) -> bool {
+        self.is_cut || self.whole.len() >= MOST_KEPT
+    }
+
+    /// Hands whole rows on. Returns `false` if no more are taken. The only error is that memory ran out.
+    pub fn hand_to<O: RowSink>(&mut self, sink: &mut O) -> Result<bool, NoMemory> {
+        let takes = self.whole.is_empty() || sink.put(self.whole.as_str());
+        self.whole.clear();
+        if self.is_cut {
+            Err(NoMemory)
+        } else {
+            Ok(takes)
+        }
+    }
+
+    /// Begins a row, which is shown or not.
+    pub fn begin(&mut self, is_shown: bool) {
+        self.row.clear();
+        self.is_shown = is_shown;
+        self.has_effect = false;
+    }
+
+    /// Ends the row.
+    pub fn end(&mut self) {
+        if !self.is_shown || self.is_cut {
+            return;
+        }
+        self.is_cut = self.row.push_str("\n").is_err()
+            || self.whole.push_str(self.row.as_str()).is_err();
+        self.is_shown = false;
+    }
+
+    /// Writes what a text says, with nothing around it.
+    pub fn text(&mut self, text: &str) {
+        if self.is_shown && !self.is_cut {
+            self.is_cut = self.row.push_str(text).is_err();
+        }
+    }
+
+    pub fn number(&mut self, number: u32) {
+        self.value(i64::from(number));
+    }
+
+    pub fn value(&mut self, value: i64) {
+        if self.is_shown && !self.is_cut {
+            self.is_cut = write!(self.row, "{value}").is_err();
+        }
+    }
+
+    /// Writes a place as panics have it.
+    pub fn place(&mut self, place: u32) {
+        if self.is_shown && !self.is_cut {
+            self.is_cut = write!(self.row, "{place:08x}").is_err();
+        }
+    }
+
+    /// Writes the columns of a step and of a line.
+    pub fn head(&mut self, step: u32, line: u32) {
+        let Widths {
+            step: wide,
+            line: next,
+            ..
+        } = self.widths;
+        if self.is_shown && !self.is_cut {
+            self.is_cut = write!(self.row, "{step:>wide$}  {line:>next$}  ").is_err();
+        }
+    }
+
+    /// Writes the same columns with words in them.
+    pub fn head_words(&mut self, step: &str, line: &str) {
+        let Widths {
+            step: wide,
+            line: next,
+            ..
+        } = self.widths;
+        if self.is_shown && !self.is_cut {
+            self.is_cut = write!(self.row, "{step:>wide$}  {line:>next$}  ").is_err();
+        }
+    }
+
+    /// Moves what is written next to the right, by how many bodies run.
+    pub fn indent(&mut self, depth: u32) {
+        let levels = depth.saturating_sub(1).min(MOST_INDENTS) as usize;
+        self.blanks(levels.saturating_mul(INDENT));
+    }
+
+    /// Writes a line of the script without the blanks around it, or its beginning.
+    pub fn statement(&mut self, line: &str) {
+        let mut count: usize = 0;
+        for byte in line.trim().as_bytes() {
+            if count == MOST_COLUMNS {
+                self.text("...");
+                return;
+            }
+            count = count.saturating_add(1);
+            self.char(*byte);
+        }
+    }
+
+    /// Begins what a row says of its step: in its own column, or after what it already says.
+    pub fn effect(&mut self) {
+        if self.has_effect {
+            self.text("; ");
+            return;
+        }
+        self.has_effect = true;
+        let Widths {
+            step,
+            line,
+            statement,
+        } = self.widths;
+        let column = step.saturating_add(line).saturating_add(statement);
+        let missing = column.saturating_add(4).saturating_sub(self.row.len());
+        self.blanks(missing);
+        self.text("  ");
+    }
+
+    /// Writes a text as one thing that the step does.
+    pub fn effect_text(&mut self, text: &str) {
+        self.effect();
+        self.text(text);
+    }
+
+    fn char(&mut self, byte: u8) {
+        if self.is_shown && !self.is_cut {
+            let char = match byte {
+                b' '..=b'~' => byte as char,
+                _ => ' ',
+            };
+            self.is_cut = self.row.push(char).is_err();
+        }
+    }
+
+    fn blanks(&mut self, count: usize) {
+        for _ in 0..count {
+            self.char(b' ');
+        }
+    }
+}

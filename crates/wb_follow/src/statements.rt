@@ -1,0 +1,188 @@
+//! What a statement did: the cell that it got, freed or changed, the value that it gave, and the items that it pushed or popped.
+
+use crate::before::{Before, Value};
+use crate::open::Open;
+use crate::rows::Rows;
+use wb_history::{Ahead, live_at};
+use wb_machine::Machine;
+use wb_model::heap::{Answer, Attempt, Header, Kind, Ptr};
+use wb_model::script::Statement;
+
+/// Says what became of an attempt, for a cell that was at a place before; `None` for a new cell.
+pub fn put_attempt(
+    rows: &mut Rows,
+    machine: &Machine<'_>,
+    attempt: Attempt,
+    before: Option<u32>,
+    open: &mut Open,
+) {
+    rows.effect_text("attempt ");
+    rows.number(attempt.number);
+    match attempt.answer {
+        Answer::Granted => put_granted(rows, machine, attempt, before, open),
+        Answer::Simulated => {
+            rows.text(" is made to fail: ");
+            put_bytes(rows, attempt.length, attempt.place);
+        }
+        Answer::Refused => {
+            rows.text(" is denied: ");
+            put_bytes(rows, attempt.length, attempt.place);
+        }
+    }
+}
+
+/// Says which cell an attempt was granted: a new one, one that moved, or one that is longer at its place.
+fn put_granted(
+    rows: &mut Rows,
+    machine: &Machine<'_>,
+    attempt: Attempt,
+    before: Option<u32>,
+    open: &mut Open,
+) {
+    let cell = live_at(machine, attempt.place);
+    let is_stack = cell.is_some_and(|it| it.kind == Kind::Cleanup);
+    let before = if is_stack && attempt.number > 1 {
+        Some(open.move_stack(attempt.place))
+    } else {
+        before
+    };
+    match (cell, before) {
+        (Some(cell), _) if cell.number != attempt.number => rows.text(" makes the cell longer: "),
+        (Some(_), Some(place)) => {
+            rows.text(" moves the cell from place ");
+            rows.number(place);
+            rows.text(": ");
+        }
+        _ => rows.text(" is granted: "),
+    }
+    put_bytes(rows, attempt.length, attempt.place);
+    if is_stack {
+        rows.text(", of the cleanup stack");
+    }
+}
+
+fn put_bytes(rows: &mut Rows, length: u32, place: u32) {
+    rows.number(length);
+    rows.text(" bytes at place ");
+    rows.number(place);
+}
+
+/// Says that a cell is freed.
+pub fn put_freed(rows: &mut Rows, cell: Header) {
+    rows.effect_text("frees ");
+    put_bytes(rows, cell.length, cell.place);
+}
+
+/// Says what becomes of the cell that is freed by a pointer, which may be null.
+pub fn put_free(rows: &mut Rows, pointer: Ptr, cell: Option<Header>) {
+    match cell {
+        Some(cell) => put_freed(rows, cell),
+        None if pointer.number == 0 => rows.effect_text("null: nothing to free"),
+        None => {}
+    }
+}
+
+/// Says which cell a pointer names.
+pub fn put_pointer(rows: &mut Rows, pointer: Ptr) {
+    if pointer.number == 0 {
+        rows.text("null");
+    } else {
+        rows.text("the cell at place ");
+        rows.number(pointer.place);
+    }
+}
+
+/// Says what a statement did that hasn't panicked. What a leave does, and what it destroys, is said elsewhere.
+pub fn put_statement<'a>(
+    rows: &mut Rows,
+    machine: &Machine<'a>,
+    before: &Before<'a>,
+    ahead: Ahead<'a>,
+    open: &mut Open,
+) {
+    if let Some(attempt) = before.attempt(machine) {
+        let place = if ahead.reallocates() {
+            before.cell.map(|it| it.place)
+        } else {
+            None
+        };
+        put_attempt(rows, machine, attempt, place, open);
+        if attempt.answer != Answer::Granted && !ahead.leaves(Some(attempt)) {
+            rows.effect_text("gives null");
+        }
+        return;
+    }
+    match ahead.statement {
+        Statement::Free(_) => put_free(rows, ahead.source, before.cell),
+        Statement::Delete(_) if ahead.source.number == 0 => {
+            rows.effect_text("null: nothing to delete")
+        }
+        Statement::Delete(_) => put_named(rows, "deletes ", ahead.source),
+        Statement::ReturnPointer(_) => put_named(rows, "returns ", ahead.source),
+        Statement::Set(..) => put_named(rows, "is ", ahead.source),
+        Statement::Realloc(..) | Statement::ReallocText(..) => {
+            put_shorter(rows, machine, before.cell)
+        }
+        _ => put_value(rows, ahead.statement, before.value),
+    }
+}
+
+fn put_named(rows: &mut Rows, verb: &str, pointer: Ptr) {
+    rows.effect_text(verb);
+    put_pointer(rows, pointer);
+}
+
+/// Says what became of a cell that was reallocated without an attempt.
+fn put_shorter(rows: &mut Rows, machine: &Machine<'_>, before: Option<Header>) {
+    let Some(before) = before else {
+        return;
+    };
+    let Some(cell) = live_at(machine, before.place) else {
+        return;
+    };
+    if cell.length < before.length {
+        rows.effect_text("makes the cell shorter: ");
+    } else {
+        rows.effect_text("leaves the cell as long: ");
+    }
+    put_bytes(rows, cell.length, cell.place);
+}
+
+/// Says what a statement's numbers or its condition came to.
+fn put_value(rows: &mut Rows, statement: &Statement, value: Value) {
+    match (statement, value) {
+        (_, Value::None) => {}
+        (_, Value::Holds(true)) => rows.effect_text("yes"),
+        (_, Value::Holds(false)) => rows.effect_text("no"),
+        (Statement::PopDestroy(_), Value::Number(count)) => {
+            rows.effect_text("destroys ");
+            put_count(rows, count, "item");
+        }
+        (Statement::Repeat(..), Value::Number(count)) => {
+            rows.effect();
+            put_count(rows, count, "turn");
+        }
+        (
+            Statement::SetNumber(..)
+            | Statement::Add(..)
+            | Statement::AllocLen(..)
+            | Statement::GetLength(..)
+            | Statement::GetMaximum(..),
+            Value::Number(number),
+        ) => {
+            rows.effect_text("is ");
+            rows.value(number);
+        }
+        _ => {}
+    }
+}
+
+/// Writes a count of things.
+pub fn put_count(rows: &mut Rows, count: i64, thing: &str) {
+    rows.value(count);
+    rows.text(" ");
+    rows.text(thing);
+    if count != 1 {
+        rows.text("s");
+    }
+}

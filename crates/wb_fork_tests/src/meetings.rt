@@ -1,0 +1,161 @@
+//! Forks in which one attempt fails, and which come to the same as the run without failure but for allocation numbers: from there on each is
+//! compared with that run.
+
+ghost use Rattle.std.specs.Prelude.{◌≡◌, ◌≤◌, false, IsTrue};
+ghost use Rattle.wb_model.specs.language.Sound.{is_script};
+ghost use Rattle.wb_model.specs.declared.heap.Rule.TheVariants as rules;
+ghost use Rattle.wb_machine.specs.Turns.{IsSameRun};
+
+use crate::comparison::Comparison;
+use crate::results::{BUDGET, MOST_TURNS, Reached, SHAPE, is_same_from};
+use std::alloc::Global;
+use wb_machine::{Machine, RunFault, Turn};
+use wb_model::heap::Rule;
+use wb_model::memory::NoMemory;
+use wb_model::run::RunResult;
+use wb_model::script::Script;
+
+/// How many attempts after its own a fork makes at most before it is given up, and how many the other run is ahead at most.
+const MOST_AFTER: u32 = 8;
+
+/// Compares the forks under single numbers that meet the run without failure with that run, and counts them. So many forks under numbers
+/// and pairs were compared before.
+pub(crate) fn compare_meetings(
+    alloc: Global,
+    script: &Script,
+    forks: u32,
+    pairs: u32,
+) -> Result<Comparison, RunFault>
+    requires { IsTrue (is_script script.now) }
+{
+    let mut lead = Machine::new(alloc, script, Rule::Number(0), BUDGET, SHAPE)?;
+    let mut met: u32 = 0;
+    for _ in 0..MOST_TURNS {
+        match meets_as_run(&lead)? {
+            Some(true) => met = met.saturating_add(1),
+            Some(false) => return Ok(Comparison::OtherMeeting(lead.attempts().saturating_add(1))),
+            None => {}
+        }
+        if let Turn::Ended = lead.step()? {
+            break;
+        }
+    }
+    Ok(Comparison::Same { forks, pairs, met })
+}
+
+/// Whether the fork in which the next attempt fails comes to what the run without failure does from where it meets that; `None` where
+/// the next turn makes no attempt, and where the fork doesn't meet it soon.
+fn meets_as_run(lead: &Machine) -> Result<Option<bool>, NoMemory>
+    requires rule { lead.now.rule ≡ rules.Number 0 }
+    requires few { lead.now.attempts ≤ MOST_TURNS }
+    requires lines { lead.now.keeps_rises ≡ false }
+{
+    if !lead.will_attempt() {
+        return Ok(None);
+    }
+    let mut ahead = lead.try_copy()?;
+    meets_along(lead, &mut ahead)
+}
+
+/// The same, where the other run goes ahead, attempt by attempt.
+fn meets_along(lead: &Machine, ahead: &mut Machine) -> Result<Option<bool>, NoMemory>
+    requires script { ahead.old.script ≡ lead.now.script }
+    requires rule { lead.now.rule ≡ rules.Number 0 }
+    requires few { lead.now.attempts ≤ MOST_TURNS }
+    requires lines { lead.now.keeps_rises ≡ false }
+    requires going { lead.now.over ≡ false }
+    requires well { lead.now.failed ≡ false }
+{
+    for _ in 0..MOST_AFTER {
+        go_to_next_attempt(ahead)?;
+        let met = next_meets(lead, ahead)?;
+        if met.is_some() {
+            return Ok(met);
+        }
+    }
+    Ok(None)
+}
+
+/// The same, where the other run is where it is.
+fn next_meets(lead: &Machine, ahead: &Machine) -> Result<Option<bool>, NoMemory>
+    requires script { ahead.now.script ≡ lead.now.script }
+    requires rule { lead.now.rule ≡ rules.Number 0 }
+    requires few { lead.now.attempts ≤ MOST_TURNS }
+    requires lines { lead.now.keeps_rises ≡ false }
+    requires going { lead.now.over ≡ false }
+    requires well { lead.now.failed ≡ false }
+{
+    let number = lead.attempts() + 1;
+    let mut fork = lead.try_copy()?;
+    fork.set_rule(Rule::Number(number));
+    meets_then_alike(&mut fork, ahead, number)
+}
+
+/// Whether a fork that meets another run comes to what that does from there on; `None` where it doesn't meet it soon.
+fn meets_then_alike(
+    fork: &mut Machine,
+    ahead: &Machine,
+    number: u32,
+) -> Result<Option<bool>, NoMemory>
+    requires script { ahead.now.script ≡ fork.old.script }
+{
+    if !meets(fork, ahead, number)? {
+        return Ok(None);
+    }
+    Ok(Some(go_on_alike(fork, ahead)?))
+}
+
+/// Takes turns until one more attempt is made and the next turn asks for one, or to the end.
+fn go_to_next_attempt(ahead: &mut Machine) -> Result<(), NoMemory>
+    ensures { IsSameRun ahead.old ahead.new }
+{
+    let made = ahead.attempts();
+    for _ in 0..MOST_TURNS {
+        if ahead.attempts() > made && ahead.will_attempt() {
+            return Ok(());
+        }
+        if let Turn::Ended = ahead.step()? {
+            return Ok(());
+        }
+    }
+    Ok(())
+}
+
+/// Whether a fork in which the attempt of this number fails is, a few attempts later, where another run is.
+fn meets(fork: &mut Machine, ahead: &Machine, number: u32) -> Result<bool, NoMemory>
+    requires script { ahead.now.script ≡ fork.old.script }
+{
+    let last = number.saturating_add(MOST_AFTER);
+    for _ in 0..MOST_TURNS {
+        if fork.attempts() > last {
+            return Ok(false);
+        }
+        if fork.attempts() >= number && fork.goes_on_like(ahead, number.saturating_sub(1)) {
+            return Ok(true);
+        }
+        if let Turn::Ended = fork.step()? {
+            return Ok(false);
+        }
+    }
+    Ok(false)
+}
+
+/// Whether two runs come to the same from where they are, but for allocation numbers.
+fn go_on_alike(fork: &Machine, ahead: &Machine) -> Result<bool, NoMemory> {
+    let here = Reached {
+        attempts: fork.attempts(),
+        steps: fork.steps(),
+    };
+    let there = Reached {
+        attempts: ahead.attempts(),
+        steps: ahead.steps(),
+    };
+    let one = end_of(fork)?;
+    let other = end_of(ahead)?;
+    Ok(is_same_from(&one, here, &other, there))
+}
+
+/// What a run under way comes to. It stays as it is.
+fn end_of(machine: &Machine) -> Result<RunResult, NoMemory> {
+    machine.try_copy()?.run_to_end()
+}

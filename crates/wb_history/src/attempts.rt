@@ -1,0 +1,204 @@
+//! The attempts of a run, and which line made each.
+
+use crate::makers::Maker;
+use std::alloc::{AllocError, Global};
+use wb_machine::Machine;
+use wb_model::heap::{Answer, Attempt, Rule};
+
+/// The most attempts that are kept whatever they are.
+const MOST_ATTEMPTS: usize = 100_000;
+
+/// What is kept of a run beside what any explanation names.
+#[derive(Clone, Copy, Debug, PartialEq, Eq)]
+pub enum Keep {
+    /// Nothing: of attempts past the first 100,000 only those that the rule names.
+    Named,
+    /// Of these also the rises, which shorter heaps refuse first.
+    Rises,
+    /// All that a picture draws: each attempt, and its `Course`.
+    Drawn,
+}
+
+/// An attempt, what made it, and in which step.
+#[derive(Clone, Copy)]
+pub struct AttemptMade<'a> {
+    pub attempt: Attempt,
+    pub maker: Maker<'a>,
+    pub step: u32,
+    /// Whether it ends past all attempts before it that the script's own setting didn't refuse: a shorter heap refuses it first.
+    pub is_rise: bool,
+}
+
+impl<'a> AttemptMade<'a> {
+    pub fn is_granted(&self) -> bool {
+        self.attempt.answer == Answer::Granted
+    }
+
+    /// Where the cell would end, in bytes.
+    pub fn top(&self) -> u32 {
+        self.attempt.place.saturating_add(self.attempt.length)
+    }
+}
+
+/// How many attempts of a run failed on purpose, each counted once.
+#[derive(Clone, Copy, Debug, PartialEq, Eq)]
+pub struct FailedCounts {
+    /// Those whose number the rule names, whether the script's own setting refused them too or not.
+    pub by_rule: u32,
+    /// Those that the script's own setting alone refused.
+    pub by_script: u32,
+}
+
+/// The attempts of a run.
+#[derive(Drop)]
+pub struct Attempts<'a> {
+    /// By number.
+    kept: Vec<AttemptMade<'a>>,
+    rule: Rule,
+    keep: Keep,
+    count: u32,
+    /// Where the last rise ends.
+    top: u32,
+    failed: FailedCounts,
+    /// The index of the first attempt that the limit refused.
+    refused_at: Option<usize>,
+    /// Whether the newest attempt is kept.
+    has_newest: bool,
+}
+
+impl<'a> Attempts<'a> {
+    /// No attempt yet, of a run under this rule.
+    pub fn new(alloc: Global, rule: Rule, keep: Keep) -> Attempts<'a> {
+        Attempts {
+            kept: Vec::new(alloc),
+            rule,
+            keep,
+            count: 0,
+            top: 0,
+            failed: FailedCounts {
+                by_rule: 0,
+                by_script: 0,
+            },
+            refused_at: None,
+            has_newest: false,
+        }
+    }
+
+    /// Returns how many attempts the run made.
+    pub fn count(&self) -> u32 {
+        self.count
+    }
+
+    /// Returns where the last rise ends, in bytes; 0 before the first.
+    pub fn top(&self) -> u32 {
+        self.top
+    }
+
+    /// Returns how many failed on purpose.
+    pub fn failed_counts(&self) -> FailedCounts {
+        self.failed
+    }
+
+    /// Returns those that are kept, by number.
+    pub fn kept_attempts(&self) -> &[AttemptMade<'a>] {
+        self.kept.as_slice()
+    }
+
+    /// Returns the attempt with a number; `None` if the run didn't come to it, or if it isn't kept.
+    pub fn find(&self, number: u32) -> Option<AttemptMade<'a>> {
+        let at = number.checked_sub(1)? as usize;
+        if at < MOST_ATTEMPTS || self.keep == Keep::Drawn {
+            return self.kept.get(at).copied();
+        }
+        for made in self.kept.iter().skip(MOST_ATTEMPTS) {
+            if made.attempt.number == number {
+                return Some(*made);
+            }
+        }
+        None
+    }
+
+    /// Returns the first attempt that the limit refused; `None` if it refused none.
+    pub fn first_refused(&self) -> Option<AttemptMade<'a>> {
+        self.kept.get(self.refused_at?).copied()
+    }
+
+    /// Sees the attempt that the last turn of a machine made, and returns it; `None` if it made none.
+    pub fn see_newest(&mut self, machine: &Machine<'a>) -> Result<Option<Attempt>, AllocError> {
+        if self.count >= machine.attempts() {
+            return Ok(None);
+        }
+        let newest = machine.last_attempt();
+        if let Some(attempt) = newest {
+            let maker = Maker::of(machine.line(), machine.statement());
+            self.add(attempt, maker, machine.steps())?;
+        }
+        Ok(newest)
+    }
+
+    fn add(&mut self, attempt: Attempt, maker: Maker<'a>, step: u32) -> Result<(), AllocError> {
+        self.count = self.count.saturating_add(1);
+        let top = attempt.place.saturating_add(attempt.length);
+        let is_rise = attempt.answer != Answer::Simulated && top > self.top;
+        if is_rise {
+            self.top = top;
+        }
+        self.count_failed(attempt);
+        let is_kept = self.kept.len() < MOST_ATTEMPTS
+            || match self.keep {
+                Keep::Named => false,
+                Keep::Rises => is_rise,
+                Keep::Drawn => true,
+            };
+        self.has_newest = is_kept || self.is_named(attempt);
+        if attempt.answer == Answer::Refused && self.refused_at.is_none() {
+            self.refused_at = Some(self.kept.len());
+        }
+        if self.has_newest {
+            self.kept.push(AttemptMade {
+                attempt,
+                maker,
+                step,
+                is_rise,
+            })?;
+        }
+        Ok(())
+    }
+
+    /// Sees a turn after the newest attempt: the line that was begun last, and whether that is in a body that undoes.
+    pub fn see_turn(&mut self, line: u32, undoes: bool) {
+        if !self.has_newest {
+            return;
+        }
+        if let Some(newest) = self.kept.last_mut() {
+            newest.maker.see(line, undoes);
+        }
+    }
+
+    /// Whether the rule names an attempt by its number.
+    fn is_named(&self, attempt: Attempt) -> bool {
+        match &self.rule {
+            Rule::Unlimited => false,
+            Rule::Limit(_) => attempt.answer == Answer::Refused && self.refused_at.is_none(),
+            Rule::Number(number) | Rule::Every(number) => attempt.number == *number,
+            Rule::Pair(first, second) => attempt.number == *first || attempt.number == *second,
+            Rule::Set(numbers) => numbers.as_slice().contains(&attempt.number),
+        }
+    }
+
+    fn count_failed(&mut self, attempt: Attempt) {
+        if attempt.answer != Answer::Simulated {
+            return;
+        }
+        let is_by_rule = match &self.rule {
+            Rule::Every(rate) => attempt.number.checked_rem(*rate) == Some(0),
+            Rule::Number(_) | Rule::Pair(..) | Rule::Set(_) => self.is_named(attempt),
+            Rule::Unlimited | Rule::Limit(_) => false,
+        };
+        if is_by_rule {
+            self.failed.by_rule = self.failed.by_rule.saturating_add(1);
+        } else {
+            self.failed.by_script = self.failed.by_script.saturating_add(1);
+        }
+    }
+}

@@ -1,0 +1,72 @@
+//! Which cells a check of the heap counted that failed, read off the machine that it stopped.
+
+use std::alloc::{AllocError, Global};
+use wb_machine::Machine;
+use wb_model::heap::{Kind, Panic, Ptr};
+use wb_model::script::{Number, Statement};
+
+/// The most cells that are listed.
+const MOST_CELLS: usize = 20;
+
+/// The cells that a check counted whose panic ended the run.
+#[derive(Drop)]
+pub struct Counted {
+    /// How many it was to find, and how many it found.
+    pub expected: i32,
+    pub found: u32,
+    /// The lowest of them, by place.
+    pub cells: Vec<Ptr>,
+}
+
+/// Returns the cells that a check counted whose panic ended the run; `None` if no check failed. The only error is that memory ran
+/// out.
+pub fn counted_by(machine: &Machine<'_>, alloc: Global) -> Result<Option<Counted>, AllocError> {
+    let Some((is_of_all, number)) = failed_check(machine) else {
+        return Ok(None);
+    };
+    let mut counted = Counted {
+        expected: machine.number(number),
+        found: 0,
+        cells: Vec::new(alloc),
+    };
+    let level = machine.level();
+    let (count, _) = machine.alloc_size();
+    let mut place = 0;
+    for _ in 0..count {
+        let Some(cell) = machine.next_live(place) else {
+            break;
+        };
+        place = cell.place.saturating_add(cell.length);
+        if cell.kind != Kind::Cleanup && (is_of_all || cell.level == level) {
+            counted.add(cell.pointer())?;
+        }
+    }
+    Ok(Some(counted))
+}
+
+impl Counted {
+    /// Returns the lowest cell; `None` if no cell was counted.
+    pub fn lowest(&self) -> Option<Ptr> {
+        self.cells.first().copied()
+    }
+
+    fn add(&mut self, cell: Ptr) -> Result<(), AllocError> {
+        self.found = self.found.saturating_add(1);
+        if self.cells.len() < MOST_CELLS {
+            self.cells.push(cell)?;
+        }
+        Ok(())
+    }
+}
+
+/// Whether the check that failed was to count all cells, and how many it was to find; `None` if no check failed.
+fn failed_check(machine: &Machine<'_>) -> Option<(bool, Number)> {
+    let Panic::Alloc(_) = machine.raised_panic()?.panic else {
+        return None;
+    };
+    match machine.statement()? {
+        Statement::CheckAll(number) => Some((true, *number)),
+        Statement::Check(number) | Statement::MarkEnd(number) => Some((false, *number)),
+        _ => None,
+    }
+}

@@ -1,0 +1,203 @@
+//! What a picture draws of a run, beside its attempts: its cells over time, and a few numbers. It is kept where a picture is wanted.
+
+use crate::lives::End;
+use crate::series::Series;
+use std::alloc::{AllocError, Global};
+use wb_machine::Machine;
+use wb_model::heap::{Header, Kind, Ptr};
+
+/// The step at which a part ends that hasn't ended yet.
+pub const NEVER: u32 = u32::MAX;
+
+/// How a part of a cell's life ends.
+#[derive(Clone, Copy, PartialEq, Eq)]
+pub enum PartEnd {
+    /// The cell is live when the run is over.
+    Live,
+    /// The cell is released.
+    Freed,
+    /// It has another length from here on, at the same place.
+    Resized,
+    /// It moves to another place.
+    Moved,
+}
+
+/// A part of a cell's life, over which it keeps its place and its length, both in bytes.
+#[derive(Clone, Copy)]
+pub struct Part {
+    /// The cell's allocation number.
+    pub number: u32,
+    pub place: u32,
+    pub length: u32,
+    pub kind: Kind,
+    /// The number of the attempt that the part begins with; 0 if the cell became shorter.
+    pub attempt: u32,
+    /// The line that the part begins with; 0 for the cleanup stack's first cell.
+    pub line: u32,
+    /// The step that the part begins with, and the one after which it was gone; `NEVER` if it never was.
+    pub from: u32,
+    pub gone: u32,
+    /// The step before `gone`; where the cell got another length, the last one in which some cell was released or became shorter.
+    pub last: u32,
+    pub end: PartEnd,
+    /// The index of the part that it follows, in the same cell or in one that moved.
+    pub before: Option<usize>,
+    /// Whether the cell is a leak of the run.
+    pub leaks: bool,
+}
+
+impl Part {
+    /// Where the cell ends.
+    pub fn top(&self) -> u32 {
+        self.place.saturating_add(self.length)
+    }
+
+    fn finish(&mut self, gone: u32, last: u32, end: PartEnd) {
+        self.gone = gone;
+        self.last = last.max(self.from);
+        self.end = end;
+    }
+}
+
+/// The step, the line and the attempt with which a part begins; the attempt is 0 where the cell became shorter.
+#[derive(Clone, Copy)]
+pub struct PartStart {
+    pub step: u32,
+    pub line: u32,
+    pub attempt: u32,
+}
+
+/// What a picture draws of a run.
+#[derive(Drop)]
+pub struct Course {
+    is_wanted: bool,
+    parts: Vec<Part>,
+    /// For each cell, by its number, its last part: the index from 1; 0 if there is none.
+    latest: Vec<u32>,
+    /// The last step in which a cell was released or became shorter.
+    released: u32,
+    pub committed: Series,
+    pub levels: Series,
+    pub traps: Series,
+    pub items: Series,
+}
+
+impl Course {
+    /// Nothing has happened yet. If it isn't wanted, nothing is kept later either.
+    pub fn new(alloc: Global, is_wanted: bool) -> Course {
+        Course {
+            is_wanted,
+            parts: Vec::new(alloc),
+            latest: Vec::new(alloc),
+            released: 0,
+            committed: Series::new(alloc),
+            levels: Series::new(alloc),
+            traps: Series::new(alloc),
+            items: Series::new(alloc),
+        }
+    }
+
+    /// Returns the parts of all cells, in the order in which they began.
+    pub fn parts(&self) -> &[Part] {
+        self.parts.as_slice()
+    }
+
+    /// Sees the numbers that a turn left.
+    pub fn see_numbers(&mut self, machine: &Machine<'_>) -> Result<(), AllocError> {
+        if !self.is_wanted {
+            return Ok(());
+        }
+        let step = machine.steps();
+        self.committed.note(step, machine.committed())?;
+        self.levels.note(step, machine.level())?;
+        let traps = u32::try_from(machine.open_traps()).unwrap_or(u32::MAX);
+        self.traps.note(step, traps)?;
+        self.items.note(step, machine.cleanup_depth())
+    }
+
+    /// Sees a cell that was just granted. `old` is the cell that it took the place of, which has moved; null if there is none.
+    pub fn begin(&mut self, cell: Header, start: PartStart, old: Ptr) -> Result<(), AllocError> {
+        let before = self.index_of(old.number);
+        self.add(cell, start, before)
+    }
+
+    /// Sees that a live cell has another length, or that it was granted what it had.
+    pub fn resize(&mut self, cell: Header, start: PartStart) -> Result<(), AllocError> {
+        let index = self.index_of(cell.number);
+        if let Some(index) = index
+            && let Some(part) = self.parts.get_mut(index)
+        {
+            if start.attempt == 0 && part.length == cell.length {
+                return Ok(());
+            }
+            part.finish(start.step, self.released, PartEnd::Resized);
+        }
+        if start.attempt == 0 {
+            self.released = start.step;
+        }
+        self.add(cell, start, index)
+    }
+
+    /// Sees that a cell's life ended.
+    pub fn end(&mut self, cell: Ptr, step: u32, end: End) {
+        if let Some(index) = self.index_of(cell.number)
+            && let Some(part) = self.parts.get_mut(index)
+            && part.gone == NEVER
+        {
+            let end = match end {
+                End::Freed | End::Deleted => PartEnd::Freed,
+                End::Moved => PartEnd::Moved,
+            };
+            part.finish(step, step.saturating_sub(1), end);
+            self.released = step;
+        }
+    }
+
+    /// Marks the cell with this number as a leak.
+    pub fn mark_leak(&mut self, number: u32) {
+        if let Some(index) = self.index_of(number)
+            && let Some(part) = self.parts.get_mut(index)
+        {
+            part.leaks = true;
+        }
+    }
+
+    /// The index of the last part of the cell with this number.
+    fn index_of(&self, number: u32) -> Option<usize> {
+        let index = self.latest.get(number as usize)?.checked_sub(1)?;
+        Some(index as usize)
+    }
+
+    fn add(
+        &mut self,
+        cell: Header,
+        start: PartStart,
+        before: Option<usize>,
+    ) -> Result<(), AllocError> {
+        if !self.is_wanted {
+            return Ok(());
+        }
+        self.parts.push(Part {
+            number: cell.number,
+            place: cell.place,
+            length: cell.length,
+            kind: cell.kind,
+            attempt: start.attempt,
+            line: start.line,
+            from: start.step,
+            gone: NEVER,
+            last: start.step,
+            end: PartEnd::Live,
+            before,
+            leaks: false,
+        })?;
+        let number = cell.number as usize;
+        if self.latest.len() <= number {
+            self.latest.resize(number.saturating_add(1), 0)?;
+        }
+        if let Some(latest) = self.latest.get_mut(number) {
+            *latest = u32::try_from(self.parts.len()).unwrap_or(0);
+        }
+        Ok(())
+    }
+}

@@ -1,0 +1,206 @@
+//! The life of each cell: where it was made, grown, shortened, pushed and popped, what pointed to it last, and how it ended.
+
+use crate::moments::{Held, ShortLine};
+use std::alloc::{AllocError, Global};
+use wb_model::heap::{Header, Kind, Ptr};
+
+/// The most lives that are kept whatever they are. Later ones take the place of lives that ended at the same place.
+const MOST_LIVES: usize = 100_000;
+
+/// How a cell's life ends.
+#[derive(Clone, Copy, Debug, PartialEq, Eq)]
+pub enum End {
+    /// It is freed, and no destructor runs.
+    Freed,
+    /// Its object is deleted.
+    Deleted,
+    /// It is reallocated and moves.
+    Moved,
+}
+
+/// What ended a cell's life.
+#[derive(Clone, Copy, Debug, PartialEq, Eq)]
+pub enum By {
+    /// The line itself.
+    Line,
+    /// The cleanup stack, for a `popdestroy`.
+    PopDestroy,
+    /// The cleanup stack, for a leave.
+    Leave,
+}
+
+/// How a cell's life ended, by what, and at which line.
+#[derive(Clone, Copy, Debug, PartialEq, Eq)]
+pub struct Ended {
+    pub end: End,
+    pub by: By,
+    pub at: ShortLine,
+}
+
+/// The life of a cell, at one place. A cell that moves begins another. Of what happened to it the lines alone are kept, and each in two
+/// bytes: a run may have half a million lives.
+#[derive(Clone, Copy, Debug, PartialEq, Eq)]
+pub struct Life {
+    pub pointer: Ptr,
+    /// Its cell length, in bytes.
+    pub length: u32,
+    pub kind: Kind,
+    /// Whether the line that made it reallocates.
+    pub is_reallocated: bool,
+    pub made: ShortLine,
+    /// Where it grew last, at its place.
+    pub grown: ShortLine,
+    /// Where it was put on the cleanup stack last, and where that item was popped.
+    pub pushed: ShortLine,
+    pub popped: ShortLine,
+    /// The pointer that got it last, and where that got another value.
+    pub held: Option<Held>,
+    pub overwritten: ShortLine,
+    pub ended: Option<Ended>,
+    /// The life before it at its place, by an index from 1; 0 if there is none.
+    before: u32,
+}
+
+impl Life {
+    fn of(cell: Header, made: u32, is_reallocated: bool, before: u32) -> Life {
+        Life {
+            pointer: cell.pointer(),
+            length: cell.length,
+            kind: cell.kind,
+            is_reallocated,
+            made: ShortLine::of(made),
+            grown: ShortLine::NONE,
+            pushed: ShortLine::NONE,
+            popped: ShortLine::NONE,
+            held: None,
+            overwritten: ShortLine::NONE,
+            ended: None,
+            before,
+        }
+    }
+}
+
+/// The lives of a run's cells.
+#[derive(Drop)]
+pub struct Lives {
+    all: Vec<Life>,
+    /// For each place, by its sixteenth, the newest life there, by an index from 1; 0 if there is none.
+    newest: Vec<u32>,
+}
+
+impl Lives {
+    /// No cell yet.
+    pub fn new(alloc: Global) -> Lives {
+        Lives {
+            all: Vec::new(alloc),
+            newest: Vec::new(alloc),
+        }
+    }
+
+    /// Returns the life that a pointer names, also if it has ended; `None` if the pointer is null, or if that life isn't kept.
+    pub fn find(&self, pointer: Ptr) -> Option<Life> {
+        let mut index = self.newest_at(pointer.place);
+        for _ in 0..self.all.len() {
+            let life = self.all.get(index.checked_sub(1)? as usize)?;
+            if life.pointer == pointer {
+                return Some(*life);
+            }
+            index = life.before;
+        }
+        None
+    }
+
+    /// Begins the life of a cell that was just granted, to this line.
+    pub fn begin(
+        &mut self,
+        cell: Header,
+        made: u32,
+        is_reallocated: bool,
+    ) -> Result<(), AllocError> {
+        let before = self.newest_at(cell.place);
+        if self.all.len() >= MOST_LIVES
+            && let Some(at) = before.checked_sub(1)
+            && let Some(life) = self.all.get_mut(at as usize)
+        {
+            *life = Life::of(cell, made, is_reallocated, 0);
+            return Ok(());
+        }
+        self.all.push(Life::of(cell, made, is_reallocated, before))?;
+        let at = (cell.place / 16) as usize;
+        if self.newest.len() <= at {
+            self.newest.resize(at.saturating_add(1), 0)?;
+        }
+        if let Some(newest) = self.newest.get_mut(at) {
+            *newest = u32::try_from(self.all.len()).unwrap_or(0);
+        }
+        Ok(())
+    }
+
+    /// Notes that a live cell has grown at its place, or become shorter, by a line.
+    pub fn resize(&mut self, cell: Header, line: u32) {
+        if let Some(life) = self.live_mut(cell.pointer()) {
+            if life.length < cell.length {
+                life.grown = ShortLine::of(line);
+            }
+            life.length = cell.length;
+        }
+    }
+
+    /// Notes that a pointer to a live cell was put on the cleanup stack by a line.
+    pub fn push(&mut self, pointer: Ptr, line: u32) {
+        if let Some(life) = self.live_mut(pointer) {
+            life.pushed = ShortLine::of(line);
+            life.popped = ShortLine::NONE;
+        }
+    }
+
+    /// Notes that the item of a live cell was popped by a line.
+    pub fn pop(&mut self, pointer: Ptr, line: u32) {
+        if let Some(life) = self.live_mut(pointer) {
+            life.popped = ShortLine::of(line);
+        }
+    }
+
+    /// Notes which pointer got a live cell, unless it named that cell before.
+    pub fn hold(&mut self, pointer: Ptr, held: Held) {
+        if let Some(life) = self.live_mut(pointer) {
+            let is_same = life.held.is_some_and(|last| last.is_same_variable(held));
+            if is_same && life.overwritten.is_none() {
+                return;
+            }
+            life.held = Some(held);
+            life.overwritten = ShortLine::NONE;
+        }
+    }
+
+    /// Notes that a pointer to a live cell got another value, if it is the one that got the cell last.
+    pub fn overwrite(&mut self, pointer: Ptr, held: Held) {
+        if let Some(life) = self.live_mut(pointer)
+            && let Some(last) = life.held
+            && last.is_same_variable(held)
+        {
+            life.overwritten = held.line;
+        }
+    }
+
+    /// Notes that the life of a live cell ended.
+    pub fn end(&mut self, pointer: Ptr, ended: Ended) {
+        if let Some(life) = self.live_mut(pointer) {
+            life.ended = Some(ended);
+        }
+    }
+
+    fn newest_at(&self, place: u32) -> u32 {
+        self.newest.get((place / 16) as usize).copied().unwrap_or(0)
+    }
+
+    fn live_mut(&mut self, pointer: Ptr) -> Option<&mut Life> {
+        let at = self.newest_at(pointer.place).checked_sub(1)? as usize;
+        let life = self.all.get_mut(at)?;
+        if life.pointer == pointer && life.ended.is_none() {
+            Some(life)
+        } else {
+            None
+        }
+    }
+}

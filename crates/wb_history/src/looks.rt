@@ -1,0 +1,33 @@
+//! Single looks at a machine between two turns.
+
+use wb_machine::{Machine, Raiser};
+use wb_model::heap::{Header, Ptr};
+
+/// Returns whether the statement begun last has panicked. A panic of the end of its block or body comes after it.
+pub fn has_panicked(machine: &Machine<'_>) -> bool {
+    match machine.raised_panic() {
+        Some(raised) => match raised.raiser {
+            Raiser::Statement | Raiser::Holder => true,
+            Raiser::TrapEnd | Raiser::MainEnd | Raiser::Item | Raiser::Release => false,
+        },
+        None => false,
+    }
+}
+
+/// Returns the live cell at a place; `None` if none begins there.
+pub fn live_at(machine: &Machine<'_>, place: u32) -> Option<Header> {
+    let cell = machine.next_live(place)?;
+    if cell.place == place {
+        Some(cell)
+    } else {
+        None
+    }
+}
+
+/// Returns whether a pointer names a live cell.
+pub fn is_live(machine: &Machine<'_>, pointer: Ptr) -> bool {
+    match live_at(machine, pointer.place) {
+        Some(cell) => cell.number == pointer.number,
+        None => false,
+    }
+}

@@ -1,0 +1,51 @@
+//! Which line made an attempt, and where the run went on after it.
+
+use wb_model::script::{Refusal, Statement};
+
+/// Which line made an attempt, and what came after it.
+#[derive(Clone, Copy)]
+pub struct Maker<'a> {
+    pub line: u32,
+    /// Its statement; `None` for the first attempt, which no line makes.
+    pub statement: Option<&'a Statement>,
+    /// The first other line that was begun, outside of all that undoes; 0 where there is none.
+    pub after: u32,
+    /// The turns before any other line was begun. A `repeat` of the line alone takes two for each time.
+    pub idle: u32,
+}
+
+impl<'a> Maker<'a> {
+    /// A line that made an attempt, by its statement, before anything comes after it.
+    pub fn of(line: u32, statement: Option<&'a Statement>) -> Maker<'a> {
+        Maker {
+            line,
+            statement,
+            after: 0,
+            idle: 0,
+        }
+    }
+
+    /// Sees a turn after the attempt: the line that was begun last, and whether that is in a body that undoes.
+    pub fn see(&mut self, line: u32, undoes: bool) {
+        if self.after != 0 {
+            return;
+        }
+        if line == self.line {
+            self.idle = self.idle.saturating_add(1);
+        } else if !undoes {
+            self.after = line;
+        }
+    }
+
+    /// Whether the line gives null if its attempt fails, and goes on.
+    pub fn gives_null(&self) -> bool {
+        match self.statement {
+            Some(Statement::Realloc(_, _, _, Refusal::GivesNull))
+            | Some(Statement::ReallocText(..))
+            | Some(Statement::Alloc(_, _, Refusal::GivesNull))
+            | Some(Statement::New(_, _, Refusal::GivesNull))
+            | Some(Statement::NewText(_, _, Refusal::GivesNull)) => true,
+            _ => false,
+        }
+    }
+}

@@ -1,0 +1,11 @@
+//! How a run is made.
+
+use wb_model::heap::{Rule, Shape};
+
+/// How a run is made: the attempts that are refused, the greatest number of steps, and the heap's shape.
+#[derive(Debug, Drop)]
+pub struct RunParameters {
+    pub rule: Rule,
+    pub budget: u32,
+    pub shape: Shape,
+}

@@ -1,0 +1,127 @@
+//! The pointer that a panic is about: which operand of its line it is, and why it names no cell.
+
+use crate::lives::{Life, Lives};
+use crate::looks::is_live;
+use crate::operands::{CellName, MOST_OPERANDS, Operand, operand_at};
+use wb_machine::{Machine, Raised, Raiser};
+use wb_model::heap::{Panic, Ptr};
+use wb_model::script::{Holder, Pointer, Readable};
+
+/// Why a pointer names no cell.
+#[derive(Clone, Copy, Debug, PartialEq, Eq)]
+pub enum PointerState {
+    Null,
+    /// Its cell's life has ended; `None` if that life isn't kept.
+    Gone(Option<Life>),
+    /// It is a view, whose text's cell is gone, or was reallocated.
+    ViewOfNothing,
+}
+
+/// The pointer that a panic is about.
+#[derive(Clone, Copy)]
+pub struct PointerFault {
+    /// The index of its word in the line.
+    pub word: usize,
+    pub state: PointerState,
+    /// The operand; `None` if it is a view.
+    pub operand: Option<Pointer>,
+    /// Whether it is what holds the field that the word names.
+    pub is_owner: bool,
+}
+
+/// Returns the pointer that the panic is about that ended a run; `None` if it is about none.
+pub fn pointer_fault(machine: &Machine<'_>, lives: &Lives) -> Option<PointerFault> {
+    let raised = machine.raised_panic()?;
+    let is_about_pointer = raised.panic == Panic::NULL_OR_STALE || raised.panic == Panic::BAD_CELL;
+    if !is_about_pointer {
+        return None;
+    }
+    let statement = machine.statement()?;
+    for word in 1..=MOST_OPERANDS {
+        if let Some(operand) = operand_at(statement, word)
+            && let Some(fault) = fault_of(machine, lives, raised, operand)
+        {
+            return Some(fault);
+        }
+    }
+    None
+}
+
+fn fault_of(
+    machine: &Machine<'_>,
+    lives: &Lives,
+    raised: Raised,
+    operand: Operand,
+) -> Option<PointerFault> {
+    let word = operand.word;
+    match (raised.raiser, operand.name) {
+        (Raiser::Holder, CellName::Read(pointer) | CellName::Target(pointer)) => {
+            let state = state_of(machine, lives, machine.pointer(owner_of(pointer)?))?;
+            Some(PointerFault {
+                word,
+                state,
+                operand: Some(pointer),
+                is_owner: true,
+            })
+        }
+        (Raiser::Statement, CellName::Read(pointer)) => {
+            let state = state_of(machine, lives, machine.pointer(pointer))?;
+            Some(PointerFault {
+                word,
+                state,
+                operand: Some(pointer),
+                is_owner: false,
+            })
+        }
+        (Raiser::Statement, CellName::View(index)) => {
+            if machine.length(Readable::ViewOf(index)).is_some() {
+                return None;
+            }
+            Some(PointerFault {
+                word,
+                state: PointerState::ViewOfNothing,
+                operand: None,
+                is_owner: false,
+            })
+        }
+        _ => None,
+    }
+}
+
+/// What holds the object of a field.
+fn owner_of(pointer: Pointer) -> Option<Pointer> {
+    match pointer {
+        Pointer::Held(_) => None,
+        Pointer::Field(holder, ..) => Some(Pointer::Held(holder)),
+    }
+}
+
+/// Why a pointer names no cell; `None` if it names one.
+fn state_of(machine: &Machine<'_>, lives: &Lives, pointer: Ptr) -> Option<PointerState> {
+    if pointer.number == 0 {
+        return Some(PointerState::Null);
+    }
+    if is_live(machine, pointer) {
+        return None;
+    }
+    Some(PointerState::Gone(lives.find(pointer)))
+}
+
+/// Whether two operands of one body are the same pointer.
+pub fn is_same_pointer(first: Pointer, second: Pointer) -> bool {
+    match (first, second) {
+        (Pointer::Held(one), Pointer::Held(other)) => is_same_holder(one, other),
+        (Pointer::Field(one, _, index), Pointer::Field(other, _, other_index)) => {
+            is_same_holder(one, other) && index == other_index
+        }
+        _ => false,
+    }
+}
+
+fn is_same_holder(first: Holder, second: Holder) -> bool {
+    match (first, second) {
+        (Holder::Local(one), Holder::Local(other)) => one == other,
+        (Holder::This, Holder::This) => true,
+        _ => false,
+    }
+}

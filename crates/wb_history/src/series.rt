@@ -1,0 +1,57 @@
+//! A number that changes in the course of a run, kept by its changes.
+
+use std::alloc::{AllocError, Global};
+
+/// From this step on the number has this value.
+#[derive(Clone, Copy)]
+pub struct Change {
+    pub step: u32,
+    pub value: u32,
+}
+
+/// The changes of a number, in order of their steps.
+#[derive(Drop)]
+pub struct Series {
+    changes: Vec<Change>,
+}
+
+impl Series {
+    pub fn new(alloc: Global) -> Series {
+        Series {
+            changes: Vec::new(alloc),
+        }
+    }
+
+    pub fn changes(&self) -> &[Change] {
+        self.changes.as_slice()
+    }
+
+    /// Notes the value after a step, if it is another than before.
+    pub fn note(&mut self, step: u32, value: u32) -> Result<(), AllocError> {
+        if let Some(last) = self.changes.last()
+            && last.value == value
+        {
+            return Ok(());
+        }
+        self.changes.push(Change { step, value })?;
+        Ok(())
+    }
+
+    /// The least value; the greatest number that there is if there is none.
+    pub fn least(&self) -> u32 {
+        let mut least = u32::MAX;
+        for change in self.changes.as_slice() {
+            least = change.value.min(least);
+        }
+        least
+    }
+
+    /// The greatest value; 0 if there is none.
+    pub fn greatest(&self) -> u32 {
+        let mut greatest = 0;
+        for change in self.changes.as_slice() {
+            greatest = change.value.max(greatest);
+        }
+        greatest
+    }
+}

@@ -1,0 +1,127 @@
+//! What becomes of cells turn by turn: which are granted, moved, resized, freed and deleted.
+
+use crate::course::PartStart;
+use crate::lives::{By, End, Ended};
+use crate::looks::{is_live, live_at};
+use crate::moments::ShortLine;
+use crate::statements::{Ahead, NULL};
+use crate::turns::{Deletion, History};
+use std::alloc::AllocError;
+use wb_machine::Machine;
+use wb_model::heap::{Answer, Attempt, Kind, Ptr};
+use wb_model::run::Outcome;
+use wb_model::script::Statement;
+
+impl<'a> History<'a> {
+    /// Sees the cell that an attempt was granted: a new one, one that moved, or one that has grown at its place.
+    pub(crate) fn see_attempt(
+        &mut self,
+        machine: &Machine<'a>,
+        attempt: Attempt,
+        ahead: Option<Ahead<'a>>,
+    ) -> Result<(), AllocError> {
+        if attempt.answer != Answer::Granted {
+            return Ok(());
+        }
+        let Some(cell) = live_at(machine, attempt.place) else {
+            return Ok(());
+        };
+        let start = self.start_now(attempt.number);
+        if cell.number != attempt.number {
+            self.lives.resize(cell, start.line);
+            return self.course.resize(cell, start);
+        }
+        let reallocates = ahead.is_some_and(|it| it.reallocates());
+        let old = match ahead {
+            _ if cell.kind == Kind::Cleanup => self.stack,
+            Some(ahead) if reallocates => ahead.source,
+            _ => NULL,
+        };
+        if cell.kind == Kind::Cleanup {
+            self.stack = cell.pointer();
+        }
+        self.end_life(machine, old, End::Moved, By::Line, start.line);
+        self.course.begin(cell, start, old)?;
+        self.lives.begin(cell, start.line, reallocates)
+    }
+
+    /// A part of a cell's life that begins now, by this attempt.
+    fn start_now(&self, attempt: u32) -> PartStart {
+        PartStart {
+            step: self.steps,
+            line: self.last,
+            attempt,
+        }
+    }
+
+    /// Sees what became of the cell that a statement frees, deletes or shortens.
+    pub(crate) fn see_cell(
+        &mut self,
+        machine: &Machine<'a>,
+        ahead: Ahead<'a>,
+        attempt: Option<Attempt>,
+    ) -> Result<(), AllocError> {
+        match ahead.statement {
+            Statement::Free(_) => {
+                self.end_life(machine, ahead.source, End::Freed, By::Line, self.last);
+            }
+            Statement::Delete(_) if ahead.source.number != 0 => {
+                self.deletions.push(Deletion {
+                    object: ahead.source,
+                    by: By::Line,
+                    line: self.last,
+                })?;
+            }
+            Statement::Realloc(..) | Statement::ReallocText(..) if attempt.is_none() => {
+                if let Some(cell) = live_at(machine, ahead.source.place) {
+                    self.lives.resize(cell, self.last);
+                    let start = self.start_now(0);
+                    self.course.resize(cell, start)?;
+                }
+            }
+            _ => {}
+        }
+        Ok(())
+    }
+
+    /// Sees which objects were released whose deletion had begun.
+    pub(crate) fn see_deletions(&mut self, machine: &Machine<'a>) {
+        for _ in 0..self.deletions.len() {
+            let Some(deletion) = self.deletions.last().copied() else {
+                return;
+            };
+            if is_live(machine, deletion.object) {
+                return;
+            }
+            self.deletions.pop();
+            let Deletion { object, by, line } = deletion;
+            self.last_deleted = object;
+            self.end_life(machine, object, End::Deleted, by, line);
+        }
+    }
+
+    /// Notes that a cell's life ended, if the cell is gone.
+    pub(crate) fn end_life(
+        &mut self,
+        machine: &Machine<'a>,
+        pointer: Ptr,
+        end: End,
+        by: By,
+        line: u32,
+    ) {
+        if pointer.number != 0 && !is_live(machine, pointer) {
+            let at = ShortLine::of(line);
+            self.lives.end(pointer, Ended { end, by, at });
+            self.course.end(pointer, self.steps, end);
+        }
+    }
+
+    /// Sees how the run ended: which cells are leaks.
+    pub fn see_outcome(&mut self, outcome: &Outcome) {
+        if let Outcome::Ended { leaks, .. } = outcome {
+            for leak in leaks.as_slice() {
+                self.course.mark_leak(leak.number);
+            }
+        }
+    }
+}

@@ -1,0 +1,258 @@
+//! A run that is watched turn by turn.
+
+ghost use Rattle.std.specs.Prelude.{◌≤◌, IsTrue};
+ghost use Rattle.wb_model.specs.language.Sound.{is_script};
+
+use crate::attempts::{Attempts, Keep};
+use crate::checks::{Counted, counted_by};
+use crate::parameters::RunParameters;
+use crate::pointer_faults::{PointerFault, pointer_fault};
+use crate::statements::{Ahead, last_read};
+use crate::turns::History;
+use crate::values::{Meant, values_of};
+use std::alloc::{AllocError, Global};
+use wb_machine::{Machine, Raised, Raiser, RunFault, Turn};
+use wb_model::heap::Ptr;
+use wb_model::limits::LARGEST_BUDGET;
+use wb_model::memory::NoMemory;
+use wb_model::run::Outcome;
+use wb_model::script::{Script, Statement};
+
+/// What ended a run.
+#[derive(Drop)]
+pub struct EndOfRun<'a> {
+    /// The panic that ended it.
+    pub raised: Option<Raised>,
+    /// The statement that was begun last.
+    pub statement: Option<&'a Statement>,
+    /// The pointer, the values or the cells that the panic is about; each is `None` if it is about none.
+    pub pointer: Option<PointerFault>,
+    pub values: Option<Meant>,
+    pub counted: Option<Counted>,
+    /// What the pointer that the last statement reads names; null if it reads none.
+    pub names: Ptr,
+    /// The lines from `main` down to the one that raised the panic.
+    pub path: Vec<u32>,
+}
+
+/// A run that is over, and what happened in it.
+#[derive(Drop)]
+pub struct WatchedRun<'a> {
+    pub parameters: RunParameters,
+    pub outcome: Outcome,
+    pub history: History<'a>,
+    pub end: EndOfRun<'a>,
+}
+
+/// Runs the script once with these parameters and watches it, and keeps what explanations name, and besides what is said; `None` if the
+/// shape is none that a heap may have. The only error is that memory ran out.
+pub fn watch_run<'a>(
+    alloc: Global,
+    script: &'a Script,
+    parameters: RunParameters,
+    keep: Keep,
+) -> Result<Option<WatchedRun<'a>>, NoMemory>
+    requires script { IsTrue (is_script script.now) }
+    requires least { 1 ≤ parameters.budget }
+    requires greatest { parameters.budget ≤ LARGEST_BUDGET }
+{
+    match machine_of(alloc, script, &parameters)? {
+        Some(machine) => Ok(Some(run_of(alloc, machine, script, parameters, keep)?)),
+        None => Ok(None),
+    }
+}
+
+/// Returns the machine of a run that hasn't begun; `None` if the shape is none that a heap may have. The only error is that memory ran
+/// out.
+pub fn machine_of<'a>(
+    alloc: Global,
+    script: &'a Script,
+    parameters: &RunParameters,
+) -> Result<Option<Machine<'a>>, NoMemory>
+    requires script { IsTrue (is_script script.now) }
+    requires least { 1 ≤ parameters.now.budget }
+    requires greatest { parameters.now.budget ≤ LARGEST_BUDGET }
+{
+    let rule = parameters.rule.try_copy()?;
+    match Machine::new(alloc, script, rule, parameters.budget, parameters.shape) {
+        Ok(machine) => Ok(Some(machine)),
+        Err(RunFault::BadShape) => Ok(None),
+        Err(RunFault::NoMemory) => Err(NoMemory),
+    }
+}
+
+/// Watches the whole run of a machine, and takes its outcome. Turns that were not watched, if any, are taken then.
+fn run_of<'a>(
+    alloc: Global,
+    mut machine: Machine<'a>,
+    script: &Script,
+    parameters: RunParameters,
+    keep: Keep,
+) -> Result<WatchedRun<'a>, NoMemory> {
+    let Seen { mut history, end } = see_run(alloc, &mut machine, script, &parameters, keep)?;
+    let outcome = machine.run_to_end()?.outcome;
+    history.see_outcome(&outcome);
+    Ok(WatchedRun {
+        parameters,
+        outcome,
+        history,
+        end,
+    })
+}
+
+/// What was seen of a run.
+#[derive(Drop)]
+struct Seen<'a> {
+    history: History<'a>,
+    end: EndOfRun<'a>,
+}
+
+/// Lets the machine take its turns, and keeps what happens.
+fn see_run<'a>(
+    alloc: Global,
+    machine: &mut Machine<'a>,
+    script: &Script,
+    parameters: &RunParameters,
+    keep: Keep,
+) -> Result<Seen<'a>, NoMemory> {
+    let mut history = History::new(alloc, script, parameters.rule.try_copy()?, keep)?;
+    let end = see_turns(alloc, machine, &mut history, parameters.budget)?;
+    Ok(Seen { history, end })
+}
+
+fn see_turns<'a>(
+    alloc: Global,
+    machine: &mut Machine<'a>,
+    history: &mut History<'a>,
+    budget: u32,
+) -> Result<EndOfRun<'a>, NoMemory> {
+    watch(machine, history, budget)?;
+    Ok(end_of(alloc, machine, history)?)
+}
+
+/// How much of a run is to be watched.
+#[derive(Clone, Copy, Debug, PartialEq, Eq)]
+pub enum Until {
+    /// Up to the attempt with this number.
+    Attempt(u32),
+    /// Up to the first attempt that ends past this length, in bytes.
+    Past(u32),
+}
+
+/// Makes a part of the run of the script with these parameters and returns its attempts alone, with the lines that made them; `None`
+/// if the shape is none that a heap may have. The only error is that memory ran out.
+pub fn watch_attempts<'a>(
+    alloc: Global,
+    script: &'a Script,
+    parameters: RunParameters,
+    until: Until,
+) -> Result<Option<Attempts<'a>>, NoMemory>
+    requires script { IsTrue (is_script script.now) }
+    requires least { 1 ≤ parameters.budget }
+    requires greatest { parameters.budget ≤ LARGEST_BUDGET }
+{
+    match machine_of(alloc, script, &parameters)? {
+        Some(machine) => Ok(Some(attempts_of(alloc, machine, &parameters, until)?)),
+        None => Ok(None),
+    }
+}
+
+/// The attempts of a part of a machine's run, which is given up then.
+fn attempts_of<'a>(
+    alloc: Global,
+    mut machine: Machine<'a>,
+    parameters: &RunParameters,
+    until: Until,
+) -> Result<Attempts<'a>, NoMemory> {
+    see_attempts(alloc, &mut machine, parameters, until)
+}
+
+fn see_attempts<'a>(
+    alloc: Global,
+    machine: &mut Machine<'a>,
+    parameters: &RunParameters,
+    until: Until,
+) -> Result<Attempts<'a>, NoMemory> {
+    let mut attempts = Attempts::new(alloc, parameters.rule.try_copy()?, Keep::Rises);
+    watch_some(machine, &mut attempts, parameters.budget, until)?;
+    Ok(attempts)
+}
+
+/// Lets the machine take its turns until this is reached, at most one for each step of the budget, the first, and the one that ends
+/// the run.
+fn watch_some<'a>(
+    machine: &mut Machine<'a>,
+    attempts: &mut Attempts<'a>,
+    budget: u32,
+    until: Until,
+) -> Result<(), NoMemory> {
+    for _ in 0..=budget.saturating_add(1) {
+        if is_reached(attempts, until) || machine.step()? == Turn::Ended {
+            break;
+        }
+        attempts.see_newest(machine)?;
+    }
+    attempts.see_newest(machine)?;
+    Ok(())
+}
+
+fn is_reached(attempts: &Attempts<'_>, until: Until) -> bool {
+    match until {
+        Until::Attempt(number) => attempts.count() >= number,
+        Until::Past(length) => attempts.top() > length,
+    }
+}
+
+/// Lets the machine take its turns, at most one for each step of the budget, the first, and the one that ends the run.
+fn watch<'a>(
+    machine: &mut Machine<'a>,
+    history: &mut History<'a>,
+    budget: u32,
+) -> Result<(), NoMemory> {
+    for _ in 0..=budget.saturating_add(1) {
+        let ahead = Ahead::of(machine);
+        let turn = machine.step()?;
+        history.see_turn(machine, ahead)?;
+        if turn == Turn::Ended {
+            break;
+        }
+    }
+    Ok(())
+}
+
+/// Looks at the end of a run. The only error is that memory ran out.
+fn end_of<'a>(
+    alloc: Global,
+    machine: &Machine<'a>,
+    history: &mut History<'a>,
+) -> Result<EndOfRun<'a>, AllocError> {
+    let raised = machine.raised_panic();
+    let path = match raised {
+        Some(raised) => path_to(raised, machine, history)?,
+        None => 0,
+    };
+    let counted = counted_by(machine, alloc)?;
+    Ok(EndOfRun {
+        raised,
+        statement: machine.statement(),
+        pointer: pointer_fault(machine, &history.lives),
+        values: values_of(machine),
+        counted,
+        names: last_read(machine),
+        path: history.calls.lines_of(path)?,
+    })
+}
+
+/// The call path of the line that is to be named for a panic.
+fn path_to<'a>(
+    raised: Raised,
+    machine: &Machine<'a>,
+    history: &mut History<'a>,
+) -> Result<u32, AllocError> {
+    match raised.raiser {
+        Raiser::Statement | Raiser::Holder => history.calls.path(machine.depth()),
+        Raiser::TrapEnd => history.calls.path(raised.depth),
+        Raiser::MainEnd => history.calls.path(1),
+        Raiser::Item | Raiser::Release => history.outside_path(),
+    }
+}

@@ -1,0 +1,178 @@
+//! The frame of a panel with its axes: places on the left and steps below it, both at round numbers, and where places are drawn shorter.
+
+use crate::labels::{close_rect, close_text, open_rect, open_text, put_number};
+use crate::places::{Fold, round_step};
+use crate::scale::{Area, Frame, Scale};
+use std::alloc::AllocError;
+
+/// How far labels are from the frame, in pixels.
+const BESIDE: u32 = 6;
+
+/// The most steps between labels of places, and of steps.
+const MOST_PLACES: u32 = 8;
+
+const MOST_STEPS: u32 = 16;
+
+/// The most labels of an axis, those after folds among them.
+const MOST_LABELS: u32 = 40;
+
+/// How many bytes must be drawn before places are in KiB.
+const FROM_KIB: u32 = 4096;
+
+/// How high the gap in a frame is where places are drawn shorter, in pixels.
+const GAP: u32 = 5;
+
+/// In what places are said.
+#[derive(Clone, Copy)]
+struct Unit {
+    name: &'static str,
+    bytes: u32,
+}
+
+impl Unit {
+    fn of(drawn: u32) -> Unit {
+        if drawn < FROM_KIB {
+            Unit {
+                name: "bytes",
+                bytes: 1,
+            }
+        } else {
+            Unit {
+                name: "KiB",
+                bytes: 1024,
+            }
+        }
+    }
+
+    fn count(self, place: u32) -> u32 {
+        place.checked_div(self.bytes).unwrap_or(place)
+    }
+}
+
+/// Draws the frame, and both axes.
+pub fn put_frame(text: &mut String, scale: &Scale) -> Result<(), AllocError> {
+    let Frame {
+        left,
+        top,
+        width,
+        height,
+    } = scale.frame;
+    write!(
+        text,
+        "<rect class=\"plot\" x=\"{left}\" y=\"{top}\" width=\"{width}\" height=\"{height}\"/>\n"
+    )?;
+    put_places(text, scale)?;
+    put_steps(text, scale)
+}
+
+/// Writes places on the left.
+fn put_places(text: &mut String, scale: &Scale) -> Result<(), AllocError> {
+    let drawn = scale.places.drawn_up_to(scale.places.reach);
+    let unit = Unit::of(drawn);
+    let step = round_step(unit.count(drawn), MOST_PLACES).saturating_mul(unit.bytes);
+    let x = scale.frame.left.saturating_sub(BESIDE);
+    put_word(text, unit.name, x, scale.frame.top.saturating_sub(22))?;
+    let mut place = 0u32;
+    for _ in 0..MOST_LABELS {
+        if !scale.shows(place) {
+            break;
+        }
+        put_place(text, scale, unit, place)?;
+        place = place_after(scale, place, step);
+    }
+    Ok(())
+}
+
+/// The next place that has a label, after those that are drawn shorter.
+fn place_after(scale: &Scale, place: u32, step: u32) -> u32 {
+    let next = place.saturating_add(step);
+    let shown = scale.places.end_of_fold(next);
+    shown.div_ceil(step.max(1)).saturating_mul(step)
+}
+
+fn put_place(text: &mut String, scale: &Scale, unit: Unit, place: u32) -> Result<(), AllocError> {
+    let x = scale.frame.left.saturating_sub(BESIDE);
+    let y = scale.y(place);
+    let right = scale.frame.right();
+    put_number(text, "e dim", x, y.saturating_add(4), unit.count(place))?;
+    write!(text, "<path class=\"grid\" d=\"M{x} {y}H{right}\"/>\n")
+}
+
+fn put_word(text: &mut String, word: &str, x: u32, y: u32) -> Result<(), AllocError> {
+    open_text(text, "e dim", x, y)?;
+    text.push_str(word)?;
+    close_text(text)
+}
+
+/// Writes steps below the frame, each at the left of its column.
+fn put_steps(text: &mut String, scale: &Scale) -> Result<(), AllocError> {
+    let y = scale.frame.bottom().saturating_add(16);
+    put_word(text, "steps", scale.frame.left.saturating_sub(BESIDE), y)?;
+    let columns = scale.columns;
+    let after = columns.first_step(columns.count);
+    let every = round_step(after.saturating_sub(columns.first), MOST_STEPS);
+    let mut step = columns.first.div_ceil(every.max(1)).saturating_mul(every);
+    for _ in 0..MOST_LABELS {
+        if step >= after {
+            break;
+        }
+        let x = scale.x_of_step(step).saturating_add(3);
+        put_number(text, "dim", x, y, step)?;
+        step = step.saturating_add(every);
+    }
+    Ok(())
+}
+
+/// Draws a gap through the frame where places are drawn shorter.
+pub fn put_gaps(text: &mut String, scale: &Scale) -> Result<(), AllocError> {
+    if !scale.places.is_folded() {
+        return Ok(());
+    }
+    for fold in scale.places.folds() {
+        if !fold.is_empty() {
+            put_gap(text, scale, fold)?;
+        }
+    }
+    Ok(())
+}
+
+/// The height of the gap for places that are drawn shorter.
+fn middle_of(scale: &Scale, fold: &Fold) -> u32 {
+    let (low, high) = (scale.y(fold.from), scale.y(fold.until));
+    high.saturating_add(low.saturating_sub(high) / 2)
+}
+
+/// The base line of a text that is to be at this height: above a gap, if one is there.
+pub fn base_line(scale: &Scale, y: u32) -> u32 {
+    if !scale.places.is_folded() {
+        return y;
+    }
+    for fold in scale.places.folds() {
+        let gap = middle_of(scale, fold);
+        if !fold.is_empty() && gap.abs_diff(y) < 15 {
+            return gap.saturating_sub(6);
+        }
+    }
+    y
+}
+
+fn put_gap(text: &mut String, scale: &Scale, fold: &Fold) -> Result<(), AllocError> {
+    let (from, until) = (fold.from, fold.until);
+    let top = middle_of(scale, fold).saturating_sub(GAP / 2);
+    let bottom = top.saturating_add(GAP);
+    let left = scale.frame.left.saturating_sub(BESIDE);
+    let right = scale.frame.right().saturating_add(BESIDE);
+    let area = Area {
+        left,
+        top,
+        right,
+        bottom,
+    };
+    open_rect(text, "paper", area)?;
+    write!(text, "places {from} to {until} are drawn shorter")?;
+    close_rect(text)?;
+    write!(
+        text,
+        "<path class=\"fold\" d=\"M{left} {top}H{right}M{left} {bottom}H{right}\"/>\n"
+    )
+}

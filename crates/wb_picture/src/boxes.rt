@@ -1,0 +1,189 @@
+//! The cells of a run in its panel: a rectangle for each group of parts, what is written in it, and the lines that join a cell that has
+//! moved with its old place.
+
+use crate::axes::base_line;
+use crate::cells::Part;
+use crate::colours::Paint;
+use crate::escape::width_of;
+use crate::groups::{Group, area_of};
+use crate::labels::{
+    close_line, close_rect, close_text, open_cell, open_line, open_text, put_digits,
+    width_of_number,
+};
+use crate::leaks::{LeakLabel, is_free};
+use crate::lines::ScriptLines;
+use crate::panel::Panel;
+use crate::scale::Area;
+use crate::titles::{put_group_title, put_part_title};
+use std::alloc::AllocError;
+use wb_model::heap::Kind;
+
+/// The least height of a rectangle in which something is written, and the room on both sides of that, in pixels.
+pub const LEAST_WITH_TEXT: u32 = 11;
+
+const ROOM: u32 = 8;
+
+/// Draws the cells that leak, or those that don't.
+pub fn put_cells(
+    text: &mut String,
+    panel: &Panel<'_, '_>,
+    groups: &[Group],
+    leaking: bool,
+) -> Result<(), AllocError> {
+    for group in groups {
+        if (group.paint == Paint::Leak) == leaking {
+            put_group(text, panel, group)?;
+        }
+    }
+    Ok(())
+}
+
+/// Draws a group of parts as one rectangle.
+pub fn put_group(
+    text: &mut String,
+    panel: &Panel<'_, '_>,
+    group: &Group,
+) -> Result<(), AllocError> {
+    let parts = panel.run.course.cells.parts();
+    let (Some(first), Some(last)) = (parts.get(group.first), parts.get(group.last)) else {
+        return Ok(());
+    };
+    open_cell(text, edge_of(group), group.paint.name(), group.area)?;
+    if group.count > 1 {
+        put_group_title(text, panel.lines, group, first, last)?;
+        return close_rect(text);
+    }
+    put_part_title(text, panel.lines, first)?;
+    close_rect(text)?;
+    put_join(text, panel, parts, first)
+}
+
+/// The style of a rectangle's edge. A small one has none; a leak has one unless that would cover its red.
+fn edge_of(group: &Group) -> &'static str {
+    let low = if group.paint == Paint::Leak { 3 } else { 8 };
+    if group.area.width() < 4 || group.area.height() < low {
+        "thin"
+    } else {
+        "cell"
+    }
+}
+
+/// Joins a cell that has moved with the place that it had.
+fn put_join(
+    text: &mut String,
+    panel: &Panel<'_, '_>,
+    parts: &[Part],
+    part: &Part,
+) -> Result<(), AllocError> {
+    let Some(before) = part.before else {
+        return Ok(());
+    };
+    let Some(old) = parts.get(before) else {
+        return Ok(());
+    };
+    if old.place == part.place || part.from < panel.scale.columns.first {
+        return Ok(());
+    }
+    let x = panel.scale.x_of_step(part.from);
+    let line = Area {
+        left: x,
+        top: area_of(old, &panel.scale).middle(),
+        right: x,
+        bottom: area_of(part, &panel.scale).middle(),
+    };
+    open_line(text, "join strong", line)?;
+    let (from, to, attempt) = (old.place, part.place, part.attempt);
+    write!(
+        text,
+        "attempt {attempt} moved the cell from place {from} to place {to}"
+    )?;
+    close_line(text)
+}
+
+/// Writes into the rectangles of single cells which they are, if there is room and no label of a leak is over them. No line is over
+/// that.
+pub fn put_names(
+    text: &mut String,
+    panel: &Panel<'_, '_>,
+    groups: &[Group],
+    labels: &[LeakLabel],
+) -> Result<(), AllocError> {
+    let parts = panel.run.course.cells.parts();
+    for group in groups {
+        if group.count == 1
+            && group.paint != Paint::Leak
+            && let Some(part) = parts.get(group.first)
+        {
+            put_inside(text, panel, group, part, labels)?;
+        }
+    }
+    Ok(())
+}
+
+/// Writes the number of a cell into its rectangle, and what it is for if there is room for that too.
+fn put_inside(
+    text: &mut String,
+    panel: &Panel<'_, '_>,
+    group: &Group,
+    part: &Part,
+    labels: &[LeakLabel],
+) -> Result<(), AllocError> {
+    let area = group.area;
+    let number = part.number;
+    let short = width_of_number(number).saturating_add(ROOM);
+    if area.height() < LEAST_WITH_TEXT || area.width() < short {
+        return Ok(());
+    }
+    let whole = short.saturating_add(width_of_name(panel.lines, part.kind));
+    let is_whole = area.width() >= whole;
+    let width = if is_whole { whole } else { short };
+    let x = area.centre();
+    let y = base_line(&panel.scale, area.middle().saturating_add(4));
+    if !is_free(labels, &area_of_text(x, y, width)) {
+        return Ok(());
+    }
+    open_text(text, group.paint.label_name(), x, y)?;
+    put_digits(text, number)?;
+    if is_whole {
+        put_name(text, panel.lines, part.kind)?;
+    }
+    close_text(text)
+}
+
+/// The area of a text around a point of its base line.
+fn area_of_text(x: u32, y: u32, width: u32) -> Area {
+    let left = x.saturating_sub(width / 2);
+    Area {
+        left,
+        top: y.saturating_sub(9),
+        right: left.saturating_add(width),
+        bottom: y.saturating_add(2),
+    }
+}
+
+/// Writes after a number what a cell is for: the class of an object, or in a word or two.
+pub fn put_name(text: &mut String, lines: &ScriptLines<'_>, kind: Kind) -> Result<(), AllocError> {
+    text.push(' ')?;
+    match kind {
+        Kind::Object(class) => lines.put_class(text, class),
+        Kind::Raw | Kind::Text | Kind::Cleanup => text.push_str(kind_name(kind)),
+    }
+}
+
+/// How wide that is, in pixels.
+pub fn width_of_name(lines: &ScriptLines<'_>, kind: Kind) -> u32 {
+    let width = match kind {
+        Kind::Object(class) => width_of(lines.class_name(class)),
+        Kind::Raw | Kind::Text | Kind::Cleanup => width_of(kind_name(kind)),
+    };
+    width.saturating_add(ROOM / 2)
+}
+
+fn kind_name(kind: Kind) -> &'static str {
+    match kind {
+        Kind::Raw => "raw",
+        Kind::Text => "text",
+        Kind::Cleanup => "cleanup stack",
+        Kind::Object(_) => "",
+    }
+}

@@ -1,0 +1,197 @@
+//! The labels of leaks in a panel, each with the line that made the leak. They are inside where there is room, and else beside, from the top
+//! down.
+
+use crate::axes::base_line;
+use crate::boxes::{LEAST_WITH_TEXT, put_name, width_of_name};
+use crate::colours::Paint;
+use crate::groups::Group;
+use crate::labels::{close_text, open_text, width_of_number};
+use crate::panel::Panel;
+use crate::scale::{Area, Scale};
+use std::alloc::{AllocError, Global};
+use wb_model::heap::Kind;
+
+/// How far apart labels are, how far they are from their leaks, and how high they are on their line, in pixels.
+const APART: u32 = 13;
+
+const BESIDE: u32 = 5;
+
+const RISE: u32 = 4;
+
+/// The most labels beside leaks.
+const MOST_LABELS: usize = 12;
+
+/// How wide the words of a label are without numbers and names, of one leak and of several, in pixels.
+const WORDS: u32 = 90;
+
+const WORDS_OF_MANY: u32 = 180;
+
+/// A leak, by its height first.
+#[derive(Clone, Copy, PartialEq, Eq, PartialOrd, Ord)]
+struct Leak {
+    y: u32,
+    /// The index of its group.
+    group: usize,
+}
+
+/// The label of a leak, or the last one, which says how many leaks have none.
+#[derive(Clone, Copy)]
+pub struct LeakLabel {
+    area: Area,
+    class: &'static str,
+    x: u32,
+    y: u32,
+    group: Group,
+    /// How many rectangles of leaks have no label; 0 but in the last.
+    more: usize,
+}
+
+/// Whether an area is free of labels.
+pub fn is_free(labels: &[LeakLabel], area: &Area) -> bool {
+    for label in labels {
+        if label.area.meets(area) {
+            return false;
+        }
+    }
+    true
+}
+
+/// The labels of leaks, from the top down, none over another and all in the frame.
+pub fn labels_of(
+    alloc: Global,
+    panel: &Panel<'_, '_>,
+    groups: &[Group],
+) -> Result<Vec<LeakLabel>, AllocError> {
+    let leaks = leaks_of(alloc, &panel.scale, groups)?;
+    let mut labels = Vec::new(alloc);
+    let mut free = 0u32;
+    let mut lowest = lowest_of_first(&panel.scale, leaks.len());
+    for leak in leaks.as_slice() {
+        let Some(group) = groups.get(leak.group) else {
+            break;
+        };
+        let more = if labels.len() == MOST_LABELS {
+            leaks.len().saturating_sub(MOST_LABELS)
+        } else {
+            0
+        };
+        let y = leak.y.max(free).min(lowest);
+        labels.push(label_at(panel, group, y, more))?;
+        free = y.saturating_add(APART);
+        lowest = lowest.saturating_add(APART);
+        if more > 0 {
+            break;
+        }
+    }
+    Ok(labels)
+}
+
+/// The lowest base line of the first label that leaves room in the frame for those of all other leaks.
+fn lowest_of_first(scale: &Scale, leaks: usize) -> u32 {
+    let others = leaks.saturating_sub(1).min(MOST_LABELS);
+    let room = u32::try_from(others).unwrap_or(0).saturating_mul(APART);
+    scale
+        .frame
+        .bottom()
+        .saturating_sub(RISE)
+        .saturating_sub(room)
+}
+
+/// The leaks among these groups, from the top down.
+fn leaks_of(alloc: Global, scale: &Scale, groups: &[Group]) -> Result<Vec<Leak>, AllocError> {
+    let mut leaks = Vec::new(alloc);
+    for at in 0..groups.len() {
+        if let Some(group) = groups.get(at)
+            && group.paint == Paint::Leak
+        {
+            let y = base_line(scale, group.area.middle().saturating_add(RISE));
+            leaks.push(Leak { y, group: at })?;
+        }
+    }
+    leaks.sort_unstable();
+    Ok(leaks)
+}
+
+/// A label on this base line: inside its leak, after it, before it, or over it.
+fn label_at(panel: &Panel<'_, '_>, group: &Group, y: u32, more: usize) -> LeakLabel {
+    let width = width_of_label(panel, group);
+    let area = group.area;
+    let after = area.right.saturating_add(BESIDE);
+    let before = area.left.saturating_sub(BESIDE);
+    let (class, left, x) = if area.height() >= LEAST_WITH_TEXT && area.width() >= width {
+        let centre = area.centre();
+        ("n", centre.saturating_sub(width / 2), centre)
+    } else if after.saturating_add(width) <= panel.scale.frame.right() {
+        ("over", after, after)
+    } else if before >= panel.scale.frame.left.saturating_add(width) {
+        ("over e", before.saturating_sub(width), before)
+    } else {
+        let over = area.left.saturating_add(BESIDE);
+        ("over", over, over)
+    };
+    LeakLabel {
+        area: Area {
+            left,
+            top: y.saturating_sub(APART - RISE),
+            right: left.saturating_add(width),
+            bottom: y.saturating_add(RISE / 2),
+        },
+        class,
+        x,
+        y,
+        group: *group,
+        more,
+    }
+}
+
+/// Writes the labels.
+pub fn put_labels(
+    text: &mut String,
+    panel: &Panel<'_, '_>,
+    labels: &[LeakLabel],
+) -> Result<(), AllocError> {
+    for label in labels {
+        open_text(text, label.class, label.x, label.y)?;
+        put_words(text, panel, label)?;
+        close_text(text)?;
+    }
+    Ok(())
+}
+
+fn width_of_label(panel: &Panel<'_, '_>, group: &Group) -> u32 {
+    let Some(part) = panel.run.course.cells.parts().get(group.first) else {
+        return 0;
+    };
+    let words = if group.count > 1 {
+        WORDS_OF_MANY
+    } else {
+        width_of_name(panel.lines, part.kind).saturating_add(WORDS)
+    };
+    let numbers = width_of_number(part.number.max(group.count));
+    words
+        .saturating_add(numbers)
+        .saturating_add(width_of_number(part.line))
+}
+
+fn put_words(
+    text: &mut String,
+    panel: &Panel<'_, '_>,
+    label: &LeakLabel,
+) -> Result<(), AllocError> {
+    let (more, count) = (label.more, label.group.count);
+    if more > 0 {
+        return write!(text, "and leaks in {more} more rectangles");
+    }
+    let Some(part) = panel.run.course.cells.parts().get(label.group.first) else {
+        return Ok(());
+    };
+    let (number, line) = (part.number, part.line);
+    if count > 1 {
+        return write!(text, "{count} leaks, the first of line {line}");
+    }
+    write!(text, "leak {number}")?;
+    if part.kind != Kind::Raw {
+        put_name(text, panel.lines, part.kind)?;
+    }
+    write!(text, ", line {line}")
+}

@@ -1,0 +1,194 @@
+//! The legend of a picture: what is seen in it, and nothing else.
+
+use crate::cells::Part;
+use crate::colours::Paint;
+use crate::escape::{put_escaped, width_of};
+use crate::labels::{close_text, open_text};
+use crate::lines::ScriptLines;
+use crate::watch::WatchedRun;
+use std::alloc::{AllocError, Global};
+use wb_model::heap::{Answer, Kind};
+
+/// How high a row is, and how wide an entry is beside its text, in pixels.
+const ROW: u32 = 18;
+
+const BESIDE_TEXT: u32 = 40;
+
+/// The most entries up to those of classes.
+const MOST_ENTRIES: usize = 15;
+
+/// A style, what it is for, and where its entry is: from the left edge of the picture, and from the first row.
+#[derive(Clone, Copy)]
+struct Entry<'a> {
+    class: &'static str,
+    name: &'a str,
+    x: u32,
+    row: u32,
+}
+
+/// The entries of a legend, in order.
+#[derive(Drop)]
+pub struct Legend<'a> {
+    entries: Vec<Entry<'a>>,
+    left: u32,
+    right: u32,
+    /// Where the next entry goes if it has room.
+    x: u32,
+    row: u32,
+}
+
+/// What is seen in a picture.
+#[derive(Drop)]
+struct Seen {
+    stack: bool,
+    raw: bool,
+    text: bool,
+    leak: bool,
+    simulated: bool,
+    refused: bool,
+    /// Of each class, by its index.
+    classes: Vec<bool>,
+}
+
+impl Seen {
+    fn of(
+        alloc: Global,
+        lines: &ScriptLines<'_>,
+        runs: &[&WatchedRun],
+    ) -> Result<Seen, AllocError> {
+        let mut seen = Seen {
+            stack: false,
+            raw: false,
+            text: false,
+            leak: false,
+            simulated: false,
+            refused: false,
+            classes: vec![in alloc; false; lines.class_count()]?,
+        };
+        for run in runs {
+            for part in run.course.cells.parts() {
+                seen.see_part(part);
+            }
+            for attempt in run.course.attempts.as_slice() {
+                seen.see_answer(attempt.answer);
+            }
+        }
+        Ok(seen)
+    }
+
+    fn see_part(&mut self, part: &Part) {
+        if part.leaks {
+            self.leak = true;
+            return;
+        }
+        match part.kind {
+            Kind::Raw => self.raw = true,
+            Kind::Text => self.text = true,
+            Kind::Cleanup => self.stack = true,
+            Kind::Object(class) => {
+                if let Some(class) = self.classes.get_mut(class as usize) {
+                    *class = true;
+                }
+            }
+        }
+    }
+
+    fn see_answer(&mut self, answer: Answer) {
+        match answer {
+            Answer::Granted => {}
+            Answer::Simulated => self.simulated = true,
+            Answer::Refused => self.refused = true,
+        }
+    }
+}
+
+impl<'a> Legend<'a> {
+    /// The legend of these runs between two edges; `is_folded` says whether places are drawn shorter somewhere.
+    pub fn of(
+        alloc: Global,
+        lines: &ScriptLines<'a>,
+        runs: &[&WatchedRun],
+        is_folded: bool,
+        edges: (u32, u32),
+    ) -> Result<Legend<'a>, AllocError> {
+        let (left, right) = edges;
+        let seen = Seen::of(alloc, lines, runs)?;
+        let mut legend = Legend {
+            entries: Vec::new(alloc),
+            left,
+            right,
+            x: left,
+            row: 0,
+        };
+        legend.add(seen.stack, Paint::Stack.name(), "cleanup stack")?;
+        legend.add(seen.raw, Paint::Raw.name(), "raw cell")?;
+        legend.add(seen.text, Paint::Text.name(), "text")?;
+        legend.add_classes(lines, seen.classes.as_slice())?;
+        legend.add(seen.leak, Paint::Leak.name(), "leak")?;
+        legend.add(seen.simulated, "sim", "made to fail")?;
+        legend.add(seen.refused, "ref", "refused by the limit")?;
+        legend.add(is_folded, "fold", "places drawn shorter")?;
+        Ok(legend)
+    }
+
+    /// Adds an entry if what it is for is seen, in the next row if there is no room.
+    fn add(&mut self, is_seen: bool, class: &'static str, name: &'a str) -> Result<(), AllocError> {
+        if !is_seen {
+            return Ok(());
+        }
+        let width = width_of(name).saturating_add(BESIDE_TEXT);
+        if self.x > self.left && self.x.saturating_add(width) > self.right {
+            self.x = self.left;
+            self.row = self.row.saturating_add(1);
+        }
+        let (x, row) = (self.x, self.row);
+        self.entries.push(Entry {
+            class,
+            name,
+            x,
+            row,
+        })?;
+        self.x = x.saturating_add(width);
+        Ok(())
+    }
+
+    fn add_classes(&mut self, lines: &ScriptLines<'a>, seen: &[bool]) -> Result<(), AllocError> {
+        let mut class = 0u16;
+        for is_seen in seen {
+            let is_named = *is_seen && self.entries.len() < MOST_ENTRIES;
+            self.add(
+                is_named,
+                Paint::of_class(class).name(),
+                lines.class_name(class),
+            )?;
+            class = class.saturating_add(1);
+        }
+        Ok(())
+    }
+
+    /// How high the legend is, in pixels.
+    pub fn height(&self) -> u32 {
+        self.row.saturating_add(1).saturating_mul(ROW)
+    }
+
+    /// Writes the legend; the base line of its first row is at `y`.
+    pub fn put(&self, text: &mut String, y: u32) -> Result<(), AllocError> {
+        for entry in self.entries.as_slice() {
+            let row = y.saturating_add(entry.row.saturating_mul(ROW));
+            put_entry(text, entry, row)?;
+        }
+        Ok(())
+    }
+}
+
+/// Writes a small rectangle and the text beside it.
+fn put_entry(text: &mut String, entry: &Entry<'_>, y: u32) -> Result<(), AllocError> {
+    let (class, x, top) = (entry.class, entry.x, y.saturating_sub(10));
+    write!(
+        text,
+        "<rect class=\"{class}\" x=\"{x}\" y=\"{top}\" width=\"14\" height=\"11\"/>\n"
+    )?;
+    open_text(text, "", x.saturating_add(20), y)?;
+    put_escaped(text, entry.name)?;
+    close_text(text)
+}

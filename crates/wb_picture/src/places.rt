@@ -1,0 +1,130 @@
+//! How high places are in a frame. Where nothing begins or ends over most of the heap, as in one large cell, places are drawn shorter,
+//! so that the others have room.
+
+/// The most folds of a frame.
+pub const MOST_FOLDS: usize = 3;
+
+/// Places from one up to another, in bytes, that are drawn as high as fewer bytes are elsewhere.
+#[derive(Clone, Copy)]
+pub struct Fold {
+    pub from: u32,
+    pub until: u32,
+    pub drawn: u32,
+}
+
+/// The places of a frame, from 0 at its lower edge.
+#[derive(Clone, Copy)]
+pub struct Places {
+    /// The place at the upper edge, in bytes.
+    pub reach: u32,
+    /// In order of place; one that folds nothing is empty.
+    folds: [Fold; MOST_FOLDS],
+    is_folded: bool,
+}
+
+impl Fold {
+    /// A fold of no places.
+    pub fn empty() -> Fold {
+        Fold {
+            from: u32::MAX,
+            until: u32::MAX,
+            drawn: 0,
+        }
+    }
+
+    pub fn is_empty(&self) -> bool {
+        self.from >= self.until
+    }
+
+    /// By how many bytes lower a place is drawn.
+    fn hidden_up_to(&self, place: u32) -> u32 {
+        let over = place.min(self.until).saturating_sub(self.from);
+        if over == 0 {
+            return 0;
+        }
+        let all = self.until.saturating_sub(self.from);
+        over.saturating_sub(share_of(over, all, self.drawn))
+    }
+}
+
+impl Places {
+    /// Places up to this one, none of them drawn shorter.
+    pub fn up_to(reach: u32) -> Places {
+        Places {
+            reach,
+            folds: [Fold::empty(), Fold::empty(), Fold::empty()],
+            is_folded: false,
+        }
+    }
+
+    /// The same places with these folds, which are in order of place and don't overlap.
+    pub fn with_folds(self, folds: [Fold; MOST_FOLDS]) -> Places {
+        Places {
+            folds,
+            is_folded: true,
+            ..self
+        }
+    }
+
+    /// The same places, and some more above them, so that what is highest isn't at the upper edge.
+    pub fn with_margin(self) -> Places {
+        let margin = self.drawn_up_to(self.reach) / 16;
+        Places {
+            reach: self.reach.saturating_add(margin),
+            ..self
+        }
+    }
+
+    /// The folds, of which some may be empty.
+    pub fn folds(&self) -> &[Fold] {
+        &self.folds
+    }
+
+    pub fn is_folded(&self) -> bool {
+        self.is_folded
+    }
+
+    /// How many bytes are drawn up to a place.
+    pub fn drawn_up_to(&self, place: u32) -> u32 {
+        if !self.is_folded {
+            return place;
+        }
+        let mut hidden = 0u32;
+        for fold in self.folds() {
+            hidden = hidden.saturating_add(fold.hidden_up_to(place));
+        }
+        place.saturating_sub(hidden)
+    }
+
+    /// The end of the fold that a place is in, or else the place.
+    pub fn end_of_fold(&self, place: u32) -> u32 {
+        for fold in self.folds() {
+            if fold.from < place && place < fold.until {
+                return fold.until;
+            }
+        }
+        place
+    }
+}
+
+/// A part of a whole, on a length; 0 if the whole is.
+pub fn share_of(part: u32, whole: u32, length: u32) -> u32 {
+    let product = u64::from(part).saturating_mul(u64::from(length));
+    let quotient = product.checked_div(u64::from(whole)).unwrap_or(0);
+    u32::try_from(quotient).unwrap_or(u32::MAX)
+}
+
+/// The least of 1, 2, 5, 10, 20, 50 and so on of which at most this many reach up to a length.
+pub fn round_step(length: u32, most: u32) -> u32 {
+    let mut ten = 1u32;
+    for _ in 0..9 {
+        for factor in [1u32, 2, 5] {
+            let step = ten.saturating_mul(factor);
+            if step.saturating_mul(most) >= length {
+                return step;
+            }
+        }
+        ten = ten.saturating_mul(10);
+    }
+    ten
+}

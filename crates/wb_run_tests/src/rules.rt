@@ -1,0 +1,25 @@
+//! Rules as rows of tables name them. A static can't hold a rule, since that may have a list.
+
+use wb_model::heap::Rule;
+
+/// Which attempts are refused.
+#[derive(Clone, Copy)]
+pub(crate) enum Refuses {
+    Nothing,
+    Past(u32),
+    Number(u32),
+    Every(u32),
+    Pair(u32, u32),
+}
+
+impl Refuses {
+    pub(crate) fn rule(self) -> Rule {
+        match self {
+            Refuses::Nothing => Rule::Unlimited,
+            Refuses::Past(limit) => Rule::Limit(limit),
+            Refuses::Number(number) => Rule::Number(number),
+            Refuses::Every(rate) => Rule::Every(rate),
+            Refuses::Pair(first, second) => Rule::Pair(first, second),
+        }
+    }
+}

@@ -1,0 +1,51 @@
+//! Tasks as rows of tables name them.
+
+use crate::rules::Refuses;
+use wb_model::failures::Failures;
+use wb_model::heap::Rule;
+use wb_model::part::Part;
+use workbench::Task;
+
+/// What is asked for.
+#[derive(Clone, Copy)]
+pub(crate) enum Asks {
+    Run(Refuses),
+    Size,
+    Lengths,
+    Sweep(Failures, Part),
+    All(Failures, Part),
+    Check(Failures),
+    CheckAll(Failures),
+}
+
+impl Asks {
+    /// Whether a task is this one.
+    pub(crate) fn is(self, task: &Task) -> bool {
+        match (self, task) {
+            (Asks::Run(wanted), Task::Run(rule)) => is_same(rule, &wanted.rule()),
+            (Asks::Size, Task::Size) => true,
+            (Asks::Lengths, Task::Lengths) => true,
+            (Asks::Sweep(wanted, of), Task::Sweep(failures, part)) => {
+                *failures == wanted && *part == of
+            }
+            (Asks::All(wanted, of), Task::All(failures, part)) => {
+                *failures == wanted && *part == of
+            }
+            (Asks::Check(wanted), Task::Check(failures)) => *failures == wanted,
+            (Asks::CheckAll(wanted), Task::CheckAll(failures)) => *failures == wanted,
+            _ => false,
+        }
+    }
+}
+
+/// Whether both rules refuse the same, neither of them a set.
+fn is_same(rule: &Rule, wanted: &Rule) -> bool {
+    match (rule, wanted) {
+        (Rule::Unlimited, Rule::Unlimited) => true,
+        (Rule::Limit(limit), Rule::Limit(other)) => limit == other,
+        (Rule::Number(number), Rule::Number(other)) => number == other,
+        (Rule::Every(rate), Rule::Every(other)) => rate == other,
+        (Rule::Pair(first, second), Rule::Pair(one, two)) => first == one && second == two,
+        _ => false,
+    }
+}

@@ -1,0 +1,72 @@
+//! Laws of the checks: the first line that each refuses is the first of which something is so, by all lines of the
+//! script; where bytes spell a script, or have a fault that is found later, it is so of none. Each is the contract of a
+//! function that does nothing, so that the check proves it.
+
+ghost use Rattle.std.specs.Prelude.{ℕ, ◌<◌, List};
+ghost use Rattle.wb_model.specs.declared.fault.ScriptFault.{ScriptFault};
+ghost use Rattle.wb_model.specs.declared.fault.ScriptFault.TheVariants.{UnknownName, DoubleName};
+ghost use Rattle.wb_model.specs.declared.fault.ScriptFault.TheVariants.{WrongKind, MayLeave, TooMany};
+ghost use Rattle.wb_model.specs.declared.script.Script.{Script};
+ghost use Rattle.wb_model.specs.language.DeclaredAgain.{DeclaresAgain};
+ghost use Rattle.wb_model.specs.language.FaultOrder.{number_of_fault};
+ghost use Rattle.wb_model.specs.language.FirstLines.{IsFirstLine, IsOfNoLine};
+ghost use Rattle.wb_model.specs.language.Forms.{forms_of};
+ghost use Rattle.wb_model.specs.language.Lines.{lines_of};
+ghost use Rattle.wb_model.specs.language.MissedFields.{UsesUnknown};
+ghost use Rattle.wb_model.specs.language.PassedLimits.{PassesLimit};
+ghost use Rattle.wb_model.specs.language.QuietBodies.{MayLeaveThere};
+ghost use Rattle.wb_model.specs.language.Scripts.{IsScriptOf, IsFaultOf};
+ghost use Rattle.wb_model.specs.language.WrongSorts.{IsWrong};
+
+/// An unknown name is in the first line that uses a name which is declared nowhere in its space, or a field that the class
+/// of the pointer before it doesn't declare. A script has no such line.
+pub fn unknown_names_are_declared_nowhere()
+    ensures refused { (bytes : List ℕ) → (n : ℕ) → IsFaultOf bytes (UnknownName n) →
+        IsFirstLine UsesUnknown (forms_of (lines_of bytes)) n }
+    ensures script { (bytes : List ℕ) → (script : Script) → IsScriptOf bytes script →
+        IsOfNoLine UsesUnknown (forms_of (lines_of bytes)) }
+    ensures later { (bytes : List ℕ) → (fault : ScriptFault) → IsFaultOf bytes fault →
+        4 < number_of_fault fault → IsOfNoLine UsesUnknown (forms_of (lines_of bytes)) }
+{}
+
+/// A double name is in the first line that declares a name which an earlier line of its space declares, or that has two
+/// parameters of one name. A script has no such line.
+pub fn double_names_are_declared_again()
+    ensures refused { (bytes : List ℕ) → (n : ℕ) → IsFaultOf bytes (DoubleName n) →
+        IsFirstLine DeclaresAgain (forms_of (lines_of bytes)) n }
+    ensures script { (bytes : List ℕ) → (script : Script) → IsScriptOf bytes script →
+        IsOfNoLine DeclaresAgain (forms_of (lines_of bytes)) }
+    ensures later { (bytes : List ℕ) → (fault : ScriptFault) → IsFaultOf bytes fault →
+        5 < number_of_fault fault → IsOfNoLine DeclaresAgain (forms_of (lines_of bytes)) }
+{}
+
+/// A wrong kind is in the first line that is wrong in the sort of something that it names, or that has no place where it
+/// is. A script has no such line.
+pub fn wrong_kinds_are_wrong()
+    ensures refused { (bytes : List ℕ) → (n : ℕ) → IsFaultOf bytes (WrongKind n) →
+        IsFirstLine IsWrong (forms_of (lines_of bytes)) n }
+    ensures script { (bytes : List ℕ) → (script : Script) → IsScriptOf bytes script →
+        IsOfNoLine IsWrong (forms_of (lines_of bytes)) }
+    ensures later { (bytes : List ℕ) → (fault : ScriptFault) → IsFaultOf bytes fault →
+        6 < number_of_fault fault → IsOfNoLine IsWrong (forms_of (lines_of bytes)) }
+{}
+
+/// What may leave is the first line of the body of an operation or of a destructor that does something and is none of the
+/// few that may be there. A script has no such line.
+pub fn leaving_lines_are_in_quiet_bodies()
+    ensures refused { (bytes : List ℕ) → (n : ℕ) → IsFaultOf bytes (MayLeave n) →
+        IsFirstLine MayLeaveThere (forms_of (lines_of bytes)) n }
+    ensures script { (bytes : List ℕ) → (script : Script) → IsScriptOf bytes script →
+        IsOfNoLine MayLeaveThere (forms_of (lines_of bytes)) }
+    ensures later { (bytes : List ℕ) → (fault : ScriptFault) → IsFaultOf bytes fault →
+        7 < number_of_fault fault → IsOfNoLine MayLeaveThere (forms_of (lines_of bytes)) }
+{}
+
+/// Too many is the first line that passes a limit, by what the lines before it begin and declare. A script has no such
+/// line.
+pub fn too_many_is_past_a_limit()
+    ensures refused { (bytes : List ℕ) → (n : ℕ) → IsFaultOf bytes (TooMany n) →
+        IsFirstLine PassesLimit (forms_of (lines_of bytes)) n }
+    ensures script { (bytes : List ℕ) → (script : Script) → IsScriptOf bytes script →
+        IsOfNoLine PassesLimit (forms_of (lines_of bytes)) }
+{}

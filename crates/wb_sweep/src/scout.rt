@@ -1,0 +1,213 @@
+//! A run that goes ahead of a lead, and forks that meet it. From where a fork has come to the same but for allocation numbers, its
+//! rest is the scout's. Which failures are tried, and what is found, is not decided here.
+
+ghost use Rattle.std.specs.Prelude.{◌≡◌, ◌≤◌, true, false, Some, IfOk, IfSome, OnOk};
+ghost use Rattle.wb_machine.specs.Turns.{IsSameRun};
+ghost use Rattle.wb_sweep.specs.Families.{rule_in, runs_beside};
+ghost use Rattle.wb_sweep.specs.Meetings.{IsPastFailure, IsScout, HasMet, MeetingSays};
+
+use crate::family::Family;
+use crate::pace::Pace;
+use wb_machine::{Machine, Turn};
+use wb_model::memory::NoMemory;
+
+/// How many attempts a fork may make past the scout's before it is followed no longer: one that tries again makes more.
+const PAST: u32 = 4;
+
+/// What follows for a fork that has met the scout.
+#[derive(Clone, Copy, Debug, PartialEq, Eq)]
+pub enum Meeting {
+    /// Its run is fine, as the scout's is, and takes so many steps.
+    Fine(u32),
+    /// The budget cuts its run: it doesn't allow as many steps as the scout's run takes from there on.
+    PastBudget,
+}
+
+/// What is known of a run that is fine, in steps.
+#[derive(Clone, Copy, Debug, PartialEq, Eq)]
+pub struct Known {
+    /// How many it takes.
+    pub steps: u32,
+    /// The most that it takes, or one of those that were tried beside it.
+    pub most: u32,
+}
+
+/// A run ahead of a lead, under the same rule. It is fine.
+#[derive(Drop)]
+pub struct Scout<'a> {
+    pub(crate) machine: Machine<'a>,
+    /// What is known of its whole run, and of those that were tried beside it.
+    pub(crate) known: Known,
+    /// The greatest number of steps that a run may take.
+    pub(crate) budget: u32,
+    pub(crate) pace: Pace,
+}
+
+impl<'a> Scout<'a> {
+    /// A scout where the lead is, of whose whole run this is known, at this pace.
+    pub fn beside(
+        lead: &Machine<'a>,
+        known: Known,
+        pace: Pace,
+        budget: u32,
+    ) -> Result<Scout<'a>, NoMemory>
+        ensures machine { IfOk result (λ scout. scout.machine ≡ lead.now) }
+        ensures known { IfOk result (λ scout. scout.known ≡ known) }
+        ensures budget { IfOk result (λ scout. scout.budget ≡ budget) }
+    {
+        Ok(Scout {
+            machine: lead.try_copy()?,
+            known,
+            budget,
+            pace,
+        })
+    }
+
+    /// Takes turns until so many attempts are made and the next turn asks for one, or to the end. A run takes at most one turn more
+    /// than its budget has steps, and one that cuts it.
+    pub fn go_ahead(&mut self, attempts: u32) -> Result<(), NoMemory>
+        ensures same { IsSameRun self.old.machine self.new.machine }
+        ensures known { self.new.known ≡ self.old.known }
+        ensures budget { self.new.budget ≡ self.old.budget }
+    {
+        for _ in 0..self.budget.saturating_add(2) {
+            if self.machine.attempts() >= attempts && self.machine.will_attempt() {
+                return Ok(());
+            }
+            if self.machine.step()? == Turn::Ended {
+                return Ok(());
+            }
+        }
+        Ok(())
+    }
+
+    /// Whether a fork, under the failure that is tried as `number`, is where the scout is, but for allocation numbers, and nothing
+    /// fails any more in either. Both must be about to make an attempt.
+    pub fn is_met_by(&self, fork: &Machine, family: Family, number: u32) -> bool
+        requires script { self.now.machine.script ≡ fork.now.script }
+        ensures { result ≡ true → HasMet family number fork.now self.now.machine }
+    {
+        if !fork.will_attempt() || !self.machine.will_attempt() {
+            return false;
+        }
+        has_passed(family, number, fork)
+            && has_passed(family, 0, &self.machine)
+            && fork.goes_on_like(&self.machine, number.saturating_sub(1))
+    }
+
+    /// What follows for a fork that has met the scout; `None` where the numbers of steps don't fit.
+    pub fn meeting(&self, fork: &Machine, family: Family, number: u32) -> Option<Meeting>
+        requires met { HasMet family number fork.now self.now.machine }
+        requires scout { IsScout family fork.now.script fork.now.budget fork.now.shape self.now }
+        requires rule { fork.now.rule ≡ rule_in family number }
+        requires lines { fork.now.keeps_rises ≡ false }
+        ensures { IfSome result (λ meeting.
+            MeetingSays meeting (runs_beside family fork.now number)) }
+    {
+        let needed = self.known.steps.checked_add(fork.steps())?;
+        let allowed = self.budget.checked_add(self.machine.steps())?;
+        if needed > allowed {
+            return Some(Meeting::PastBudget);
+        }
+        Some(Meeting::Fine(needed.checked_sub(self.machine.steps())?))
+    }
+
+    /// Takes note of a run that takes so many steps.
+    pub fn learn(&mut self, steps: u32)
+        ensures machine { self.new.machine ≡ self.old.machine }
+        ensures steps { self.new.known.steps ≡ self.old.known.steps }
+        ensures budget { self.new.budget ≡ self.old.budget }
+        ensures kept { self.old.known.most ≤ self.new.known.most }
+        ensures learned { steps ≤ self.new.known.most }
+    {
+        self.known.most = self.known.most.max(steps);
+    }
+
+    /// Takes a fork's turns until it meets the scout, which goes ahead first; `false` where it doesn't soon, and where it passes
+    /// without being compared.
+    pub fn meet(
+        &mut self,
+        fork: &mut Machine,
+        family: Family,
+        number: u32,
+    ) -> Result<bool, NoMemory>
+        requires script { self.old.machine.script ≡ fork.old.script }
+        ensures met { OnOk result (result ≡ Ok true →
+            HasMet family number fork.new self.new.machine) }
+        ensures same { IsSameRun fork.old fork.new }
+        ensures machine { IsSameRun self.old.machine self.new.machine }
+        ensures known { self.new.known ≡ self.old.known }
+        ensures budget { self.new.budget ≡ self.old.budget }
+    {
+        if self.pace.passes_next() {
+            return Ok(false);
+        }
+        let attempts = number.saturating_add(self.pace.ahead());
+        self.go_ahead(attempts)?;
+        let met = follow(fork, self, family, number)?;
+        self.pace.add(met);
+        Ok(met)
+    }
+}
+
+/// Whether a run is past the last attempt that fails under the failure that is tried as `number`.
+fn has_passed(family: Family, number: u32, machine: &Machine) -> bool
+    ensures { result ≡ true → IsPastFailure family number machine.now.attempts }
+{
+    match family.last_failing(number) {
+        Some(last) => last <= machine.attempts(),
+        None => false,
+    }
+}
+
+/// Takes a fork's turns until it meets the scout; `false` where it doesn't soon.
+fn follow(fork: &mut Machine, scout: &Scout, family: Family, number: u32) -> Result<bool, NoMemory>
+    requires script { scout.now.machine.script ≡ fork.old.script }
+    ensures met { OnOk result (result ≡ Ok true →
+        HasMet family number fork.new scout.now.machine) }
+    ensures same { IsSameRun fork.old fork.new }
+{
+    let most = scout.machine.attempts().saturating_add(PAST);
+    for _ in 0..scout.budget.saturating_add(2) {
+        if fork.attempts() > most {
+            return Ok(false);
+        }
+        if scout.is_met_by(fork, family, number) {
+            return Ok(true);
+        }
+        if fork.step()? == Turn::Ended {
+            return Ok(false);
+        }
+    }
+    Ok(false)
+}
+
+/// A scout of the lead along the run under the family's failure 0, of which this is known; none without that, and none of rates, under
+/// which there is always a later failure.
+pub fn scout_beside<'a>(
+    lead: &Machine<'a>,
+    family: Family,
+    known: Option<Known>,
+    budget: u32,
+) -> Result<Option<Scout<'a>>, NoMemory>
+    ensures { IfOk result (λ scout. IfSome scout (λ s. (known ≡ Some s.known)
+        × (s.machine ≡ lead.now) × (s.budget ≡ budget))) }
+{
+    if family.last_failing(0).is_none() {
+        return Ok(None);
+    }
+    match known {
+        Some(known) => Ok(Some(Scout::beside(lead, known, Pace::new(), budget)?)),
+        None => Ok(None),
+    }
+}
+
+/// The pace of the scout, where there is one, with which a further scout begins.
+pub fn pace_of(scout: &Option<Scout>) -> Pace
+    ensures { IfSome scout.now (λ s. result ≡ s.pace) }
+{
+    match scout {
+        Some(scout) => scout.pace,
+        None => Pace::new(),
+    }
+}
