@@ -8,6 +8,7 @@ use std::fmt::Write as _;
 use std::io::{IsTerminal, Write};
 use std::time::{Duration, Instant};
 use wb_model::failures::Failing;
+use wb_model::heap::Numbers;
 use workbench::Progress;
 
 /// How many milliseconds runs go on before anything is said of them.
@@ -28,6 +29,8 @@ pub struct ProgressLine<'a> {
     due: Option<Instant>,
     /// The greatest number that is tried.
     last: u32,
+    /// How many attempts the sets have that are tried.
+    many: u32,
     /// How many failures were tried.
     work: Work,
     /// When the first of them was; `None` where nothing is said of it.
@@ -43,6 +46,7 @@ impl<'a> ProgressLine<'a> {
             rt,
             due: None,
             last: 0,
+            many: 0,
             work: Work::new(0),
             since: None,
             width: 0,
@@ -116,6 +120,16 @@ impl<'a> Progress for ProgressLine<'a> {
         }
     }
 
+    fn begin_sets(&mut self, many: u32) {
+        self.many = many;
+    }
+
+    fn begin_set(&mut self, numbers: &Numbers) {
+        if self.is_due() {
+            self.show(line_of_set(numbers, self.many, self.last));
+        }
+    }
+
     fn begin_lengths(&mut self) {
         self.begin_quietly();
     }
@@ -156,6 +170,14 @@ fn put_failing(line: &mut ArrayString<WIDEST>, at: Failing, last: u32) -> fmt::R
             )
         }
     }
+}
+
+/// The line of a set that is tried, by its first attempt, with the last that will be the first; `None` if the set is empty.
+fn line_of_set(numbers: &Numbers, many: u32, last: u32) -> Option<ArrayString<WIDEST>> {
+    let first = numbers.get(0)?;
+    let mut line = ArrayString::new();
+    let put = write!(line, "trying {many} attempts, attempt {first} of {last} first");
+    put.ok().map(|()| line)
 }
 
 /// Appends how much is done, and how long the rest takes: up to 99 seconds, then up to 99 minutes, then hours.

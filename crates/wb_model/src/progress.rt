@@ -1,6 +1,7 @@
 //! What tasks of many runs report while they go on. No contract mentions it, and no answer depends on it.
 
 use crate::failures::Failing;
+use crate::heap::Numbers;
 
 /// Receives how far a sweep, or the search through all lengths, has come. Its calls return nothing, so what is found doesn't
 /// depend on who receives them.
@@ -14,6 +15,12 @@ pub trait Progress {
 
     /// The run under this failure begins. Called once for each.
     fn begin_failure(&mut self, at: Failing);
+
+    /// No lesser set shows anything, and runs under sets of so many attempts follow. Called for 2, 3 and so on.
+    fn begin_sets(&mut self, many: u32);
+
+    /// The run in which these attempts fail begins. Called once for each set that is tried.
+    fn begin_set(&mut self, numbers: &Numbers);
 
     /// Runs in heaps of all lengths begin.
     fn begin_lengths(&mut self);
@@ -35,6 +42,10 @@ impl Progress for Silent {
     fn begin_failures(&mut self, _last: u32) {}
 
     fn begin_failure(&mut self, _at: Failing) {}
+
+    fn begin_sets(&mut self, _many: u32) {}
+
+    fn begin_set(&mut self, _numbers: &Numbers) {}
 
     fn begin_lengths(&mut self) {}
 

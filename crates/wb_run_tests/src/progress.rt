@@ -9,6 +9,7 @@ use std::io;
 use std::io::Write;
 use std::test::Fail;
 use wb_model::failures::Failing;
+use wb_model::heap::Numbers;
 use workbench::Progress;
 use workbench::host::Host;
 use workbench::program::program;
@@ -46,6 +47,14 @@ impl Progress for Listener<'_> {
             }
             None => self.is_as_wanted = false,
         }
+    }
+
+    fn begin_sets(&mut self, _many: u32) {
+        self.is_as_wanted = false;
+    }
+
+    fn begin_set(&mut self, _numbers: &Numbers) {
+        self.is_as_wanted = false;
     }
 
     fn begin_lengths(&mut self) {

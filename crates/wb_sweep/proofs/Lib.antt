@@ -1,3 +1,4 @@
+mod AheadLemmas
 mod AnswerLemmas
 mod FamilyLemmas
 mod FoundPairs
@@ -9,3 +10,4 @@ mod PartFound
 mod TellLemmas
 mod PairScouts
 mod PairsFurther
+mod PastPart

@@ -15,16 +15,17 @@ use Rattle.wb_model.specs.declared.run.Why.TheVariants.{Budget}
 use Rattle.wb_model.specs.declared.script.Script.{Script}
 use Rattle.wb_model.specs.runs.Follows.{ComesToTheSame, Reached, RefusesAlike, RestsAgree}
 use Rattle.wb_model.specs.runs.Run.{run, whole_run, WholeRun}
+use Rattle.wb_model.specs.runs.RunEnds.{end_of}
 use Rattle.wb_model.specs.runs.Sweeps.{is_cut_outcome, is_fine, rule_for}
 use Rattle.wb_model.proofs.AccountLemmas.{whole-attempts}
 use Rattle.wb_model.proofs.FollowEither.{numbers-alike, pairs-alike}
-use Rattle.wb_model.proofs.SameTurned.{judged-same}
+use Rattle.wb_model.proofs.SameTurned.{end-same, judged-same}
 use Rattle.wb_model.proofs.PartAnswers.{fine_is_uncut}
 use Rattle.wb_sweep.specs.declared.family.Family.{Family}
 use Rattle.wb_sweep.specs.declared.family.Family.TheVariants.{Of, With}
 use Rattle.wb_sweep.specs.declared.scout.Scout.{Scout}
 use Rattle.wb_sweep.specs.Families.{rule_in, runs_beside}
-use Rattle.wb_sweep.specs.Meetings.{HasMet, IsScout, last_failing}
+use Rattle.wb_sweep.specs.Meetings.{EndsAlike, HasMet, IsAhead, last_failing}
 use Rattle.wb_sweep.proofs.FamilyLemmas.{first-rule}
 
 -- the numbers that fail under two failures of a family are behind both runs, so their rules say the same of later attempts
@@ -76,11 +77,15 @@ attempts-under m rule script budget shape f g h =
     ∙ ap (λ (b : ℕ). length (run script rule b m.shape).trace) g
     ∙ ap (λ (s : Shape). length (run script rule budget s).trace) h
 
--- a run that is fine isn't cut by the budget
-pub uncut-if-fine : (result : RunResult) → is_fine result ≡ true → result.outcome ≢ Cut Budget
-uncut-if-fine result fine e = true≢false (sym (ap is_cut_outcome e) ∙ fine_is_uncut result fine)
+-- a run that isn't cut isn't cut by the budget
+uncut-by : (result : RunResult) → is_cut_outcome result.outcome ≡ false → result.outcome ≢ Cut Budget
+uncut-by result uncut e = true≢false (sym (ap is_cut_outcome e) ∙ uncut)
 
-module _ (family : Family) (fork : Seen) (scout : Scout) (n : ℕ) (is : IsScout family fork.script fork.budget fork.shape scout) (rule : fork.rule ≡ rule_in family n)
+-- nor is one that is fine
+pub uncut-if-fine : (result : RunResult) → is_fine result ≡ true → result.outcome ≢ Cut Budget
+uncut-if-fine result fine = uncut-by result (fine_is_uncut result fine)
+
+module _ (family : Family) (fork : Seen) (scout : Scout) (n : ℕ) (is : IsAhead family fork.script fork.budget fork.shape scout) (rule : fork.rule ≡ rule_in family n)
     (lines : fork.keeps_rises ≡ false) (met : HasMet family n fork scout.machine) where
   abbrev first : RunResult
   first = runs_beside family fork 0
@@ -98,7 +103,7 @@ module _ (family : Family) (fork : Seen) (scout : Scout) (n : ℕ) (is : IsScout
   forked = run-under fork (rule_in family n) fork.script fork.budget fork.shape lines refl refl refl
 
   uncut : ahead.result.outcome ≢ Cut Budget
-  uncut e = uncut-if-fine first is.known.fine (ap (λ (r : RunResult). r.outcome) (sym ran) ∙ e)
+  uncut e = uncut-by first is.uncut (ap (λ (r : RunResult). r.outcome) (sym ran) ∙ e)
 
   behind : RefusesAlike (rule_in family 0) (rule_in family n) (reached_by scout.machine) (reached_by fork)
   behind =
@@ -109,13 +114,16 @@ module _ (family : Family) (fork : Seen) (scout : Scout) (n : ℕ) (is : IsScout
 
   -- its steps
   took : scout.known.steps ≡ ahead.result.steps
-  took = is.known.steps ∙ ap (λ (r : RunResult). r.steps) (sym ran)
+  took = is.steps ∙ ap (λ (r : RunResult). r.steps) (sym ran)
 
   same : scout.known.steps + fork.steps ≤ scout.budget + scout.machine.steps → ComesToTheSame (reached_by scout.machine) (reached_by fork) ahead along
   same within = agree.alike (omega (arith, within, took, is.allowed))
 
-  pub met-fine : scout.known.steps + fork.steps ≤ scout.budget + scout.machine.steps → is_fine (runs_beside family fork n) ≡ true
-  met-fine within = ap is_fine (sym forked) ∙ (judged-same ahead.result along.result (same within).outcome).1 ∙ ap is_fine ran ∙ is.known.fine
+  pub met-alike : scout.known.steps + fork.steps ≤ scout.budget + scout.machine.steps → EndsAlike (runs_beside family fork 0) (runs_beside family fork n)
+  met-alike within = record {
+    end = ap (λ (r : RunResult). end_of r.outcome) (sym forked) ∙ end-same (same within).outcome ∙ ap (λ (r : RunResult). end_of r.outcome) ran;
+    fine = ap is_fine (sym forked) ∙ (judged-same ahead.result along.result (same within).outcome).1 ∙ ap is_fine ran;
+  }
 
   pub met-steps : scout.known.steps + fork.steps ≤ scout.budget + scout.machine.steps →
       (runs_beside family fork n).steps + scout.machine.steps ≡ scout.known.steps + fork.steps

@@ -6,20 +6,35 @@ use Rattle.wb_model.specs.declared.failures.Failures.{Failures}
 use Rattle.wb_model.specs.declared.heap.Shape.{Shape}
 use Rattle.wb_model.specs.declared.number_ends.NumberEnd.{NumberEnd}
 use Rattle.wb_model.specs.declared.part.Part.{Part}
+use Rattle.wb_model.specs.declared.run.Outcome.{Outcome}
+use Rattle.wb_model.specs.declared.run.Outcome.TheVariants as outcomes
 use Rattle.wb_model.specs.declared.run.RunResult.{RunResult}
 use Rattle.wb_model.specs.declared.script.Script.{Script}
 use Rattle.wb_model.specs.runs.AllNumbers.{first_bad, number_end, unfine_in, unfine_numbers, IsLeastBadOf, IsNoBadOf}
+use Rattle.wb_model.specs.runs.RunEnds.{end_of}
 use Rattle.wb_model.specs.runs.Sweeps.{failing_at, is_fine, runs_of}
 use Rattle.wb_model.proofs.FirstBad.{first-least, first-none}
 use Rattle.wb_model.proofs.PartLines.{unfine-more}
 use Rattle.wb_sweep.specs.declared.found.Found.{Found}
-use Rattle.wb_sweep.specs.AllOfAPart.{line_of, IsFoundAsFirst}
+use Rattle.wb_sweep.specs.AllOfAPart.{line_if_told, line_of, IsFoundAsFirst}
 
 -- a turn makes the attempt that it asks for; one that the ceiling cuts would end the run, which has an attempt more
 pub made-further : (ceiling over : Bool) (made next last : ℕ) → (ceiling ≡ false → next ≡ made + 1) → (ceiling ≡ true → over ≡ true) →
     (over ≡ true → last ≤ next) → made < last → next ≤ made + 1 → next ≡ made + 1
 made-further false over made next last asked ends all more most = asked refl
 made-further true over made next last asked ends all more most = let le = all (ends refl) in omega (arith, le, more, most)
+
+-- what is told of a number by its run's end is what is told by its run
+pub line_by_end : (number : ℕ) (told : RunResult) → line_if_told number (end_of told.outcome) ≡ line_of number told
+line_by_end number told = by told.outcome refl
+  where
+    by : (outcome : Outcome) → told.outcome ≡ outcome → line_if_told number (end_of told.outcome) ≡ line_of number told
+    by (outcomes.Ended None []) e = rw e refl
+    by (outcomes.Ended (Some code) []) e = rw e refl
+    by (outcomes.Ended left (leak ∷ leaks)) e = rw e refl
+    by (outcomes.Panicked panic) e = rw e refl
+    by outcomes.NoCleanup e = rw e refl
+    by (outcomes.Cut why) e = rw e refl
 
 module _ (runs : ℕ → RunResult) where
   pub one-line : (number : ℕ) → unfine_numbers runs number 1 ≡ line_of number (runs number)

@@ -1,5 +1,5 @@
 -- What a sweep tells that looks at each number of a part.
-use Rattle.std.specs.Prelude.{◌≡◌, ℕ, ◌<◌, List, [], ◌∷◌, if◌then◌else◌, Option, Some, None, IfSome}
+use Rattle.std.specs.Prelude.{◌≡◌, ℕ, ◌<◌, List, [], ◌∷◌, if◌then◌else◌, Option, Some, None, IfSome, ◌||◌}
 use Rattle.wb_model.specs.declared.failures.Failures.{Failures}
 use Rattle.wb_model.specs.declared.heap.Shape.{Shape}
 use Rattle.wb_model.specs.declared.number_ends.NumberEnd.{NumberEnd}
@@ -8,7 +8,8 @@ use Rattle.wb_model.specs.declared.run.RunResult.{RunResult}
 use Rattle.wb_model.specs.declared.script.Script.{Script}
 use Rattle.wb_model.specs.runs.AllNumbers.{bad_count, first_bad, unfine_in, IsLeastBadOf, IsNoBadOf}
 use Rattle.wb_model.specs.runs.Parts.{last_attempt, IsUncut}
-use Rattle.wb_model.specs.runs.RunEnds.{end_of}
+use Rattle.wb_model.specs.declared.run_end.RunEnd.{RunEnd}
+use Rattle.wb_model.specs.runs.RunEnds.{end_of, is_bad_end, is_cut_end}
 use Rattle.wb_model.specs.runs.Sweeps.{failing_at, is_fine, runs_of}
 use Rattle.wb_sweep.specs.declared.found.AllNumbers.{AllNumbers}
 use Rattle.wb_sweep.specs.declared.found.Found.{Found}
@@ -16,6 +17,10 @@ use Rattle.wb_sweep.specs.declared.found.Found.{Found}
 -- what is told of a number by its run
 abbrev pub line_of : ℕ → RunResult → List NumberEnd
 line_of number told = if is_fine told then [] else record { number = number; end = end_of told.outcome } ∷ []
+
+-- the same by its run's end
+abbrev pub line_if_told : ℕ → RunEnd → List NumberEnd
+line_if_told number end = if is_bad_end end || is_cut_end end then record { number = number; end = end } ∷ [] else []
 
 -- what is found is the first number that is told as bad, with its run
 abbrev pub IsFoundAsFirst : Failures → Script → ℕ → Shape → List NumberEnd → Option Found → Type 0

@@ -1,5 +1,5 @@
 -- Runs that forks may meet, and what follows of a fork's run where it does.
-use Rattle.std.specs.Prelude.{◌≡◌, ℕ, ◌<◌, ◌≤◌, true, false, Option, None, Some, IfSome, nat_le, if◌then◌else◌, length}
+use Rattle.std.specs.Prelude.{◌≡◌, ℕ, ◌<◌, ◌≤◌, Bool, true, false, Option, None, Some, IfSome, nat_le, if◌then◌else◌, length}
 use Rattle.wb_machine.specs.Alike.{GoesOnLike}
 use Rattle.wb_machine.specs.Seen.{Seen}
 use Rattle.wb_model.specs.declared.failures.Failures.TheVariants.{Single, Every, Pairs}
@@ -11,17 +11,20 @@ use Rattle.wb_model.specs.declared.run.Why.TheVariants.{Budget}
 use Rattle.wb_model.specs.declared.script.Script.{Script}
 use Rattle.wb_model.specs.runs.Pairs.{pair_run}
 use Rattle.wb_model.specs.runs.Parts.{IsNumberOf}
-use Rattle.wb_model.specs.runs.Sweeps.{is_fine, runs_of, runs_under}
+use Rattle.wb_model.specs.runs.RunEnds.{end_of}
+use Rattle.wb_model.specs.runs.Sweeps.{is_cut_outcome, is_fine, runs_of, runs_under}
 use Rattle.wb_sweep.specs.declared.alone.Alone.{Alone}
 use Rattle.wb_sweep.specs.declared.family.Family.{Family}
 use Rattle.wb_sweep.specs.declared.family.Family.TheVariants.{Of, With}
 use Rattle.wb_sweep.specs.declared.followed.Forked.{Forked}
 use Rattle.wb_sweep.specs.declared.followed.Forked.TheVariants.{Met, Ran}
+use Rattle.wb_sweep.specs.declared.past.Grounds.{Grounds}
 use Rattle.wb_sweep.specs.declared.scout.Known.{Known}
 use Rattle.wb_sweep.specs.declared.scout.Meeting.{Meeting}
-use Rattle.wb_sweep.specs.declared.scout.Meeting.TheVariants.{Fine, PastBudget}
+use Rattle.wb_sweep.specs.declared.scout.Meeting.TheVariants.{Alike, PastBudget}
 use Rattle.wb_sweep.specs.declared.scout.Scout.{Scout}
 use Rattle.wb_sweep.specs.Families.{failing_in, rule_in}
+use Rattle.wb_sweep.specs.Stretches.{AreNumbersFine}
 
 -- the last attempt that fails under the failure that is tried as n; under a rate there is always a later one
 abbrev pub last_failing : Family → ℕ → Option ℕ
@@ -48,7 +51,19 @@ pub record IsKnownRun (result : RunResult) (known : Known) : Type 0 where
   pub steps : known.steps ≡ result.steps
   pub most : known.steps ≤ known.most
 
--- a scout's run is that under the family's failure 0, and fine
+-- a scout's run is that under the family's failure 0, and isn't cut
+pub record IsAhead (family : Family) (script : Script) (budget : ℕ) (shape : Shape) (scout : Scout) : Type 0 where
+  pub rule : scout.machine.rule ≡ rule_in family 0
+  pub same_script : scout.machine.script ≡ script
+  pub same_budget : scout.machine.budget ≡ budget
+  pub same_shape : scout.machine.shape ≡ shape
+  pub lines : scout.machine.keeps_rises ≡ false
+  pub allowed : scout.budget ≡ budget
+  pub uncut : is_cut_outcome (runs_under (failing_in family) script budget shape 0).outcome ≡ false
+  pub steps : scout.known.steps ≡ (runs_under (failing_in family) script budget shape 0).steps
+  pub most : scout.known.steps ≤ scout.known.most
+
+-- likewise, and it is fine
 pub record IsScout (family : Family) (script : Script) (budget : ℕ) (shape : Shape) (scout : Scout) : Type 0 where
   pub rule : scout.machine.rule ≡ rule_in family 0
   pub same_script : scout.machine.script ≡ script
@@ -66,22 +81,38 @@ AreStepsWithin runs from bound most = (number : ℕ) → from ≤ number → num
 abbrev pub KnowsSteps : (ℕ → RunResult) → ℕ → ℕ → Option Scout → Type 0
 KnowsSteps runs from bound scout = IfSome scout (λ s. AreStepsWithin runs from bound s.known.most)
 
--- what a meeting says of the fork's run
-abbrev pub MeetingSays : Meeting → RunResult → Type 0
-MeetingSays (Fine steps) result = (is_fine result ≡ true) × (steps ≡ result.steps)
-MeetingSays PastBudget result = result.outcome ≡ Cut Budget
+-- two runs end alike, and both are fine or neither is
+pub record EndsAlike (first result : RunResult) : Type 0 where
+  pub end : end_of result.outcome ≡ end_of first.outcome
+  pub fine : is_fine result ≡ is_fine first
+
+-- what a meeting says of the fork's run beside the scout's
+abbrev pub MeetingSays : Meeting → RunResult → RunResult → Type 0
+MeetingSays (Alike steps) first result = EndsAlike first result × (steps ≡ result.steps)
+MeetingSays PastBudget first result = result.outcome ≡ Cut Budget
 
 -- and what is known of the run of a fork that was followed
-abbrev pub ForkedSays : Forked → RunResult → Type 0
-ForkedSays (Met meeting) result = MeetingSays meeting result
-ForkedSays (Ran known) result = known ≡ result
+abbrev pub ForkedSays : Forked → RunResult → RunResult → Type 0
+ForkedSays (Met meeting) first result = MeetingSays meeting first result
+ForkedSays (Ran known) first result = known ≡ result
 
--- the steps of the run of a fork that has met a scout, if it is fine
+-- the same beside a run that is fine: then that of a fork that met the scout is, too
+abbrev pub FineSays : Forked → RunResult → Type 0
+FineSays (Met (Alike steps)) result = (is_fine result ≡ true) × (steps ≡ result.steps)
+FineSays (Met PastBudget) result = result.outcome ≡ Cut Budget
+FineSays (Ran known) result = known ≡ result
+
+-- whether a fork has met the scout
+abbrev pub is_met : Forked → Bool
+is_met (Met meeting) = true
+is_met (Ran known) = false
+
+-- the steps of the run of a fork that has met a scout, if that isn't cut
 abbrev pub steps_met : Option Meeting → ℕ
-steps_met (Some (Fine steps)) = steps
+steps_met (Some (Alike steps)) = steps
 steps_met _ = 0
 
--- and of one that was followed, if it is fine
+-- and of one that was followed
 abbrev pub steps_followed : Forked → ℕ
 steps_followed (Met meeting) = steps_met (Some meeting)
 steps_followed (Ran known) = known.steps
@@ -110,3 +141,8 @@ pub record IsPairScout (lead : Seen) (part : Part) (last : ℕ) (scout : Scout) 
 pub record IsKnown (runs : ℕ → RunResult) (part : Part) (last : ℕ) (known : Known) : Type 0 where
   pub first : IsKnownRun (runs 0) known
   pub within : AreNumbersWithin runs part last known.most
+
+-- numbers on which the pairs of a part rely: all of the part, and maybe those past it
+abbrev pub AreGrounds : (ℕ → RunResult) → Part → ℕ → Grounds → Type 0
+AreGrounds runs part last grounds =
+    (grounds.part.from ≡ part.from) × (part.to ≤ grounds.part.to) × AreNumbersFine runs grounds.part last × IfSome grounds.known (IsKnown runs grounds.part last)

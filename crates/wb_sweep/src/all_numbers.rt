@@ -5,21 +5,20 @@ ghost use Rattle.wb_model.specs.language.Sound.{is_script};
 ghost use Rattle.wb_model.specs.heap.Space.{is_shape};
 ghost use Rattle.wb_model.specs.runs.AllNumbers.{bad_count, first_bad, unfine_in, unfine_numbers};
 ghost use Rattle.wb_model.specs.runs.Parts.{last_attempt, IsCutWithout};
-ghost use Rattle.wb_model.specs.runs.RunEnds.{is_bad_end, is_cut_end};
-ghost use Rattle.wb_model.specs.runs.Sweeps.{is_cut_outcome, is_fine, rule_of, runs_of};
+ghost use Rattle.wb_model.specs.runs.RunEnds.{end_of, is_bad_end, is_cut_end};
+ghost use Rattle.wb_model.specs.runs.Sweeps.{is_cut_outcome, rule_of, runs_of};
 ghost use Rattle.wb_model.specs.declared.run.Outcome.TheVariants as outcomes;
-ghost use Rattle.wb_model.specs.declared.run.Why.{Why};
-ghost use Rattle.wb_sweep.specs.Meetings.{ForkedSays, IsScout, IsKnownRun};
-ghost use Rattle.wb_sweep.specs.declared.family.Family.TheVariants.{Of};
 ghost use Rattle.wb_model.specs.declared.run.RunResult.{RunResult};
-ghost use Rattle.wb_sweep.specs.AllOfAPart.{line_of, AreAllNumbers, IsFoundAsFirst};
+ghost use Rattle.wb_model.specs.declared.run.Why.{Why};
+ghost use Rattle.wb_sweep.specs.Meetings.{ForkedSays, IsAhead};
+ghost use Rattle.wb_sweep.specs.declared.family.Family.TheVariants.{Of};
+ghost use Rattle.wb_sweep.specs.AllOfAPart.{line_if_told, line_of, AreAllNumbers, IsFoundAsFirst};
 
 use crate::family::Family;
 use crate::fault::SweepFault;
 use crate::followed::{Forked, follow_next};
 use crate::found::{AllNumbers, Found};
 use crate::scout::{Known, Meeting, Scout, scout_beside};
-use crate::sweeping::known_if_fine;
 use crate::walk::attempts_in;
 use std::alloc::Global;
 use wb_machine::{Heap, Machine, RunFault, run};
@@ -42,36 +41,32 @@ fn is_told(end: RunEnd) -> bool
     end.is_bad() || end.is_cut()
 }
 
-/// Adds what is told of a number by its run: nothing where that is fine.
-fn tell(ends: &mut NumberEnds, number: u32, run_result: &RunResult) -> Result<(), NoMemory>
-    ensures { OnOk result (ends.new ≡ ends.old ++ line_of number run_result.now) }
+/// Adds what is told of a number whose run ended so: nothing where that is fine.
+fn tell(ends: &mut NumberEnds, number: u32, end: RunEnd) -> Result<(), NoMemory>
+    ensures { OnOk result (ends.new ≡ ends.old ++ line_if_told number end) }
 {
-    let end = RunEnd::of(&run_result.outcome);
     if is_told(end) {
         ends.push(NumberEnd { number, end })?;
     }
     Ok(())
 }
 
-/// Adds what is told of a number by a fork in which it fails: nothing if that met the scout and its budget allows it as many steps.
-fn tell_fork(ends: &mut NumberEnds, number: u32, forked: &Forked) -> Result<(), NoMemory>
-    ensures { OnOk result ((run_result : RunResult) → ForkedSays forked.now run_result →
-        ends.new ≡ ends.old ++ line_of number run_result) }
+/// How the run of a fork ended: as the run without failure did, which is given, if the fork met the scout and its budget allows it as
+/// many steps.
+fn end_of_fork(forked: &Forked, first: RunEnd) -> RunEnd
+    ensures { (first_result run_result : RunResult) →
+        ForkedSays forked.now first_result run_result → first ≡ end_of first_result.outcome →
+        result ≡ end_of run_result.outcome }
 {
     match forked {
-        Forked::Met(Meeting::Fine(_)) => Ok(()),
-        Forked::Met(Meeting::PastBudget) => {
-            ends.push(NumberEnd {
-                number,
-                end: RunEnd::of(&Outcome::Cut(Why::Budget)),
-            })?;
-            Ok(())
-        }
-        Forked::Ran(run_result) => tell(ends, number, run_result),
+        Forked::Met(Meeting::Alike(_)) => first,
+        Forked::Met(Meeting::PastBudget) => RunEnd::Cut(Why::Budget),
+        Forked::Ran(run_result) => RunEnd::of(&run_result.outcome),
     }
 }
 
 /// Adds what is told of number 0 by its run, where the part has that number; `Cut` where the run is cut.
+#[tactic(auto, using(crate::proofs::TellLemmas::line_by_end))]
 fn tell_first(
     ends: &mut NumberEnds,
     part: Part,
@@ -89,17 +84,18 @@ fn tell_first(
         return Err(SweepFault::Cut { at, why: *why });
     }
     if part.from == 0 {
-        tell(ends, 0, first)?;
+        tell(ends, 0, RunEnd::of(&first.outcome))?;
     }
     Ok(())
 }
 
 /// Adds what is told of the attempt that the lead makes next, of this number, by the run in which it is the first to fail: nothing
 /// where the next turn makes none, and where the number is less than `from`. It is followed until it meets the scout, if there is one.
-/// Its copy takes the spare memory, and leaves its own.
+/// Its copy takes the spare memory, and leaves its own. The run without failure ends as is given.
 fn tell_next<P: Progress>(
     ends: &mut NumberEnds,
     lead: &Machine,
+    first: RunEnd,
     failures: Failures,
     from: u32,
     number: u32,
@@ -110,10 +106,12 @@ fn tell_next<P: Progress>(
     requires number { number ≡ lead.now.attempts + 1 }
     requires rule { lead.now.rule ≡ rule_of failures 0 }
     requires lines { lead.now.keeps_rises ≡ false }
+    requires end { first ≡ end_of
+        (runs_of failures lead.now.script lead.now.budget lead.now.shape 0).outcome }
     requires scout { IfSome scout.old
-        (IsScout (Of failures) lead.now.script lead.now.budget lead.now.shape) }
+        (IsAhead (Of failures) lead.now.script lead.now.budget lead.now.shape) }
     ensures scout { OnOk result (IfSome scout.new
-        (IsScout (Of failures) lead.now.script lead.now.budget lead.now.shape)) }
+        (IsAhead (Of failures) lead.now.script lead.now.budget lead.now.shape)) }
     ensures told { OnOk result (lead.now.asks ≡ true → from ≤ number → ends.new ≡ ends.old
         ++ line_of number
         (runs_of failures lead.now.script lead.now.budget lead.now.shape number)) }
@@ -129,14 +127,15 @@ fn tell_next<P: Progress>(
     let failing = failures.at(number);
     progress.begin_failure(failing);
     let forked = follow_next(lead, Family::Of(failures), number, scout, spare)?;
-    tell_fork(ends, number, &forked)
+    tell(ends, number, end_of_fork(&forked, first))
 }
 
 /// Adds what is told of the numbers from `from` to `last`, which is no greater than the last attempt of the run without failure.
-/// The lead is that run, and begins; what is told of number 0 is there, where that is one of them.
+/// The lead is that run, which ends as is given, and begins; what is told of number 0 is there, where that is one of them.
 fn tell_along<P: Progress>(
     ends: &mut NumberEnds,
     lead: &mut Machine,
+    first: RunEnd,
     failures: Failures,
     from: u32,
     last: u32,
@@ -144,13 +143,15 @@ fn tell_along<P: Progress>(
     progress: &mut P,
 ) -> Result<(), NoMemory>
     requires rule { lead.old.rule ≡ rule_of failures 0 }
-    requires first { (lead.old.begun ≡ false) × (lead.old.attempts ≡ 0) × (lead.old.steps ≡ 0) }
+    requires start { (lead.old.begun ≡ false) × (lead.old.attempts ≡ 0) × (lead.old.steps ≡ 0) }
     requires well { lead.old.failed ≡ false }
     requires lines { lead.old.keeps_rises ≡ false }
     requires last { last
         ≤ last_attempt failures lead.old.script lead.old.budget lead.old.shape }
+    requires end { first ≡ end_of
+        (runs_of failures lead.old.script lead.old.budget lead.old.shape 0).outcome }
     requires scout { IfSome scout.old
-        (IsScout (Of failures) lead.old.script lead.old.budget lead.old.shape) }
+        (IsAhead (Of failures) lead.old.script lead.old.budget lead.old.shape) }
     requires told { ends.old ≡ unfine_numbers
         (runs_of failures lead.old.script lead.old.budget lead.old.shape) from (1 - from) }
     ensures { OnOk result (ends.new ≡ unfine_numbers
@@ -162,6 +163,7 @@ fn tell_along<P: Progress>(
         tell_next(
             ends,
             lead,
+            first,
             failures,
             from,
             made + 1,
@@ -223,8 +225,8 @@ fn find_first(
     Ok(Some(Found { at, result }))
 }
 
-/// Adds what is told of the later numbers of a part. The run without failure makes `last` attempts; what is told of number 0 is
-/// there, where it is the part's. This is known of the run if it is fine.
+/// Adds what is told of the later numbers of a part. The run without failure isn't cut, ends as is given, and makes `last` attempts, and
+/// this is known of its steps. What is told of number 0 is there, where it is the part's.
 fn tell_later<P: Progress>(
     ends: &mut NumberEnds,
     alloc: Global,
@@ -234,14 +236,18 @@ fn tell_later<P: Progress>(
     budget: u32,
     shape: Shape,
     last: u32,
-    known: Option<Known>,
+    first: RunEnd,
+    known: Known,
     progress: &mut P,
 ) -> Result<(), RunFault>
     requires script { IsTrue (is_script script.now) }
     requires least { 1 ≤ budget }
     requires greatest { budget ≤ LARGEST_BUDGET }
     requires last { last ≡ last_attempt failures script.now budget shape }
-    requires known { IfSome known (IsKnownRun (runs_of failures script.now budget shape 0)) }
+    requires uncut { is_cut_outcome (runs_of failures script.now budget shape 0).outcome ≡ false }
+    requires end { first ≡ end_of (runs_of failures script.now budget shape 0).outcome }
+    requires steps { known.steps ≡ (runs_of failures script.now budget shape 0).steps }
+    requires most { known.steps ≤ known.most }
     requires told { ends.old ≡
         unfine_numbers (runs_of failures script.now budget shape) part.from (1 - part.from) }
     ensures told { OnOk result
@@ -249,10 +255,10 @@ fn tell_later<P: Progress>(
     ensures shape { result ≡ Err RunFault.BadShape → is_shape shape ≡ false }
 {
     let mut lead = Machine::new(alloc, script, failures.at(0).rule(), budget, shape)?;
-    let mut scout = scout_beside(&lead, Family::Of(failures), known, budget)?;
+    let mut scout = scout_beside(&lead, Family::Of(failures), Some(known), budget)?;
     let end = part.to.min(last);
     tell_along(
-        ends, &mut lead, failures, part.from, end, &mut scout, progress,
+        ends, &mut lead, first, failures, part.from, end, &mut scout, progress,
     )?;
     Ok(())
 }
@@ -278,12 +284,16 @@ fn tell_all<P: Progress>(
     let none = failures.at(0);
     let first = run(alloc, script, none.rule(), budget, shape)?;
     let attempts = attempts_in(first.trace.as_slice());
-    let known = known_if_fine(&first);
+    let end = RunEnd::of(&first.outcome);
+    let known = Known {
+        steps: first.steps,
+        most: first.steps,
+    };
     let mut ends = Items::new(alloc);
     tell_first(&mut ends, part, none, &first)?;
     progress.begin_failures(part.to.min(attempts));
     tell_later(
-        &mut ends, alloc, script, failures, part, budget, shape, attempts, known, progress,
+        &mut ends, alloc, script, failures, part, budget, shape, attempts, end, known, progress,
     )?;
     let found = find_first(alloc, script, failures, budget, shape, &ends)?;
     Ok(AllNumbers {

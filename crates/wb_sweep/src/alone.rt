@@ -69,7 +69,7 @@ fn alone_if_fine(scout: &Scout, fork: &Machine, number: u32, part: Part, last: u
         (IsAlone fork.now.script fork.now.budget fork.now.shape number) }
 {
     let first = Family::Of(Failures::Pairs);
-    let Some(Meeting::Fine(steps)) = scout.meeting(fork, first, number) else {
+    let Some(Meeting::Alike(steps)) = scout.meeting(fork, first, number) else {
         return None;
     };
     let made = last.checked_add(fork.attempts())?;

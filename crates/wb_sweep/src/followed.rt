@@ -1,13 +1,14 @@
 //! What is known of a fork's run: it is followed until it meets the scout, if there is one, or to its end.
 
-ghost use Rattle.std.specs.Prelude.{◌≡◌, ℕ, ◌+◌, ◌≤◌, false, IfOk, IfSome, OnOk};
+ghost use Rattle.std.specs.Prelude.{◌≡◌, ℕ, ◌+◌, ◌≤◌, None, false, IfOk, IfSome, OnOk};
 ghost use Rattle.wb_machine.specs.Turns.{IsSameRun};
 ghost use Rattle.wb_model.specs.declared.heap.Shape.{Shape};
 ghost use Rattle.wb_model.specs.declared.script.Script.{Script};
 ghost use Rattle.wb_sweep.specs.declared.family.Family.{Family};
 ghost use Rattle.wb_sweep.specs.Families.{next_run, rule_in, runs_beside};
-ghost use Rattle.wb_sweep.specs.Meetings.{ForkedSays, HasLearned, IsScout, MeetingSays};
-ghost use Rattle.wb_sweep.specs.Meetings.{steps_followed, steps_met};
+ghost use Rattle.wb_sweep.specs.Meetings.{FineSays, ForkedSays, HasLearned, IsAhead};
+ghost use Rattle.wb_sweep.specs.Meetings.{IsScout, MeetingSays};
+ghost use Rattle.wb_sweep.specs.Meetings.{is_met, steps_followed, steps_met};
 
 use crate::family::Family;
 use crate::fork::{end_fork, fork_under};
@@ -32,13 +33,14 @@ fn meet_one(
     family: Family,
     number: u32,
 ) -> Result<Option<Meeting>, NoMemory>
-    requires scout { IsScout family fork.old.script fork.old.budget fork.old.shape scout.old }
+    requires scout { IsAhead family fork.old.script fork.old.budget fork.old.shape scout.old }
     requires rule { fork.old.rule ≡ rule_in family number }
     requires lines { fork.old.keeps_rises ≡ false }
     ensures scout { OnOk result
-        (IsScout family fork.old.script fork.old.budget fork.old.shape scout.new) }
+        (IsAhead family fork.old.script fork.old.budget fork.old.shape scout.new) }
     ensures met { IfOk result (λ met. IfSome met (λ meeting.
-        MeetingSays meeting (runs_beside family fork.old number))) }
+        MeetingSays meeting
+        (runs_beside family fork.old 0) (runs_beside family fork.old number))) }
     ensures kept { OnOk result (scout.old.known.most ≤ scout.new.known.most) }
     ensures learned { IfOk result (λ met. steps_met met ≤ scout.new.known.most) }
     ensures same { IsSameRun fork.old fork.new }
@@ -47,7 +49,7 @@ fn meet_one(
         return Ok(None);
     }
     let meeting = scout.meeting(fork, family, number);
-    if let Some(Meeting::Fine(steps)) = meeting {
+    if let Some(Meeting::Alike(steps)) = meeting {
         scout.learn(steps);
     }
     Ok(meeting)
@@ -61,14 +63,16 @@ fn meet(
     number: u32,
 ) -> Result<Option<Meeting>, NoMemory>
     requires scout { IfSome scout.old
-        (IsScout family fork.old.script fork.old.budget fork.old.shape) }
+        (IsAhead family fork.old.script fork.old.budget fork.old.shape) }
     requires rule { fork.old.rule ≡ rule_in family number }
     requires lines { fork.old.keeps_rises ≡ false }
     ensures scout { OnOk result (IfSome scout.new
-        (IsScout family fork.old.script fork.old.budget fork.old.shape)) }
+        (IsAhead family fork.old.script fork.old.budget fork.old.shape)) }
     ensures met { IfOk result (λ met. IfSome met (λ meeting.
-        MeetingSays meeting (runs_beside family fork.old number))) }
+        MeetingSays meeting
+        (runs_beside family fork.old 0) (runs_beside family fork.old number))) }
     ensures learned { IfOk result (λ met. HasLearned scout.old scout.new (steps_met met)) }
+    ensures unmet { IfOk result (λ met. scout.old ≡ None → met ≡ None) }
     ensures same { IsSameRun fork.old fork.new }
 {
     match scout {
@@ -80,8 +84,8 @@ fn meet(
 /// Takes note of a run that takes so many steps, where there is a scout.
 fn learn(scout: &mut Option<Scout>, steps: u32)
     ensures scout { (family : Family) (script : Script) (budget : ℕ) (shape : Shape) →
-        IfSome scout.old (IsScout family script budget shape) →
-        IfSome scout.new (IsScout family script budget shape) }
+        IfSome scout.old (IsAhead family script budget shape) →
+        IfSome scout.new (IsAhead family script budget shape) }
     ensures learned { HasLearned scout.old scout.new steps }
 {
     if let Some(scout) = scout {
@@ -106,10 +110,12 @@ pub fn follow_next(
     requires well { lead.now.failed ≡ false }
     requires lines { lead.now.keeps_rises ≡ false }
     requires scout { IfSome scout.old
-        (IsScout family lead.now.script lead.now.budget lead.now.shape) }
+        (IsAhead family lead.now.script lead.now.budget lead.now.shape) }
     ensures scout { OnOk result (IfSome scout.new
-        (IsScout family lead.now.script lead.now.budget lead.now.shape)) }
-    ensures known { IfOk result (λ forked. ForkedSays forked (next_run family lead.now)) }
+        (IsAhead family lead.now.script lead.now.budget lead.now.shape)) }
+    ensures known { IfOk result (λ forked.
+        ForkedSays forked (runs_beside family lead.now 0) (next_run family lead.now)) }
+    ensures unmet { IfOk result (λ forked. scout.old ≡ None → is_met forked ≡ false) }
     ensures learned { IfOk result (λ forked.
         HasLearned scout.old scout.new (steps_followed forked)) }
 {
@@ -121,4 +127,28 @@ pub fn follow_next(
     let run_result = end_fork(fork, spare)?;
     learn(scout, run_result.steps);
     Ok(Forked::Ran(run_result))
+}
+
+/// The same of a lead whose own run is fine: a fork that has met the scout is, too.
+pub fn follow_beside_fine(
+    lead: &Machine,
+    family: Family,
+    number: u32,
+    scout: &mut Option<Scout>,
+    spare: &mut Option<Heap>,
+) -> Result<Forked, NoMemory>
+    requires number { number ≡ lead.now.attempts + 1 }
+    requires rule { lead.now.rule ≡ rule_in family 0 }
+    requires going { lead.now.over ≡ false }
+    requires well { lead.now.failed ≡ false }
+    requires lines { lead.now.keeps_rises ≡ false }
+    requires scout { IfSome scout.old
+        (IsScout family lead.now.script lead.now.budget lead.now.shape) }
+    ensures scout { OnOk result (IfSome scout.new
+        (IsScout family lead.now.script lead.now.budget lead.now.shape)) }
+    ensures known { IfOk result (λ forked. FineSays forked (next_run family lead.now)) }
+    ensures learned { IfOk result (λ forked.
+        HasLearned scout.old scout.new (steps_followed forked)) }
+{
+    follow_next(lead, family, number, scout, spare)
 }

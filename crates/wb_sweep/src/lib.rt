@@ -11,6 +11,7 @@ pub mod fork;
 pub mod found;
 mod pace;
 mod pairs;
+mod past;
 mod scout;
 pub mod sweeping;
 mod walk;

@@ -11,7 +11,7 @@ ghost use Rattle.wb_model.specs.runs.Sweeps.{is_fine, runs_of, IsCutAmong, IsFou
 ghost use Rattle.wb_model.specs.declared.failures.Failures.TheVariants.{Pairs, Single};
 ghost use Rattle.wb_model.specs.declared.heap.Rule.TheVariants as rules;
 ghost use Rattle.wb_model.specs.declared.run.Why.{Why};
-ghost use Rattle.wb_sweep.specs.Meetings.{IsAlone, IsKnown, IsPairScout};
+ghost use Rattle.wb_sweep.specs.Meetings.{AreGrounds, IsAlone, IsKnown, IsPairScout};
 ghost use Rattle.wb_sweep.specs.Stretches.{AreNumbersFine, ArePairsFineOf};
 
 use crate::alone::{Alone, follow_alone};
@@ -20,6 +20,7 @@ use crate::fault::SweepFault;
 use crate::fork::fork_under;
 use crate::found::Found;
 use crate::pace::Pace;
+use crate::past::{Grounds, look_past};
 use crate::scout::{Known, Scout, pace_of, scout_beside};
 use crate::walk::find_among;
 use std::alloc::Global;
@@ -121,13 +122,14 @@ fn find_with_next<P: Progress>(
     find_along(&mut fork, number, alone, pace, budget, spare, progress)
 }
 
-/// The least pair of a part whose run is bad; `None` if the run of each is fine. No single failure of the part shows anything, and
-/// the run without failure, which begins here, makes `last` attempts. First attempts that fail are followed until they meet the scout,
-/// if there is one.
+/// The least pair of a part whose run is bad; `None` if the run of each is fine. No single failure of the part shows anything, nor does
+/// any of those that are tried. The run without failure, which begins here, makes `last` attempts. First attempts that fail are
+/// followed until they meet the scout, if there is one.
 fn find_beside<P: Progress>(
     lead: &mut Machine,
     scout: &mut Option<Scout>,
     part: Part,
+    tried: Part,
     budget: u32,
     last: u32,
     progress: &mut P,
@@ -142,7 +144,12 @@ fn find_beside<P: Progress>(
     requires alone { AreNumbersFine
         (runs_of Single lead.old.script lead.old.budget lead.old.shape) part
         (last_attempt Pairs lead.old.script lead.old.budget lead.old.shape) }
-    requires scout { IfSome scout.old (IsPairScout lead.old part
+    requires from { tried.from ≡ part.from }
+    requires to { part.to ≤ tried.to }
+    requires fine { AreNumbersFine
+        (runs_of Single lead.old.script lead.old.budget lead.old.shape) tried
+        (last_attempt Pairs lead.old.script lead.old.budget lead.old.shape) }
+    requires scout { IfSome scout.old (IsPairScout lead.old tried
         (last_attempt Pairs lead.old.script lead.old.budget lead.old.shape)) }
     ensures none { IfOk result (λ found. found ≡ None → ArePairsFineOf
         (pair_run lead.old.script lead.old.budget lead.old.shape) part
@@ -158,7 +165,7 @@ fn find_beside<P: Progress>(
     while lead.attempts() < end {
         let found = find_with_next(
             lead,
-            part,
+            tried,
             lead.attempts() + 1,
             last,
             budget,
@@ -174,8 +181,51 @@ fn find_beside<P: Progress>(
     Ok(None)
 }
 
-/// The least pair of a part whose run is bad; `None` if the run of each is fine. No single failure of the part shows anything. The run
-/// without failure makes `last` attempts, and of its steps and those of single failures is known what is given.
+/// The least pair of a part whose run is bad; `None` if the run of each is fine. No single failure of the part shows anything, nor does
+/// any of those on which pairs rely. The run without failure makes `last` attempts.
+fn find_on<P: Progress>(
+    alloc: Global,
+    script: &Script,
+    part: Part,
+    budget: u32,
+    shape: Shape,
+    last: u32,
+    grounds: Grounds,
+    progress: &mut P,
+) -> Result<Option<Found>, SweepFault>
+    requires script { IsTrue (is_script script.now) }
+    requires least { 1 ≤ budget }
+    requires greatest { budget ≤ LARGEST_BUDGET }
+    requires last { last ≡ last_attempt Pairs script.now budget shape }
+    requires uncut { IsUncut Pairs script.now budget shape }
+    requires alone { AreNumbersFine (runs_of Single script.now budget shape) part
+        (last_attempt Pairs script.now budget shape) }
+    requires grounds { AreGrounds (runs_of Single script.now budget shape) part
+        (last_attempt Pairs script.now budget shape) grounds }
+    ensures none { IfOk result (λ found. found ≡ None →
+        ArePairsFineOf (pair_run script.now budget shape) part
+        (last_attempt Pairs script.now budget shape)) }
+    ensures found { IfOk result (λ found. IfSome found (λ bad.
+        IsFoundIn Pairs part script.now budget shape bad.at bad.result)) }
+    ensures cut { (at : Failing) (why : Why) → result ≡ Err (SweepFault.Cut at why) →
+        IsLeastCutIn Pairs part script.now budget shape at why }
+    ensures shape { result ≡ Err SweepFault.BadShape → is_shape shape ≡ false }
+{
+    let mut lead = Machine::new(alloc, script, Rule::Number(0), budget, shape)?;
+    let first = Family::Of(Failures::Pairs);
+    let mut scout = scout_beside(&lead, first, grounds.known, budget)?;
+    find_beside(
+        &mut lead,
+        &mut scout,
+        part,
+        grounds.part,
+        budget,
+        last,
+        progress,
+    )
+}
+
+/// The same, where of the steps of the run without failure, and of those of the part's single failures, this is known.
 pub(crate) fn find_pair<P: Progress>(
     alloc: Global,
     script: &Script,
@@ -204,8 +254,6 @@ pub(crate) fn find_pair<P: Progress>(
         IsLeastCutIn Pairs part script.now budget shape at why }
     ensures shape { result ≡ Err SweepFault.BadShape → is_shape shape ≡ false }
 {
-    let mut lead = Machine::new(alloc, script, Rule::Number(0), budget, shape)?;
-    let first = Family::Of(Failures::Pairs);
-    let mut scout = scout_beside(&lead, first, known, budget)?;
-    find_beside(&mut lead, &mut scout, part, budget, last, progress)
+    let grounds = look_past(alloc, script, part, budget, shape, last, known)?;
+    find_on(alloc, script, part, budget, shape, last, grounds, progress)
 }

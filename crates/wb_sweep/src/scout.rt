@@ -4,26 +4,37 @@
 ghost use Rattle.std.specs.Prelude.{◌≡◌, ◌≤◌, true, false, Some, IfOk, IfSome, OnOk};
 ghost use Rattle.wb_machine.specs.Turns.{IsSameRun};
 ghost use Rattle.wb_sweep.specs.Families.{rule_in, runs_beside};
-ghost use Rattle.wb_sweep.specs.Meetings.{IsPastFailure, IsScout, HasMet, MeetingSays};
+ghost use Rattle.wb_sweep.specs.Meetings.{IsAhead, IsPastFailure, HasMet, MeetingSays};
 
 use crate::family::Family;
 use crate::pace::Pace;
 use wb_machine::{Machine, Turn};
 use wb_model::memory::NoMemory;
 
-/// How many attempts a fork may make past the scout's before it is followed no longer: one that tries again makes more.
-const PAST: u32 = 4;
+/// How often a scout goes further ahead of one fork, at most.
+const MOST_TIMES: u32 = 5;
+
+/// Where a fork has come that was followed.
+#[derive(Clone, Copy, Debug, PartialEq, Eq)]
+pub enum Place {
+    /// Where the scout is.
+    AtTheScout,
+    /// Past the scout.
+    PastTheScout,
+    /// At its end.
+    AtTheEnd,
+}
 
 /// What follows for a fork that has met the scout.
 #[derive(Clone, Copy, Debug, PartialEq, Eq)]
 pub enum Meeting {
-    /// Its run is fine, as the scout's is, and takes so many steps.
-    Fine(u32),
+    /// Its run ends as the scout's does, and takes so many steps.
+    Alike(u32),
     /// The budget cuts its run: it doesn't allow as many steps as the scout's run takes from there on.
     PastBudget,
 }
 
-/// What is known of a run that is fine, in steps.
+/// What is known of a run that isn't cut, in steps.
 #[derive(Clone, Copy, Debug, PartialEq, Eq)]
 pub struct Known {
     /// How many it takes.
@@ -32,7 +43,7 @@ pub struct Known {
     pub most: u32,
 }
 
-/// A run ahead of a lead, under the same rule. It is fine.
+/// A run ahead of a lead, under the same rule. It isn't cut.
 #[derive(Drop)]
 pub struct Scout<'a> {
     pub(crate) machine: Machine<'a>,
@@ -87,6 +98,9 @@ impl<'a> Scout<'a> {
         requires script { self.now.machine.script ≡ fork.now.script }
         ensures { result ≡ true → HasMet family number fork.now self.now.machine }
     {
+        if !fork.is_at_line_of(&self.machine) {
+            return false;
+        }
         if !fork.will_attempt() || !self.machine.will_attempt() {
             return false;
         }
@@ -98,18 +112,18 @@ impl<'a> Scout<'a> {
     /// What follows for a fork that has met the scout; `None` where the numbers of steps don't fit.
     pub fn meeting(&self, fork: &Machine, family: Family, number: u32) -> Option<Meeting>
         requires met { HasMet family number fork.now self.now.machine }
-        requires scout { IsScout family fork.now.script fork.now.budget fork.now.shape self.now }
+        requires scout { IsAhead family fork.now.script fork.now.budget fork.now.shape self.now }
         requires rule { fork.now.rule ≡ rule_in family number }
         requires lines { fork.now.keeps_rises ≡ false }
-        ensures { IfSome result (λ meeting.
-            MeetingSays meeting (runs_beside family fork.now number)) }
+        ensures { IfSome result (λ meeting. MeetingSays meeting
+            (runs_beside family fork.now 0) (runs_beside family fork.now number)) }
     {
         let needed = self.known.steps.checked_add(fork.steps())?;
         let allowed = self.budget.checked_add(self.machine.steps())?;
         if needed > allowed {
             return Some(Meeting::PastBudget);
         }
-        Some(Meeting::Fine(needed.checked_sub(self.machine.steps())?))
+        Some(Meeting::Alike(needed.checked_sub(self.machine.steps())?))
     }
 
     /// Takes note of a run that takes so many steps.
@@ -123,8 +137,57 @@ impl<'a> Scout<'a> {
         self.known.most = self.known.most.max(steps);
     }
 
-    /// Takes a fork's turns until it meets the scout, which goes ahead first; `false` where it doesn't soon, and where it passes
-    /// without being compared.
+    /// Goes ahead by as much as the pace says, and takes a fork's turns until it meets the scout, has passed it, or is over.
+    fn go_and_follow(
+        &mut self,
+        fork: &mut Machine,
+        family: Family,
+        number: u32,
+    ) -> Result<Place, NoMemory>
+        requires script { self.old.machine.script ≡ fork.old.script }
+        ensures met { OnOk result (result ≡ Ok Place.AtTheScout →
+            HasMet family number fork.new self.new.machine) }
+        ensures same { IsSameRun fork.old fork.new }
+        ensures machine { IsSameRun self.old.machine self.new.machine }
+        ensures known { self.new.known ≡ self.old.known }
+        ensures budget { self.new.budget ≡ self.old.budget }
+    {
+        let attempts = number.saturating_add(self.pace.ahead());
+        self.go_ahead(attempts)?;
+        follow(fork, self, family, number)
+    }
+
+    /// Takes a fork's turns until it meets the scout, which goes ahead first, and further ahead as often as the fork passes it;
+    /// `false` where it doesn't soon.
+    fn go_to_meet(
+        &mut self,
+        fork: &mut Machine,
+        family: Family,
+        number: u32,
+    ) -> Result<bool, NoMemory>
+        requires script { self.old.machine.script ≡ fork.old.script }
+        ensures met { OnOk result (result ≡ Ok true →
+            HasMet family number fork.new self.new.machine) }
+        ensures same { IsSameRun fork.old fork.new }
+        ensures machine { IsSameRun self.old.machine self.new.machine }
+        ensures known { self.new.known ≡ self.old.known }
+        ensures budget { self.new.budget ≡ self.old.budget }
+    {
+        let at_first = self.pace.ahead();
+        for _ in 0..MOST_TIMES {
+            match self.go_and_follow(fork, family, number)? {
+                Place::AtTheScout => return Ok(true),
+                Place::AtTheEnd => return Ok(false),
+                Place::PastTheScout => {}
+            }
+            if !self.pace.go_further(at_first) {
+                return Ok(false);
+            }
+        }
+        Ok(false)
+    }
+
+    /// The same, but of some forks, by the pace, that they pass without being compared.
     pub fn meet(
         &mut self,
         fork: &mut Machine,
@@ -142,9 +205,7 @@ impl<'a> Scout<'a> {
         if self.pace.passes_next() {
             return Ok(false);
         }
-        let attempts = number.saturating_add(self.pace.ahead());
-        self.go_ahead(attempts)?;
-        let met = follow(fork, self, family, number)?;
+        let met = self.go_to_meet(fork, family, number)?;
         self.pace.add(met);
         Ok(met)
     }
@@ -160,26 +221,26 @@ fn has_passed(family: Family, number: u32, machine: &Machine) -> bool
     }
 }
 
-/// Takes a fork's turns until it meets the scout; `false` where it doesn't soon.
-fn follow(fork: &mut Machine, scout: &Scout, family: Family, number: u32) -> Result<bool, NoMemory>
+/// Takes a fork's turns until it meets the scout, has passed it, or is over.
+fn follow(fork: &mut Machine, scout: &Scout, family: Family, number: u32) -> Result<Place, NoMemory>
     requires script { scout.now.machine.script ≡ fork.old.script }
-    ensures met { OnOk result (result ≡ Ok true →
+    ensures met { OnOk result (result ≡ Ok Place.AtTheScout →
         HasMet family number fork.new scout.now.machine) }
     ensures same { IsSameRun fork.old fork.new }
 {
-    let most = scout.machine.attempts().saturating_add(PAST);
+    let most = scout.machine.attempts().saturating_add(scout.pace.past());
     for _ in 0..scout.budget.saturating_add(2) {
         if fork.attempts() > most {
-            return Ok(false);
+            return Ok(Place::PastTheScout);
         }
         if scout.is_met_by(fork, family, number) {
-            return Ok(true);
+            return Ok(Place::AtTheScout);
         }
         if fork.step()? == Turn::Ended {
-            return Ok(false);
+            return Ok(Place::AtTheEnd);
         }
     }
-    Ok(false)
+    Ok(Place::AtTheEnd)
 }
 
 /// A scout of the lead along the run under the family's failure 0, of which this is known; none without that, and none of rates, under

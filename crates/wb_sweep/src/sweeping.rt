@@ -47,7 +47,7 @@ fn judge_first(part: Part, at: Failing, first: RunResult) -> Result<Option<Found
 }
 
 /// What is known of a run that is fine; `None` where it is bad or cut.
-pub(crate) fn known_if_fine(run_result: &RunResult) -> Option<Known>
+fn known_if_fine(run_result: &RunResult) -> Option<Known>
     ensures { IfSome result (IsKnownRun run_result.now) }
 {
     let is_fine = match &run_result.outcome {
@@ -63,9 +63,9 @@ pub(crate) fn known_if_fine(run_result: &RunResult) -> Option<Known>
 
 /// What was found among the numbers of a part, and what is known of their runs' steps, where the run without failure is fine.
 #[derive(Drop)]
-struct Tried {
-    found: Option<Found>,
-    known: Option<Known>,
+pub(crate) struct Tried {
+    pub found: Option<Found>,
+    pub known: Option<Known>,
 }
 
 /// What is known by a scout, where there is one.
@@ -128,7 +128,7 @@ fn try_in_order<P: Progress>(
 }
 
 /// The same from the start of the run without failure, of which this is known if it is fine.
-fn try_numbers<P: Progress>(
+pub(crate) fn try_numbers<P: Progress>(
     alloc: Global,
     script: &Script,
     failures: Failures,

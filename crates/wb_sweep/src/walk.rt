@@ -6,14 +6,14 @@ ghost use Rattle.wb_model.specs.declared.run.Outcome.TheVariants as outcomes;
 ghost use Rattle.wb_model.specs.declared.run.RunResult.{RunResult};
 ghost use Rattle.wb_model.specs.declared.run.Why.{Why};
 ghost use Rattle.wb_sweep.specs.Families.{failing_in, next_failing, next_run, rule_in, runs_beside};
-ghost use Rattle.wb_sweep.specs.Meetings.{ForkedSays, HasLearned, IsScout, KnowsSteps};
+ghost use Rattle.wb_sweep.specs.Meetings.{FineSays, HasLearned, IsScout, KnowsSteps};
 ghost use Rattle.wb_sweep.specs.Meetings.{steps_followed};
 ghost use Rattle.wb_sweep.specs.Stretches.{AreFineFrom, IsCutFrom, IsFoundFrom};
 ghost use Rattle.wb_sweep.specs.Sweeping.{IsBadAt, IsNumbered};
 
 use crate::family::Family;
 use crate::fault::SweepFault;
-use crate::followed::{Forked, follow_next};
+use crate::followed::{Forked, follow_beside_fine};
 use crate::found::Found;
 use crate::scout::{Meeting, Scout};
 use wb_machine::{Heap, Machine};
@@ -43,20 +43,21 @@ pub(crate) fn judge_run(at: Failing, run_result: RunResult) -> Result<Option<Fou
     }))
 }
 
-/// The same by what is known of a fork: it is fine if it met the scout and its budget allows it as many steps.
+/// The same by what is known of a fork beside a run that is fine: it is fine too if it met the scout and its budget allows it as many
+/// steps.
 fn judge_fork(at: Failing, forked: Forked) -> Result<Option<Found>, SweepFault>
     ensures fine { IfOk result (λ found. found ≡ None → (run_result : RunResult) →
-        ForkedSays forked run_result → is_fine run_result ≡ true) }
+        FineSays forked run_result → is_fine run_result ≡ true) }
     ensures steps { IfOk result (λ found. found ≡ None → (run_result : RunResult) →
-        ForkedSays forked run_result → steps_followed forked ≡ run_result.steps) }
+        FineSays forked run_result → steps_followed forked ≡ run_result.steps) }
     ensures bad { IfOk result (λ found. IfSome found (λ bad. (run_result : RunResult) →
-        ForkedSays forked run_result → IsBadAt at run_result bad)) }
+        FineSays forked run_result → IsBadAt at run_result bad)) }
     ensures cut { IfErr result (λ fault. (why : Why) × (fault ≡ SweepFault.Cut at why)
-        × ((run_result : RunResult) → ForkedSays forked run_result →
+        × ((run_result : RunResult) → FineSays forked run_result →
         run_result.outcome ≡ outcomes.Cut why)) }
 {
     match forked {
-        Forked::Met(Meeting::Fine(_)) => Ok(None),
+        Forked::Met(Meeting::Alike(_)) => Ok(None),
         Forked::Met(Meeting::PastBudget) => Err(SweepFault::Cut {
             at,
             why: Why::Budget,
@@ -114,7 +115,7 @@ fn try_next<P: Progress>(
     }
     let failing = family.at(number);
     progress.begin_failure(failing);
-    let forked = follow_next(lead, family, number, scout, spare)?;
+    let forked = follow_beside_fine(lead, family, number, scout, spare)?;
     judge_fork(failing, forked)
 }
 

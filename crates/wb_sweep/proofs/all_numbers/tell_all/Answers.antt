@@ -6,6 +6,7 @@ use Rattle.wb_model.specs.declared.run.Outcome.TheVariants as outcomes
 use Rattle.wb_model.specs.declared.run.RunResult.{RunResult}
 use Rattle.wb_model.specs.declared.run.Why.TheVariants.{Ceiling}
 use Rattle.wb_model.specs.runs.Run.{run}
+use Rattle.wb_model.specs.runs.RunEnds.{end_of}
 use Rattle.wb_model.specs.runs.Sweeps.{is_cut_outcome, rule_for, rule_of, runs_of}
 use Rattle.wb_model.proofs.SameRuns.{past_the_last}
 use Rattle.wb_model.proofs.TraceLemmas.{run-numbered}
@@ -35,6 +36,24 @@ tell_later-requires-clause-told g c =
     first-lines runs c.args.part.from c.tell_first.new.ends
     (λ start. first.told start ∙ ap (λ ends. ends ++ line_of 0 c.in_ok-first.first) c.new-ends.ensures ∙ ap (line_of 0) ran)
     (λ later. first.later later ∙ c.new-ends.ensures)
+
+pub tell_later-requires-clause-uncut : goal.tell_later-requires-clause-uncut
+tell_later-requires-clause-uncut g c =
+    let rule : c.rule.result ≡ rule_of c.args.failures 0 = c.rule.ensures ∙ ap rule_for c.at-none.ensures in
+    let ran = c.in_ok-first.ensures.ran ∙ ap (λ (r : Rule). run c.args.script.now r c.args.budget c.args.shape) rule in
+    ap (λ (r : RunResult). is_cut_outcome r.outcome) (sym ran) ∙ c.in_ok-tell_first.ensures.uncut
+
+pub tell_later-requires-clause-end : goal.tell_later-requires-clause-end
+tell_later-requires-clause-end g c =
+    let rule : c.rule.result ≡ rule_of c.args.failures 0 = c.rule.ensures ∙ ap rule_for c.at-none.ensures in
+    let ran = c.in_ok-first.ensures.ran ∙ ap (λ (r : Rule). run c.args.script.now r c.args.budget c.args.shape) rule in
+    c.of-end.ensures ∙ ap (λ (r : RunResult). end_of r.outcome) ran
+
+pub tell_later-requires-clause-steps : goal.tell_later-requires-clause-steps
+tell_later-requires-clause-steps g c =
+    let rule : c.rule.result ≡ rule_of c.args.failures 0 = c.rule.ensures ∙ ap rule_for c.at-none.ensures in
+    let ran = c.in_ok-first.ensures.ran ∙ ap (λ (r : Rule). run c.args.script.now r c.args.budget c.args.shape) rule in
+    ap (λ (r : RunResult). r.steps) ran
 
 uncut-of : (result : RunResult) → is_cut_outcome result.outcome ≡ false → result.outcome ≢ outcomes.Cut Ceiling
 uncut-of result uncut e = true≢false (sym (ap is_cut_outcome e) ∙ uncut)

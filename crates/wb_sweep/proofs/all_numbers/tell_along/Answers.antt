@@ -6,10 +6,11 @@ use Rattle.wb_model.specs.declared.run.RunResult.{RunResult}
 use Rattle.wb_model.specs.declared.script.Script.{Script}
 use Rattle.wb_model.specs.runs.AllNumbers.{unfine_numbers}
 use Rattle.wb_model.specs.runs.Run.{run}
+use Rattle.wb_model.specs.runs.RunEnds.{end_of}
 use Rattle.wb_model.specs.runs.Sweeps.{rule_of, runs_of}
 use Rattle.wb_sweep.specs.declared.family.Family.TheVariants.{Of}
 use Rattle.wb_sweep.specs.AllOfAPart.{line_of}
-use Rattle.wb_sweep.specs.Meetings.{IsScout}
+use Rattle.wb_sweep.specs.Meetings.{IsAhead}
 use Rattle.wb_sweep.proofs.Further.{IsOfSameRun, of-same, same-runs, to-same}
 use Rattle.wb_sweep.proofs.TellLemmas.{lines-further, made-further}
 use Rattle.wb_sweep.proofs.all_numbers.tell_along.Goals as goal
@@ -59,14 +60,20 @@ loop-made-preserved g c =
           (λ e. made-further new.met_ceiling new.over made next last (λ met. so_far ∙ after.turned.made.asked e met ∙ sym here) after.turned.ceiling ended c.loop-made-test.true more)
           (λ e begun. c.in_ok-tell_next.ensures.told e begun ∙ ap (λ more. c.loop-made.ends ++ more) line)
           c.in_ok-tell_next.ensures.unasked c.in_ok-tell_next.ensures.before;
-      scout = of-same old lead same (λ (s : Script) (b : ℕ) (h : Shape). IfSome c.tell_next.new.scout (IsScout (Of failures) s b h)) c.in_ok-tell_next.ensures.scout;
+      scout = of-same old lead same (λ (s : Script) (b : ℕ) (h : Shape). IfSome c.tell_next.new.scout (IsAhead (Of failures) s b h)) c.in_ok-tell_next.ensures.scout;
     }
 
 pub tell_next-requires-clause-scout : goal.tell_next-requires-clause-scout
 tell_next-requires-clause-scout g c =
     let before = c.loop-made.invariant in
     let same : IsOfSameRun c.args.lead.now c.loop-made.lead = record { script = before.script; budget = before.budget; shape = before.shape } in
-    to-same c.args.lead.now c.loop-made.lead same (λ (s : Script) (b : ℕ) (h : Shape). IfSome c.loop-made.scout (IsScout (Of c.args.failures) s b h)) before.scout
+    to-same c.args.lead.now c.loop-made.lead same (λ (s : Script) (b : ℕ) (h : Shape). IfSome c.loop-made.scout (IsAhead (Of c.args.failures) s b h)) before.scout
+
+pub tell_next-requires-clause-end : goal.tell_next-requires-clause-end
+tell_next-requires-clause-end g c =
+    let before = c.loop-made.invariant in
+    let same : IsOfSameRun c.args.lead.now c.loop-made.lead = record { script = before.script; budget = before.budget; shape = before.shape } in
+    to-same c.args.lead.now c.loop-made.lead same (λ (s : Script) (b : ℕ) (h : Shape). c.args.first ≡ end_of (runs_of c.args.failures s b h 0).outcome) c.requires.end
 
 pub returns : goal.returns
 returns g c =

@@ -4,6 +4,7 @@ use Rattle.std.proofs.Math.Nat.{min-le_right}
 use Rattle.wb_machine.specs.Seen.{Seen}
 use Rattle.wb_model.specs.runs.AllNumbers.{unfine_numbers}
 use Rattle.wb_model.specs.runs.Parts.{last_attempt}
+use Rattle.wb_model.specs.runs.RunEnds.{end_of}
 use Rattle.wb_model.specs.runs.Sweeps.{runs_of}
 use Rattle.wb_sweep.proofs.all_numbers.tell_later.Goals as goal
 
@@ -13,6 +14,10 @@ tell_along-requires-clause-last g c =
     let most = min-le_right c.args.part.to last in
     let end : c.min-end.result ≡ min c.args.part.to last = c.min-end.ensures ∙ ap (min c.args.part.to) c.requires.last in
     subst (λ (s : Seen). c.min-end.result ≤ last_attempt c.args.failures s.script s.budget s.shape) (sym c.in_ok-lead.ensures.seen) (omega (arith, most, end))
+
+pub tell_along-requires-clause-end : goal.tell_along-requires-clause-end
+tell_along-requires-clause-end g c =
+    subst (λ (s : Seen). c.args.first ≡ end_of (runs_of c.args.failures s.script s.budget s.shape 0).outcome) (sym c.in_ok-lead.ensures.seen) c.requires.end
 
 pub tell_along-requires-clause-told : goal.tell_along-requires-clause-told
 tell_along-requires-clause-told g c =

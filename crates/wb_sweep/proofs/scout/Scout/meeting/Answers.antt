@@ -1,6 +1,6 @@
 -- Proof: Scout::meeting. From the meeting on, the rest of the fork is the rest of the scout's run.
 use Rattle.std.proofs.Common.{rules, ◌≡◌, ◌+◌, ◌-◌, ◌≤◌, arith}
-use Rattle.wb_sweep.proofs.MeetingLemmas.{met-cut, met-fine, met-steps}
+use Rattle.wb_sweep.proofs.MeetingLemmas.{met-alike, met-cut, met-steps}
 use Rattle.wb_sweep.proofs.scout.Scout.meeting.Goals as goal
 
 pub returns-then-needed-allowed : goal.returns-then-needed-allowed
@@ -20,6 +20,6 @@ returns c =
     let within : scout.known.steps + fork.steps ≤ scout.budget + scout.machine.steps = omega (arith, c.if-needed-allowed.false, needed, allowed) in
     let counted = met-steps c.args.family fork scout c.args.number c.requires.scout c.requires.rule c.requires.lines c.requires.met within in
     let left : c.in_ok-checked_sub.field-0 ≡ c.in_ok-needed.needed - scout.machine.steps = search rules in (
-      met-fine c.args.family fork scout c.args.number c.requires.scout c.requires.rule c.requires.lines c.requires.met within,
+      met-alike c.args.family fork scout c.args.number c.requires.scout c.requires.rule c.requires.lines c.requires.met within,
       omega (arith, left, needed, counted),
     )

@@ -10,21 +10,26 @@ use Rattle.wb_sweep.specs.declared.fault.SweepFault.TheVariants.{Cut}
 use Rattle.wb_sweep.specs.Stretches.{AreNumbersFine, ArePairsFineOf}
 use Rattle.wb_sweep.specs.Meetings.{IsKnown, IsPairScout}
 use Rattle.wb_sweep.proofs.AnswerLemmas.{map_some}
-use Rattle.wb_sweep.proofs.pairs.find_pair.Goals as goal
+use Rattle.wb_sweep.proofs.pairs.find_on.Goals as goal
 
 pub find_beside-requires-clause-alone : goal.find_beside-requires-clause-alone
 find_beside-requires-clause-alone g c =
     subst (λ (s : Seen). AreNumbersFine (runs_of Single s.script s.budget s.shape) c.args.part (last_attempt Pairs s.script s.budget s.shape))
     (sym c.in_ok-lead.ensures.seen) c.requires.alone
 
+pub find_beside-requires-clause-fine : goal.find_beside-requires-clause-fine
+find_beside-requires-clause-fine g c =
+    subst (λ (s : Seen). AreNumbersFine (runs_of Single s.script s.budget s.shape) c.args.grounds.part (last_attempt Pairs s.script s.budget s.shape))
+    (sym c.in_ok-lead.ensures.seen) c.requires.grounds.2
+
 pub find_beside-requires-clause-scout : goal.find_beside-requires-clause-scout
 find_beside-requires-clause-scout g c =
-    let is : IfSome c.in_ok-scout.scout (λ s. (c.args.known ≡ Some s.known) × (s.machine ≡ c.in_ok-lead.lead) × (s.budget ≡ c.args.budget)) = search rules in
+    let is : IfSome c.in_ok-scout.scout (λ s. (c.args.grounds.known ≡ Some s.known) × (s.machine ≡ c.in_ok-lead.lead) × (s.budget ≡ c.args.budget)) = search rules in
     map_some c.in_ok-scout.scout (λ s made.
-    let known : IsKnown (runs_of Single c.args.script.now c.args.budget c.args.shape) c.args.part (last_attempt Pairs c.args.script.now c.args.budget c.args.shape) s.known =
-    subst (λ k. IfSome k (IsKnown (runs_of Single c.args.script.now c.args.budget c.args.shape) c.args.part (last_attempt Pairs c.args.script.now c.args.budget c.args.shape)))
-    made.0 c.requires.known in
-    subst (λ (m : Seen). IsPairScout m c.args.part (last_attempt Pairs m.script m.budget m.shape) s) (sym c.in_ok-lead.ensures.seen)
+    let known : IsKnown (runs_of Single c.args.script.now c.args.budget c.args.shape) c.args.grounds.part (last_attempt Pairs c.args.script.now c.args.budget c.args.shape) s.known =
+    subst (λ k. IfSome k (IsKnown (runs_of Single c.args.script.now c.args.budget c.args.shape) c.args.grounds.part (last_attempt Pairs c.args.script.now c.args.budget c.args.shape)))
+    made.0 c.requires.grounds.3 in
+    subst (λ (m : Seen). IsPairScout m c.args.grounds.part (last_attempt Pairs m.script m.budget m.shape) s) (sym c.in_ok-lead.ensures.seen)
     (record {
       along = record {
         rule = ap (λ (m : Seen). m.rule) (made.1 ∙ c.in_ok-lead.ensures.seen);
