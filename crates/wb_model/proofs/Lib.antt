@@ -43,6 +43,11 @@ pub mod FreeSlotLemmas
 pub mod Payloads
 pub mod Rows
 pub mod SetLemmas
+pub mod SetOrder
+pub mod SetPartAnswers
+pub mod FewSets
+pub mod OneSetAnswer
+pub mod SetPartsTogether
 pub mod Settings
 pub mod Spellings
 pub mod RefusedSets

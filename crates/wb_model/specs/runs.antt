@@ -13,6 +13,7 @@ pub mod Rises
 pub mod Run
 pub mod RunEnds
 pub mod SameButNumbers
+pub mod SetAnswers
 pub mod SetParts
 pub mod Sets
 pub mod Sizes

@@ -28,6 +28,7 @@ pub mod run_end;
 pub mod script;
 pub mod script_lines;
 pub mod set_laws;
+pub mod set_part_laws;
 pub mod size;
 pub mod sweep_laws;
 pub mod text;

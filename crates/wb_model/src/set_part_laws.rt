@@ -1,0 +1,72 @@
+//! Laws of sweeps over the sets of a part. Each is the contract of a function that does nothing, so that the gate proves it.
+
+ghost use Rattle.std.specs.Prelude.{◌≡◌, ◌≤◌, ◌↔◌, ℕ, List, length};
+ghost use Rattle.wb_model.specs.runs.Parts.{last_attempt, AreTogether, IsNoneIn};
+ghost use Rattle.wb_model.specs.runs.SetAnswers.{least_set_of, IsSetAnswerIn, SetAnswer};
+ghost use Rattle.wb_model.specs.runs.SetAnswers.{IsSetOfCut, IsSetOfFound};
+ghost use Rattle.wb_model.specs.runs.SetParts.{IsNoSetIn, IsSetCutIn, IsSetFoundIn};
+ghost use Rattle.wb_model.specs.runs.Sets.{AreSetsFine, IsLeastBadSet, IsLeastCutSet};
+ghost use Rattle.wb_model.specs.declared.failures.Failures.TheVariants.{Pairs, Single};
+ghost use Rattle.wb_model.specs.declared.heap.Shape.{Shape};
+ghost use Rattle.wb_model.specs.declared.part.Part.{Part};
+ghost use Rattle.wb_model.specs.declared.run.RunResult.{RunResult};
+ghost use Rattle.wb_model.specs.declared.run.Why.{Why};
+ghost use Rattle.wb_model.specs.declared.script.Script.{Script};
+
+/// A sweep over the sets of a part that begins with number 0, and goes to the last attempt of the run without failure at least,
+/// answers what one over all sets of at most so many attempts does.
+pub fn a_whole_part_has_all_sets()
+    ensures found { (part : Part) (most : ℕ) (script : Script) (budget : ℕ) (shape : Shape)
+        (numbers : List ℕ) (result : RunResult) → part.from ≡ 0 →
+        last_attempt Single script budget shape ≤ part.to →
+        IsSetFoundIn part most script budget shape numbers result
+        ↔ (IsLeastBadSet script budget shape numbers result × (length numbers ≤ most)) }
+    ensures cut { (part : Part) (most : ℕ) (script : Script) (budget : ℕ) (shape : Shape)
+        (numbers : List ℕ) (why : Why) → part.from ≡ 0 →
+        last_attempt Single script budget shape ≤ part.to →
+        IsSetCutIn part most script budget shape numbers why
+        ↔ (IsLeastCutSet script budget shape numbers why × (length numbers ≤ most)) }
+    ensures none { (part : Part) (most : ℕ) (script : Script) (budget : ℕ) (shape : Shape) →
+        part.from ≡ 0 → last_attempt Single script budget shape ≤ part.to →
+        IsNoSetIn part most script budget shape ↔ AreSetsFine script budget shape most }
+{}
+
+/// A sweep over the sets of a part has one answer: one set is found, with the run under it, or one is cut, in one way, or none is.
+pub fn a_part_of_sets_has_one_answer()
+    ensures one { (part : Part) (most : ℕ) (script : Script) (budget : ℕ) (shape : Shape)
+        (answer another : SetAnswer) → IsSetAnswerIn part most script budget shape answer →
+        IsSetAnswerIn part most script budget shape another → answer ≡ another }
+{}
+
+/// The lesser of the answers to the sets of two parts is the answer to those of both parts together. So the least of the answers
+/// to parts that cover all numbers is the answer to the whole.
+pub fn the_least_set_is_of_both()
+    ensures least { (part next both : Part) (most : ℕ) (script : Script) (budget : ℕ)
+        (shape : Shape) (answer another : SetAnswer) → AreTogether part next both →
+        IsSetAnswerIn part most script budget shape answer →
+        IsSetAnswerIn next most script budget shape another →
+        IsSetAnswerIn both most script budget shape (least_set_of answer another) }
+{}
+
+/// What a sweep over the sets of at most one attempt finds is what one over single failures does, and what one over the sets of at
+/// most two finds is what one by pairs does. So is what is cut, and that nothing is.
+pub fn few_sets_are_single_failures_and_pairs()
+    ensures single { (part : Part) (script : Script) (budget : ℕ) (shape : Shape)
+        (numbers : List ℕ) (result : RunResult) →
+        IsSetFoundIn part 1 script budget shape numbers result
+        ↔ IsSetOfFound Single part script budget shape numbers result }
+    ensures single_cut { (part : Part) (script : Script) (budget : ℕ) (shape : Shape)
+        (numbers : List ℕ) (why : Why) → IsSetCutIn part 1 script budget shape numbers why
+        ↔ IsSetOfCut Single part script budget shape numbers why }
+    ensures no_single { (part : Part) (script : Script) (budget : ℕ) (shape : Shape) →
+        IsNoSetIn part 1 script budget shape ↔ IsNoneIn Single part script budget shape }
+    ensures paired { (part : Part) (script : Script) (budget : ℕ) (shape : Shape)
+        (numbers : List ℕ) (result : RunResult) →
+        IsSetFoundIn part 2 script budget shape numbers result
+        ↔ IsSetOfFound Pairs part script budget shape numbers result }
+    ensures paired_cut { (part : Part) (script : Script) (budget : ℕ) (shape : Shape)
+        (numbers : List ℕ) (why : Why) → IsSetCutIn part 2 script budget shape numbers why
+        ↔ IsSetOfCut Pairs part script budget shape numbers why }
+    ensures no_pair { (part : Part) (script : Script) (budget : ℕ) (shape : Shape) →
+        IsNoSetIn part 2 script budget shape ↔ IsNoneIn Pairs part script budget shape }
+{}
