@@ -35,12 +35,12 @@ _workbench()
             values='--budget --min --step --picture'
             ;;
         sweep)
-            options='--every --pairs --all --from --to --budget --min --step --json --picture --help'
-            values='--from --to --budget --min --step --picture'
+            options='--every --pairs --all --failures --from --to --budget --min --step --json --picture --help'
+            values='--failures --from --to --budget --min --step --picture'
             ;;
         check)
-            options='--every --pairs --all --budget --min --step --json --picture --help'
-            values='--budget --min --step --picture'
+            options='--every --pairs --all --failures --budget --min --step --json --picture --help'
+            values='--failures --budget --min --step --picture'
             ;;
         help)
             _workbench_words 'run size lengths sweep check help' "$word"

@@ -46,6 +46,7 @@ def arguments_of(words: list[str]) -> tuple[argparse.Namespace, list[str]]:
     else:
         parser.add_argument("--every", action="store_true")
     parser.add_argument("--pairs", action="store_true")
+    parser.add_argument("--failures", type=int)
     parser.add_argument("--all", action="store_true")
     parser.add_argument("--from", type=int, default=0, dest="first")
     parser.add_argument("--to", type=int, default=CEILING, dest="last")
@@ -105,6 +106,8 @@ def accepted_at(path: Path, most_steps: int) -> Accepted | str:
         return "not accepted"
     a, files = arguments_of(case.args)
     script = (ROOT / files[0]).read_bytes() if files else case.script
+    if a.failures is not None:
+        return "sets of failures"
     version, told = "3" if a.task == "lengths" or a.all else "2", case.stdout.decode()
     report = lines_of_object(told, version) if a.json else told.removesuffix("\n").split("\n")
     if a.task == "run" and int(report[-1].removeprefix("steps ")) > most_steps:

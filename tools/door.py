@@ -23,6 +23,7 @@ COMMANDS = {
     "forks": "forks",
     "rates": "rates",
     "pairs": "pairs",
+    "failures": "failures",
     "sets": "sets",
     "parts": "parts",
     "lengths": "lengths",

@@ -59,6 +59,9 @@ examples/loader-leaks-json.lengths
 explained/meetings/loop-forgets-two-failures-pairs.sweep explained/meetings/trap-in-a-loop-forgets-two-failures-pairs.sweep
 explained/meetings/second-retry-outruns-the-budget-pairs.sweep explained/meetings/retries-outrun-the-budget-all.sweep
 explained/follow/items-that-a-leave-destroys.run
+explained/sets/sweep-finds-three-failures.sweep explained/sets/picture-of-a-sweep-over-sets.sweep
+failures/leak-that-needs-three-failures-json.sweep failures/retry-that-fails-again.check
+failures/cut-set-before-a-bad-one.sweep failures/leak-that-needs-three-failures-of-two-json.check
 """.split()
 # the program that makes a call once more where it found no memory
 CALLS = ROOT / "crates/wb_call_tests/out/wb_call_tests"

@@ -3,7 +3,8 @@
 Each script is a `main` that calls some parts, each within a TRAP: cells, cells that grow, texts, objects, the cleanup stack, loops,
 requests with a fallback. Most scripts have one part with a mistake, which some failure or other shows: of a single attempt, or only of two.
 Around the parts there may be `failnext`, `failevery`, `failnone` and heap marks. The same numbers give the same scripts. The commands
-`rates`, `pairs` and `lengths` try the program on them, and `forks` the program that compares forks.
+`rates`, `pairs` and `lengths` try the program on them, and `forks` the program that compares forks. `failures` has scripts of its own, of
+which some take three failures.
 """
 
 import argparse
@@ -228,15 +229,55 @@ def hoard(chance: random.Random, is_wrong: bool) -> list[str]:
     return lines(f"ptr first; ptr second; alloc first {room(chance)}; alloc second {room(chance)}; {hoards}; free first; free second")
 
 
-# parts whose mistakes a single failure shows, and those whose mistakes take two; what is named once more comes twice as often
-PARTS: tuple[Part, ...] = (
+def third_try(chance: random.Random, is_wrong: bool) -> list[str]:
+    """A request that is made twice more; wrong: where that is refused too, the other cell is forgotten."""
+    body = f"alloc body {room(chance)}"
+    tried = f"{body}; if null body; {body}; end; if null body; {body}; end"
+    given_up = f"if null body; {'' if is_wrong else 'free header'}; leave -4; end"
+    return lines(f"ptr header; ptr body; allocl header 16; {tried}; {given_up}; free body; free header")
+
+
+def loader(chance: random.Random, is_wrong: bool) -> list[str]:
+    """A large cell, or else a smaller one, or else one that leaves; wrong: another isn't pushed."""
+    push, end = ("", "free header") if is_wrong else ("push header", "popdestroy 1")
+    tried = f"alloc data {room(chance) + 5000}; if null data; alloc data {room(chance)}; end; if null data; allocl data 16; end"
+    return lines(f"ptr header; ptr data; allocl header 16; {push}; {tried}; free data; {end}")
+
+
+def three_turns(chance: random.Random, is_wrong: bool) -> list[str]:
+    """A request that is made in each of three turns, as long as there is nothing; wrong: nobody looks whether the third came about."""
+    store = "store cell 0 7" if is_wrong else "if some cell; store cell 0 7; end"
+    return lines(f"ptr cell; repeat 3; if null cell; alloc cell {room(chance)}; end; end; {store}; free cell")
+
+
+def two_spares(chance: random.Random, is_wrong: bool) -> list[str]:
+    """Three cells of which one is enough; wrong: where there is none, a fourth is forgotten."""
+    names, given_up = ("first", "second", "third"), "" if is_wrong else "free kept"
+    tried = "; ".join([f"ptr {it}" for it in names] + ["allocl kept 16"] + [f"alloc {it} {room(chance)}" for it in names])
+    none = f"{'; '.join(f'if null {it}' for it in names)}; {given_up}; leave -4; end; end; end"
+    return lines(f"ptr kept; {tried}; {none}; {'; '.join(f'free {it}' for it in names)}; free kept")
+
+
+def long_wait(chance: random.Random, is_wrong: bool) -> list[str]:
+    """A request that is made twice more; wrong: where that is refused too, it waits past the budget."""
+    body = f"alloc cell {room(chance)}"
+    waits = "if null cell; repeat 20000; end; end" if is_wrong else ""
+    return lines(f"ptr cell; {body}; if null cell; {body}; end; if null cell; {body}; {waits}; end; free cell")
+
+
+# parts whose mistakes a single failure shows, and those whose mistakes take two, or three; what is named once more comes twice as often
+Parts = tuple[Part, ...]
+PARTS: Parts = (
     *(cell, grown_cell, two_cells, text, note, operation, many_pushes, loop, greed, retry, leave, stale, inner_trap),
     *(loop,),
 )
-PARTS_OF_TWO: tuple[Part, ...] = (
+PARTS_OF_TWO: Parts = (
     *(fallback, clean_up, report, second_try, turns, fallback_of_fallback, spare, growth, second_note, many_pushes_instead, wait, hoard),
     *(fallback, wait),
 )
+PARTS_OF_THREE: Parts = (third_try, loader, three_turns, two_spares, long_wait)
+# the sorts of parts that scripts are made of, if nothing else is said
+SORTS = (PARTS, PARTS_OF_TWO)
 
 
 def setting(chance: random.Random) -> str:
@@ -254,10 +295,10 @@ def indented(body: list[str]) -> list[str]:
     return written
 
 
-def script(number: int, seed: int = SEED) -> str:
-    """The script with this number."""
+def script(number: int, seed: int = SEED, sorts: tuple[Parts, ...] = SORTS) -> str:
+    """The script with this number, of parts of these sorts."""
     chance = random.Random(f"{seed} {number}")
-    parts = [chance.choice(chance.choice((PARTS, PARTS_OF_TWO))) for _ in range(chance.choice((1, 2, 3, 3, 4, 5, 6)))]
+    parts = [chance.choice(chance.choice(sorts)) for _ in range(chance.choice((1, 2, 3, 3, 4, 5, 6)))]
     wrong = chance.randrange(len(parts)) if chance.random() < 0.75 else None
     is_marked, is_set = chance.random() < 0.3, chance.random() < 0.3
     written: list[str] = []
@@ -271,9 +312,9 @@ def script(number: int, seed: int = SEED) -> str:
     return SHARED + "\n".join([*written, "proc main", *indented(main), "end"]) + "\n"
 
 
-def scripts(count: int = SCRIPTS, seed: int = SEED) -> list[str]:
-    """The first so many scripts."""
-    return [script(number, seed) for number in range(count)]
+def scripts(count: int = SCRIPTS, seed: int = SEED, sorts: tuple[Parts, ...] = SORTS) -> list[str]:
+    """The first so many scripts, of parts of these sorts."""
+    return [script(number, seed, sorts) for number in range(count)]
 
 
 def add_choice(parser: argparse.ArgumentParser) -> None:

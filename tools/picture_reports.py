@@ -20,6 +20,9 @@ RULES = {
     r"The run without failure": "",
     r"The run in which attempt (\d+) fails": r"--fail \1",
     r"The run in which attempts (\d+) and (\d+) fail": r"--fail \1 --also \2",
+    # up to four, so that none of them is left out
+    r"The run in which attempts (\d+), (\d+) and (\d+) fail": r"--set \1,\2,\3",
+    r"The run in which attempts (\d+), (\d+), (\d+) and (\d+) fail": r"--set \1,\2,\3,\4",
     r"The run in which every attempt fails whose number is a multiple of (\d+)": r"--every \1",
     r"The run in a heap of (\d+) bytes": r"--limit \1",
 }

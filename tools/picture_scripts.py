@@ -119,6 +119,14 @@ TABLE = [
         {"attempt 3, made to fail": 1, "attempt 4, made to fail": 1, "leak: cell 2": 1},
         {"attempt 3, in step": 2},
     ),
+    Row(
+        "three failures",
+        "sweep --failures 3",
+        example("save-leaks"),
+        7,
+        {"attempt 4, made to fail": 1, "attempt 5, made to fail": 1, "attempt 6, made to fail": 1, "leak: cell 2": 1},
+        {"attempt 4, in step": 2},
+    ),
     Row("a cut", "run --budget 50", "proc main\nint n\nrepeat 100\nadd n 1\nend\nend\n", 1, {}, {"cut at the budget": 1}),
     Row("a table", "size", LEAK, 2, {"from 0 refuses 1": 1, "from 144 refuses 2; line 3": 1}),
     Row(

@@ -49,6 +49,8 @@ OTHERWISE = {
     "fallback-leaks-mended": ["check", "--every"],
     "loader-leaks": ["lengths"],
     "loader-leaks-mended": ["lengths"],
+    "save-leaks": ["check", "--failures", "3"],
+    "save-leaks-mended": ["check", "--failures", "3"],
 }
 
 UNWRITABLE = {

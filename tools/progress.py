@@ -1,6 +1,6 @@
 """Runs long sweeps of the program, and looks at what is said of their progress on standard error.
 
-They are of single failures, rates, pairs and lengths. On a terminal one line says which failure or length is being tried. It appears once a
+They are of single failures, rates, pairs, sets and lengths. On a terminal one line says which failure or length is being tried. It appears once a
 sweep has taken two seconds, is rewritten in place, and is wiped before the report. Elsewhere nothing is said, nor of a sweep that is
 shorter. The scripts are made longer and longer until their sweeps take long enough on this machine.
 
@@ -30,6 +30,9 @@ LIMIT = 60
 
 LINE = re.compile(r"trying (attempt|rate) (\d+) of (\d+)(?: with attempt (\d+))?(?:, (\d+)% done, (\d+) (?:s|min|h) left)?")
 LENGTH_LINE = re.compile(r"trying a heap of (\d+) bytes")
+SET_LINE = re.compile(r"trying (\d+) attempts, attempt (\d+) of (\d+) first(?:, (\d+)% done, (\d+) (?:s|min|h) left)?")
+# the line of what is tried, where that is neither an attempt nor a rate
+LINES = {"heap": LENGTH_LINE, "set": SET_LINE}
 
 
 class Kind(NamedTuple):
@@ -83,6 +86,7 @@ KINDS = [
     Kind(["check", "--every"], fine, 100, 2, "rate", False),
     Kind(["sweep", "--pairs", "--json"], fine, 20, 3, "attempt", True),
     Kind(["lengths"], growing, 200, 2, "heap", False),
+    Kind(["sweep", "--failures", "3"], fine, 10, 4, "set", False),
 ]
 
 
@@ -186,16 +190,29 @@ def look_at_estimates(checks: Checks, name: str, lines: list[re.Match[str]]) -> 
     checks.look(f"{name}: what is left", all(int(it[6]) >= 1 for it in lines if it[5]), [it[0] for it in lines])
 
 
+def look_at_sets(checks: Checks, name: str, attempts: int, lines: list[re.Match[str]]) -> None:
+    """What is said of sets: larger ones come later, and those of one size by their first attempts. What is done grows with each size."""
+    places = [(int(it[1]), int(it[2])) for it in lines]
+    done = [(int(it[1]), int(it[4])) for it in lines if it[4]]
+    checks.look(f"{name}: of how many", all(int(it[3]) == attempts >= int(it[2]) >= 1 for it in lines), [it[0] for it in lines])
+    checks.look(f"{name}: one after another", places == sorted(places), places)
+    checks.look(f"{name}: what is done", len(done) > 0 and done == sorted(done), [it[0] for it in lines])
+    checks.look(f"{name}: not yet all", all(percent < 100 for _, percent in done), done)
+
+
 def look_at_lines(checks: Checks, kind: Kind, name: str, attempts: int, shown: Shown) -> None:
     """What is said while a sweep goes on."""
     written = shown.bytes().decode("ascii")
-    lines = list((LENGTH_LINE if kind.calls == "heap" else LINE).finditer(written))
+    lines = list(LINES.get(kind.calls, LINE).finditer(written))
     checks.look(f"{name}: a line", len(lines) > 0, written[:200])
     checks.look(f"{name}: none before two seconds", all(at >= QUIET - PAUSE for at, piece in shown.pieces if b"trying" in piece))
     checks.look(f"{name}: no more than ten a second", len(lines) <= 1 + (shown.seconds - QUIET + PAUSE) / PAUSE, len(lines))
     if kind.calls == "heap":
         lengths = [int(it[1]) for it in lines]
         checks.look(f"{name}: each shorter", lengths == sorted(set(lengths), reverse=True), lengths)
+        return
+    if kind.calls == "set":
+        look_at_sets(checks, name, attempts, lines)
         return
     checks.look(f"{name}: of how many", all(int(it[3]) == attempts >= int(it[2]) >= 1 for it in lines), [it[0] for it in lines])
     checks.look(f"{name}: one after another", all(tried(one) < tried(two) for one, two in zip(lines, lines[1:])), [it[0] for it in lines])

@@ -1,4 +1,4 @@
-"""What `rates.py`, `pairs.py` and `lengths.py` share: what the program answers of a script, and how all scripts are compared."""
+"""What `rates.py`, `pairs.py`, `failures.py` and `lengths.py` share: what the program answers of a script, and how all scripts are compared."""
 
 import argparse
 import json
@@ -9,12 +9,12 @@ from pathlib import Path
 from typing import NamedTuple
 
 from tools.crates import processors
-from tools.made_scripts import add_choice, scripts
+from tools.made_scripts import SORTS, add_choice, scripts
 from tools.paths import examples
 from tools.program import CUT, FINE, FOUND, NoAnswer, answer_of, program_parser
 from tools.tally import Tally
 
-# what a sweep finds: a number, a rate, a pair, or `none`
+# what a sweep finds: a number, a rate, a pair, a set, or `none`
 Failing = int | list[int] | str
 # how many of a hundred made scripts must at least have each outcome
 Wanted = dict[str, int]
@@ -38,9 +38,12 @@ def must(holds: bool, otherwise: str) -> None:
 
 
 class Script:
-    """A script, and what the program answers of it; `KIND` is that in the JSON of what is compared, of a sweep its flag too."""
+    """A script, and what the program answers of it; `KIND` is that in the JSON of what is compared, of most sweeps their flag too, and
+    `VERSION` the version of that JSON, and `SORTS` of which parts scripts are made."""
 
     KIND: str
+    VERSION = 2
+    SORTS = SORTS
 
     def __init__(self, program: Path, text: bytes) -> None:
         self.program, self.text = program, text
@@ -48,7 +51,12 @@ class Script:
     @classmethod
     def command(cls) -> str:
         """The command that is compared."""
-        return f"sweep --{cls.KIND}"
+        return " ".join(["sweep", *cls.flags()])
+
+    @classmethod
+    def flags(cls) -> list[str]:
+        """The words that ask for its failures."""
+        return [f"--{cls.KIND}"]
 
     def answer(self, *words: str) -> Report:
         """What a command answers."""
@@ -69,16 +77,21 @@ class Script:
         return told
 
     def compare_forms(self, sweep: Report) -> None:
-        """Whether `check` with the flag and the JSON say the same as a sweep."""
+        """Whether `check` with the same flags and the JSON say the same as a sweep."""
         size = self.answer("size")
         wanted = size if size.status == CUT else Report(size.lines + sweep.lines, sweep.status)
-        check = self.compare(wanted, "check", f"--{self.KIND}")
+        check = self.compare(wanted, "check", *self.flags())
         for command, plain in (("sweep", sweep), ("check", check)):
-            written = self.answer(command, f"--{self.KIND}", "--json")
+            words = [command, *self.flags(), "--json"]
+            written = self.answer(*words)
             told = json.loads(written.lines[0])
-            values = {"version": 2, "kind": self.KIND, "lines": plain.lines, "status": plain.status} | values_of(plain.status, sweep.lines)
+            values = self.values_of_object(plain) | values_of(plain.status, sweep.lines)
             found = {key: told.get(key) for key in values}
-            must(found == values and written.status == plain.status, f"`{command} --{self.KIND} --json` gives {found}")
+            must(found == values and written.status == plain.status, f"`{' '.join(words)}` gives {found}")
+
+    def values_of_object(self, plain: Report) -> dict[str, object]:
+        """What the JSON of a report must hold beside how many attempts there are and which failure was found."""
+        return {"version": self.VERSION, "kind": self.KIND, "lines": plain.lines, "status": plain.status}
 
     def outcome(self) -> str:
         """What comes of the script, by its name in WANTED, once all of the program's answers agree."""
@@ -93,7 +106,7 @@ def attempts_of(run: Report) -> int:
 def failing_of(lines: list[str]) -> Failing:
     """The failure that a sweep's lines tell, as the JSON has it."""
     words = lines[1].split(" ")[1:]
-    if words == ["none"]:
+    if words[0] == "none":
         return "none"
     return int(words[0]) if len(words) == 1 else [int(it) for it in words]
 
@@ -151,7 +164,7 @@ def keep_scripts(folder: Path, differing: Iterable[tuple[str, bytes]]) -> None:
 def compare_scripts(script: type[Script], wanted: Wanted, about: str | None, words: list[str]) -> int:
     """Compares the answers for examples and made scripts, prints what comes how often, and the totals, and gives the exit status."""
     given, tally = arguments(about, words), Tally()
-    made = [(f"made {number}", it.encode("ascii")) for number, it in enumerate(scripts(given.scripts, given.seed))]
+    made = [(f"made {number}", it.encode("ascii")) for number, it in enumerate(scripts(given.scripts, given.seed, script.SORTS))]
     named = [*((it.name, it.read_bytes()) for it in examples()), *made]
     with ThreadPoolExecutor(processors()) as pool:
         told = list(pool.map(lambda it: compared(script, given.program, *it), named))

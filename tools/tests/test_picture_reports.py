@@ -143,6 +143,8 @@ class OfWordsInPictures(unittest.TestCase):
             ("The run in which attempt 12 fails: attempts 12", "--fail 12"),
             ("The run in which attempts 3 and 40 fail: attempts 40", "--fail 3 --also 40"),
             ("The run in which every attempt fails whose number is a multiple of 2: attempts 4", "--every 2"),
+            ("The run in which attempts 3, 4 and 5 fail: attempts 5", "--set 3,4,5"),
+            ("The run in which attempts 3, 4, 5 and 17 fail: attempts 17", "--set 3,4,5,17"),
             ("The run in a heap of 176 bytes: attempts 5", "--limit 176"),
         ):
             self.assertEqual(options_of(heading), options.split())

@@ -6,7 +6,7 @@ import unittest
 
 from tools.progress import KINDS, Checks, Kind, Shown, look_at_lines, screen
 
-SINGLE, RATES, PAIRS, LENGTHS = KINDS
+SINGLE, RATES, PAIRS, LENGTHS, SETS = KINDS
 # what a line says besides: how much is done, and the time left
 LEFT = ", 22% done, 7 s left"
 
@@ -41,6 +41,15 @@ class Lines(unittest.TestCase):
         self.assertEqual(self.failed(LENGTHS, *lines), 0)
         self.assertGreater(self.failed(LENGTHS, lines[0], (2.1, "\rtrying a heap of 4127 bytes")), 0)
         self.assertGreater(self.failed(LENGTHS, (2.0, f"\rtrying attempt 9 of 40{LEFT}")), 0)
+
+    def test_sets_one_after_another(self) -> None:
+        lines = (2.0, "\rtrying 2 attempts, attempt 9 of 40 first"), (2.1, f"\rtrying 3 attempts, attempt 1 of 40 first{LEFT}")
+        self.assertEqual(self.failed(SETS, *lines), 0)
+        self.assertGreater(self.failed(SETS, *reversed(lines)), 0)
+        self.assertGreater(self.failed(SETS, lines[0]), 0)
+        self.assertGreater(self.failed(SETS, lines[1], (2.2, "\rtrying 3 attempts, attempt 2 of 40 first, 21% done, 9 s left")), 0)
+        self.assertGreater(self.failed(SETS, (2.0, f"\rtrying 3 attempts, attempt 41 of 40 first{LEFT}")), 0)
+        self.assertGreater(self.failed(SETS, (2.0, f"\rtrying attempt 9 of 40{LEFT}")), 0)
 
     def test_no_line(self) -> None:
         self.assertGreater(self.failed(SINGLE, (2.5, "attempts 40\r\n")), 0)

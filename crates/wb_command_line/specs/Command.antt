@@ -7,10 +7,11 @@ use Rattle.wb_model.specs.declared.limits.TheConstants.{CEILING, LARGEST_BUDGET}
 use Rattle.wb_model.specs.declared.heap.Rule.TheVariants.{Every, Limit, Number, Pair, Set, Unlimited}
 use Rattle.wb_model.specs.declared.heap.Shape.{Shape}
 use Rattle.wb_model.specs.declared.part.Part.{Part}
+use Rattle.wb_command_line.specs.declared.command_line.failures.TheConstants.{MOST_TOGETHER}
 use Rattle.wb_command_line.specs.declared.command_line.following.TheConstants.{MOST_FOLLOWED}
 use Rattle.wb_command_line.specs.declared.command.Command.{Command}
 use Rattle.wb_command_line.specs.declared.command.Task.{Task}
-use Rattle.wb_command_line.specs.declared.command.Task.TheVariants.{Run, Size, Lengths, Sweep, All, Check, CheckAll}
+use Rattle.wb_command_line.specs.declared.command.Task.TheVariants.{Run, Size, Lengths, Sweep, All, Sets, Check, CheckAll, CheckSets}
 
 -- attempts count from 1, and the second comes after the first
 abbrev pub are_in_order : ℕ → ℕ → Bool
@@ -29,8 +30,13 @@ are_ascending numbers = ascend_after 0 numbers && list_all (λ n. nat_le n CEILI
 abbrev pub are_of_set : List ℕ → Bool
 are_of_set numbers = are_ascending numbers && (nat_le 1 (length numbers) && nat_le (length numbers) 256)
 
+-- so many attempts may be asked to fail together
+abbrev pub may_fail_together : ℕ → Bool
+may_fail_together most = nat_le 1 most && nat_le most MOST_TOGETHER
+
 -- a limit, the number of an attempt, or a rate is no greater than the greatest length of a heap; of two attempts,
--- which are in order, the second is; of a set they all are; of a part its last number is
+-- which are in order, the second is; of a set they all are; of a part its last number is; and of the sets that are tried, as many
+-- attempts fail at most as may
 abbrev pub is_in_range : Task → Bool
 is_in_range (Run Unlimited) = true
 is_in_range (Run (Limit l)) = nat_le l CEILING
@@ -42,8 +48,10 @@ is_in_range Size = true
 is_in_range Lengths = true
 is_in_range (Sweep failures part) = nat_le part.to CEILING
 is_in_range (All failures part) = nat_le part.to CEILING
+is_in_range (Sets most part) = may_fail_together most && nat_le part.to CEILING
 is_in_range (Check failures) = true
 is_in_range (CheckAll failures) = true
+is_in_range (CheckSets most) = may_fail_together most
 
 -- a part has a number
 abbrev pub has_number : Part → Bool
@@ -53,6 +61,7 @@ has_number part = nat_le part.from part.to
 abbrev pub is_filled : Task → Bool
 is_filled (Sweep failures part) = has_number part
 is_filled (All failures part) = has_number part
+is_filled (Sets most part) = has_number part
 is_filled _ = true
 
 -- the minimum length and the step are multiples of 16

@@ -6,6 +6,7 @@ use Rattle.clap.specs.declared.builder.action.ArgAction.TheVariants.{SetTrue}
 use Rattle.clap.specs.declared.builder.value_parser.ValueParser.TheVariants.{Signed}
 use Rattle.wb_model.specs.declared.limits.TheConstants.{CEILING, LARGEST_BUDGET, LARGEST_MINIMUM, LARGEST_STEP, SMALLEST_STEP}
 use Rattle.wb_command_line.specs.Subcommands.{Subcommand, subcommands}
+use Rattle.wb_command_line.specs.declared.command_line.failures.TheConstants.{MOST_TOGETHER}
 use Rattle.wb_command_line.specs.declared.command_line.following.TheConstants.{MOST_FOLLOWED}
 use Rattle.wb_command_line.specs.declared.command_line.parser.Level.{Level}
 use Rattle.wb_command_line.specs.declared.command_line.parser.NumberOption.{NumberOption}
@@ -78,8 +79,12 @@ follow_flag = flag (codes "follow") (codes "follow")
 abbrev pub follow_steps_option : Rule
 follow_steps_option = number_option (codes "follow-steps") 1 MOST_FOLLOWED
 
-abbrev pub failure_flags : List Rule
-failure_flags = rates_flag ∷ pairs_flag ∷ all_flag ∷ []
+-- `--failures K`, where K attempts fail together at most
+abbrev pub failures_option : Rule
+failures_option = number_option (codes "failures") 1 MOST_TOGETHER
+
+abbrev pub failure_options : List Rule
+failure_options = rates_flag ∷ pairs_flag ∷ all_flag ∷ failures_option ∷ []
 
 abbrev pub part_options : List Rule
 part_options = from_option ∷ to_option ∷ []
@@ -94,8 +99,8 @@ following_options = follow_flag ∷ follow_steps_option ∷ []
 -- the options that a subcommand has beside those of all
 abbrev pub own_options : Takes → List Rule
 own_options taking.Rule = rule_options ++ following_options
-own_options taking.Failures = failure_flags
-own_options taking.Part = failure_flags ++ part_options
+own_options taking.Failures = failure_options
+own_options taking.Part = failure_options ++ part_options
 own_options taking.Neither = []
 
 -- those that every subcommand has and that take a number
@@ -114,8 +119,8 @@ abbrev pub line_with : Text → List Rule → App
 line_with name options = with_rules (new_app name) (file_argument ∷ options ++ shared_options)
 
 -- `NAME [--limit L] [--fail N] [--also J] [--every N] [--set LIST] [--follow] [--follow-steps N] [--budget B] [--min M] [--step G] [--json]
--- [--picture FILE] [FILE]`, the same with flags `--every`, `--pairs` and `--all` in the place of a rule and of the steps, with these and
--- `[--from I] [--to J]`, or with none of them
+-- [--picture FILE] [FILE]`, the same with `--every`, `--pairs`, `--all` and `--failures K` in the place of a rule and of the steps, with
+-- these and `[--from I] [--to J]`, or with none of them
 abbrev pub subcommand_line : Text → Takes → App
 subcommand_line name takes = line_with name (own_options takes)
 

@@ -125,13 +125,18 @@ budget_of rows = unwrap_or (number_of (codes "budget") rows) DEFAULT_BUDGET
 abbrev pub flag_of : Text → List Row → Bool
 flag_of option rows = option_map_or (bytes_eq (codes "true")) (one_of option rows) false
 
--- pairs are asked for together with rates, or with all that is found
-abbrev pub are_too_many : Bool → Bool → Bool → Bool
-are_too_many rates pairs all = pairs && (rates || all)
+-- how many attempts fail together at most, where sets are asked for
+abbrev pub most_of : List Row → Option ℕ
+most_of rows = number_of (codes "failures") rows
 
--- the flags of a subcommand that tries failures ask for that
+-- pairs are asked for together with rates, or with all that is found; or sets together with any of these
+abbrev pub are_too_many : Bool → Bool → Bool → Bool → Bool
+are_too_many rates pairs all sets = (pairs && (rates || all)) || (sets && (rates || (pairs || all)))
+
+-- the options of a subcommand that tries failures ask for that
 abbrev pub gives_too_many : List Row → Bool
-gives_too_many rows = are_too_many (flag_of (codes "rates") rows) (flag_of (codes "pairs") rows) (flag_of (codes "all") rows)
+gives_too_many rows =
+    are_too_many (flag_of (codes "rates") rows) (flag_of (codes "pairs") rows) (flag_of (codes "all") rows) (is_some (most_of rows))
 
 -- the failures that are to be tried: rates with the flag `--every`, pairs of attempts with `--pairs`, and single attempts
 -- with neither
@@ -154,7 +159,7 @@ part_of rows = record {
 }
 
 abbrev pub trial_of : List Row → Trial
-trial_of rows = record { failures = failures_of rows; part = part_of rows; all = flag_of (codes "all") rows }
+trial_of rows = record { failures = failures_of rows; part = part_of rows; all = flag_of (codes "all") rows; most = most_of rows }
 
 -- what a subcommand asks for, by its name and matches
 abbrev pub task_of : Text → List Row → Option Task
@@ -199,7 +204,7 @@ gives_more_than_one taking.Part rows = gives_too_many rows
 gives_more_than_one taking.Neither rows = false
 
 -- the subcommand takes a rule, and more than one of a limit, a number, a rate and a set is given to it; or failures, and pairs are
--- asked for together with rates or with all that is found
+-- asked for together with rates or with all that is found, or sets with any of these
 abbrev pub doubles : Text → List Row → Bool
 doubles name rows =
     option_map_or (λ s. gives_more_than_one s.takes rows) (subcommand_named name) false

@@ -1,28 +1,31 @@
 -- The subcommands: how each is called, which failures may be named, and what it asks for.
-use Rattle.std.specs.Prelude.{Bool, List, [], ◌∷◌, Option, codes, find, if◌then◌else◌}
+use Rattle.std.specs.Prelude.{ℕ, Bool, List, [], ◌∷◌, Option, codes, find, if◌then◌else◌}
+use Rattle.std.specs.Option.{option_map_or}
 use Rattle.std.specs.Str.{bytes_eq}
 use Rattle.clap.specs.Words.{Text}
 use Rattle.wb_model.specs.declared.failures.Failures.{Failures}
 use Rattle.wb_model.specs.declared.heap.Rule.{Rule}
 use Rattle.wb_model.specs.declared.part.Part.{Part}
 use Rattle.wb_command_line.specs.declared.command.Task.{Task}
-use Rattle.wb_command_line.specs.declared.command.Task.TheVariants.{Run, Size, Lengths, Sweep, All, Check, CheckAll}
+use Rattle.wb_command_line.specs.declared.command.Task.TheVariants.{Run, Size, Lengths, Sweep, All, Sets, Check, CheckAll, CheckSets}
 use Rattle.wb_command_line.specs.declared.command_line.parser.Takes.{Takes}
 use Rattle.wb_command_line.specs.declared.command_line.parser.Takes.TheVariants as taking
 
 -- what is to be tried: which failures, which of their numbers, and whether the run under each is told of, or the least alone that
--- leaks or panics
+-- leaks or panics; and how many attempts fail together at most, where sets are tried
 pub record Trial : Type 0 where
   pub failures : Failures
   pub part : Part
   pub all : Bool
+  pub most : Option ℕ
 
 abbrev pub sweep_task : Trial → Task
-sweep_task trial = if trial.all then All trial.failures trial.part else Sweep trial.failures trial.part
+sweep_task trial =
+    option_map_or (λ most. Sets most trial.part) trial.most (if trial.all then All trial.failures trial.part else Sweep trial.failures trial.part)
 
--- both of all their numbers
+-- of all their numbers
 abbrev pub check_task : Trial → Task
-check_task trial = if trial.all then CheckAll trial.failures else Check trial.failures
+check_task trial = option_map_or CheckSets trial.most (if trial.all then CheckAll trial.failures else Check trial.failures)
 
 pub record Subcommand : Type 0 where
   pub name : Text

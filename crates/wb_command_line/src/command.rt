@@ -27,10 +27,15 @@ pub enum Task {
     /// How the run ends under each of these failures, of those that the part has, where it leaks, panics or is cut; and the
     /// run under the least that leaks or panics.
     All(Failures, Part),
+    /// The least set of at most so many attempts that leaks or panics if they fail together, and the run in which it does: from 1
+    /// to 8. Those sets are tried whose least number the part has.
+    Sets(u32, Part),
     /// `Size`, and then `Sweep` with all these failures.
     Check(Failures),
     /// `Size`, and then `All` with all these failures.
     CheckAll(Failures),
+    /// `Size`, and then `Sets` with all numbers.
+    CheckSets(u32),
 }
 
 /// A command: what is to be done, and with what.
@@ -58,8 +63,9 @@ pub enum CommandFault {
     /// user.
     #[error("{0}")]
     Usage(clap::Error),
-    /// `clap` takes the words, but they give more than one of a limit, the number of an attempt, a rate and a set, or ask for
-    /// pairs to be tried and for rates, or for each failure to be told of. It comes before `Also`.
+    /// `clap` takes the words, but they give more than one of a limit, the number of an attempt, a rate and a set; or ask for
+    /// pairs to be tried and for rates, or for each failure to be told of; or for sets to be tried and for any of these. It
+    /// comes before `Also`.
     #[error("error: two of these options don't go together\n")]
     Both,
     /// `clap` takes the words, but they give the number of a second attempt that fails, and not that of a first, or a first

@@ -1,9 +1,10 @@
 //! How the words of a command line are read: `workbench run [--limit L | --fail N [--also J] | --every N | --set LIST] [--follow]
-//! [--follow-steps N] [--budget B] [--min M] [--step G] [--json] [--picture FILE] [FILE]`, the same with flags `--every`, `--pairs` and `--all` in the place of a rule after
-//! `sweep` and `check`, after `sweep` with `[--from I] [--to J]` too, and with none of them after `size` and `lengths`. Nothing is
-//! opened or run here.
+//! [--follow-steps N] [--budget B] [--min M] [--step G] [--json] [--picture FILE] [FILE]`, the same with `--every`, `--pairs`, `--all` and `--failures K` in the place of a rule
+//! after `sweep` and `check`, after `sweep` with `[--from I] [--to J]` too, and with none of them after `size` and `lengths`. Nothing
+//! is opened or run here.
 ghost use Rattle.std.specs.Prelude.{◌≡◌, ◌≤◌, All, IfErr, IfOk, IsSome, IsTrue, List, Some, OnErr, OnOk, codes, false};
-ghost use Rattle.std.specs.Prelude.{if◌then◌else◌, map, true};
+ghost use Rattle.std.specs.Prelude.{IfSome, if◌then◌else◌, is_some, map, true};
+ghost use Rattle.std.specs.Option.{option_map_or};
 ghost use Rattle.std.specs.Str.{IsUtf8};
 ghost use Rattle.clap.specs.Words.{Text, first_of, found_of, rows_of, takes};
 ghost use Rattle.wb_model.specs.heap.Space.{is_shape};
@@ -13,12 +14,13 @@ ghost use Rattle.wb_command_line.specs.Fault.{IsAfterUsage, IsFaultOf, IsFaultOf
 ghost use Rattle.wb_command_line.specs.Passed.{RowsPass};
 ghost use Rattle.wb_command_line.specs.Spelled.{IsMeantBy, IsSpelledBy, are_too_many, budget_of as spelled_budget};
 ghost use Rattle.wb_command_line.specs.Spelled.{disorders, doubles, failures_by, failures_of as spelled_failures};
-ghost use Rattle.wb_command_line.specs.Spelled.{flag_of, gives_too_many, mislists, part_of as spelled_part};
+ghost use Rattle.wb_command_line.specs.Spelled.{flag_of, gives_too_many, mislists, most_of, part_of as spelled_part};
 ghost use Rattle.wb_command_line.specs.Spelled.{shape_of as spelled_shape, spell_no_list};
 ghost use Rattle.wb_command_line.specs.Spelled.{task_of, trial_of as spelled_trial};
 ghost use Rattle.wb_command_line.specs.Subcommands.{check_task, subcommand_named, sweep_task};
 ghost use Rattle.wb_command_line.specs.WordByWord.{AreRead};
 
+mod failures;
 mod following;
 mod long_help;
 mod number_help;
@@ -27,6 +29,7 @@ mod rules;
 mod set_list;
 
 use crate::command::{Command, CommandFault, Task};
+use crate::command_line::failures::{MOST_TOGETHER, most_in};
 use crate::command_line::following::follow_in;
 use crate::command_line::number_help::NumberHelp;
 use crate::command_line::parser::parser;
@@ -48,7 +51,7 @@ const GRANULE: u32 = 16;
 ///
 /// Words that `clap` doesn't take, and calls for help or the version, are `Usage`. Where it takes them, a set whose text is no
 /// list is `Usage` too. Else more than one of a limit, the number of an attempt, a rate and a set is `Both`, and so are pairs
-/// together with rates or with all that is found. Else the number of a second attempt is `Also` where that of a first is
+/// together with rates or with all that is found, and sets with any of these. Else the number of a second attempt is `Also` where that of a first is
 /// missing, 0 or not less; else a minimum length or a step that is no multiple of 16 is `Shape`; and else a part that ends
 /// before it begins is `Range`. `NoMemory` comes where a growth was refused, of the workbench or of `clap`, and says nothing of
 /// the words.
@@ -119,8 +122,9 @@ fn check_part_of(task: &Task) -> Result<(), CommandFault>
     ensures empty { OnErr result (is_filled task.now ≡ false) }
 {
     match task {
-        Task::Sweep(_, part) | Task::All(_, part) => check_part(*part),
-        Task::Run(_) | Task::Size | Task::Lengths | Task::Check(_) | Task::CheckAll(_) => Ok(()),
+        Task::Sweep(_, part) | Task::All(_, part) | Task::Sets(_, part) => check_part(*part),
+        Task::Run(_) | Task::Size | Task::Lengths => Ok(()),
+        Task::Check(_) | Task::CheckAll(_) | Task::CheckSets(_) => Ok(()),
     }
 }
 
@@ -147,20 +151,23 @@ fn sweep_in(options: &ArgMatches) -> Result<Task, CommandFault>
     ensures fault { IfErr result (λ fault. fault ≡ CommandFault.Both) }
     ensures both { OnErr result (gives_too_many (rows_of (found_of options.now)) ≡ true) }
 {
-    let failures = failures_in(options)?;
-    Ok(sweep_by(failures, part_in(options), all_in(options)))
+    let most = most_in(options);
+    let failures = failures_in(options, most.is_some())?;
+    Ok(sweep_by(failures, part_in(options), all_in(options), most))
 }
 
-/// A sweep over the numbers of a part, of the least failure or of all that are found.
-fn sweep_by(failures: Failures, part: Part, all: bool) -> Task
-    requires { part.to ≤ CEILING }
-    ensures is { result ≡ if all then Task.All failures part else Task.Sweep failures part }
+/// A sweep over the numbers of a part, of the least failure or of all that are found; or over sets of at most so many attempts.
+fn sweep_by(failures: Failures, part: Part, all: bool, most: Option<u32>) -> Task
+    requires part { part.to ≤ CEILING }
+    requires most { IfSome most (λ k. (1 ≤ k) × (k ≤ MOST_TOGETHER)) }
+    ensures is { result ≡ option_map_or (λ k. Task.Sets k part) most
+        (if all then Task.All failures part else Task.Sweep failures part) }
     ensures range { IsTrue (is_in_range result) }
 {
-    if all {
-        Task::All(failures, part)
-    } else {
-        Task::Sweep(failures, part)
+    match most {
+        Some(most) => Task::Sets(most, part),
+        None if all => Task::All(failures, part),
+        None => Task::Sweep(failures, part),
     }
 }
 
@@ -174,25 +181,29 @@ fn check_in(options: &ArgMatches) -> Result<Task, CommandFault>
     ensures fault { IfErr result (λ fault. fault ≡ CommandFault.Both) }
     ensures both { OnErr result (gives_too_many (rows_of (found_of options.now)) ≡ true) }
 {
-    let failures = failures_in(options)?;
-    Ok(check_by(failures, all_in(options)))
+    let most = most_in(options);
+    let failures = failures_in(options, most.is_some())?;
+    Ok(check_by(failures, all_in(options), most))
 }
 
-/// A check of the least failure, or of all that are found.
-fn check_by(failures: Failures, all: bool) -> Task
-    ensures is { result ≡ if all then Task.CheckAll failures else Task.Check failures }
+/// A check of the least failure, or of all that are found; or of sets of at most so many attempts.
+fn check_by(failures: Failures, all: bool, most: Option<u32>) -> Task
+    requires { IfSome most (λ k. (1 ≤ k) × (k ≤ MOST_TOGETHER)) }
+    ensures is { result ≡ option_map_or Task.CheckSets most
+        (if all then Task.CheckAll failures else Task.Check failures) }
     ensures range { IsTrue (is_in_range result) }
 {
-    if all {
-        Task::CheckAll(failures)
-    } else {
-        Task::Check(failures)
+    match most {
+        Some(most) => Task::CheckSets(most),
+        None if all => Task::CheckAll(failures),
+        None => Task::Check(failures),
     }
 }
 
-/// The failures that the options of `sweep` and `check` ask to be tried, or `Both`.
-fn failures_in(options: &ArgMatches) -> Result<Failures, CommandFault>
-    requires { RowsPass joined_level.rules (rows_of (found_of options.now)) }
+/// The failures that the options of `sweep` and `check` ask to be tried, which ask for sets or not; or `Both`.
+fn failures_in(options: &ArgMatches, is_of_sets: bool) -> Result<Failures, CommandFault>
+    requires passed { RowsPass joined_level.rules (rows_of (found_of options.now)) }
+    requires sets { is_of_sets ≡ is_some (most_of (rows_of (found_of options.now))) }
     ensures ok { IfOk result
         (λ failures. failures ≡ spelled_failures (rows_of (found_of options.now))) }
     ensures alone { OnOk result (gives_too_many (rows_of (found_of options.now)) ≡ false) }
@@ -202,22 +213,31 @@ fn failures_in(options: &ArgMatches) -> Result<Failures, CommandFault>
     let rates = options.get_flag("rates");
     let pairs = options.get_flag("pairs");
     let all = options.get_flag("all");
-    failures_by(rates, pairs, all)
+    failures_by(rates, pairs, all, is_of_sets)
 }
 
-/// The failures that these flags ask to be tried, or `Both`.
-fn failures_by(rates: bool, pairs: bool, all: bool) -> Result<Failures, CommandFault>
+/// The failures that these flags ask to be tried, or `Both`. Sets are tried after single failures.
+fn failures_by(
+    rates: bool,
+    pairs: bool,
+    all: bool,
+    is_of_sets: bool,
+) -> Result<Failures, CommandFault>
     ensures ok { IfOk result (λ failures. failures ≡ failures_by rates pairs) }
-    ensures alone { OnOk result (are_too_many rates pairs all ≡ false) }
+    ensures alone { OnOk result (are_too_many rates pairs all is_of_sets ≡ false) }
     ensures fault { IfErr result (λ fault. fault ≡ CommandFault.Both) }
-    ensures both { OnErr result (are_too_many rates pairs all ≡ true) }
+    ensures both { OnErr result (are_too_many rates pairs all is_of_sets ≡ true) }
 {
-    match (rates, pairs, all) {
-        (false, false, _) => Ok(Failures::Single),
-        (true, false, _) => Ok(Failures::Every),
-        (false, true, false) => Ok(Failures::Pairs),
-        (false, true, true) => Err(CommandFault::Both),
-        (true, true, _) => Err(CommandFault::Both),
+    match (rates, pairs, all, is_of_sets) {
+        (false, false, false, _) => Ok(Failures::Single),
+        (false, false, true, false) => Ok(Failures::Single),
+        (true, false, _, false) => Ok(Failures::Every),
+        (false, true, false, false) => Ok(Failures::Pairs),
+        (false, false, true, true) => Err(CommandFault::Both),
+        (false, true, true, false) => Err(CommandFault::Both),
+        (false, true, _, true) => Err(CommandFault::Both),
+        (true, true, _, false) => Err(CommandFault::Both),
+        (true, _, _, true) => Err(CommandFault::Both),
     }
 }
 

@@ -23,7 +23,10 @@ pub fn message_of<S: AsStr>(
                 None => Ok(text),
             }
         }
-        CommandFault::Both => String::from_str(alloc, too_many(word_at(words, 1))),
+        CommandFault::Both => String::from_str(
+            alloc,
+            too_many(word_at(words, 1), asks_for_sets(words)),
+        ),
         _ => format!(in alloc; "{fault}"),
     }
 }
@@ -36,12 +39,24 @@ fn without_usage(alloc: Global, text: String) -> Result<String, AllocError> {
     }
 }
 
-/// Which options of a subcommand don't go together.
-fn too_many(subcommand: &str) -> &'static str {
+/// Which options of a subcommand don't go together, if they ask for sets or not.
+fn too_many(subcommand: &str, is_of_sets: bool) -> &'static str {
     match subcommand {
         "run" => "error: give one of '--limit', '--fail', '--every' and '--set'\n",
+        _ if is_of_sets => "error: give '--failures' without '--every', '--pairs' and '--all'\n",
         _ => "error: give '--pairs' without '--every' and without '--all'\n",
     }
+}
+
+/// Whether a word names the option that asks for sets.
+fn asks_for_sets<S: AsStr>(words: &[S]) -> bool {
+    for word in words {
+        let word = word.as_str();
+        if word == "--failures" || word.starts_with("--failures=") {
+            return true;
+        }
+    }
+    false
 }
 
 /// The text of an error of `clap`, with this tip in the place of its own.
@@ -139,7 +154,7 @@ fn subcommands_with(name: &str) -> &'static str {
     match name {
         "limit" | "fail" | "also" | "set" | "follow" | "follow-steps" => "run",
         "every" => "run, sweep and check",
-        "pairs" | "all" => "sweep and check",
+        "pairs" | "all" | "failures" => "sweep and check",
         "from" | "to" => "sweep",
         _ => "",
     }

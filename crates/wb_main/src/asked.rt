@@ -1,5 +1,5 @@
-//! What the command says of the script, and its answer: how its file is called, how many steps its runs may take, and the heap
-//! whose run the report shows.
+//! What the command says of the script, and its answer: how its file is called, how many steps its runs may take, and the failure or
+//! the heap whose run the report shows.
 
 ghost use Rattle.std.specs.Prelude.{◌≤◌};
 
@@ -7,6 +7,8 @@ use wb_history::RunParameters;
 use wb_model::heap::Rule;
 use wb_model::lengths::LengthTable;
 use wb_model::limits::LARGEST_BUDGET;
+use wb_model::memory::NoMemory;
+use workbench::findings::Findings;
 use workbench::{Command, FileName};
 
 /// How standard input is called before the number of a line.
@@ -51,6 +53,14 @@ pub fn parameters_of(command: &Command, rule: Rule) -> RunParameters
         rule,
         budget: budget_of(command),
         shape: command.shape,
+    }
+}
+
+/// Returns the rule of the run that a sweep's report names; `None` if it names none. The only error is that memory ran out.
+pub fn rule_named(findings: &Findings) -> Result<Option<Rule>, NoMemory> {
+    match &findings.set {
+        Some(numbers) => Ok(Some(Rule::Set(numbers.try_copy()?))),
+        None => Ok(findings.at.map(|it| it.rule())),
     }
 }
 

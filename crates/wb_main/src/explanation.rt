@@ -3,7 +3,9 @@
 ghost use Rattle.std.specs.Prelude.{IsTrue};
 ghost use Rattle.wb_model.specs.language.Sound.{is_script};
 
-use crate::asked::{budget_of, least_bad_length, parameters_of, script_name, source_name};
+use crate::asked::{
+    budget_of, least_bad_length, parameters_of, rule_named, script_name, source_name,
+};
 use crate::recorded::FirstFault;
 use std::alloc::Global;
 use wb_explain::files::{Deed, file_fault};
@@ -47,8 +49,8 @@ pub fn explain_answer(alloc: Global, exit: &Exit, first: FirstFault) -> Result<S
 /// script isn't read once more.
 fn has_nothing_to_say(task: &Task, findings: &Findings, status: u8) -> bool {
     match task {
-        Task::Size | Task::Check(_) | Task::CheckAll(_) => false,
-        Task::Run(_) | Task::Lengths | Task::Sweep(..) | Task::All(..) => {
+        Task::Size | Task::Check(_) | Task::CheckAll(_) | Task::CheckSets(_) => false,
+        Task::Run(_) | Task::Lengths | Task::Sweep(..) | Task::All(..) | Task::Sets(..) => {
             status == NOTHING_FOUND && !has_run_to_explain(task, findings)
         }
     }
@@ -103,7 +105,7 @@ fn explain_runs(
         let run = explain_run(alloc, command, rule, script, &lines)?;
         found.push_str(run.as_str())?;
     }
-    if let Task::Check(_) | Task::CheckAll(_) = &command.task
+    if let Task::Check(_) | Task::CheckAll(_) | Task::CheckSets(_) = &command.task
         && status == NOTHING_FOUND
     {
         let warning = heaps_warning(alloc, &lines, script, budget_of(command), command.shape)?;
@@ -239,9 +241,8 @@ fn rule_to_explain(task: &Task, findings: &Findings, status: u8) -> Result<Optio
         Task::Run(Rule::Unlimited) if status == NOTHING_FOUND => None,
         Task::Run(rule) => Some(rule.try_copy()?),
         Task::Lengths => length_to_explain(findings).map(Rule::Limit),
-        Task::Size | Task::Sweep(..) | Task::All(..) | Task::Check(_) | Task::CheckAll(_) => {
-            findings.at.map(|it| it.rule())
-        }
+        Task::Size | Task::Sweep(..) | Task::All(..) | Task::Sets(..) => rule_named(findings)?,
+        Task::Check(_) | Task::CheckAll(_) | Task::CheckSets(_) => rule_named(findings)?,
     })
 }
 
@@ -256,6 +257,6 @@ fn has_run_to_explain(task: &Task, findings: &Findings) -> bool {
         Task::Run(Rule::Unlimited) => false,
         Task::Run(_) => true,
         Task::Lengths => length_to_explain(findings).is_some(),
-        _ => findings.at.is_some(),
+        _ => findings.at.is_some() || findings.set.is_some(),
     }
 }

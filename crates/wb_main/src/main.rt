@@ -11,6 +11,7 @@ mod picture;
 mod picture_file;
 mod progress_line;
 mod recorded;
+mod set_work;
 mod work;
 
 use crate::explanation::explain_answer;

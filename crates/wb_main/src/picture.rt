@@ -5,7 +5,7 @@ ghost use Rattle.std.specs.Prelude.{◌≡◌, ◌≢◌, ℕ, List, Bool, IsTru
 ghost use Rattle.wb_main.specs.Picture.{IsPictured, IsWanted};
 ghost use Rattle.wb_model.specs.language.Sound.{is_script};
 
-use crate::asked::{budget_of, least_bad_length, script_name};
+use crate::asked::{budget_of, least_bad_length, rule_named, script_name};
 use std::alloc::Global;
 use wb_model::memory::NoMemory;
 use wb_model::script::Script;
@@ -91,7 +91,7 @@ fn draw_runs(
 {
     let name = script_name(command);
     let file = ScriptFile { name, text };
-    let (budget, shape, at) = (budget_of(command), command.shape, findings.at);
+    let (budget, shape) = (budget_of(command), command.shape);
     match &command.task {
         Task::Run(rule) => {
             let setting = Setting {
@@ -109,11 +109,13 @@ fn draw_runs(
             }
             None => Ok(String::new(alloc)),
         },
-        Task::Sweep(..) | Task::All(..) => {
-            picture_of_sweep(alloc, file, script, budget, shape, at)
+        Task::Sweep(..) | Task::All(..) | Task::Sets(..) => {
+            let rule = rule_named(findings)?;
+            picture_of_sweep(alloc, file, script, budget, shape, rule)
         }
-        Task::Check(_) | Task::CheckAll(_) => {
-            picture_of_check(alloc, file, script, budget, shape, at)
+        Task::Check(_) | Task::CheckAll(_) | Task::CheckSets(_) => {
+            let rule = rule_named(findings)?;
+            picture_of_check(alloc, file, script, budget, shape, rule)
         }
     }
 }

@@ -1,6 +1,7 @@
 //! The line on a terminal that says which failure a sweep tries, or which length of heap. Where standard error is no terminal,
-//! nothing is said. How much of the work is done is found in `work`.
+//! nothing is said. How much of the work is done is found in `work`, of sets of attempts in `set_work`.
 
+use crate::set_work::SetWork;
 use crate::work::{Estimate, Work};
 use arrayvec::ArrayString;
 use std::fmt;
@@ -33,6 +34,8 @@ pub struct ProgressLine<'a> {
     many: u32,
     /// How many failures were tried.
     work: Work,
+    /// How many of the sets were that have as many attempts.
+    sets: SetWork,
     /// When the first of them was; `None` where nothing is said of it.
     since: Option<Instant>,
     /// How many columns the line takes that is shown; 0 where none is.
@@ -48,6 +51,7 @@ impl<'a> ProgressLine<'a> {
             last: 0,
             many: 0,
             work: Work::new(0),
+            sets: SetWork::new(0, 0),
             since: None,
             width: 0,
         }
@@ -71,6 +75,12 @@ impl<'a> ProgressLine<'a> {
     fn estimate(&self, at: Failing) -> Option<Estimate> {
         let elapsed = self.since?.elapsed(self.rt).ok()?;
         self.work.estimate(at, elapsed)
+    }
+
+    /// The same as a set is tried.
+    fn estimate_of_sets(&self, numbers: &Numbers) -> Option<Estimate> {
+        let elapsed = self.since?.elapsed(self.rt).ok()?;
+        self.sets.estimate(numbers, elapsed)
     }
 
     /// Begins to wait, where standard error is a terminal.
@@ -122,11 +132,20 @@ impl<'a> Progress for ProgressLine<'a> {
 
     fn begin_sets(&mut self, many: u32) {
         self.many = many;
+        self.sets = SetWork::new(many, self.last);
+        if self.due.is_some() {
+            self.since = Instant::now(self.rt).ok();
+        }
     }
 
     fn begin_set(&mut self, numbers: &Numbers) {
+        if self.due.is_none() {
+            return;
+        }
+        self.sets.begin(numbers);
         if self.is_due() {
-            self.show(line_of_set(numbers, self.many, self.last));
+            let estimate = self.estimate_of_sets(numbers);
+            self.show(line_of_set(numbers, self.many, self.last, estimate));
         }
     }
 
@@ -172,12 +191,25 @@ fn put_failing(line: &mut ArrayString<WIDEST>, at: Failing, last: u32) -> fmt::R
     }
 }
 
-/// The line of a set that is tried, by its first attempt, with the last that will be the first; `None` if the set is empty.
-fn line_of_set(numbers: &Numbers, many: u32, last: u32) -> Option<ArrayString<WIDEST>> {
+/// The line of a set that is tried, by its first attempt, with the last that will be the first and what is left; `None` if the set is
+/// empty, or the line too long.
+fn line_of_set(
+    numbers: &Numbers,
+    many: u32,
+    last: u32,
+    estimate: Option<Estimate>,
+) -> Option<ArrayString<WIDEST>> {
     let first = numbers.get(0)?;
     let mut line = ArrayString::new();
-    let put = write!(line, "trying {many} attempts, attempt {first} of {last} first");
-    put.ok().map(|()| line)
+    write!(
+        line,
+        "trying {many} attempts, attempt {first} of {last} first"
+    )
+    .ok()?;
+    if let Some(estimate) = estimate {
+        put_estimate(&mut line, estimate).ok()?;
+    }
+    Some(line)
 }
 
 /// Appends how much is done, and how long the rest takes: up to 99 seconds, then up to 99 minutes, then hours.

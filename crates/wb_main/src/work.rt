@@ -1,5 +1,5 @@
 //! How much of a sweep's work is done, counted in runs under failures, and how long the rest takes if it goes on as fast. The line
-//! that says so is in `progress_line`.
+//! that says so is in `progress_line`; sets of attempts are counted in `set_work`.
 
 use std::time::Duration;
 use wb_model::failures::Failing;
@@ -83,17 +83,7 @@ impl Work {
     pub fn estimate(&self, at: Failing, elapsed: Duration) -> Option<Estimate> {
         let done = self.begun.checked_sub(1)?;
         let left = self.after(at)?.checked_add(1)?;
-        let all = done.checked_add(left)?;
-        let millis = u64::try_from(elapsed.as_millis()).ok()?;
-        let left_millis = millis.checked_mul(left)?.checked_div(done)?;
-        let seconds = left_millis.div_ceil(1000);
-        if seconds > LONGEST {
-            return None;
-        }
-        Some(Estimate {
-            percent: done.checked_mul(100)?.checked_div(all)?,
-            seconds,
-        })
+        estimate_of(done, left, elapsed)
     }
 
     /// How many runs come after that under a failure. Of pairs this is taken from the pairs of earlier first attempts, and so is
@@ -148,6 +138,22 @@ impl Pairs {
     fn has_all_of(&self, same: SameFirst) -> bool {
         same.first.saturating_add(same.tried) >= self.farthest
     }
+}
+
+/// What is left where so many runs are done, and so many aren't, by the time that the former took; `None` if nothing is done, and if the
+/// rest takes longer than a year.
+pub fn estimate_of(done: u64, left: u64, elapsed: Duration) -> Option<Estimate> {
+    let all = done.checked_add(left)?;
+    let millis = u64::try_from(elapsed.as_millis()).ok()?;
+    let left_millis = millis.checked_mul(left)?.checked_div(done)?;
+    let seconds = left_millis.div_ceil(1000);
+    if seconds > LONGEST {
+        return None;
+    }
+    Some(Estimate {
+        percent: done.checked_mul(100)?.checked_div(all)?,
+        seconds,
+    })
 }
 
 /// How many pairs have a first attempt after `first` that is at most `last`, and a second after it that is at most `farthest`.

@@ -8,7 +8,6 @@ use crate::panel::Table;
 use crate::sheet::draw;
 use crate::watch::{Setting, watch_run};
 use std::alloc::Global;
-use wb_model::failures::Failing;
 use wb_model::heap::{Rule, Shape};
 use wb_model::lengths::LengthRange;
 use wb_model::limits::LARGEST_BUDGET;
@@ -49,15 +48,15 @@ pub fn picture_of_size(
     picture_of_two(alloc, file, script, budget, shape, None, Table::Refusals)
 }
 
-/// Returns the picture of the run without failure, and below it of the run under the failure that was found, if one was. Empty
-/// and error as in `picture_of_run`.
+/// Returns the picture of the run without failure, and below it of the run under the rule by which attempts fail that was found, if
+/// one was. Empty and error as in `picture_of_run`.
 pub fn picture_of_sweep(
     alloc: Global,
     file: ScriptFile<'_>,
     script: &Script,
     budget: u32,
     shape: Shape,
-    found: Option<Failing>,
+    found: Option<Rule>,
 ) -> Result<String, NoMemory>
     requires script { IsTrue (is_script script.now) }
     requires least { 1 ≤ budget }
@@ -81,7 +80,7 @@ pub fn picture_of_check(
     script: &Script,
     budget: u32,
     shape: Shape,
-    found: Option<Failing>,
+    found: Option<Rule>,
 ) -> Result<String, NoMemory>
     requires script { IsTrue (is_script script.now) }
     requires least { 1 ≤ budget }
@@ -161,10 +160,10 @@ fn picture_of_two(
     }
 }
 
-/// The rule of the run with the failure that was found; `None` if that is the run without failure.
-fn failing_rule(found: Option<Failing>) -> Option<Rule> {
+/// The rule that was found; `None` if its run is that without failure.
+fn failing_rule(found: Option<Rule>) -> Option<Rule> {
     match found? {
-        Failing::Number(0) | Failing::Every(0) => None,
-        found => Some(found.rule()),
+        Rule::Number(0) | Rule::Every(0) => None,
+        rule => Some(rule),
     }
 }

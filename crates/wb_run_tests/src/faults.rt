@@ -13,7 +13,7 @@ enum Fault {
 }
 
 /// Words after the program's name, and their fault.
-static FAULTS: [(&[&str], Fault); 28] = [
+static FAULTS: [(&[&str], Fault); 33] = [
     (&["run", "--limit", "176", "--fail", "2"], Fault::Both),
     (&["run", "--limit", "176", "--every", "2"], Fault::Both),
     (&["run", "--fail", "2", "--every", "2"], Fault::Both),
@@ -39,6 +39,9 @@ static FAULTS: [(&[&str], Fault); 28] = [
     (&["sweep", "--pairs", "a.oom", "--every"], Fault::Both),
     (&["check", "--pairs", "--every", "--json"], Fault::Both),
     (&["check", "--every", "--pairs", "--min=8"], Fault::Both),
+    (&["sweep", "--failures", "2", "--pairs"], Fault::Both),
+    (&["sweep", "--every", "a.oom", "--failures=1"], Fault::Both),
+    (&["check", "--all", "--failures=8", "--min=8"], Fault::Both),
     (&["run", "--also", "2"], Fault::Also),
     (&["run", "--also", "0"], Fault::Also),
     (&["run", "--also", "2", "--fail", "0"], Fault::Also),
@@ -54,6 +57,8 @@ static FAULTS: [(&[&str], Fault); 28] = [
     (&["run", "--also=3", "--fail=2", "--step=40"], Fault::Shape),
     (&["sweep", "--pairs", "--min", "8"], Fault::Shape),
     (&["check", "--pairs", "--step", "40"], Fault::Shape),
+    (&["sweep", "--failures=3", "--min", "8"], Fault::Shape),
+    (&["check", "--failures", "2", "--step=40"], Fault::Shape),
 ];
 
 /// The fault of the words after the program's name, if they have one of these.

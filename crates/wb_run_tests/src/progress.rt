@@ -19,6 +19,10 @@ use workbench::program::program;
 struct Listener<'a> {
     /// The failures that are still to be reported.
     to_come: &'static [Failing],
+    /// The sets that are still to be reported.
+    sets_to_come: &'static [&'static [u32]],
+    /// How many attempts those have that follow.
+    many: u32,
     /// The lengths that are still to be reported, in bytes.
     lengths_to_come: &'static [u32],
     is_as_wanted: bool,
@@ -49,12 +53,20 @@ impl Progress for Listener<'_> {
         }
     }
 
-    fn begin_sets(&mut self, _many: u32) {
-        self.is_as_wanted = false;
+    fn begin_sets(&mut self, many: u32) {
+        self.is_as_wanted &= self.many < many;
+        self.many = many;
     }
 
-    fn begin_set(&mut self, _numbers: &Numbers) {
-        self.is_as_wanted = false;
+    fn begin_set(&mut self, numbers: &Numbers) {
+        match self.sets_to_come.split_first() {
+            Some((next, rest)) => {
+                self.is_as_wanted &= numbers.as_slice() == *next;
+                self.is_as_wanted &= numbers.len() as u64 == u64::from(self.many);
+                self.sets_to_come = rest;
+            }
+            None => self.is_as_wanted = false,
+        }
     }
 
     fn begin_lengths(&mut self) {
@@ -131,12 +143,17 @@ struct Wanted {
     /// How many attempts the run without failure makes, if nothing is found in it.
     last: Option<u32>,
     failures: &'static [Failing],
+    sets: &'static [&'static [u32]],
 }
 
 /// A cell that nobody frees.
 const LEAKING: &[u8] = b"proc main\nptr a\nalloc a 16\nend\n";
 
-static TOLD: [Wanted; 12] = [
+/// A cell that is asked for up to three times, and used without a look at the last answer.
+const THRICE: &[u8] =
+    b"proc main\nptr a\nrepeat 3\nif null a\nalloc a 16\nend\nend\nstore a 0 7\nfree a\nend\n";
+
+static TOLD: [Wanted; 15] = [
     Wanted {
         words: &["workbench", "sweep"],
         script: FALLBACK,
@@ -144,6 +161,7 @@ static TOLD: [Wanted; 12] = [
         lengths: &[],
         last: Some(3),
         failures: &[Failing::Number(1), Failing::Number(2), Failing::Number(3)],
+        sets: &[],
     },
     Wanted {
         words: &["workbench", "check", "--json"],
@@ -152,6 +170,7 @@ static TOLD: [Wanted; 12] = [
         lengths: &[],
         last: Some(3),
         failures: &[Failing::Number(1), Failing::Number(2), Failing::Number(3)],
+        sets: &[],
     },
     // Rate 2 shows a leak.
     Wanted {
@@ -161,6 +180,7 @@ static TOLD: [Wanted; 12] = [
         lengths: &[],
         last: Some(3),
         failures: &[Failing::Every(1), Failing::Every(2)],
+        sets: &[],
     },
     // The run in which attempt 1 fails makes no other, and that in which attempt 2 fails makes a fourth.
     Wanted {
@@ -176,6 +196,36 @@ static TOLD: [Wanted; 12] = [
             Failing::Pair(2, 3),
             Failing::Pair(2, 4),
         ],
+        sets: &[],
+    },
+    // Sets of two attempts follow the single ones, and the second of them leaks.
+    Wanted {
+        words: &["workbench", "sweep", "--failures", "3"],
+        script: FALLBACK,
+        sweeps: 1,
+        lengths: &[],
+        last: Some(3),
+        failures: &[Failing::Number(1), Failing::Number(2), Failing::Number(3)],
+        sets: &[&[2, 3], &[2, 4]],
+    },
+    // Three attempts fail, each made where those before it have failed.
+    Wanted {
+        words: &["workbench", "check", "--failures=3"],
+        script: THRICE,
+        sweeps: 1,
+        lengths: &[],
+        last: Some(2),
+        failures: &[Failing::Number(1), Failing::Number(2)],
+        sets: &[&[2, 3], &[2, 3, 4]],
+    },
+    Wanted {
+        words: &["workbench", "sweep", "--failures=1"],
+        script: THRICE,
+        sweeps: 1,
+        lengths: &[],
+        last: Some(2),
+        failures: &[Failing::Number(1), Failing::Number(2)],
+        sets: &[],
     },
     // The run without failure leaks.
     Wanted {
@@ -185,6 +235,7 @@ static TOLD: [Wanted; 12] = [
         lengths: &[],
         last: None,
         failures: &[],
+        sets: &[],
     },
     // It is cut.
     Wanted {
@@ -194,6 +245,7 @@ static TOLD: [Wanted; 12] = [
         lengths: &[],
         last: None,
         failures: &[],
+        sets: &[],
     },
     // A heap of 175 bytes refuses the script's cell, and one of 143 the cleanup stack's.
     Wanted {
@@ -203,6 +255,7 @@ static TOLD: [Wanted; 12] = [
         lengths: &[16_777_216, 175, 143],
         last: None,
         failures: &[],
+        sets: &[],
     },
     // The run in which attempt 2 fails takes a step more, and is cut.
     Wanted {
@@ -212,6 +265,7 @@ static TOLD: [Wanted; 12] = [
         lengths: &[],
         last: Some(3),
         failures: &[Failing::Number(1), Failing::Number(2)],
+        sets: &[],
     },
     // There is nothing to sweep.
     Wanted {
@@ -221,6 +275,7 @@ static TOLD: [Wanted; 12] = [
         lengths: &[],
         last: None,
         failures: &[],
+        sets: &[],
     },
     Wanted {
         words: &["workbench", "sweep", "a.oom"],
@@ -229,6 +284,7 @@ static TOLD: [Wanted; 12] = [
         lengths: &[],
         last: None,
         failures: &[],
+        sets: &[],
     },
     Wanted {
         words: &["workbench", "run", "--fail", "2"],
@@ -237,6 +293,7 @@ static TOLD: [Wanted; 12] = [
         lengths: &[],
         last: None,
         failures: &[],
+        sets: &[],
     },
     Wanted {
         words: &["workbench", "size"],
@@ -245,6 +302,7 @@ static TOLD: [Wanted; 12] = [
         lengths: &[],
         last: None,
         failures: &[],
+        sets: &[],
     },
 ];
 
@@ -257,6 +315,8 @@ fn is_reported<'a>(
 ) -> bool {
     let mut listener: Listener<'a> = Listener {
         to_come: wanted.failures,
+        sets_to_come: wanted.sets,
+        many: 1,
         lengths_to_come: wanted.lengths,
         is_as_wanted: true,
         begun: 0,
@@ -283,6 +343,7 @@ fn is_reported<'a>(
     );
     listener.is_as_wanted
         && listener.to_come.is_empty()
+        && listener.sets_to_come.is_empty()
         && listener.lengths_to_come.is_empty()
         && listener.begun == wanted.sweeps
         && listener.last == wanted.last

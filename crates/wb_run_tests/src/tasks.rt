@@ -14,8 +14,10 @@ pub(crate) enum Asks {
     Lengths,
     Sweep(Failures, Part),
     All(Failures, Part),
+    Sets(u32, Part),
     Check(Failures),
     CheckAll(Failures),
+    CheckSets(u32),
 }
 
 impl Asks {
@@ -31,8 +33,10 @@ impl Asks {
             (Asks::All(wanted, of), Task::All(failures, part)) => {
                 *failures == wanted && *part == of
             }
+            (Asks::Sets(wanted, of), Task::Sets(most, part)) => *most == wanted && *part == of,
             (Asks::Check(wanted), Task::Check(failures)) => *failures == wanted,
             (Asks::CheckAll(wanted), Task::CheckAll(failures)) => *failures == wanted,
+            (Asks::CheckSets(wanted), Task::CheckSets(most)) => *most == wanted,
             _ => false,
         }
     }

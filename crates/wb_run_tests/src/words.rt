@@ -272,8 +272,8 @@ static RUNS: [(&[&str], Refuses, Shape, Option<&str>); 25] = [
     ),
 ];
 
-/// The subcommands that take the flags `--every`, `--pairs` and `--all`, and what each asks for with one of them.
-static WITH_A_FLAG: [(&str, &str, Asks); 6] = [
+/// The subcommands that take the flags `--every`, `--pairs` and `--all`, and `--failures`, and what each asks for with one of them.
+static WITH_A_FLAG: [(&str, &str, Asks); 9] = [
     ("sweep", "--all", Asks::All(Failures::Single, Part::WHOLE)),
     ("check", "--all", Asks::CheckAll(Failures::Single)),
     (
@@ -288,6 +288,9 @@ static WITH_A_FLAG: [(&str, &str, Asks); 6] = [
         Asks::Sweep(Failures::Pairs, Part::WHOLE),
     ),
     ("check", "--pairs", Asks::Check(Failures::Pairs)),
+    ("sweep", "--failures=1", Asks::Sets(1, Part::WHOLE)),
+    ("sweep", "--failures=8", Asks::Sets(8, Part::WHOLE)),
+    ("check", "--failures=+03", Asks::CheckSets(3)),
 ];
 
 /// Whether the command has this task and these options.

@@ -11,3 +11,8 @@ mod TellLemmas
 mod PairScouts
 mod PairsFurther
 mod PastPart
+mod SetOrder
+mod SetSearchLemmas
+mod SetPartLemmas
+mod SingleSets
+mod Errors

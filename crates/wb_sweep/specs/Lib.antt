@@ -2,5 +2,8 @@ pub mod AllOfAPart
 pub mod Families
 pub mod Fault
 pub mod Meetings
+pub mod SetFaults
+pub mod SetSearch
+pub mod SetSweeping
 pub mod Stretches
 pub mod Sweeping

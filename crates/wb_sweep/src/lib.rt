@@ -13,6 +13,9 @@ mod pace;
 mod pairs;
 mod past;
 mod scout;
+pub mod set_answer;
+pub mod set_sweep;
+mod sets;
 pub mod sweeping;
 mod walk;
 
@@ -20,6 +23,8 @@ pub use all_numbers::sweep_all;
 pub use fault::SweepFault;
 pub use fork::result_under;
 pub use found::{AllNumbers, Found, Sweep};
+pub use set_answer::{FoundSet, SetFault, SetSweep};
+pub use set_sweep::sweep_sets;
 pub use sweeping::{sweep, sweep_part};
 pub use wb_machine::RunFault;
 pub use wb_model::failures::{Failing, Failures};

@@ -207,7 +207,7 @@ fn find_later<P: Progress>(
 }
 
 /// The sweep itself, of whose beginning and end the callers notify.
-fn find_least<P: Progress>(
+pub(crate) fn find_least<P: Progress>(
     alloc: Global,
     script: &Script,
     failures: Failures,

@@ -24,6 +24,7 @@ use Rattle.workbench.specs.PartReport.{IsReportOver, is_whole}
 use Rattle.workbench.specs.Report.{IsReport, IsTaskReport, no_memory}
 use Rattle.workbench.specs.LengthsReport.{IsFineStatus, IsLengthsReport}
 use Rattle.workbench.specs.RunText.{outcome_status}
+use Rattle.workbench.specs.SetsReport.{IsCheckSetsReport, IsSetsReport, every_number, numbers_tried}
 use Rattle.wb_streams.specs.Streams.{AppendsFirst, Came}
 use Rattle.workbench.specs.TwoNumbers.{IsCheckReport, IsSizeReport, IsSweepReport}
 
@@ -74,6 +75,17 @@ check_status_le failures script budget shape text values status (inl r) =
     sweep_status_le failures script budget shape r.second r.sweep status r.swept
 check_status_le failures script budget shape text values status (inr r) = omega (arith, r.1)
 
+sets_status_le : (part : Part) (most : ℕ) (script : Script) (budget : ℕ) (shape : Shape) (text : List ℕ) (values : ReportValues)
+    (status : ℕ) → IsSetsReport part most script budget shape text values status → status ≤ 3
+sets_status_le part most script budget shape text values status (inl r) = omega (arith, r.1)
+sets_status_le part most script budget shape text values status (inr (inl r)) = omega (arith, r.1)
+sets_status_le part most script budget shape text values status (inr (inr r)) = omega (arith, r.1)
+
+check_sets_status_le : (most : ℕ) (script : Script) (budget : ℕ) (shape : Shape) (text : List ℕ) (values : ReportValues)
+    (status : ℕ) → IsCheckSetsReport most script budget shape text values status → status ≤ 3
+check_sets_status_le most script budget shape text values status (inl r) = sets_status_le every_number most script budget shape r.second r.sweep status r.tried
+check_sets_status_le most script budget shape text values status (inr r) = omega (arith, r.1)
+
 lengths_status_le : (script : Script) (budget : ℕ) (shape : Shape) (text : List ℕ) (values : ReportValues) (status : ℕ) → IsLengthsReport script budget shape text values status → status ≤ 3
 lengths_status_le script budget shape text values status (inl r) = omega (arith, r.1)
 lengths_status_le script budget shape text values status (inr r) = by r.status_is
@@ -90,6 +102,10 @@ task_status_le (T.Sweep failures part) script budget shape text values status r 
     part_status_le (is_whole part) failures part script budget shape text values status r
 task_status_le (T.All failures part) script budget shape text values status r =
     all_status_le failures part script budget shape text values status r
+task_status_le (T.Sets most part) script budget shape text values status r =
+    sets_status_le (numbers_tried part) most script budget shape text values status r
+task_status_le (T.CheckSets most) script budget shape text values status r =
+    check_sets_status_le most script budget shape text values status r
 task_status_le (T.CheckAll failures) script budget shape text values status r =
     check_all_status_le failures script budget shape text values status r
 task_status_le (T.Check failures) script budget shape text values status r =

@@ -35,9 +35,11 @@ use Rattle.workbench.specs.AllReport.{IsAllReport, IsCheckAllReport, IsSizedAndT
 use Rattle.workbench.specs.LengthsReport.{IsBadLengthFound, IsFineStatus, IsLengthsReport, IsNoBadLengthFound, bad_length_text, found_length_text, table_lines}
 use Rattle.workbench.specs.PartReport.{IsFailingIn, IsPartReport, IsReportOver, IsUnsweptIn, is_whole}
 use Rattle.workbench.specs.RunText.{run_text}
+use Rattle.workbench.specs.SetsReport.{IsCheckSetsReport, IsSizedAndTried, every_number, numbers_tried}
 use Rattle.workbench.specs.ReportValues.{all_values, both_values, cut_values, lengths_values, size_values, sweep_values}
 use Rattle.workbench.specs.Report.{IsReport, IsReportOfFault, IsReportOfScript, IsTaskReport, fault_line}
 use Rattle.workbench.specs.TwoNumbers.{IsBoth, IsCheckReport, IsFailing, IsSized, IsSizeReport, IsSweepReport, IsUnsized, IsUnswept, attempts_line, attempts_of, cut_at_line, found_text, size_text}
+use Rattle.workbench.proofs.OneSetReport.{one_sets}
 
 -- the same text and the same values
 abbrev Alike : List ℕ → ReportValues → List ℕ → ReportValues → Type 0
@@ -239,6 +241,28 @@ module _ (failures : Failures) (script : Script) (budget : ℕ) (shape : Shape) 
   one_check text text' values figures' status status' (inr (s, e)) (inl t) = absurd (never_both script budget shape t.first text t.size values t.sized s)
   one_check text text' values figures' status status' (inr (s, e)) (inr (t, f)) = (one_cut script budget shape text text' values figures' s t, e ∙ sym f)
 
+-- ---- both, of sets
+
+module _ (most : ℕ) (script : Script) (budget : ℕ) (shape : Shape) where
+  one_sized_and_tried : (text text' : List ℕ) (values figures' : ReportValues) (status status' : ℕ) → IsSizedAndTried most script budget shape text values status
+      → IsSizedAndTried most script budget shape text' figures' status' → Alike text values text' figures' × (status ≡ status')
+  one_sized_and_tried text text' values figures' status status' s t =
+      let (first, size) = one_size script budget shape s.first t.first s.size t.size s.sized t.sized in
+      let ((second, sweep), same) = one_sets every_number most script budget shape s.second t.second s.sweep t.sweep status status' s.tried t.tried in (
+        (
+          s.text_is ∙ ap (λ l. l ++ s.second) first ∙ ap (λ l. t.first ++ l) second ∙ sym t.text_is,
+          s.values_are ∙ ap (λ f. both_values f s.sweep) size ∙ ap (both_values t.size) sweep ∙ sym t.values_are,
+        ),
+        same,
+      )
+
+  one_check_sets : (text text' : List ℕ) (values figures' : ReportValues) (status status' : ℕ) → IsCheckSetsReport most script budget shape text values status
+      → IsCheckSetsReport most script budget shape text' figures' status' → Alike text values text' figures' × (status ≡ status')
+  one_check_sets text text' values figures' status status' (inl s) (inl t) = one_sized_and_tried text text' values figures' status status' s t
+  one_check_sets text text' values figures' status status' (inl s) (inr (t, f)) = absurd (never_both script budget shape s.first text' s.size figures' s.sized t)
+  one_check_sets text text' values figures' status status' (inr (s, e)) (inl t) = absurd (never_both script budget shape t.first text t.size values t.sized s)
+  one_check_sets text text' values figures' status status' (inr (s, e)) (inr (t, f)) = (one_cut script budget shape text text' values figures' s t, e ∙ sym f)
+
 -- ---- all lengths
 
 module _ (script : Script) (budget : ℕ) (shape : Shape) where
@@ -297,6 +321,10 @@ module _ (script : Script) (budget : ℕ) (shape : Shape) where
       one_all failures script budget shape part text text' values figures' status status' s t
   one_task (T.Check failures) text text' values figures' status status' s t =
       one_check failures script budget shape text text' values figures' status status' s t
+  one_task (T.Sets most part) text text' values figures' status status' s t =
+      one_sets (numbers_tried part) most script budget shape text text' values figures' status status' s t
+  one_task (T.CheckSets most) text text' values figures' status status' s t =
+      one_check_sets most script budget shape text text' values figures' status status' s t
   one_task (T.CheckAll failures) text text' values figures' status status' s t =
       one_check_all failures script budget shape text text' values figures' status status' s t
 

@@ -10,7 +10,7 @@ use Rattle.wb_command_line.specs.declared.command.Command.{Command}
 use Rattle.workbench.specs.declared.report_values.ReportValues.{ReportValues}
 use Rattle.workbench.specs.Ascii.{HasPrintableLines, IsPrintableText, IsTextByte}
 use Rattle.workbench.specs.Report.{IsReport}
-use Rattle.workbench.proofs.AsciiLemmas.{report-printable}
+use Rattle.workbench.proofs.AsciiReports.{report-printable}
 
 -- ---- the lines of a text
 

@@ -1,5 +1,5 @@
 -- The report as one JSON object: its lines and its values, and which failures were tried, under
--- the keys that version 2 of this form has, or version 3 of the reports of all lengths and of all that a sweep finds.
+-- the keys that version 2 of this form has, or version 3 of the reports of all lengths, of all that a sweep finds and of sets.
 use Rattle.std.specs.Prelude.{ℕ, List, Option, Some, None, codes, if◌then◌else◌, map}
 use Rattle.serde_json.specs.Data.{Data, Members, null, number, string, array, object, item, no_items, member, no_members, put, unsigned}
 use Rattle.serde_json.specs.View.{items_of}
@@ -18,7 +18,7 @@ use Rattle.wb_model.specs.declared.run_end.RunEnd.{RunEnd}
 use Rattle.wb_model.specs.declared.size.Rise.{Rise}
 use Rattle.wb_model.specs.language.Lines.{lines_of}
 use Rattle.workbench.specs.declared.report_values.FailingNumber.{FailingNumber}
-use Rattle.workbench.specs.declared.report_values.FailingNumber.TheVariants.{At, Length, Never}
+use Rattle.workbench.specs.declared.report_values.FailingNumber.TheVariants.{At, Length, Never, Set}
 use Rattle.workbench.specs.declared.report_values.ReportValues.{ReportValues}
 use Rattle.workbench.specs.EndWords.{end_words}
 use Rattle.workbench.specs.RunText.{line}
@@ -40,15 +40,17 @@ failures_kind Single = string (codes "single")
 failures_kind Every = string (codes "every")
 failures_kind Pairs = string (codes "pairs")
 
--- which failures a task tries, or that it tries all lengths, whatever its report says; `null` where it tries none
+-- which failures a task tries, or that it tries sets or all lengths, whatever its report says; `null` where it tries none
 abbrev pub kind_of : Task → Data
 kind_of (T.Run rule) = null
 kind_of T.Size = null
 kind_of T.Lengths = string (codes "lengths")
 kind_of (T.Sweep failures part) = failures_kind failures
 kind_of (T.All failures part) = failures_kind failures
+kind_of (T.Sets most part) = string (codes "sets")
 kind_of (T.Check failures) = failures_kind failures
 kind_of (T.CheckAll failures) = failures_kind failures
+kind_of (T.CheckSets most) = string (codes "sets")
 
 abbrev pub line_string : List ℕ → Data
 line_string text = string text
@@ -63,11 +65,17 @@ failing_value (Number n) = count n
 failing_value (failings.Every n) = count n
 failing_value (Pair i j) = count_pair i j
 
-abbrev pub failing_number : Option FailingNumber → Data
-failing_number None = null
-failing_number (Some Never) = string (codes "none")
-failing_number (Some (At failing)) = failing_value failing
-failing_number (Some (Length length)) = count length
+-- the numbers of a set
+abbrev pub set_value : Option (List ℕ) → Data
+set_value None = null
+set_value (Some numbers) = array (items_of (map count numbers))
+
+abbrev pub failing_number : Option FailingNumber → Option (List ℕ) → Data
+failing_number None set = null
+failing_number (Some Never) set = string (codes "none")
+failing_number (Some (At failing)) set = failing_value failing
+failing_number (Some (Length length)) set = count length
+failing_number (Some Set) set = set_value set
 
 -- `[number, top]`
 abbrev pub rise_pair : Rise → Data
@@ -108,10 +116,18 @@ with_all (T.All failures part) ends members = put (codes "all") (told_pairs ends
 with_all (T.CheckAll failures) ends members = put (codes "all") (told_pairs ends) members
 with_all _ ends members = members
 
+-- the reports of sets alone have it: how many attempts fail together at most; by its letters their key comes after `lines`
+abbrev pub with_most : Task → Members → Members
+with_most (T.Sets most part) members = put (codes "most") (count most) members
+with_most (T.CheckSets most) members = put (codes "most") (count most) members
+with_most _ members = members
+
 abbrev pub version_of : Task → ℕ
 version_of T.Lengths = 3
 version_of (T.All failures part) = 3
 version_of (T.CheckAll failures) = 3
+version_of (T.Sets most part) = 3
+version_of (T.CheckSets most) = 3
 version_of _ = 2
 
 -- what each object has, by the task, the text report, its values and its status
@@ -120,7 +136,7 @@ common_members task text values status =
     member (codes "attempts") (count_or_null values.attempts) (
     member (codes "kind") (kind_of task) (
     member (codes "lines") (line_strings text) (
-    member (codes "number") (failing_number values.number) (
+    member (codes "number") (failing_number values.number values.set) (
     member (codes "required") (count_or_null values.required) (
     member (codes "rises") (rise_pairs values.rises) (
     member (codes "status") (count status) (
@@ -129,7 +145,7 @@ common_members task text values status =
 -- the object
 unfoldable pub report_object : Task → List ℕ → ReportValues → ℕ → Data
 report_object task text values status =
-    object (with_all task values.all (with_ranges task values.ranges (common_members task text values status)))
+    object (with_most task (with_all task values.all (with_ranges task values.ranges (common_members task text values status))))
 
 -- the object as `serde_json` writes it, without blanks, and a line feed
 abbrev pub json_text : Task → List ℕ → ReportValues → ℕ → List ℕ

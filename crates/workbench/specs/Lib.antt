@@ -10,4 +10,5 @@ pub mod Program
 pub mod Report
 pub mod Rises
 pub mod RunText
+pub mod SetsReport
 pub mod TwoNumbers

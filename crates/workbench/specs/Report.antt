@@ -18,6 +18,7 @@ use Rattle.workbench.specs.LengthsReport.{IsLengthsReport}
 use Rattle.workbench.specs.PartReport.{IsReportOver, is_whole}
 use Rattle.workbench.specs.ReportValues.{no_values, run_values}
 use Rattle.workbench.specs.RunText.{line, run_text, run_status}
+use Rattle.workbench.specs.SetsReport.{IsCheckSetsReport, IsSetsReport, numbers_tried}
 use Rattle.workbench.specs.TwoNumbers.{IsSizeReport, IsCheckReport}
 
 abbrev pub refused : ℕ → List ℕ
@@ -65,10 +66,14 @@ IsTaskReport (T.Sweep failures part) script budget shape text values status =
     IsReportOver (is_whole part) failures part script budget shape text values status
 IsTaskReport (T.All failures part) script budget shape text values status =
     IsAllReport failures part script budget shape text values status
+IsTaskReport (T.Sets most part) script budget shape text values status =
+    IsSetsReport (numbers_tried part) most script budget shape text values status
 IsTaskReport (T.Check failures) script budget shape text values status =
     IsCheckReport failures script budget shape text values status
 IsTaskReport (T.CheckAll failures) script budget shape text values status =
     IsCheckAllReport failures script budget shape text values status
+IsTaskReport (T.CheckSets most) script budget shape text values status =
+    IsCheckSetsReport most script budget shape text values status
 
 -- the bytes spell a script, and this is what the command's task comes to on it
 pub record IsReportOfScript (command : Command) (bytes text : List ℕ) (values : ReportValues) (status : ℕ) : Type 0 where

@@ -217,6 +217,7 @@ fn lay_out(
         findings: Findings {
             bytes,
             at: values.named,
+            set: values.set,
             rises: values.rises,
             ranges: values.ranges,
             all: values.all,

@@ -1,6 +1,7 @@
 //! What an answer was made of, for whoever explains it. No report depends on it.
 
 use wb_model::failures::Failing;
+use wb_model::heap::Numbers;
 use wb_model::lengths::LengthTable;
 use wb_model::number_ends::NumberEnds;
 use wb_size::Rises;
@@ -12,6 +13,8 @@ pub struct Findings {
     pub bytes: Vec<u8>,
     /// The failure whose run the report shows, or under which a run was cut; `None` if it names none.
     pub at: Option<Failing>,
+    /// The set of two attempts or more that it names so; `None` if it names none.
+    pub set: Option<Numbers>,
     /// The attempt that each shorter heap refuses first; `None` if the script wasn't sized.
     pub rises: Option<Rises>,
     /// How the run ends in heaps of every length; `None` if that wasn't asked for, or the script is refused.

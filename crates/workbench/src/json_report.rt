@@ -5,11 +5,11 @@ ghost use Rattle.serde_json.specs.View.{members_view, view};
 ghost use Rattle.wb_model.specs.language.Lines.{lines_of};
 ghost use Rattle.wb_model.specs.meaning.Printable.{ArePrintable};
 ghost use Rattle.workbench.specs.Ascii.{HasPrintableLines};
-ghost use Rattle.workbench.specs.JsonReport.{common_members, count_or_null, count_pair, failing_number};
+ghost use Rattle.workbench.specs.JsonReport.{common_members, count, count_or_null, count_pair, failing_number};
 ghost use Rattle.workbench.specs.JsonReport.{failing_value, failures_kind};
 ghost use Rattle.workbench.specs.JsonReport.{json_text, kind_of, line_string, line_strings, range_pair, range_pairs};
-ghost use Rattle.workbench.specs.JsonReport.{report_object, rise_pair, rise_pairs, told_pair, told_pairs};
-ghost use Rattle.workbench.specs.JsonReport.{version_of, with_all, with_ranges, words_pair};
+ghost use Rattle.workbench.specs.JsonReport.{report_object, rise_pair, rise_pairs, set_value, told_pair, told_pairs};
+ghost use Rattle.workbench.specs.JsonReport.{version_of, with_all, with_most, with_ranges, words_pair};
 
 use crate::end_text::put_end_words;
 use crate::report::Report;
@@ -19,6 +19,7 @@ use std::alloc::{AllocError, Global};
 use wb_command_line::command::Task;
 use wb_lengths::{LengthRange, LengthTable};
 use wb_model::failures::{Failing, Failures};
+use wb_model::heap::Numbers;
 use wb_model::memory::NoMemory;
 use wb_model::number_ends::{NumberEnd, NumberEnds};
 use wb_model::run_end::RunEnd;
@@ -28,7 +29,7 @@ use wb_size::Rises;
 /// The version of the form that a JSON report has.
 const VERSION: u32 = 2;
 
-/// That of the reports of all lengths and of all that a sweep finds, each of which has a key more.
+/// That of the reports of all lengths, of all that a sweep finds and of sets, each of which has a key more.
 const LATER_VERSION: u32 = 3;
 
 /// The report of a task as a JSON object without blanks, and a line feed. The only error is that memory ran out.
@@ -53,6 +54,7 @@ fn report_object(alloc: Global, task: &Task, report: &Report) -> Result<Value, A
     let mut members = common_members(alloc, task, report)?;
     put_ranges(&mut members, alloc, task, &report.values.ranges)?;
     put_told(&mut members, alloc, task, &report.values.all)?;
+    put_most(&mut members, alloc, task)?;
     Ok(Value::Object(members))
 }
 
@@ -75,7 +77,7 @@ fn common_members(
     put(&mut members, alloc, "kind", kind)?;
     let lines = line_strings(alloc, report.text.as_slice())?;
     put(&mut members, alloc, "lines", lines)?;
-    let number = failing_number(alloc, values.number)?;
+    let number = failing_number(alloc, values.number, &values.set)?;
     put(&mut members, alloc, "number", number)?;
     let required = count_or_null(values.required);
     put(&mut members, alloc, "required", required)?;
@@ -107,7 +109,8 @@ fn put_ranges(
             put(members, alloc, "ranges", pairs)
         }
         Task::Run(_) | Task::Size => Ok(()),
-        Task::Sweep(..) | Task::All(..) | Task::Check(_) | Task::CheckAll(_) => Ok(()),
+        Task::Sweep(..) | Task::All(..) | Task::Sets(..) => Ok(()),
+        Task::Check(_) | Task::CheckAll(_) | Task::CheckSets(_) => Ok(()),
     }
 }
 
@@ -126,7 +129,22 @@ fn put_told(
             let pairs = told_pairs(alloc, ends)?;
             put(members, alloc, "all", pairs)
         }
-        Task::Run(_) | Task::Size | Task::Lengths | Task::Sweep(..) | Task::Check(_) => Ok(()),
+        Task::Run(_) | Task::Size | Task::Lengths => Ok(()),
+        Task::Sweep(..) | Task::Sets(..) | Task::Check(_) | Task::CheckSets(_) => Ok(()),
+    }
+}
+
+/// Puts how many attempts fail together at most in its place, where the task tries sets.
+fn put_most(members: &mut Map<String, Value>, alloc: Global, task: &Task) -> Result<(), AllocError>
+    ensures { OnOk result (members_view members.new.entries
+        ≡ with_most task.now (members_view members.old.entries)) }
+{
+    match task {
+        Task::Sets(most, _) | Task::CheckSets(most) => {
+            put(members, alloc, "most", Value::from(*most))
+        }
+        Task::Run(_) | Task::Size | Task::Lengths => Ok(()),
+        Task::Sweep(..) | Task::All(..) | Task::Check(_) | Task::CheckAll(_) => Ok(()),
     }
 }
 
@@ -136,17 +154,19 @@ fn version_of(task: &Task) -> u32
 {
     match task {
         Task::Lengths | Task::All(..) | Task::CheckAll(_) => LATER_VERSION,
+        Task::Sets(..) | Task::CheckSets(_) => LATER_VERSION,
         Task::Run(_) | Task::Size | Task::Sweep(..) | Task::Check(_) => VERSION,
     }
 }
 
-/// Which failures a task tries, or that it tries all lengths; `null` where it tries none. The report makes no difference.
+/// Which failures a task tries, or that it tries sets or all lengths; `null` where it tries none. The report makes no difference.
 fn kind_of(alloc: Global, task: &Task) -> Result<Value, AllocError>
     ensures { IfOk result (λ value. view value ≡ kind_of task.now) }
 {
     match task {
         Task::Sweep(failures, _) | Task::All(failures, _) => failures_kind(alloc, *failures),
         Task::Check(failures) | Task::CheckAll(failures) => failures_kind(alloc, *failures),
+        Task::Sets(..) | Task::CheckSets(_) => Value::try_from_str(alloc, "sets"),
         Task::Lengths => Value::try_from_str(alloc, "lengths"),
         Task::Run(_) | Task::Size => Ok(Value::Null),
     }
@@ -209,16 +229,41 @@ fn first_line<'a>(bytes: &'a [u8]) -> (&'a [u8], &'a [u8])
     (bytes, &bytes[bytes.len()..])
 }
 
-/// The failure that a sweep found, or the length of heap, in bytes; `null` where none was finished.
-fn failing_number(alloc: Global, number: Option<FailingNumber>) -> Result<Value, AllocError>
-    ensures { IfOk result (λ value. view value ≡ failing_number number) }
+/// The failure that a sweep found, the set, which this one is then, or the length of heap, in bytes; `null` where none was finished.
+fn failing_number(
+    alloc: Global,
+    number: Option<FailingNumber>,
+    set: &Option<Numbers>,
+) -> Result<Value, AllocError>
+    ensures { IfOk result (λ value. view value ≡ failing_number number set.now) }
 {
     match number {
         Some(FailingNumber::At(failing)) => failing_value(alloc, failing),
         Some(FailingNumber::Length(length)) => Ok(Value::from(length)),
+        Some(FailingNumber::Set) => set_value(alloc, set),
         Some(FailingNumber::Never) => Value::try_from_str(alloc, "none"),
         None => Ok(Value::Null),
     }
+}
+
+/// The numbers of a set as a list.
+fn set_value(alloc: Global, set: &Option<Numbers>) -> Result<Value, AllocError>
+    ensures { IfOk result (λ value. view value ≡ set_value set.now) }
+{
+    match set {
+        Some(numbers) => Ok(Value::Array(all_counts(alloc, numbers.as_slice())?)),
+        None => Ok(Value::Null),
+    }
+}
+
+fn all_counts(alloc: Global, numbers: &[u32]) -> Result<Vec<Value>, AllocError>
+    ensures { IfOk result (λ counts. map view counts.items ≡ map count numbers.now) }
+{
+    let mut counts = Vec::new(alloc);
+    for number in numbers {
+        counts.push(Value::from(*number))?;
+    }
+    Ok(counts)
 }
 
 /// The number of the attempt that fails, the rate at which attempts fail, or the numbers of the two that fail.

@@ -20,6 +20,8 @@ pub mod program;
 mod report;
 mod report_values;
 pub mod run_text;
+mod sets;
+mod sets_text;
 mod tasks;
 
 pub use wb_command_line::command::{Command, CommandFault, Task};

@@ -66,7 +66,8 @@ pub fn put_sweep(text: &mut Vec<u8>, failures: Failures, sweep: &Sweep) -> Resul
     }
 }
 
-fn put_failing(text: &mut Vec<u8>, failing: Failing) -> Result<(), NoMemory>
+/// Appends the line that names a failure.
+pub fn put_failing(text: &mut Vec<u8>, failing: Failing) -> Result<(), NoMemory>
     ensures { OnOk result (text.new.items ≡ text.old.items ++ failing_line failing) }
 {
     let put = match failing {

@@ -3,9 +3,10 @@
 
 ghost use Rattle.std.specs.Prelude.{◌≡◌};
 ghost use Rattle.workbench.specs.ReportValues.{all_values, both_values, cut_values, found_failing, lengths_values};
-ghost use Rattle.workbench.specs.ReportValues.{no_values, run_values, size_values, sweep_values};
+ghost use Rattle.workbench.specs.ReportValues.{cut_set_values, no_values, run_values, set_values, single_of, size_values, sweep_values};
 
 use wb_model::failures::Failing;
+use wb_model::heap::Numbers;
 use wb_model::lengths::LengthTable;
 use wb_model::number_ends::NumberEnds;
 use wb_model::run::RunResult;
@@ -20,15 +21,17 @@ pub enum FailingNumber {
     At(Failing),
     /// The least length whose run does, in bytes.
     Length(u32),
+    /// The least set of attempts whose run does, two or more: the one that the lines name.
+    Set,
 }
 
 impl FailingNumber {
-    /// The failure that was found; a length of heap is none.
+    /// The failure that was found; a length of heap is none, nor is a set.
     fn failing(self) -> Option<Failing>
         ensures { result ≡ found_failing self }
     {
         match self {
-            FailingNumber::Never | FailingNumber::Length(_) => None,
+            FailingNumber::Never | FailingNumber::Length(_) | FailingNumber::Set => None,
             FailingNumber::At(failing) => Some(failing),
         }
     }
@@ -51,6 +54,19 @@ pub struct ReportValues {
     pub all: Option<NumberEnds>,
     /// The failure that its lines name: whose run they show, or under which a run was cut. `None` if they name none.
     pub named: Option<Failing>,
+    /// The set of two attempts or more that they name so. `None` if they name none.
+    pub set: Option<Numbers>,
+}
+
+/// The number of the one attempt of a set; 0 if it is empty, `None` if it has more than one.
+pub fn single_of(numbers: &Numbers) -> Option<u32>
+    ensures { result ≡ single_of numbers.now }
+{
+    match numbers.as_slice() {
+        [] => Some(0),
+        [number] => Some(*number),
+        _ => None,
+    }
 }
 
 impl ReportValues {
@@ -66,6 +82,7 @@ impl ReportValues {
             ranges: None,
             all: None,
             named: None,
+            set: None,
         }
     }
 
@@ -76,6 +93,19 @@ impl ReportValues {
         ReportValues {
             named: Some(at),
             ..ReportValues::none()
+        }
+    }
+
+    /// Those of a run that was cut in which the attempts of a set fail.
+    pub fn of_cut_set(numbers: Numbers) -> ReportValues
+        ensures { result ≡ cut_set_values numbers }
+    {
+        match single_of(&numbers) {
+            Some(number) => ReportValues::of_cut(Failing::Number(number)),
+            None => ReportValues {
+                set: Some(numbers),
+                ..ReportValues::none()
+            },
         }
     }
 
@@ -112,6 +142,21 @@ impl ReportValues {
         }
     }
 
+    /// Those of a sweep over sets that found one.
+    pub fn of_set(attempts: u32, numbers: Numbers) -> ReportValues
+        ensures { result ≡ set_values attempts numbers }
+    {
+        match single_of(&numbers) {
+            Some(number) => {
+                ReportValues::of_sweep(attempts, FailingNumber::At(Failing::Number(number)))
+            }
+            None => ReportValues {
+                set: Some(numbers),
+                ..ReportValues::of_sweep(attempts, FailingNumber::Set)
+            },
+        }
+    }
+
     /// Those of a sweep that told of all that it found.
     pub fn of_all(attempts: u32, ends: NumberEnds, number: FailingNumber) -> ReportValues
         ensures { result ≡ all_values attempts ends number }
@@ -134,6 +179,7 @@ impl ReportValues {
             ranges: None,
             all: sweep.all,
             named: sweep.named,
+            set: sweep.set,
         }
     }
 

@@ -1,5 +1,5 @@
 //! What each task comes to on a script: the text, its values, and the exit status. Nothing is read or written here. Sweeps over
-//! parts, and those that tell of all that they find, are in `parts`.
+//! parts, and those that tell of all that they find, are in `parts`, and those over sets in `sets`.
 
 ghost use Rattle.std.specs.Prelude.{◌≡◌, ◌≤◌, IfOk, IsTrue, if◌then◌else◌};
 ghost use Rattle.wb_model.specs.runs.Run.{run};
@@ -19,6 +19,7 @@ use crate::parts::{all_report, check_all_report, report_over};
 use crate::report::Report;
 use crate::report_values::{FailingNumber, ReportValues};
 use crate::run_text::put_run;
+use crate::sets::{check_sets_report, numbers_tried, sets_report};
 use std::alloc::Global;
 use wb_command_line::command::{Command, Task};
 use wb_lengths::lengths;
@@ -56,10 +57,15 @@ pub fn carry_out<P: Progress>(
         Task::All(failures, part) => {
             all_report(alloc, script, *failures, *part, budget, shape, progress)
         }
+        Task::Sets(most, part) => {
+            let numbers = numbers_tried(*part);
+            sets_report(alloc, script, numbers, *most, budget, shape, progress)
+        }
         Task::Check(failures) => check_report(alloc, script, *failures, budget, shape, progress),
         Task::CheckAll(failures) => {
             check_all_report(alloc, script, *failures, budget, shape, progress)
         }
+        Task::CheckSets(most) => check_sets_report(alloc, script, *most, budget, shape, progress),
     }
 }
 

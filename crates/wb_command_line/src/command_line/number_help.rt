@@ -3,6 +3,7 @@
 ghost use Rattle.std.specs.Prelude.{◌≡◌, pos};
 
 use super::GRANULE;
+use super::failures::MOST_TOGETHER;
 use super::following::{DEFAULT_FOLLOWED, MOST_FOLLOWED};
 use super::set_list::MOST_NUMBERS;
 use clap::builder::ValueParser;
@@ -22,6 +23,7 @@ pub(crate) struct NumberHelp {
     pub every: String,
     pub set: String,
     pub follow_steps: String,
+    pub failures: String,
     pub from: String,
     pub to: String,
     pub budget: String,
@@ -50,6 +52,10 @@ impl NumberHelp {
             follow_steps: format!(in alloc;
                 "With --follow: writes the first N steps and the last N, N from 1 to {MOST_FOLLOWED} \
                  [default: {DEFAULT_FOLLOWED}]"
+            )?,
+            failures: format!(in alloc;
+                "If no single failure leaks or panics, makes two attempts fail, then three, up to K, from 1 to \
+                 {MOST_TOGETHER}, and finds the least set that does"
             )?,
             from: format!(in alloc;
                 "Tries numbers from I on, I from 0 to {CEILING}; of pairs those with such a first number \

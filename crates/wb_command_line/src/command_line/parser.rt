@@ -3,11 +3,12 @@
 ghost use Rattle.std.specs.Prelude.{◌≡◌, IfOk, false, fold};
 ghost use Rattle.clap.specs.Words.{app_of, rule_of, with_rule, with_subcommand};
 ghost use Rattle.clap.specs.declared.builder.command.Command.TheViews.{out-Command as fields_of};
-ghost use Rattle.wb_command_line.specs.CommandLine.{all_flag, command_line, file_argument, json_flag, line_of};
-ghost use Rattle.wb_command_line.specs.CommandLine.{number_option, option_rule, own_options, pairs_flag, part_options};
-ghost use Rattle.wb_command_line.specs.CommandLine.{picture_option, rates_flag, rule_options};
+ghost use Rattle.wb_command_line.specs.CommandLine.{command_line, file_argument, json_flag, line_of};
+ghost use Rattle.wb_command_line.specs.CommandLine.{number_option, option_rule, own_options, part_options};
+ghost use Rattle.wb_command_line.specs.CommandLine.{picture_option, rule_options};
 ghost use Rattle.wb_command_line.specs.CommandLine.{shared_options, with_level, with_option, with_rules};
 
+use crate::command_line::failures::with_failures;
 use crate::command_line::following::with_following;
 use crate::command_line::long_help::{BEGIN, long_about};
 use crate::command_line::number_help::{NumberHelp, between};
@@ -23,7 +24,7 @@ enum Takes {
     /// steps.
     Rule,
     /// The flags that ask for rates to be tried, or pairs of attempts, and not single attempts alone, and that which asks for
-    /// all that is found.
+    /// all that is found; and how many attempts fail together at most.
     Failures,
     /// The same, and the first and the last number that is tried.
     Part,
@@ -159,8 +160,8 @@ fn with_own_options<'a>(
 {
     match takes {
         Takes::Rule => with_following(alloc, with_rule_options(alloc, line, help)?, help),
-        Takes::Failures => with_failures(alloc, line),
-        Takes::Part => with_part_options(alloc, with_failures(alloc, line)?, help),
+        Takes::Failures => with_failures(alloc, line, help),
+        Takes::Part => with_part_options(alloc, with_failures(alloc, line, help)?, help),
         Takes::Neither => Ok(line),
     }
 }
@@ -187,21 +188,6 @@ fn with_rule_options<'a>(
         ],
     )?;
     with_argument(line, set_argument(alloc, help.set.as_str()))
-}
-
-/// The subcommand with the flags that say which failures are tried, and whether all that are found are told of.
-fn with_failures<'a>(
-    alloc: Global,
-    line: clap::Command<'a>,
-) -> Result<clap::Command<'a>, AllocError>
-    ensures added { IfOk result
-        (λ more. app_of more ≡ with_rules (app_of line.entry) (own_options Takes.Failures)) }
-    ensures own { IfOk result
-        (λ more. (fields_of more).has_globals ≡ (fields_of line.entry).has_globals) }
-{
-    let line = with_argument(line, rates(alloc))?;
-    let line = with_argument(line, pairs(alloc))?;
-    with_argument(line, all(alloc))
 }
 
 /// The subcommand with the options that say which numbers are tried.
@@ -326,43 +312,6 @@ fn picture<'a>(alloc: Global) -> Arg<'a>
         .long("picture")
         .value_name("FILE")
         .help("Also writes a picture of the heap over time to FILE, as SVG")
-}
-
-/// The flag that asks for rates to be tried. Its id is not `every`, which is an option of `run` that takes a number.
-fn rates<'a>(alloc: Global) -> Arg<'a>
-    ensures rule { rule_of result ≡ rates_flag }
-    ensures own { result.global ≡ false }
-{
-    Arg::new(alloc, "rates")
-        .long("every")
-        .action(ArgAction::SetTrue)
-        .help(
-            "Makes every n-th attempt fail, and finds the least n for which the script leaks or panics",
-        )
-}
-
-/// The flag that asks for pairs of attempts to be tried.
-fn pairs<'a>(alloc: Global) -> Arg<'a>
-    ensures rule { rule_of result ≡ pairs_flag }
-    ensures own { result.global ≡ false }
-{
-    Arg::new(alloc, "pairs")
-        .long("pairs")
-        .action(ArgAction::SetTrue)
-        .help(
-            "If no single failure leaks or panics, makes two attempts fail, and finds the least pair that does",
-        )
-}
-
-/// The flag that asks for all that is found.
-fn all<'a>(alloc: Global) -> Arg<'a>
-    ensures rule { rule_of result ≡ all_flag }
-    ensures own { result.global ≡ false }
-{
-    Arg::new(alloc, "all")
-        .long("all")
-        .action(ArgAction::SetTrue)
-        .help("Tells of every number whose run leaks, panics or is cut, and not of the least alone")
 }
 
 /// The command with one argument more.

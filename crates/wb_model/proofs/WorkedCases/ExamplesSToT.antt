@@ -1,10 +1,11 @@
 -- Worked cases of `examples`, each by computing. Written by tools/cases_to_theorems.py; edit nothing here.
 use Rattle.std.specs.Prelude.{◌≡◌, refl, pos, negsuc, [], ◌∷◌, length, Some, None}
-use Rattle.wb_model.specs.declared.failures.Failures.TheVariants.{Single, Every}
+use Rattle.wb_model.specs.declared.failures.Failures.TheVariants.{Single, Every, Pairs}
 use Rattle.wb_model.specs.declared.heap.Rule.TheVariants as R
 use Rattle.wb_model.specs.declared.heap.Panic.TheVariants as P
 use Rattle.wb_model.specs.declared.script.Holder.TheVariants as H
 use Rattle.wb_model.specs.declared.heap.Answer.TheVariants.{Granted, Simulated}
+use Rattle.wb_model.specs.declared.run_end.RunEnd.TheVariants as E
 use Rattle.wb_model.specs.declared.run.Outcome.TheVariants.{Ended, Panicked}
 use Rattle.wb_model.specs.declared.script.Script.{Script}
 use Rattle.wb_model.specs.declared.script.Local.TheVariants.{OfPointer, OfNumber}
@@ -12,12 +13,91 @@ use Rattle.wb_model.specs.declared.script.Pointer.TheVariants.{Held, Field}
 use Rattle.wb_model.specs.declared.script.Number.TheVariants.{Constant, Variable}
 use Rattle.wb_model.specs.declared.script.Writable.TheVariants.{InCell}
 use Rattle.wb_model.specs.declared.script.Readable.TheVariants.{Of, Quoted}
-use Rattle.wb_model.specs.declared.script.Condition.TheVariants.{Equal, Less}
-use Rattle.wb_model.specs.declared.script.Refusal.TheVariants.{Leaves}
+use Rattle.wb_model.specs.declared.script.Condition.TheVariants.{IsNull, Equal, Less}
+use Rattle.wb_model.specs.declared.script.Refusal.TheVariants.{GivesNull, Leaves}
 use Rattle.wb_model.specs.declared.script.Statement.TheOpen.{Statement-F}
 use Rattle.wb_model.specs.runs.Run.{run, required, rises}
+use Rattle.wb_model.specs.runs.Lengths.{end_in}
+use Rattle.wb_model.specs.runs.Pairs.{least_bad_or_cut_pair}
 use Rattle.wb_model.specs.runs.Sweeps.{runs_of, least_bad_or_cut}
 use Rattle.wb_model.proofs.WorkedCases.Shorthands.{everything, on, script, class_of, procedure, body, result, leak, shaped, line, rise}
+
+abbrev script_save_leaks_check : Script
+script_save_leaks_check = script [] ((procedure 5 [] (body ((OfPointer None) ∷ (OfPointer None) ∷ (OfPointer None) ∷ []) ((on 9
+    (Statement-F.Alloc (Held (H.Local 0)) (Constant (pos 16)) Leaves)) ∷ (on 10 (Statement-F.Push (Held (H.Local 0)))) ∷ (on 11
+    (Statement-F.Alloc (Held (H.Local 1)) (Constant (pos 600)) Leaves)) ∷ (on 12 (Statement-F.Free (Held (H.Local 1)))) ∷ (on 14
+    (Statement-F.Pop (Constant (pos 1)))) ∷ (on 15 (Statement-F.Alloc (Held (H.Local 2)) (Constant (pos 500)) GivesNull)) ∷ (on 16
+    (Statement-F.If (IsNull (Held (H.Local 2))) ((on 17 (Statement-F.Alloc (Held (H.Local 2)) (Constant (pos 250)) GivesNull)) ∷ []))) ∷ (on
+    19 (Statement-F.If (IsNull (Held (H.Local 2))) ((on 20 (Statement-F.Alloc (Held (H.Local 2)) (Constant (pos 120)) Leaves)) ∷ []))) ∷ (on
+    22 (Statement-F.Free (Held (H.Local 2)))) ∷ (on 23 (Statement-F.Free (Held (H.Local 0)))) ∷ []))) ∷ []) [] [] 0
+
+save_leaks_check : (required script_save_leaks_check 10000 (shaped 4096 4096) ≡ 800) × (rises script_save_leaks_check 10000 (shaped 4096
+    4096) ≡ (rise 1 144) ∷ (rise 2 176) ∷ (rise 3 800) ∷ []) × (length (runs_of Single script_save_leaks_check 10000 (shaped 4096 4096)
+    0).trace ≡ 4) × (least_bad_or_cut Single script_save_leaks_check 10000 (shaped 4096 4096) ≡ None)
+unfolding everything
+save_leaks_check = (refl, refl, refl, refl)
+
+abbrev script_save_leaks_every_sweep : Script
+script_save_leaks_every_sweep = script [] ((procedure 5 [] (body ((OfPointer None) ∷ (OfPointer None) ∷ (OfPointer None) ∷ []) ((on 9
+    (Statement-F.Alloc (Held (H.Local 0)) (Constant (pos 16)) Leaves)) ∷ (on 10 (Statement-F.Push (Held (H.Local 0)))) ∷ (on 11
+    (Statement-F.Alloc (Held (H.Local 1)) (Constant (pos 600)) Leaves)) ∷ (on 12 (Statement-F.Free (Held (H.Local 1)))) ∷ (on 14
+    (Statement-F.Pop (Constant (pos 1)))) ∷ (on 15 (Statement-F.Alloc (Held (H.Local 2)) (Constant (pos 500)) GivesNull)) ∷ (on 16
+    (Statement-F.If (IsNull (Held (H.Local 2))) ((on 17 (Statement-F.Alloc (Held (H.Local 2)) (Constant (pos 250)) GivesNull)) ∷ []))) ∷ (on
+    19 (Statement-F.If (IsNull (Held (H.Local 2))) ((on 20 (Statement-F.Alloc (Held (H.Local 2)) (Constant (pos 120)) Leaves)) ∷ []))) ∷ (on
+    22 (Statement-F.Free (Held (H.Local 2)))) ∷ (on 23 (Statement-F.Free (Held (H.Local 0)))) ∷ []))) ∷ []) [] [] 0
+
+save_leaks_every_sweep : (length (runs_of Every script_save_leaks_every_sweep 10000 (shaped 4096 4096) 0).trace ≡ 4) × (least_bad_or_cut
+    Every script_save_leaks_every_sweep 10000 (shaped 4096 4096) ≡ None)
+unfolding everything
+save_leaks_every_sweep = (refl, refl)
+
+abbrev script_save_leaks_lengths : Script
+script_save_leaks_lengths = script [] ((procedure 5 [] (body ((OfPointer None) ∷ (OfPointer None) ∷ (OfPointer None) ∷ []) ((on 9
+    (Statement-F.Alloc (Held (H.Local 0)) (Constant (pos 16)) Leaves)) ∷ (on 10 (Statement-F.Push (Held (H.Local 0)))) ∷ (on 11
+    (Statement-F.Alloc (Held (H.Local 1)) (Constant (pos 600)) Leaves)) ∷ (on 12 (Statement-F.Free (Held (H.Local 1)))) ∷ (on 14
+    (Statement-F.Pop (Constant (pos 1)))) ∷ (on 15 (Statement-F.Alloc (Held (H.Local 2)) (Constant (pos 500)) GivesNull)) ∷ (on 16
+    (Statement-F.If (IsNull (Held (H.Local 2))) ((on 17 (Statement-F.Alloc (Held (H.Local 2)) (Constant (pos 250)) GivesNull)) ∷ []))) ∷ (on
+    19 (Statement-F.If (IsNull (Held (H.Local 2))) ((on 20 (Statement-F.Alloc (Held (H.Local 2)) (Constant (pos 120)) Leaves)) ∷ []))) ∷ (on
+    22 (Statement-F.Free (Held (H.Local 2)))) ∷ (on 23 (Statement-F.Free (Held (H.Local 0)))) ∷ []))) ∷ []) [] [] 0
+
+save_leaks_lengths : (end_in script_save_leaks_lengths 10000 (shaped 4096 4096) 0 ≡ E.NoCleanup) × (end_in script_save_leaks_lengths 10000
+    (shaped 4096 4096) 143 ≡ E.NoCleanup) × (end_in script_save_leaks_lengths 10000 (shaped 4096 4096) 144 ≡ E.Left (negsuc 3)) × (end_in
+    script_save_leaks_lengths 10000 (shaped 4096 4096) 799 ≡ E.Left (negsuc 3)) × (end_in script_save_leaks_lengths 10000 (shaped 4096 4096)
+    800 ≡ E.Plain) × (end_in script_save_leaks_lengths 10000 (shaped 4096 4096) 16777216 ≡ E.Plain)
+unfolding everything
+save_leaks_lengths = (refl, refl, refl, refl, refl, refl)
+
+abbrev script_save_leaks_mended_lengths : Script
+script_save_leaks_mended_lengths = script [] ((procedure 2 [] (body ((OfPointer None) ∷ (OfPointer None) ∷ (OfPointer None) ∷ []) ((on 6
+    (Statement-F.Alloc (Held (H.Local 0)) (Constant (pos 16)) Leaves)) ∷ (on 7 (Statement-F.Push (Held (H.Local 0)))) ∷ (on 8
+    (Statement-F.Alloc (Held (H.Local 1)) (Constant (pos 600)) Leaves)) ∷ (on 9 (Statement-F.Free (Held (H.Local 1)))) ∷ (on 10
+    (Statement-F.Alloc (Held (H.Local 2)) (Constant (pos 500)) GivesNull)) ∷ (on 11 (Statement-F.If (IsNull (Held (H.Local 2))) ((on 12
+    (Statement-F.Alloc (Held (H.Local 2)) (Constant (pos 250)) GivesNull)) ∷ []))) ∷ (on 14 (Statement-F.If (IsNull (Held (H.Local 2))) ((on
+    15 (Statement-F.Alloc (Held (H.Local 2)) (Constant (pos 120)) Leaves)) ∷ []))) ∷ (on 17 (Statement-F.Free (Held (H.Local 2)))) ∷ (on 18
+    (Statement-F.PopDestroy (Constant (pos 1)))) ∷ []))) ∷ []) [] [] 0
+
+save_leaks_mended_lengths : (end_in script_save_leaks_mended_lengths 10000 (shaped 4096 4096) 0 ≡ E.NoCleanup) × (end_in
+    script_save_leaks_mended_lengths 10000 (shaped 4096 4096) 143 ≡ E.NoCleanup) × (end_in script_save_leaks_mended_lengths 10000 (shaped
+    4096 4096) 144 ≡ E.Left (negsuc 3)) × (end_in script_save_leaks_mended_lengths 10000 (shaped 4096 4096) 799 ≡ E.Left (negsuc 3)) ×
+    (end_in script_save_leaks_mended_lengths 10000 (shaped 4096 4096) 800 ≡ E.Plain) × (end_in script_save_leaks_mended_lengths 10000
+    (shaped 4096 4096) 16777216 ≡ E.Plain)
+unfolding everything
+save_leaks_mended_lengths = (refl, refl, refl, refl, refl, refl)
+
+abbrev script_save_leaks_pairs_sweep : Script
+script_save_leaks_pairs_sweep = script [] ((procedure 5 [] (body ((OfPointer None) ∷ (OfPointer None) ∷ (OfPointer None) ∷ []) ((on 9
+    (Statement-F.Alloc (Held (H.Local 0)) (Constant (pos 16)) Leaves)) ∷ (on 10 (Statement-F.Push (Held (H.Local 0)))) ∷ (on 11
+    (Statement-F.Alloc (Held (H.Local 1)) (Constant (pos 600)) Leaves)) ∷ (on 12 (Statement-F.Free (Held (H.Local 1)))) ∷ (on 14
+    (Statement-F.Pop (Constant (pos 1)))) ∷ (on 15 (Statement-F.Alloc (Held (H.Local 2)) (Constant (pos 500)) GivesNull)) ∷ (on 16
+    (Statement-F.If (IsNull (Held (H.Local 2))) ((on 17 (Statement-F.Alloc (Held (H.Local 2)) (Constant (pos 250)) GivesNull)) ∷ []))) ∷ (on
+    19 (Statement-F.If (IsNull (Held (H.Local 2))) ((on 20 (Statement-F.Alloc (Held (H.Local 2)) (Constant (pos 120)) Leaves)) ∷ []))) ∷ (on
+    22 (Statement-F.Free (Held (H.Local 2)))) ∷ (on 23 (Statement-F.Free (Held (H.Local 0)))) ∷ []))) ∷ []) [] [] 0
+
+save_leaks_pairs_sweep : (length (runs_of Pairs script_save_leaks_pairs_sweep 10000 (shaped 4096 4096) 0).trace ≡ 4) × (least_bad_or_cut
+    Pairs script_save_leaks_pairs_sweep 10000 (shaped 4096 4096) ≡ None) × (least_bad_or_cut_pair script_save_leaks_pairs_sweep 10000
+    (shaped 4096 4096) ≡ None)
+unfolding everything
+save_leaks_pairs_sweep = (refl, refl, refl)
 
 abbrev script_second_phase_leaks_check : Script
 script_second_phase_leaks_check = script ((class_of 3 4 (None ∷ []) (Some (body [] ((on 6 (Statement-F.NewText (Field H.This 0 0) (Constant

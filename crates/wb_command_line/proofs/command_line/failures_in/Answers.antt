@@ -9,10 +9,11 @@ use Rattle.wb_command_line.proofs.command_line.failures_in.Goals as goal
 pub returns : goal.returns
 returns c =
     let found = found_of c.args.options.now in
-    let rates = rates_is found c.get_flag-rates.result c.requires c.get_flag-rates.ensures.none c.get_flag-rates.ensures.value c.get_flag-rates.ensures.other in
-    let pairs = pairs_is found c.get_flag-pairs.result c.requires c.get_flag-pairs.ensures.none c.get_flag-pairs.ensures.value c.get_flag-pairs.ensures.other in
-    let all = all_is found c.get_flag-all.result c.requires c.get_flag-all.ensures.none c.get_flag-all.ensures.value c.get_flag-all.ensures.other in
-    let many : are_too_many c.get_flag-rates.result c.get_flag-pairs.result c.get_flag-all.result ≡ gives_too_many (rows_of found) = λ i. are_too_many (rates i) (pairs i) (all i) in
+    let rates = rates_is found c.get_flag-rates.result c.requires.passed c.get_flag-rates.ensures.none c.get_flag-rates.ensures.value c.get_flag-rates.ensures.other in
+    let pairs = pairs_is found c.get_flag-pairs.result c.requires.passed c.get_flag-pairs.ensures.none c.get_flag-pairs.ensures.value c.get_flag-pairs.ensures.other in
+    let all = all_is found c.get_flag-all.result c.requires.passed c.get_flag-all.ensures.none c.get_flag-all.ensures.value c.get_flag-all.ensures.other in
+    let many : are_too_many c.get_flag-rates.result c.get_flag-pairs.result c.get_flag-all.result c.args.is_of_sets ≡ gives_too_many (rows_of found) =
+    λ i. are_too_many (rates i) (pairs i) (all i) (c.requires.sets i) in
     record {
       ok = subst (λ (f : Failures). IfOk c.failures_by.result (λ failures. failures ≡ f)) (ap₂ failures_by rates pairs) c.failures_by.ensures.ok;
       alone = subst (λ (b : Bool). OnOk c.failures_by.result (b ≡ false)) many c.failures_by.ensures.alone;

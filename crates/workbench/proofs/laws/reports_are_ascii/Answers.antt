@@ -1,4 +1,5 @@
-use Rattle.workbench.proofs.AsciiLemmas.{no_memory-printable, read_fault-printable, report-printable}
+use Rattle.workbench.proofs.AsciiLemmas.{no_memory-printable, read_fault-printable}
+use Rattle.workbench.proofs.AsciiReports.{report-printable}
 use Rattle.workbench.proofs.PrintableLines.{report_lines}
 use Rattle.workbench.proofs.laws.reports_are_ascii.Goals as goal
 

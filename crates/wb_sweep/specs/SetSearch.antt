@@ -1,0 +1,96 @@
+-- What a search finds among the sets that begin with the same numbers.
+use Rattle.std.specs.Prelude.{◌≡◌, ℕ, ◌+◌, ◌<◌, ◌≤◌, List, ◌∷◌, ◌++◌, true, false, length}
+use Rattle.wb_machine.specs.Seen.{Seen}
+use Rattle.wb_model.specs.declared.heap.Rule.TheVariants.{Set}
+use Rattle.wb_model.specs.declared.run.Outcome.TheVariants.{Cut}
+use Rattle.wb_model.specs.declared.run.RunResult.{RunResult}
+use Rattle.wb_model.specs.declared.run.Why.{Why}
+use Rattle.wb_model.specs.runs.Run.{is_bad}
+use Rattle.wb_model.specs.runs.Sets.{AscendsPast, has_lesser_number}
+use Rattle.wb_model.specs.runs.Sweeps.{is_fine}
+use Rattle.wb_sweep.specs.declared.set_answer.FoundSet.{FoundSet}
+
+-- what is found of a bad run
+pub record IsBadSet (numbers : List ℕ) (run_result : RunResult) (found : FoundSet) : Type 0 where
+  pub bad : is_bad run_result ≡ true
+  pub set : found.numbers ≡ numbers
+  pub result : found.result ≡ run_result
+
+-- a machine goes along the run in which these attempts fail, in another's script, budget and shape, and has made no attempt past one
+pub record IsForkTo (lead : Seen) (numbers : List ℕ) (number : ℕ) (fork : Seen) : Type 0 where
+  pub script : fork.script ≡ lead.script
+  pub budget : fork.budget ≡ lead.budget
+  pub shape : fork.shape ≡ lead.shape
+  pub rule : fork.rule ≡ Set numbers
+  pub begun : fork.begun ≡ true
+  pub within : fork.steps ≤ fork.budget
+  pub well : fork.failed ≡ false
+  pub lines : fork.keeps_rises ≡ false
+  pub start : fork.attempts ≤ number
+
+-- so many further numbers, ascending past one
+pub record IsRest (past more : ℕ) (rest : List ℕ) : Type 0 where
+  pub ascends : AscendsPast past rest
+  pub many : length rest ≡ more
+
+-- the runs of the sets that begin with these numbers and have so many more, past one, are neither bad nor cut
+abbrev pub AreFine : (List ℕ → RunResult) → List ℕ → ℕ → ℕ → Type 0
+AreFine runs set past more = (rest : List ℕ) → IsRest past more rest → is_fine (runs (set ++ rest)) ≡ true
+
+-- so are those of the sets that have fewer more
+abbrev pub AreFewerFine : (List ℕ → RunResult) → List ℕ → ℕ → ℕ → Type 0
+AreFewerFine runs set past more = (rest : List ℕ) → AscendsPast past rest → length rest < more → is_fine (runs (set ++ rest)) ≡ true
+
+-- the least set of those that begin with these numbers and have so many more, past one, whose run leaks or panics, and that run; the run of no
+-- lesser one of them is cut
+pub record IsLeastBadRest (runs : List ℕ → RunResult) (set : List ℕ) (past more : ℕ) (rest : List ℕ) (result : RunResult) : Type 0 where
+  pub further : IsRest past more rest
+  pub bad : is_bad (runs (set ++ rest)) ≡ true
+  pub least : (other : List ℕ) → IsRest past more other → has_lesser_number other rest ≡ true → is_fine (runs (set ++ other)) ≡ true
+  pub run_is : result ≡ runs (set ++ rest)
+
+-- the least of them whose run is cut, and why; the run of no lesser one leaks or panics
+pub record IsLeastCutRest (runs : List ℕ → RunResult) (set : List ℕ) (past more : ℕ) (rest : List ℕ) (why : Why) : Type 0 where
+  pub further : IsRest past more rest
+  pub cut : (runs (set ++ rest)).outcome ≡ Cut why
+  pub least : (other : List ℕ) → IsRest past more other → has_lesser_number other rest ≡ true → is_fine (runs (set ++ other)) ≡ true
+
+abbrev pub IsFoundAfter : (List ℕ → RunResult) → List ℕ → ℕ → ℕ → FoundSet → Type 0
+IsFoundAfter runs set past more found = (rest : List ℕ) × (found.numbers ≡ set ++ rest) × IsLeastBadRest runs set past more rest found.result
+
+abbrev pub IsCutAfter : (List ℕ → RunResult) → List ℕ → ℕ → ℕ → List ℕ → Why → Type 0
+IsCutAfter runs set past more numbers why = (rest : List ℕ) × (numbers ≡ set ++ rest) × IsLeastCutRest runs set past more rest why
+
+-- ---- the same, where the first of the further numbers is given
+
+-- so many further numbers, of which this is the first
+pub record IsRestWith (number more : ℕ) (rest : List ℕ) : Type 0 where
+  pub ascends : AscendsPast number rest
+  pub many : length rest + 1 ≡ more
+
+abbrev pub AreFineWith : (List ℕ → RunResult) → List ℕ → ℕ → ℕ → Type 0
+AreFineWith runs set number more = (rest : List ℕ) → IsRestWith number more rest → is_fine (runs (set ++ number ∷ rest)) ≡ true
+
+-- those with fewer more
+abbrev pub AreFewerFineWith : (List ℕ → RunResult) → List ℕ → ℕ → ℕ → Type 0
+AreFewerFineWith runs set number more =
+    (rest : List ℕ) → AscendsPast number rest → length rest + 1 < more → is_fine (runs (set ++ number ∷ rest)) ≡ true
+
+pub record IsLeastBadWith (runs : List ℕ → RunResult) (set : List ℕ) (number more : ℕ) (rest : List ℕ) (result : RunResult) : Type 0 where
+  pub further : IsRestWith number more rest
+  pub bad : is_bad (runs (set ++ number ∷ rest)) ≡ true
+  pub least : (other : List ℕ) → IsRestWith number more other → has_lesser_number other rest ≡ true → is_fine (runs (set ++ number ∷ other)) ≡ true
+  pub run_is : result ≡ runs (set ++ number ∷ rest)
+
+pub record IsLeastCutWith (runs : List ℕ → RunResult) (set : List ℕ) (number more : ℕ) (rest : List ℕ) (why : Why) : Type 0 where
+  pub further : IsRestWith number more rest
+  pub cut : (runs (set ++ number ∷ rest)).outcome ≡ Cut why
+  pub least : (other : List ℕ) → IsRestWith number more other → has_lesser_number other rest ≡ true → is_fine (runs (set ++ number ∷ other)) ≡ true
+
+abbrev pub IsFoundWith : (List ℕ → RunResult) → List ℕ → ℕ → ℕ → FoundSet → Type 0
+IsFoundWith runs set number more found =
+    (rest : List ℕ) × (found.numbers ≡ set ++ number ∷ rest) × IsLeastBadWith runs set number more rest found.result
+
+abbrev pub IsCutWith : (List ℕ → RunResult) → List ℕ → ℕ → ℕ → List ℕ → Why → Type 0
+IsCutWith runs set number more numbers why =
+    (rest : List ℕ) × (numbers ≡ set ++ number ∷ rest) × IsLeastCutWith runs set number more rest why

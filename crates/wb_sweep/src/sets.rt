@@ -1,0 +1,248 @@
+//! A search over sets of attempts that fail together, once no smaller set shows anything: a walk along each run in which all but the
+//! last of a set fail. Which sets there are to try beside these is not decided here.
+
+ghost use Rattle.std.specs.Prelude.{◌≡◌, ◌≢◌, ℕ, ◌+◌, ◌<◌, ◌≤◌, List, [], ◌∷◌, ◌++◌, None, false, length, true, IfErr, IfOk, IfSome};
+ghost use Rattle.wb_model.specs.runs.Run.{is_bad};
+ghost use Rattle.wb_model.specs.runs.Sets.{set_run, AscendsPast};
+ghost use Rattle.wb_model.specs.runs.Sweeps.{is_cut_outcome, is_fine};
+ghost use Rattle.wb_model.specs.declared.heap.Rule.TheVariants as rules;
+ghost use Rattle.wb_model.specs.declared.run.Outcome.TheVariants as outcomes;
+ghost use Rattle.wb_model.specs.declared.run.RunResult.{RunResult};
+ghost use Rattle.wb_model.specs.declared.run.Why.{Why};
+ghost use Rattle.wb_sweep.specs.SetSearch.{AreFewerFine, AreFewerFineWith, AreFine, AreFineWith};
+ghost use Rattle.wb_sweep.specs.SetSearch.{IsBadSet, IsCutAfter, IsCutWith, IsForkTo, IsFoundAfter, IsFoundWith};
+
+use crate::fork::{fork_under, result_under};
+use crate::set_answer::{FoundSet, SetFault};
+use crate::walk::attempts_in;
+use wb_machine::{Heap, Machine};
+use wb_model::heap::{Numbers, Rule};
+use wb_model::memory::NoMemory;
+use wb_model::progress::Progress;
+use wb_model::run::{Outcome, RunResult};
+
+/// A set and one more number.
+fn set_with(set: &Numbers, number: u32) -> Result<Numbers, NoMemory>
+    ensures { IfOk result (λ numbers. numbers ≡ set.now ++ number ∷ []) }
+{
+    let mut numbers = set.try_copy()?;
+    numbers.push(number)?;
+    Ok(numbers)
+}
+
+/// The rule under which the attempts of a set fail.
+fn rule_for(numbers: &Numbers) -> Result<Rule, NoMemory>
+    ensures { IfOk result (λ rule. rule ≡ rules.Set numbers.now) }
+{
+    Ok(Rule::Set(numbers.try_copy()?))
+}
+
+/// What the run under a set amounts to: found where it is bad, `Cut` where it is cut, and `None` if it is fine.
+fn judge_set(numbers: Numbers, run_result: RunResult) -> Result<Option<FoundSet>, SetFault>
+    ensures fine { IfOk result (λ found. found ≡ None → is_fine run_result ≡ true) }
+    ensures bad { IfOk result (λ found. IfSome found (IsBadSet numbers run_result)) }
+    ensures cut { IfErr result (λ fault. (why : Why) × (fault ≡ SetFault.Cut numbers why)
+        × (run_result.outcome ≡ outcomes.Cut why)) }
+{
+    let is_bad = match &run_result.outcome {
+        Outcome::Ended { leaks, .. } => leaks.len() > 0,
+        Outcome::Panicked(_) => true,
+        Outcome::NoCleanup => false,
+        Outcome::Cut(why) => return Err(SetFault::Cut { numbers, why: *why }),
+    };
+    Ok(is_bad.then_some(FoundSet {
+        numbers,
+        result: run_result,
+    }))
+}
+
+/// The run in which the attempts of a set fail, of which the last is the one that the lead makes next: found where it is bad, `None` if it
+/// is fine. Its copy takes the spare memory, and leaves its own.
+fn try_last<P: Progress>(
+    lead: &Machine,
+    set: &Numbers,
+    number: u32,
+    spare: &mut Option<Heap>,
+    progress: &mut P,
+) -> Result<Option<FoundSet>, SetFault>
+    requires number { number ≡ lead.now.attempts + 1 }
+    requires rule { lead.now.rule ≡ rules.Set set.now }
+    requires going { lead.now.over ≡ false }
+    requires well { lead.now.failed ≡ false }
+    requires lines { lead.now.keeps_rises ≡ false }
+    ensures fine { IfOk result (λ found. found ≡ None → AreFineWith
+        (set_run lead.now.script lead.now.budget lead.now.shape) set.now number 1) }
+    ensures found { IfOk result (λ found. IfSome found (IsFoundWith
+        (set_run lead.now.script lead.now.budget lead.now.shape) set.now number 1)) }
+    ensures cut { (numbers : List ℕ) (why : Why) → result ≡ Err (SetFault.Cut numbers why) →
+        IsCutWith (set_run lead.now.script lead.now.budget lead.now.shape) set.now number 1
+        numbers why }
+    ensures shape { result ≢ Err SetFault.BadShape }
+{
+    let numbers = set_with(set, number)?;
+    progress.begin_set(&numbers);
+    let rule = rule_for(&numbers)?;
+    let run_result = result_under(lead, rule, spare)?;
+    judge_set(numbers, run_result)
+}
+
+/// How many attempts the run makes in which those of a set fail, and the one that the lead makes next; `numbers` are both. Its copy takes
+/// the spare memory, and leaves its own.
+fn last_under(
+    lead: &Machine,
+    set: &Numbers,
+    numbers: &Numbers,
+    number: u32,
+    spare: &mut Option<Heap>,
+) -> Result<u32, NoMemory>
+    requires number { number ≡ lead.now.attempts + 1 }
+    requires numbers { numbers.now ≡ set.now ++ number ∷ [] }
+    requires rule { lead.now.rule ≡ rules.Set set.now }
+    requires going { lead.now.over ≡ false }
+    requires well { lead.now.failed ≡ false }
+    requires lines { lead.now.keeps_rises ≡ false }
+    ensures { IfOk result (λ last. last
+        ≡ length (set_run lead.now.script lead.now.budget lead.now.shape numbers.now).trace) }
+{
+    let rule = rule_for(numbers)?;
+    let run_result = result_under(lead, rule, spare)?;
+    Ok(attempts_in(run_result.trace.as_slice()))
+}
+
+/// A copy of the lead that goes along that run, and has made the attempt.
+fn fork_to<'a>(
+    lead: &Machine<'a>,
+    set: &Numbers,
+    numbers: &Numbers,
+    number: u32,
+) -> Result<Machine<'a>, NoMemory>
+    requires number { number ≡ lead.now.attempts + 1 }
+    requires numbers { numbers.now ≡ set.now ++ number ∷ [] }
+    requires rule { lead.now.rule ≡ rules.Set set.now }
+    requires going { lead.now.over ≡ false }
+    requires well { lead.now.failed ≡ false }
+    requires lines { lead.now.keeps_rises ≡ false }
+    ensures { IfOk result (IsForkTo lead.now numbers.now number) }
+{
+    let rule = rule_for(numbers)?;
+    let mut fork = fork_under(lead, rule, &mut None)?;
+    fork.step()?;
+    Ok(fork)
+}
+
+/// The least set whose run is bad, of those that begin with these numbers and the number of the attempt that the lead makes next, and have
+/// `more` numbers from that one on; `None` if the run of each is fine. Those with fewer are fine. Copies to their end take the spare
+/// memory, and leave their own.
+#[cycle(sets)]
+fn find_with<P: Progress>(
+    lead: &Machine,
+    set: &Numbers,
+    number: u32,
+    more: u32,
+    spare: &mut Option<Heap>,
+    progress: &mut P,
+) -> Result<Option<FoundSet>, SetFault>
+    requires number { number ≡ lead.now.attempts + 1 }
+    requires rule { lead.now.rule ≡ rules.Set set.now }
+    requires going { lead.now.over ≡ false }
+    requires well { lead.now.failed ≡ false }
+    requires lines { lead.now.keeps_rises ≡ false }
+    requires more { 1 ≤ more }
+    requires fewer { AreFewerFineWith
+        (set_run lead.now.script lead.now.budget lead.now.shape) set.now number more }
+    ensures fine { IfOk result (λ found. found ≡ None → AreFineWith
+        (set_run lead.now.script lead.now.budget lead.now.shape) set.now number more) }
+    ensures found { IfOk result (λ found. IfSome found (IsFoundWith
+        (set_run lead.now.script lead.now.budget lead.now.shape) set.now number more)) }
+    ensures cut { (numbers : List ℕ) (why : Why) → result ≡ Err (SetFault.Cut numbers why) →
+        IsCutWith (set_run lead.now.script lead.now.budget lead.now.shape) set.now number more
+        numbers why }
+    ensures shape { result ≢ Err SetFault.BadShape }
+{
+    if more <= 1 {
+        return try_last(lead, set, number, spare, progress);
+    }
+    let numbers = set_with(set, number)?;
+    let last = last_under(lead, set, &numbers, number, spare)?;
+    let mut fork = fork_to(lead, set, &numbers, number)?;
+    find_along(&mut fork, &numbers, number, last, more - 1, spare, progress)
+}
+
+/// The least set whose run is bad, of those that begin with these numbers and have `more` further ones, each past one; `None` if the run of
+/// each is fine. Those with fewer are fine. The lead goes along the run in which these attempts fail, which makes `last` attempts.
+#[cycle(sets)]
+fn find_along<P: Progress>(
+    lead: &mut Machine,
+    set: &Numbers,
+    past: u32,
+    last: u32,
+    more: u32,
+    spare: &mut Option<Heap>,
+    progress: &mut P,
+) -> Result<Option<FoundSet>, SetFault>
+    requires rule { lead.old.rule ≡ rules.Set set.now }
+    requires first { lead.old.begun ≡ false → lead.old.steps ≡ 0 }
+    requires within { lead.old.steps ≤ lead.old.budget }
+    requires well { lead.old.failed ≡ false }
+    requires lines { lead.old.keeps_rises ≡ false }
+    requires start { lead.old.attempts ≤ past }
+    requires last { last
+        ≡ length (set_run lead.old.script lead.old.budget lead.old.shape set.now).trace }
+    requires more { 1 ≤ more }
+    requires fewer { AreFewerFine
+        (set_run lead.old.script lead.old.budget lead.old.shape) set.now past more }
+    ensures fine { IfOk result (λ found. found ≡ None → AreFine
+        (set_run lead.old.script lead.old.budget lead.old.shape) set.now past more) }
+    ensures found { IfOk result (λ found. IfSome found (IsFoundAfter
+        (set_run lead.old.script lead.old.budget lead.old.shape) set.now past more)) }
+    ensures cut { (numbers : List ℕ) (why : Why) → result ≡ Err (SetFault.Cut numbers why) →
+        IsCutAfter (set_run lead.old.script lead.old.budget lead.old.shape) set.now past more
+        numbers why }
+    ensures shape { result ≢ Err SetFault.BadShape }
+{
+    while lead.attempts() < last {
+        let number = lead.attempts() + 1;
+        let found = find_next(lead, set, past, number, more, spare, progress)?;
+        if found.is_some() {
+            return Ok(found);
+        }
+        lead.step()?;
+    }
+    Ok(None)
+}
+
+/// The same of those whose next number is that of the attempt that the lead makes next; `None`, too, where the next turn makes none, and
+/// where the number isn't past `past`.
+#[cycle(sets)]
+pub(crate) fn find_next<P: Progress>(
+    lead: &Machine,
+    set: &Numbers,
+    past: u32,
+    number: u32,
+    more: u32,
+    spare: &mut Option<Heap>,
+    progress: &mut P,
+) -> Result<Option<FoundSet>, SetFault>
+    requires number { number ≡ lead.now.attempts + 1 }
+    requires rule { lead.now.rule ≡ rules.Set set.now }
+    requires lines { lead.now.keeps_rises ≡ false }
+    requires more { 1 ≤ more }
+    requires fewer { past < number → AreFewerFineWith
+        (set_run lead.now.script lead.now.budget lead.now.shape) set.now number more }
+    ensures fine { IfOk result (λ found. found ≡ None → lead.now.asks ≡ true → past < number →
+        AreFineWith (set_run lead.now.script lead.now.budget lead.now.shape) set.now number more) }
+    ensures found { IfOk result (λ found. IfSome found (λ bad. (past < number) × IsFoundWith
+        (set_run lead.now.script lead.now.budget lead.now.shape) set.now number more bad)) }
+    ensures cut { (numbers : List ℕ) (why : Why) → result ≡ Err (SetFault.Cut numbers why) →
+        (past < number) × IsCutWith
+        (set_run lead.now.script lead.now.budget lead.now.shape) set.now number more numbers why }
+    ensures shape { result ≢ Err SetFault.BadShape }
+{
+    if number <= past {
+        return Ok(None);
+    }
+    if !lead.will_attempt() {
+        return Ok(None);
+    }
+    find_with(lead, set, number, more, spare, progress)
+}

@@ -1,0 +1,68 @@
+-- The definitions of the report of a sweep over sets, computed on worked runs. Each text is written out by hand, line by line.
+use Rattle.std.proofs.Common.{◌≡◌, [], ◌∷◌, Some, None, codes, refl}
+use Rattle.std.specs.Fmt.{digits}
+use Rattle.serde_json.proofs.OnLiterals.{serde_json_on_literals}
+use Rattle.wb_command_line.specs.declared.command.Task.TheVariants as T
+use Rattle.wb_model.specs.declared.heap.Answer.TheVariants.{Granted, Simulated}
+use Rattle.wb_model.specs.declared.run.Outcome.TheVariants.{Ended}
+use Rattle.wb_model.specs.declared.run.RunResult.{RunResult}
+use Rattle.wb_model.specs.declared.run.Why.TheVariants.{Budget, Ceiling}
+use Rattle.wb_command_line.specs.Spelled.{whole}
+use Rattle.workbench.specs.declared.report_values.FailingNumber.TheVariants.{Never}
+use Rattle.workbench.specs.JsonReport.{json_text, common_members, report_object}
+use Rattle.workbench.specs.ReportValues.{both_values, cut_set_values, no_values, set_values, size_values, sweep_values}
+use Rattle.workbench.specs.RunText.{note_line, attempt_line, leak_line}
+use Rattle.workbench.specs.SetsReport.{cut_set_line, set_line, sets_text}
+
+-- a cell that is never freed, where three requests fail
+abbrev forgotten_header : RunResult
+forgotten_header = record {
+  outcome = Ended None (record { number = 2; length = 32; place = 144 } ∷ []);
+  trace = record { number = 1; length = 144; place = 0; answer = Granted } ∷ record { number = 2; length = 32; place = 144; answer = Granted } ∷ record { number = 3; length = 48; place = 176; answer = Simulated } ∷ [];
+  lines = [];
+  notes = [];
+  steps = 3;
+}
+
+found-text : sets_text 4 (record { attempts = 3; found = Some (record { numbers = 3 ∷ 10 ∷ 12 ∷ []; result = forgotten_header }) })
+    ≡ codes "attempts 3\nset 3 10 12\nattempt 1 length 144 place 0 granted\nattempt 2 length 32 place 144 granted\nattempt 3 length 48 place 176 simulated\nended\nleaks 1\nleak 2 length 32 place 144\nsteps 3\n"
+unfolding digits note_line attempt_line leak_line
+found-text = refl
+
+none-text : sets_text 8 (record { attempts = 12; found = None }) ≡ codes "attempts 12\nset none to 8\n"
+unfolding digits
+none-text = refl
+
+-- a set of one attempt is its number, and the empty one number 0
+single-lines : (set_line [] ≡ codes "number 0\n") × (set_line (7 ∷ []) ≡ codes "number 7\n") × (set_line (1 ∷ 2 ∷ []) ≡ codes "set 1 2\n")
+unfolding digits
+single-lines = (refl, refl, refl)
+
+cut-lines : (cut_set_line [] Budget ≡ codes "cut 0 budget\n") × (cut_set_line (7 ∷ []) Ceiling ≡ codes "cut 7 ceiling\n") × (cut_set_line (2 ∷ 3 ∷ 5 ∷ []) Budget ≡ codes "cut 2 3 5 budget\n")
+unfolding digits
+cut-lines = (refl, refl, refl)
+
+found-json : json_text (T.Sets 4 whole) [] (set_values 3 (3 ∷ 4 ∷ 5 ∷ [])) 1
+    ≡ codes "{\"attempts\":3,\"kind\":\"sets\",\"lines\":[],\"most\":4,\"number\":[3,4,5],\"required\":null,\"rises\":null,\"status\":1,\"version\":3}\n"
+unfolding serde_json_on_literals digits report_object common_members
+found-json = refl
+
+single-json : json_text (T.Sets 3 whole) [] (set_values 3 (2 ∷ [])) 1
+    ≡ codes "{\"attempts\":3,\"kind\":\"sets\",\"lines\":[],\"most\":3,\"number\":2,\"required\":null,\"rises\":null,\"status\":1,\"version\":3}\n"
+unfolding serde_json_on_literals digits report_object common_members
+single-json = refl
+
+check_sets-json : json_text (T.CheckSets 2) [] (both_values (size_values 144 (record { number = 1; top = 144 } ∷ [])) (sweep_values 1 Never)) 0
+    ≡ codes "{\"attempts\":1,\"kind\":\"sets\",\"lines\":[],\"most\":2,\"number\":\"none\",\"required\":144,\"rises\":[[1,144]],\"status\":0,\"version\":3}\n"
+unfolding serde_json_on_literals digits report_object common_members
+check_sets-json = refl
+
+cut-json : json_text (T.Sets 8 whole) [] (cut_set_values (2 ∷ 3 ∷ [])) 3
+    ≡ codes "{\"attempts\":null,\"kind\":\"sets\",\"lines\":[],\"most\":8,\"number\":null,\"required\":null,\"rises\":null,\"status\":3,\"version\":3}\n"
+unfolding serde_json_on_literals digits report_object common_members
+cut-json = refl
+
+refused-json : json_text (T.CheckSets 1) [] no_values 2
+    ≡ codes "{\"attempts\":null,\"kind\":\"sets\",\"lines\":[],\"most\":1,\"number\":null,\"required\":null,\"rises\":null,\"status\":2,\"version\":3}\n"
+unfolding serde_json_on_literals digits report_object common_members
+refused-json = refl

@@ -1,0 +1,134 @@
+-- What `--failures K` says, as lines and as values, and what that means of runs: the least set of at most K attempts whose simulated
+-- failure in one run leaks or panics (`wb_model`, `specs/runs/SetParts.antt`). A set of no more than one attempt is spoken of as the
+-- single number of a sweep, and the empty one as number 0.
+use Rattle.std.specs.Prelude.{◌≡◌, ◌⊎◌, ℕ, List, ◌++◌, codes, if◌then◌else◌}
+use Rattle.std.specs.Fmt.{decimal}
+use Rattle.std.specs.List.{flat_map}
+use Rattle.std.specs.Option.{option_map_or}
+use Rattle.wb_model.specs.declared.failures.Failing.TheVariants.{Number}
+use Rattle.wb_model.specs.declared.failures.Failures.TheVariants.{Single}
+use Rattle.wb_model.specs.declared.heap.Shape.{Shape}
+use Rattle.wb_model.specs.declared.part.Part.{Part}
+use Rattle.wb_model.specs.declared.run.RunResult.{RunResult}
+use Rattle.wb_model.specs.declared.run.Why.{Why}
+use Rattle.wb_model.specs.declared.run.Why.TheVariants.{Budget, Ceiling}
+use Rattle.wb_model.specs.declared.script.Script.{Script}
+use Rattle.wb_model.specs.runs.SetParts.{IsNoSetIn, IsSetCutIn, IsSetFoundIn}
+use Rattle.wb_sweep.specs.declared.set_answer.SetSweep.{SetSweep}
+use Rattle.workbench.specs.declared.report_values.FailingNumber.TheVariants.{Never}
+use Rattle.workbench.specs.declared.report_values.ReportValues.{ReportValues}
+use Rattle.workbench.specs.PartReport.{is_whole}
+use Rattle.workbench.specs.ReportValues.{both_values, cut_set_values, set_values, single_of, sweep_values}
+use Rattle.workbench.specs.RunText.{line, run_text}
+use Rattle.workbench.specs.TwoNumbers.{IsSized, IsUnsized, attempts_line, attempts_of, cut_at_line, failing_line}
+
+-- ---- the lines
+
+-- the numbers of a set, each after a blank
+abbrev pub spaced : ℕ → List ℕ
+spaced n = codes " " ++ decimal n
+
+abbrev pub numbers_text : List ℕ → List ℕ
+numbers_text numbers = flat_map spaced numbers
+
+-- these attempts fail
+abbrev pub several_line : List ℕ → List ℕ
+several_line numbers = line (codes "set" ++ numbers_text numbers)
+
+abbrev pub set_line : List ℕ → List ℕ
+set_line numbers = option_map_or (λ n. failing_line (Number n)) (single_of numbers) (several_line numbers)
+
+abbrev pub found_set_text : List ℕ → RunResult → List ℕ
+found_set_text numbers result = set_line numbers ++ run_text result
+
+-- no set of at most so many attempts is found
+abbrev pub no_set_line : ℕ → List ℕ
+no_set_line most = line (codes "set none to " ++ decimal most)
+
+-- the end of the line of a cut
+abbrev pub why_word : Why → List ℕ
+why_word Budget = line (codes " budget")
+why_word Ceiling = line (codes " ceiling")
+
+-- the run in which these attempts fail was cut
+abbrev pub cut_several_line : List ℕ → Why → List ℕ
+cut_several_line numbers why = codes "cut" ++ numbers_text numbers ++ why_word why
+
+abbrev pub cut_set_line : List ℕ → Why → List ℕ
+cut_set_line numbers why = option_map_or (λ n. cut_at_line (Number n) why) (single_of numbers) (cut_several_line numbers why)
+
+-- what a sweep over sets found, as it is printed; its values and the status
+abbrev pub sets_text : ℕ → SetSweep → List ℕ
+sets_text most sweep =
+    attempts_line sweep.attempts ++ option_map_or (λ found. found_set_text found.numbers found.result) sweep.found (no_set_line most)
+
+abbrev pub swept_values : SetSweep → ReportValues
+swept_values sweep = option_map_or (λ found. set_values sweep.attempts found.numbers) sweep.found (sweep_values sweep.attempts Never)
+
+abbrev pub swept_status : SetSweep → ℕ
+swept_status sweep = option_map_or (λ found. 1) sweep.found 0
+
+-- ---- what they mean
+
+-- all numbers that there are, as a part
+abbrev pub every_number : Part
+every_number = record { from = 0; to = 4294967295 }
+
+-- the numbers that a command has tried: where its part is the whole, all that there are. A sweep over these answers what one over all sets
+-- does, by the law `a_whole_part_has_all_sets` of `wb_model`
+abbrev pub numbers_tried : Part → Part
+numbers_tried part = if is_whole part then every_number else part
+
+-- A set is printed, and the run in which its attempts fail. It is the least of those that are tried whose run leaks or panics; no lesser
+-- one's run is cut (`IsSetFoundIn`).
+pub record IsFailingSet (part : Part) (most : ℕ) (script : Script) (budget : ℕ) (shape : Shape)
+    (text : List ℕ) (values : ReportValues) : Type 0 where
+  pub numbers : List ℕ
+  pub result : RunResult
+  pub found : IsSetFoundIn part most script budget shape numbers result
+  pub text_is : text ≡ attempts_line (attempts_of Single script budget shape) ++ found_set_text numbers result
+  pub values_are : values ≡ set_values (attempts_of Single script budget shape) numbers
+
+-- the run leaks or panics under no set that is tried of at most so many attempts, and is cut under none of them
+pub record IsNoFailingSet (part : Part) (most : ℕ) (script : Script) (budget : ℕ) (shape : Shape)
+    (text : List ℕ) (values : ReportValues) : Type 0 where
+  pub none : IsNoSetIn part most script budget shape
+  pub text_is : text ≡ attempts_line (attempts_of Single script budget shape) ++ no_set_line most
+  pub values_are : values ≡ sweep_values (attempts_of Single script budget shape) Never
+
+-- there is no answer: the run without failure is cut; or that of a set which is tried, and no lesser one's leaks, panics or is cut
+-- (`IsSetCutIn`)
+pub record IsUnsweptSet (part : Part) (most : ℕ) (script : Script) (budget : ℕ) (shape : Shape)
+    (text : List ℕ) (values : ReportValues) : Type 0 where
+  pub numbers : List ℕ
+  pub why : Why
+  pub cut : IsSetCutIn part most script budget shape numbers why
+  pub text_is : text ≡ cut_set_line numbers why
+  pub values_are : values ≡ cut_set_values numbers
+
+-- the report of `sweep --failures`
+abbrev pub IsSetsReport : Part → ℕ → Script → ℕ → Shape → List ℕ → ReportValues → ℕ → Type 0
+IsSetsReport part most script budget shape text values status =
+    (IsFailingSet part most script budget shape text values × (status ≡ 1))
+    ⊎ ((IsNoFailingSet part most script budget shape text values × (status ≡ 0))
+    ⊎ (IsUnsweptSet part most script budget shape text values × (status ≡ 3)))
+
+-- ---- after a size
+
+-- the length, and then the set that is found, or that there is none
+pub record IsSizedAndTried (most : ℕ) (script : Script) (budget : ℕ) (shape : Shape)
+    (text : List ℕ) (values : ReportValues) (status : ℕ) : Type 0 where
+  pub first : List ℕ
+  pub second : List ℕ
+  pub size : ReportValues
+  pub sweep : ReportValues
+  pub sized : IsSized script budget shape first size
+  pub tried : IsSetsReport every_number most script budget shape second sweep status
+  pub text_is : text ≡ first ++ second
+  pub values_are : values ≡ both_values size sweep
+
+-- the report of `check --failures`; where there is no length, the sweep isn't made
+abbrev pub IsCheckSetsReport : ℕ → Script → ℕ → Shape → List ℕ → ReportValues → ℕ → Type 0
+IsCheckSetsReport most script budget shape text values status =
+    IsSizedAndTried most script budget shape text values status
+    ⊎ (IsUnsized script budget shape text values × (status ≡ 3))

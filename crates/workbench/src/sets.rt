@@ -1,0 +1,129 @@
+//! What a sweep over sets of attempts comes to: the text, its values, and the exit status. Nothing is read or written here.
+
+ghost use Rattle.std.specs.Prelude.{◌≡◌, ◌≤◌, IfOk, IsTrue};
+ghost use Rattle.wb_model.specs.language.Sound.{is_script};
+ghost use Rattle.wb_model.specs.heap.Space.{is_shape};
+ghost use Rattle.workbench.specs.ReportValues.{cut_set_values};
+ghost use Rattle.workbench.specs.SetsReport.{IsCheckSetsReport, IsSetsReport, cut_set_line, sets_text, swept_status};
+ghost use Rattle.workbench.specs.SetsReport.{numbers_tried, swept_values};
+
+use crate::exit_status::{CUT, FOUND, NOTHING_FOUND};
+use crate::parts::is_whole;
+use crate::report::Report;
+use crate::report_values::{FailingNumber, ReportValues};
+use crate::sets_text::{put_cut_set, put_sets};
+use crate::tasks::size_report;
+use std::alloc::Global;
+use wb_model::heap::{Numbers, Shape};
+use wb_model::limits::LARGEST_BUDGET;
+use wb_model::memory::NoMemory;
+use wb_model::part::Part;
+use wb_model::run::Why;
+use wb_model::script::Script;
+use wb_sweep::{FoundSet, Progress, SetFault, SetSweep, sweep_sets};
+
+/// All numbers that there are.
+const EVERY_NUMBER: Part = Part {
+    from: 0,
+    to: u32::MAX,
+};
+
+/// The numbers that a command has tried: where its part is the whole, all that there are.
+pub fn numbers_tried(part: Part) -> Part
+    ensures { result ≡ numbers_tried part }
+{
+    if is_whole(part) { EVERY_NUMBER } else { part }
+}
+
+/// Which set of at most so many attempts leaks or panics, of those whose least number the part has, or the line of a run that was cut.
+pub fn sets_report<P: Progress>(
+    alloc: Global,
+    script: &Script,
+    part: Part,
+    most: u32,
+    budget: u32,
+    shape: Shape,
+    progress: &mut P,
+) -> Result<Report, NoMemory>
+    requires script { IsTrue (is_script script.now) }
+    requires least { 1 ≤ budget }
+    requires greatest { budget ≤ LARGEST_BUDGET }
+    requires shape { IsTrue (is_shape shape) }
+    requires most { 1 ≤ most }
+    ensures { IfOk result (λ r. IsSetsReport part most script.now budget shape
+        r.text.items r.values r.status) }
+{
+    match sweep_sets(alloc, script, part, most, budget, shape, progress) {
+        Ok(sweep) => swept_report(alloc, most, sweep),
+        Err(SetFault::Cut { numbers, why }) => cut_set_report(alloc, numbers, why),
+        // The command's shape is one that a heap may have.
+        Err(SetFault::BadShape) => unreachable!(),
+        Err(SetFault::NoMemory) => Err(NoMemory),
+    }
+}
+
+/// The report of what a sweep over sets of at most so many attempts found.
+fn swept_report(alloc: Global, most: u32, sweep: SetSweep) -> Result<Report, NoMemory>
+    ensures text { IfOk result (λ r. r.text.items ≡ sets_text most sweep) }
+    ensures values { IfOk result (λ r. r.values ≡ swept_values sweep) }
+    ensures status { IfOk result (λ r. r.status ≡ swept_status sweep) }
+{
+    let mut text = Vec::new(alloc);
+    put_sets(&mut text, most, &sweep)?;
+    let SetSweep { attempts, found } = sweep;
+    match found {
+        Some(FoundSet { numbers, result: _ }) => Ok(Report {
+            text,
+            values: ReportValues::of_set(attempts, numbers),
+            status: FOUND,
+        }),
+        None => Ok(Report {
+            text,
+            values: ReportValues::of_sweep(attempts, FailingNumber::Never),
+            status: NOTHING_FOUND,
+        }),
+    }
+}
+
+/// The report of a run that was cut in which these attempts fail.
+fn cut_set_report(alloc: Global, numbers: Numbers, why: Why) -> Result<Report, NoMemory>
+    ensures text { IfOk result (λ r. r.text.items ≡ cut_set_line numbers why) }
+    ensures values { IfOk result (λ r. r.values ≡ cut_set_values numbers) }
+    ensures status { IfOk result (λ r. r.status ≡ 3) }
+{
+    let mut text = Vec::new(alloc);
+    put_cut_set(&mut text, &numbers, why)?;
+    Ok(Report {
+        text,
+        values: ReportValues::of_cut_set(numbers),
+        status: CUT,
+    })
+}
+
+/// Both, the size first; where the script wasn't sized, the line of the cut alone.
+pub fn check_sets_report<P: Progress>(
+    alloc: Global,
+    script: &Script,
+    most: u32,
+    budget: u32,
+    shape: Shape,
+    progress: &mut P,
+) -> Result<Report, NoMemory>
+    requires script { IsTrue (is_script script.now) }
+    requires least { 1 ≤ budget }
+    requires greatest { budget ≤ LARGEST_BUDGET }
+    requires shape { IsTrue (is_shape shape) }
+    requires most { 1 ≤ most }
+    ensures { IfOk result (λ r. IsCheckSetsReport most script.now budget shape
+        r.text.items r.values r.status) }
+{
+    let mut report = size_report(alloc, script, budget, shape)?;
+    if report.status == CUT {
+        return Ok(report);
+    }
+    let swept = sets_report(alloc, script, EVERY_NUMBER, most, budget, shape, progress)?;
+    report.text.extend_from_slice(swept.text.as_slice())?;
+    report.values = ReportValues::of_both(report.values, swept.values);
+    report.status = swept.status;
+    Ok(report)
+}
