@@ -1,6 +1,7 @@
 """The scripts that `bench/run` measures, and what the cost of each is divided by."""
 
 from collections.abc import Callable
+from math import comb
 from typing import NamedTuple
 
 ARITHMETIC = """
@@ -404,6 +405,11 @@ def pairs_swept(text: str) -> int:
     return (number - 1) * (number - 2) // 2
 
 
+def sets_swept(text: str) -> int:
+    """How many sets of two and of three attempts are tried of such a script."""
+    return comb(attempts_swept(text), 3)
+
+
 class Workload(NamedTuple):
     """A script, the task for it, and what its cost is divided by, which is read off the report."""
 
@@ -438,6 +444,8 @@ WORKLOADS = [
     Workload("sweep by pairs of 200 attempts", "sweep --pairs", SWEPT_BY_PAIRS, "pair", pairs_swept),
     Workload("sweep by pairs of 1,000 attempts", "sweep --pairs", SWEPT_TURNS.format(turns=999), "pair", pairs_swept),
     Workload("a quarter of a sweep by pairs", "sweep --pairs --from 51 --to 100", SWEPT_BY_PAIRS, "pair of the whole", pairs_swept),
+    Workload("sweep by sets of 3 of 60 attempts", "sweep --failures 3", SWEPT_TURNS.format(turns=59), "set", sets_swept),
+    Workload("sweep by sets of 3 of 120 attempts", "sweep --failures 3", SWEPT_TURNS.format(turns=119), "set", sets_swept),
     Workload("lengths of 1,001 attempts", "lengths", SWEPT, "search", lambda _: 1),
     Workload("lengths of a loader", "lengths", LOADER, "search", lambda _: 1),
     Workload("lengths of a greedy fill", "lengths", GREEDY, "run", lambda _: GREEDY_RUNS, by_time=True),
