@@ -3,18 +3,16 @@
 ghost use Rattle.std.specs.Prelude.{IsTrue};
 ghost use Rattle.wb_model.specs.language.Sound.{is_script};
 
-use crate::asked::{
-    budget_of, least_bad_length, parameters_of, rule_named, script_name, source_name,
-};
+use crate::asked::{budget_of, parameters_of, source_name};
 use crate::recorded::FirstFault;
+use crate::runs::{Answer, Runs, has_run_to_explain, plain_run};
 use std::alloc::Global;
 use wb_explain::files::{Deed, file_fault};
 use wb_explain::runs::{
     greatest_bad, heaps_found, heaps_warning, last_bad, last_named, lengths_found, numbers_found,
     run_found,
 };
-use wb_history::{Attempts, Keep, ScriptFile, ScriptLines, Until, watch_attempts, watch_run};
-use wb_mistakes::refused_script;
+use wb_history::{Attempts, ScriptLines, Until, watch_attempts};
 use wb_model::failures::Failures;
 use wb_model::heap::Rule;
 use wb_model::lengths::LengthRange;
@@ -23,41 +21,27 @@ use wb_model::memory::NoMemory;
 use wb_model::number_ends::NumberEnd;
 use wb_model::script::Script;
 use wb_model::size::Rise;
-use workbench::exit_status::{NOTHING_FOUND, READ_OR_WRITE_FAULT};
+use workbench::exit_status::NOTHING_FOUND;
 use workbench::findings::Findings;
-use workbench::program::Exit;
 use workbench::{Command, Task};
 
-/// Returns the explanation of an answer, by what the program's words came to and by what failed first of what was read and
-/// written; empty if there is nothing to say. The only error is that memory ran out.
-pub fn explain_answer(alloc: Global, exit: &Exit, first: FirstFault) -> Result<String, NoMemory> {
-    let Some(command) = &exit.command else {
-        return Ok(String::new(alloc));
-    };
-    if exit.status == READ_OR_WRITE_FAULT {
-        return explain_fault(alloc, command, first);
-    }
-    match &exit.findings {
-        Some(findings) if !has_nothing_to_say(&command.task, findings, exit.status) => {
-            explain_script(alloc, command, findings, exit.status)
-        }
-        _ => Ok(String::new(alloc)),
-    }
-}
-
-/// Whether there is nothing to say of a report: nothing was found, no attempt was to fail, and no length is reported. Then the
-/// script isn't read once more.
-fn has_nothing_to_say(task: &Task, findings: &Findings, status: u8) -> bool {
+/// Returns whether there is nothing to say of a report: nothing was found, no attempt was to fail, and no length is reported.
+pub fn has_nothing_to_say(answer: Answer<'_>) -> bool {
+    let task = &answer.command.task;
     match task {
         Task::Size | Task::Check(_) | Task::CheckAll(_) | Task::CheckSets(_) => false,
         Task::Run(_) | Task::Lengths | Task::Sweep(..) | Task::All(..) | Task::Sets(..) => {
-            status == NOTHING_FOUND && !has_run_to_explain(task, findings)
+            answer.status == NOTHING_FOUND && !has_run_to_explain(task, answer.findings)
         }
     }
 }
 
-/// Why the script's file could not be read, or the report not written.
-fn explain_fault(alloc: Global, command: &Command, first: FirstFault) -> Result<String, NoMemory> {
+/// Returns why the script's file could not be read, or the report not written. The only error is that memory ran out.
+pub fn explain_fault(
+    alloc: Global,
+    command: &Command,
+    first: FirstFault,
+) -> Result<String, NoMemory> {
     let Some((deed, kind)) = first else {
         return Ok(String::new(alloc));
     };
@@ -68,85 +52,57 @@ fn explain_fault(alloc: Global, command: &Command, first: FirstFault) -> Result<
     Ok(file_fault(alloc, name, deed, kind)?)
 }
 
-/// Why the script is refused, or what its runs found.
-fn explain_script(
+/// Returns what is said of these runs. The only error is that memory ran out.
+pub fn explain_runs(
     alloc: Global,
-    command: &Command,
-    findings: &Findings,
-    status: u8,
-) -> Result<String, NoMemory> {
-    let bytes = findings.bytes.as_slice();
-    match wb_script::read(alloc, bytes) {
-        Ok(script) => explain_runs(alloc, command, findings, status, &script),
-        Err(fault) => {
-            let name = script_name(command);
-            Ok(refused_script(alloc, name, bytes, &fault)?)
-        }
-    }
-}
-
-/// What the runs of the report found.
-fn explain_runs(
-    alloc: Global,
-    command: &Command,
-    findings: &Findings,
-    status: u8,
-    script: &Script,
-) -> Result<String, NoMemory>
-    requires { IsTrue (is_script script.now) }
-{
-    let Ok(text) = str::from_utf8(findings.bytes.as_slice()) else {
-        return Ok(String::new(alloc));
-    };
-    let name = script_name(command);
-    let lines = ScriptLines::of(alloc, ScriptFile { name, text })?;
-    let mut found = explain_all(alloc, command, findings, script, &lines)?;
-    if let Some(rule) = rule_to_explain(&command.task, findings, status)? {
-        let run = explain_run(alloc, command, rule, script, &lines)?;
-        found.push_str(run.as_str())?;
-    }
-    if let Task::Check(_) | Task::CheckAll(_) | Task::CheckSets(_) = &command.task
-        && status == NOTHING_FOUND
-    {
-        let warning = heaps_warning(alloc, &lines, script, budget_of(command), command.shape)?;
-        found.push_str(warning.as_str())?;
-    }
-    Ok(found)
-}
-
-/// What the run under a rule found.
-fn explain_run(
-    alloc: Global,
-    command: &Command,
-    rule: Rule,
+    answer: Answer<'_>,
     script: &Script,
     lines: &ScriptLines<'_>,
+    runs: &Runs<'_>,
 ) -> Result<String, NoMemory>
     requires { IsTrue (is_script script.now) }
 {
-    match watch_run(alloc, script, parameters_of(command, rule), Keep::Named)? {
-        Some(run) => Ok(run_found(alloc, lines, &run)?),
-        None => Ok(String::new(alloc)),
+    let command = answer.command;
+    let mut said = explain_all(alloc, answer, script, lines, runs)?;
+    if let Some(run) = &runs.found {
+        let found = run_found(alloc, lines, run)?;
+        said.push_str(found.as_str())?;
     }
+    if let Task::Check(_) | Task::CheckAll(_) | Task::CheckSets(_) = &command.task
+        && answer.status == NOTHING_FOUND
+    {
+        let warning = heaps_warning(alloc, lines, script, budget_of(command), command.shape)?;
+        said.push_str(warning.as_str())?;
+    }
+    Ok(said)
 }
 
 /// What shorter heaps refuse first, what heaps of every length show, and what all numbers show; empty if the report says none of
-/// these. The run that they are about is made once, up to the last attempt that they name.
+/// these. The run that they are about is made up to the last attempt that they name, unless it was made whole.
 fn explain_all(
     alloc: Global,
-    command: &Command,
-    findings: &Findings,
+    answer: Answer<'_>,
     script: &Script,
     lines: &ScriptLines<'_>,
+    runs: &Runs<'_>,
 ) -> Result<String, NoMemory>
     requires { IsTrue (is_script script.now) }
 {
+    let Answer {
+        command,
+        findings,
+        ..
+    } = answer;
     if let Some(ranges) = &findings.ranges {
         return explain_heaps(alloc, command, ranges.as_slice(), script, lines);
     }
     let numbers = numbers_to_explain(&command.task, findings);
     if findings.rises.is_none() && numbers.is_none() {
         return Ok(String::new(alloc));
+    }
+    if let Some(plain) = plain_run(answer, runs) {
+        let attempts = &plain.history.attempts;
+        return explain_attempts(alloc, findings, numbers, attempts, lines);
     }
     let of_numbers = numbers.map_or(0, |(_, ends)| last_bad(ends));
     let last = last_named(rises_of(findings)).max(of_numbers);
@@ -232,31 +188,4 @@ fn has_two_bad(ends: &[NumberEnd]) -> bool {
         }
     }
     false
-}
-
-/// Returns the rule of the run to explain; `None` if it found nothing and nothing was to fail, and if the report names no
-/// failure and no length.
-fn rule_to_explain(task: &Task, findings: &Findings, status: u8) -> Result<Option<Rule>, NoMemory> {
-    Ok(match task {
-        Task::Run(Rule::Unlimited) if status == NOTHING_FOUND => None,
-        Task::Run(rule) => Some(rule.try_copy()?),
-        Task::Lengths => length_to_explain(findings).map(Rule::Limit),
-        Task::Size | Task::Sweep(..) | Task::All(..) | Task::Sets(..) => rule_named(findings)?,
-        Task::Check(_) | Task::CheckAll(_) | Task::CheckSets(_) => rule_named(findings)?,
-    })
-}
-
-/// The least length whose run leaks or panics; `None` if there is none.
-fn length_to_explain(findings: &Findings) -> Option<u32> {
-    least_bad_length(findings.ranges.as_ref()?)
-}
-
-/// Whether a run that found nothing is explained all the same, since something was to fail in it.
-fn has_run_to_explain(task: &Task, findings: &Findings) -> bool {
-    match task {
-        Task::Run(Rule::Unlimited) => false,
-        Task::Run(_) => true,
-        Task::Lengths => length_to_explain(findings).is_some(),
-        _ => findings.at.is_some() || findings.set.is_some(),
-    }
 }

@@ -11,20 +11,23 @@ mod picture;
 mod picture_file;
 mod progress_line;
 mod recorded;
+mod runs;
 mod set_work;
+mod told;
 mod work;
 
-use crate::explanation::explain_answer;
 use crate::following::put_steps;
 use crate::messages::ProcessMessages;
 use crate::picture::put_picture;
 use crate::picture_file::ProcessFiles;
 use crate::progress_line::ProgressLine;
 use crate::recorded::{FirstFault, Recorded, RecordedHost};
+use crate::told::tell_answer;
 use std::cell::RefCell;
 use std::io::Write;
 use std::process::ExitCode;
 use std::{env, io};
+use wb_model::memory::NoMemory;
 use workbench::FileName;
 use workbench::program::{Exit, program};
 
@@ -45,9 +48,9 @@ fn main(rt: HostRuntime) -> ExitCode {
         &mut ProgressLine::new(&rt),
     );
     put_steps(&rt, &exit);
-    explain(&rt, &first, &exit);
+    let picture = explain(&rt, &first, &exit);
     let mut files = ProcessFiles::new(&rt, script_file(&exit));
-    ExitCode::from(put_picture(rt.alloc(), &exit, &mut files))
+    ExitCode::from(put_picture(&exit, picture.as_deref(), &mut files))
 }
 
 /// Returns the name of the script's file; `None` if that is standard input.
@@ -55,13 +58,18 @@ fn script_file(exit: &Exit) -> Option<&FileName> {
     exit.command.as_ref()?.file.as_ref()
 }
 
-/// Says what there is to say of the answer. Where memory runs out, or a write fails, it is left out.
-fn explain(rt: &HostRuntime, first: &RefCell<FirstFault>, exit: &Exit) {
+/// Says what there is to say of the answer, and returns its picture if there is one. What finds no memory, or can't be written, is
+/// left out.
+fn explain(rt: &HostRuntime, first: &RefCell<FirstFault>, exit: &Exit) -> Option<String> {
     let Ok(first) = first.try_borrow() else {
-        return;
+        return None;
     };
-    if let Ok(text) = explain_answer(rt.alloc(), exit, *first) {
-        let _ = rt.stderr().write_all(text.as_bytes());
+    match tell_answer(rt.alloc(), exit, *first) {
+        Ok(told) => {
+            let _ = rt.stderr().write_all(told.text.as_bytes());
+            told.picture
+        }
+        Err(NoMemory) => None,
     }
 }
 

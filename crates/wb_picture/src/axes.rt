@@ -1,9 +1,9 @@
 //! The frame of a panel with its axes: places on the left and steps below it, both at round numbers, and where places are drawn shorter.
 
-use crate::labels::{close_rect, close_text, open_rect, open_text, put_number};
+use crate::drawing::{Drawing, Drawn};
+use crate::labels::{put_number, put_rect, put_text};
 use crate::places::{Fold, round_step};
 use crate::scale::{Area, Frame, Scale};
-use std::alloc::AllocError;
 
 /// How far labels are from the frame, in pixels.
 const BESIDE: u32 = 6;
@@ -50,7 +50,8 @@ impl Unit {
 }
 
 /// Draws the frame, and both axes.
-pub fn put_frame(text: &mut String, scale: &Scale) -> Result<(), AllocError> {
+pub fn put_frame(drawing: &mut Drawing<'_>) -> Drawn {
+    let scale = drawing.scale;
     let Frame {
         left,
         top,
@@ -58,27 +59,34 @@ pub fn put_frame(text: &mut String, scale: &Scale) -> Result<(), AllocError> {
         height,
     } = scale.frame;
     write!(
-        text,
+        drawing.text,
         "<rect class=\"plot\" x=\"{left}\" y=\"{top}\" width=\"{width}\" height=\"{height}\"/>\n"
     )?;
-    put_places(text, scale)?;
-    put_steps(text, scale)
+    put_places(drawing)?;
+    put_steps(drawing)
 }
 
 /// Writes places on the left.
-fn put_places(text: &mut String, scale: &Scale) -> Result<(), AllocError> {
+fn put_places(drawing: &mut Drawing<'_>) -> Drawn {
+    let scale = drawing.scale;
     let drawn = scale.places.drawn_up_to(scale.places.reach);
     let unit = Unit::of(drawn);
     let step = round_step(unit.count(drawn), MOST_PLACES).saturating_mul(unit.bytes);
     let x = scale.frame.left.saturating_sub(BESIDE);
-    put_word(text, unit.name, x, scale.frame.top.saturating_sub(22))?;
+    put_text(
+        drawing,
+        "e dim",
+        x,
+        scale.frame.top.saturating_sub(22),
+        unit.name,
+    )?;
     let mut place = 0u32;
     for _ in 0..MOST_LABELS {
         if !scale.shows(place) {
             break;
         }
-        put_place(text, scale, unit, place)?;
-        place = place_after(scale, place, step);
+        put_place(drawing, unit, place)?;
+        place = place_after(&scale, place, step);
     }
     Ok(())
 }
@@ -90,24 +98,29 @@ fn place_after(scale: &Scale, place: u32, step: u32) -> u32 {
     shown.div_ceil(step.max(1)).saturating_mul(step)
 }
 
-fn put_place(text: &mut String, scale: &Scale, unit: Unit, place: u32) -> Result<(), AllocError> {
+fn put_place(drawing: &mut Drawing<'_>, unit: Unit, place: u32) -> Drawn {
+    let scale = drawing.scale;
     let x = scale.frame.left.saturating_sub(BESIDE);
     let y = scale.y(place);
     let right = scale.frame.right();
-    put_number(text, "e dim", x, y.saturating_add(4), unit.count(place))?;
-    write!(text, "<path class=\"grid\" d=\"M{x} {y}H{right}\"/>\n")
-}
-
-fn put_word(text: &mut String, word: &str, x: u32, y: u32) -> Result<(), AllocError> {
-    open_text(text, "e dim", x, y)?;
-    text.push_str(word)?;
-    close_text(text)
+    put_number(drawing, "e dim", x, y.saturating_add(4), unit.count(place))?;
+    write!(
+        drawing.text,
+        "<path class=\"grid\" d=\"M{x} {y}H{right}\"/>\n"
+    )
 }
 
 /// Writes steps below the frame, each at the left of its column.
-fn put_steps(text: &mut String, scale: &Scale) -> Result<(), AllocError> {
+fn put_steps(drawing: &mut Drawing<'_>) -> Drawn {
+    let scale = drawing.scale;
     let y = scale.frame.bottom().saturating_add(16);
-    put_word(text, "steps", scale.frame.left.saturating_sub(BESIDE), y)?;
+    put_text(
+        drawing,
+        "e dim",
+        scale.frame.left.saturating_sub(BESIDE),
+        y,
+        "steps",
+    )?;
     let columns = scale.columns;
     let after = columns.first_step(columns.count);
     let every = round_step(after.saturating_sub(columns.first), MOST_STEPS);
@@ -117,20 +130,21 @@ fn put_steps(text: &mut String, scale: &Scale) -> Result<(), AllocError> {
             break;
         }
         let x = scale.x_of_step(step).saturating_add(3);
-        put_number(text, "dim", x, y, step)?;
+        put_number(drawing, "dim", x, y, step)?;
         step = step.saturating_add(every);
     }
     Ok(())
 }
 
 /// Draws a gap through the frame where places are drawn shorter.
-pub fn put_gaps(text: &mut String, scale: &Scale) -> Result<(), AllocError> {
+pub fn put_gaps(drawing: &mut Drawing<'_>) -> Drawn {
+    let scale = drawing.scale;
     if !scale.places.is_folded() {
         return Ok(());
     }
     for fold in scale.places.folds() {
         if !fold.is_empty() {
-            put_gap(text, scale, fold)?;
+            put_gap(drawing, fold)?;
         }
     }
     Ok(())
@@ -156,23 +170,22 @@ pub fn base_line(scale: &Scale, y: u32) -> u32 {
     y
 }
 
-fn put_gap(text: &mut String, scale: &Scale, fold: &Fold) -> Result<(), AllocError> {
+fn put_gap(drawing: &mut Drawing<'_>, fold: &Fold) -> Drawn {
+    let scale = drawing.scale;
     let (from, until) = (fold.from, fold.until);
-    let top = middle_of(scale, fold).saturating_sub(GAP / 2);
+    let top = middle_of(&scale, fold).saturating_sub(GAP / 2);
     let bottom = top.saturating_add(GAP);
     let left = scale.frame.left.saturating_sub(BESIDE);
     let right = scale.frame.right().saturating_add(BESIDE);
-    let area = Area {
-        left,
-        top,
-        right,
-        bottom,
-    };
-    open_rect(text, "paper", area)?;
-    write!(text, "places {from} to {until} are drawn shorter")?;
-    close_rect(text)?;
+    let area = Area::between(left, top, right, bottom);
+    put_rect(
+        drawing,
+        "paper",
+        area,
+        format_args!("places {from} to {until} are drawn shorter"),
+    )?;
     write!(
-        text,
+        drawing.text,
         "<path class=\"fold\" d=\"M{left} {top}H{right}M{left} {bottom}H{right}\"/>\n"
     )
 }

@@ -1,13 +1,12 @@
 //! Numbers over time in a panel: the marks, the TRAPs and the cleanup stack as bands below the frame, and the committed length as a
 //! line in it. What changes within a column is drawn as the greatest value of the column. A band is as high in each panel of a picture.
 
-use crate::labels::{
-    close_rect, close_text, open_rect, open_text, put_digits, put_number, width_of_number,
-};
+use crate::drawing::{Drawing, Drawn};
+use crate::labels::{close_rect, open_rect, put_digits, put_number, put_text, width_of_number};
 use crate::places::share_of;
 use crate::scale::{Area, Scale};
-use crate::series::Series;
 use std::alloc::{AllocError, Global};
+use wb_history::Series;
 
 /// How high a band is, and the least height of a value in which it is written, in pixels.
 pub const BAND: u32 = 14;
@@ -24,116 +23,114 @@ struct Stretch {
 
 /// Draws a band at this height, with its name on the left, and on the right the greatest value that it has in a run of the picture.
 pub fn put_band(
-    text: &mut String,
+    drawing: &mut Drawing<'_>,
     name: &str,
-    scale: &Scale,
     series: &Series,
     greatest: u32,
     top: u32,
-) -> Result<(), AllocError> {
+) -> Drawn {
+    let scale = drawing.scale;
     let left = scale.frame.left.saturating_sub(6);
     let bottom = top.saturating_add(BAND);
-    open_text(text, "e dim", left, bottom.saturating_sub(3))?;
-    text.push_str(name)?;
-    close_text(text)?;
-    put_ground(text, scale, bottom)?;
-    put_greatest(text, scale, greatest, bottom)?;
-    let stretches = stretches_of(*text.allocator(), series, scale)?;
+    put_text(drawing, "e dim", left, bottom.saturating_sub(3), name)?;
+    put_ground(drawing, bottom)?;
+    put_greatest(drawing, greatest, bottom)?;
+    let stretches = stretches_of(*drawing.text.allocator(), series, &scale)?;
     for stretch in stretches.as_slice() {
         if stretch.value != 0 {
-            put_stretch(text, name, scale, stretch, greatest, bottom)?;
+            put_stretch(drawing, name, stretch, greatest, bottom)?;
         }
     }
     Ok(())
 }
 
 /// The line on which a band is.
-fn put_ground(text: &mut String, scale: &Scale, y: u32) -> Result<(), AllocError> {
+fn put_ground(drawing: &mut Drawing<'_>, y: u32) -> Drawn {
+    let scale = drawing.scale;
     let (left, right) = (scale.frame.left, scale.frame.right());
-    write!(text, "<path class=\"grid\" d=\"M{left} {y}H{right}\"/>\n")
+    write!(
+        drawing.text,
+        "<path class=\"grid\" d=\"M{left} {y}H{right}\"/>\n"
+    )
 }
 
 /// Says up to which value a band is drawn; nothing if it is empty.
-fn put_greatest(
-    text: &mut String,
-    scale: &Scale,
-    greatest: u32,
-    bottom: u32,
-) -> Result<(), AllocError> {
+fn put_greatest(drawing: &mut Drawing<'_>, greatest: u32, bottom: u32) -> Drawn {
+    let scale = drawing.scale;
     if greatest == 0 {
         return Ok(());
     }
     let x = scale.frame.right().saturating_add(6);
-    open_text(text, "dim", x, bottom.saturating_sub(3))?;
-    write!(text, "up to {greatest}")?;
-    close_text(text)
+    put_text(
+        drawing,
+        "dim",
+        x,
+        bottom.saturating_sub(3),
+        format_args!("up to {greatest}"),
+    )
 }
 
 fn put_stretch(
-    text: &mut String,
+    drawing: &mut Drawing<'_>,
     name: &str,
-    scale: &Scale,
     stretch: &Stretch,
     greatest: u32,
     bottom: u32,
-) -> Result<(), AllocError> {
+) -> Drawn {
+    let scale = drawing.scale;
     let Stretch { from, until, value } = *stretch;
     let height = share_of(value, greatest, BAND).max(2);
-    let area = Area {
-        left: scale.x(from),
-        top: bottom.saturating_sub(height),
-        right: scale.x(until),
+    let area = Area::between(
+        scale.x(from),
+        bottom.saturating_sub(height),
+        scale.x(until),
         bottom,
-    };
-    open_rect(text, "band", area)?;
+    );
+    open_rect(drawing, "band", area)?;
     let first = scale.columns.first_step(from);
     let last = scale
         .columns
         .first_step(until)
         .saturating_sub(1)
         .min(scale.last);
-    write!(text, "{name}: {value}, in steps {first} to {last}")?;
-    close_rect(text)?;
+    write!(drawing.text, "{name}: {value}, in steps {first} to {last}")?;
+    close_rect(drawing)?;
     if area.width() < width_of_number(value).saturating_add(6) {
         return Ok(());
     }
     let x = area.left.saturating_add(3);
     if height < LEAST_WITH_TEXT {
-        return put_number(text, "", x, area.top.saturating_sub(1), value);
+        return put_number(drawing, "", x, area.top.saturating_sub(1), value);
     }
-    put_number(text, "in", x, bottom.saturating_sub(3), value)
+    put_number(drawing, "in", x, bottom.saturating_sub(3), value)
 }
 
 /// Draws a length over time as one line through the frame, at its upper edge where it is above; nothing if all of it is above.
-pub fn put_length(
-    text: &mut String,
-    class: &str,
-    scale: &Scale,
-    series: &Series,
-) -> Result<(), AllocError> {
-    let stretches = stretches_of(*text.allocator(), series, scale)?;
+pub fn put_length(drawing: &mut Drawing<'_>, class: &str, series: &Series) -> Drawn {
+    let scale = drawing.scale;
+    let stretches = stretches_of(*drawing.text.allocator(), series, &scale)?;
     if series.least() > scale.places.reach {
         return Ok(());
     }
-    write!(text, "<path class=\"{class}\" d=\"")?;
+    write!(drawing.text, "<path class=\"{class}\" d=\"")?;
     let mut letter = 'M';
     for stretch in stretches.as_slice() {
         let (x, end) = (scale.x(stretch.from), scale.x(stretch.until));
         let y = scale.y(stretch.value);
-        text.push(letter)?;
-        put_point(text, x, y, end)?;
+        drawing.text.push(letter)?;
+        put_point(drawing, x, y, end)?;
         letter = 'L';
     }
-    text.push_str("\"/>\n")
+    drawing.text.push_str("\"/>\n")
 }
 
 /// Writes a point of a path, and up to where it goes on level.
-fn put_point(text: &mut String, x: u32, y: u32, end: u32) -> Result<(), AllocError> {
-    put_digits(text, x)?;
-    text.push(' ')?;
-    put_digits(text, y)?;
-    text.push('H')?;
-    put_digits(text, end)
+fn put_point(drawing: &mut Drawing<'_>, x: u32, y: u32, end: u32) -> Drawn {
+    put_digits(drawing, x)?;
+    drawing.text.push(' ')?;
+    put_digits(drawing, y)?;
+    drawing.text.push('H')?;
+    put_digits(drawing, end)
 }
 
 /// The stretches over which a number has the same greatest value.
@@ -150,7 +147,7 @@ fn stretches_of(alloc: Global, series: &Series, scale: &Scale) -> Result<Vec<Str
 }
 
 /// Makes the last stretch longer, or adds one.
-fn add(stretches: &mut Vec<Stretch>, from: u32, until: u32, value: u32) -> Result<(), AllocError> {
+fn add(stretches: &mut Vec<Stretch>, from: u32, until: u32, value: u32) -> Drawn {
     if let Some(last) = stretches.last_mut()
         && last.value == value
     {

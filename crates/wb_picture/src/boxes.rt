@@ -2,20 +2,18 @@
 //! moved with its old place.
 
 use crate::axes::base_line;
-use crate::cells::Part;
 use crate::colours::Paint;
-use crate::escape::width_of;
+use crate::drawing::{Drawing, Drawn};
+use crate::escape::{put_class, width_of};
 use crate::groups::{Group, area_of};
 use crate::labels::{
-    close_line, close_rect, close_text, open_cell, open_line, open_text, put_digits,
-    width_of_number,
+    close_rect, close_text, open_cell, open_text, put_digits, put_path, width_of_number,
 };
 use crate::leaks::{LeakLabel, is_free};
-use crate::lines::ScriptLines;
 use crate::panel::Panel;
 use crate::scale::Area;
 use crate::titles::{put_group_title, put_part_title};
-use std::alloc::AllocError;
+use wb_history::{Part, ScriptLines};
 use wb_model::heap::Kind;
 
 /// The least height of a rectangle in which something is written, and the room on both sides of that, in pixels.
@@ -25,37 +23,33 @@ const ROOM: u32 = 8;
 
 /// Draws the cells that leak, or those that don't.
 pub fn put_cells(
-    text: &mut String,
-    panel: &Panel<'_, '_>,
+    drawing: &mut Drawing<'_>,
+    panel: &Panel<'_>,
     groups: &[Group],
     leaking: bool,
-) -> Result<(), AllocError> {
+) -> Drawn {
     for group in groups {
         if (group.paint == Paint::Leak) == leaking {
-            put_group(text, panel, group)?;
+            put_group(drawing, panel, group)?;
         }
     }
     Ok(())
 }
 
 /// Draws a group of parts as one rectangle.
-pub fn put_group(
-    text: &mut String,
-    panel: &Panel<'_, '_>,
-    group: &Group,
-) -> Result<(), AllocError> {
-    let parts = panel.run.course.cells.parts();
+pub fn put_group(drawing: &mut Drawing<'_>, panel: &Panel<'_>, group: &Group) -> Drawn {
+    let parts = panel.run.history.course.parts();
     let (Some(first), Some(last)) = (parts.get(group.first), parts.get(group.last)) else {
         return Ok(());
     };
-    open_cell(text, edge_of(group), group.paint.name(), group.area)?;
+    open_cell(drawing, edge_of(group), group.paint.name(), group.area)?;
     if group.count > 1 {
-        put_group_title(text, panel.lines, group, first, last)?;
-        return close_rect(text);
+        put_group_title(drawing, group, first, last)?;
+        return close_rect(drawing);
     }
-    put_part_title(text, panel.lines, first)?;
-    close_rect(text)?;
-    put_join(text, panel, parts, first)
+    put_part_title(drawing, first)?;
+    close_rect(drawing)?;
+    put_join(drawing, panel, parts, first)
 }
 
 /// The style of a rectangle's edge. A small one has none; a leak has one unless that would cover its red.
@@ -69,52 +63,47 @@ fn edge_of(group: &Group) -> &'static str {
 }
 
 /// Joins a cell that has moved with the place that it had.
-fn put_join(
-    text: &mut String,
-    panel: &Panel<'_, '_>,
-    parts: &[Part],
-    part: &Part,
-) -> Result<(), AllocError> {
+fn put_join(drawing: &mut Drawing<'_>, panel: &Panel<'_>, parts: &[Part], part: &Part) -> Drawn {
+    let scale = drawing.scale;
     let Some(before) = part.before else {
         return Ok(());
     };
     let Some(old) = parts.get(before) else {
         return Ok(());
     };
-    if old.place == part.place || part.from < panel.scale.columns.first {
+    if old.place == part.place || part.from < scale.columns.first {
         return Ok(());
     }
-    let x = panel.scale.x_of_step(part.from);
-    let line = Area {
-        left: x,
-        top: area_of(old, &panel.scale).middle(),
-        right: x,
-        bottom: area_of(part, &panel.scale).middle(),
-    };
-    open_line(text, "join strong", line)?;
+    let x = scale.x_of_step(part.from);
+    let line = Area::upright(
+        x,
+        area_of(old, &scale).middle(),
+        area_of(part, &scale).middle(),
+    );
     let (from, to, attempt) = (old.place, part.place, part.attempt);
-    write!(
-        text,
-        "attempt {attempt} moved the cell from place {from} to place {to}"
-    )?;
-    close_line(text)
+    put_path(
+        drawing,
+        "join strong",
+        line,
+        format_args!("attempt {attempt} moved the cell from place {from} to place {to}"),
+    )
 }
 
 /// Writes into the rectangles of single cells which they are, if there is room and no label of a leak is over them. No line is over
 /// that.
 pub fn put_names(
-    text: &mut String,
-    panel: &Panel<'_, '_>,
+    drawing: &mut Drawing<'_>,
+    panel: &Panel<'_>,
     groups: &[Group],
     labels: &[LeakLabel],
-) -> Result<(), AllocError> {
-    let parts = panel.run.course.cells.parts();
+) -> Drawn {
+    let parts = panel.run.history.course.parts();
     for group in groups {
         if group.count == 1
             && group.paint != Paint::Leak
             && let Some(part) = parts.get(group.first)
         {
-            put_inside(text, panel, group, part, labels)?;
+            put_inside(drawing, panel, group, part, labels)?;
         }
     }
     Ok(())
@@ -122,51 +111,52 @@ pub fn put_names(
 
 /// Writes the number of a cell into its rectangle, and what it is for if there is room for that too.
 fn put_inside(
-    text: &mut String,
-    panel: &Panel<'_, '_>,
+    drawing: &mut Drawing<'_>,
+    panel: &Panel<'_>,
     group: &Group,
     part: &Part,
     labels: &[LeakLabel],
-) -> Result<(), AllocError> {
+) -> Drawn {
+    let scale = drawing.scale;
     let area = group.area;
     let number = part.number;
     let short = width_of_number(number).saturating_add(ROOM);
     if area.height() < LEAST_WITH_TEXT || area.width() < short {
         return Ok(());
     }
-    let whole = short.saturating_add(width_of_name(panel.lines, part.kind));
+    let whole = short.saturating_add(width_of_name(drawing.lines, part.kind));
     let is_whole = area.width() >= whole;
     let width = if is_whole { whole } else { short };
     let x = area.centre();
-    let y = base_line(&panel.scale, area.middle().saturating_add(4));
+    let y = base_line(&scale, area.middle().saturating_add(4));
     if !is_free(labels, &area_of_text(x, y, width)) {
         return Ok(());
     }
-    open_text(text, group.paint.label_name(), x, y)?;
-    put_digits(text, number)?;
+    open_text(drawing, group.paint.label_name(), x, y)?;
+    put_digits(drawing, number)?;
     if is_whole {
-        put_name(text, panel.lines, part.kind)?;
+        put_name(drawing, part.kind)?;
     }
-    close_text(text)
+    close_text(drawing)
 }
 
 /// The area of a text around a point of its base line.
 fn area_of_text(x: u32, y: u32, width: u32) -> Area {
     let left = x.saturating_sub(width / 2);
-    Area {
+    Area::between(
         left,
-        top: y.saturating_sub(9),
-        right: left.saturating_add(width),
-        bottom: y.saturating_add(2),
-    }
+        y.saturating_sub(9),
+        left.saturating_add(width),
+        y.saturating_add(2),
+    )
 }
 
 /// Writes after a number what a cell is for: the class of an object, or in a word or two.
-pub fn put_name(text: &mut String, lines: &ScriptLines<'_>, kind: Kind) -> Result<(), AllocError> {
-    text.push(' ')?;
+pub fn put_name(drawing: &mut Drawing<'_>, kind: Kind) -> Drawn {
+    drawing.text.push(' ')?;
     match kind {
-        Kind::Object(class) => lines.put_class(text, class),
-        Kind::Raw | Kind::Text | Kind::Cleanup => text.push_str(kind_name(kind)),
+        Kind::Object(class) => put_class(drawing, class),
+        Kind::Raw | Kind::Text | Kind::Cleanup => drawing.text.push_str(kind_name(kind)),
     }
 }
 

@@ -1,7 +1,7 @@
 //! The colours of a picture, in the light and in the dark, and what each is for. They are those of Okabe and Ito, which the
 //! colour-blind tell apart.
 
-use std::alloc::AllocError;
+use crate::drawing::{Drawing, Drawn};
 use wb_model::heap::Kind;
 
 /// What a cell is painted as.
@@ -10,16 +10,15 @@ pub enum Paint {
     Raw,
     Text,
     Stack,
-    FirstClass,
-    SecondClass,
-    ThirdClass,
-    FourthClass,
-    FifthClass,
-    SixthClass,
-    SeventhClass,
-    EighthClass,
+    /// An object, by the rest of its class's index by eight.
+    Class(u16),
     Leak,
 }
+
+/// The styles of classes. The second four have the colours of the first, with a broken edge.
+static CLASSES: [&str; 8] = [
+    "ob1", "ob2", "ob3", "ob4", "ob1 alt", "ob2 alt", "ob3 alt", "ob4 alt",
+];
 
 impl Paint {
     /// The paint of a cell that is no leak. Every eighth class has the same.
@@ -28,37 +27,17 @@ impl Paint {
             Kind::Raw => Paint::Raw,
             Kind::Text => Paint::Text,
             Kind::Cleanup => Paint::Stack,
-            Kind::Object(class) => Paint::of_class(class),
+            Kind::Object(class) => Paint::Class(class % 8),
         }
     }
 
-    pub fn of_class(class: u16) -> Paint {
-        match class % 8 {
-            0 => Paint::FirstClass,
-            1 => Paint::SecondClass,
-            2 => Paint::ThirdClass,
-            3 => Paint::FourthClass,
-            4 => Paint::FifthClass,
-            5 => Paint::SixthClass,
-            6 => Paint::SeventhClass,
-            _ => Paint::EighthClass,
-        }
-    }
-
-    /// The style's name. The second four classes have the colours of the first, with a broken edge.
+    /// The style's name.
     pub fn name(self) -> &'static str {
         match self {
             Paint::Raw => "raw",
             Paint::Text => "txt",
             Paint::Stack => "stk",
-            Paint::FirstClass => "ob1",
-            Paint::SecondClass => "ob2",
-            Paint::ThirdClass => "ob3",
-            Paint::FourthClass => "ob4",
-            Paint::FifthClass => "ob1 alt",
-            Paint::SixthClass => "ob2 alt",
-            Paint::SeventhClass => "ob3 alt",
-            Paint::EighthClass => "ob4 alt",
+            Paint::Class(class) => CLASSES.get(class as usize).copied().unwrap_or(""),
             Paint::Leak => "leak",
         }
     }
@@ -66,19 +45,19 @@ impl Paint {
     /// The style's name of a text that is written over it.
     pub fn label_name(self) -> &'static str {
         match self {
-            Paint::FourthClass | Paint::EighthClass => "n n4",
+            Paint::Class(3 | 7) => "n n4",
             _ => "n",
         }
     }
 }
 
 /// Writes the style sheet.
-pub fn put_style(text: &mut String) -> Result<(), AllocError> {
-    text.push_str("<style>\n")?;
-    text.push_str(LIGHT)?;
-    text.push_str(SHAPES)?;
-    text.push_str(DARK)?;
-    text.push_str("</style>\n")
+pub fn put_style(drawing: &mut Drawing<'_>) -> Drawn {
+    drawing.text.push_str("<style>\n")?;
+    drawing.text.push_str(LIGHT)?;
+    drawing.text.push_str(SHAPES)?;
+    drawing.text.push_str(DARK)?;
+    drawing.text.push_str("</style>\n")
 }
 
 const LIGHT: &str = "svg{background:#fff;font:11px sans-serif}

@@ -1,6 +1,6 @@
 //! Which runs have their end drawn once more, and from which step on.
 
-use crate::watch::WatchedRun;
+use wb_history::WatchedRun;
 use wb_model::run::Outcome;
 
 /// How many attempts are drawn once more.
@@ -11,15 +11,15 @@ const LONG: u32 = 3;
 
 /// Returns the step from which on the end of a run is drawn once more: where its last 60 attempts begin. `None` if the run isn't long,
 /// or if it neither panicked nor leaked nor was cut.
-pub fn first_of_end(run: &WatchedRun) -> Option<u32> {
-    if !is_worth_it(&run.result.outcome) {
+pub fn first_of_end(run: &WatchedRun<'_>) -> Option<u32> {
+    if !is_worth_it(&run.outcome) {
         return None;
     }
-    let attempts = run.course.attempts.as_slice();
+    let attempts = run.history.attempts.kept_attempts();
     let at = attempts.len().checked_sub(LAST_ATTEMPTS)?;
     let first = attempts.get(at)?.step;
-    let shown = run.course.steps.saturating_sub(first).saturating_add(1);
-    (shown.saturating_mul(LONG) <= run.course.steps).then_some(first)
+    let shown = run.history.steps().saturating_sub(first).saturating_add(1);
+    (shown.saturating_mul(LONG) <= run.history.steps()).then_some(first)
 }
 
 fn is_worth_it(outcome: &Outcome) -> bool {

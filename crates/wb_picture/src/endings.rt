@@ -1,10 +1,10 @@
 //! How a run ended: in words, and as a line in its panel, and how runs of a table end.
 
+use crate::drawing::{Drawing, Drawn};
+use crate::escape::put_line;
 use crate::labels::{close_line, close_text, open_line, open_text};
-use crate::lines::ScriptLines;
 use crate::scale::{Area, Scale};
-use crate::watch::WatchedRun;
-use std::alloc::AllocError;
+use wb_history::WatchedRun;
 use wb_model::heap::Panic;
 use wb_model::run::{Outcome, Why};
 use wb_model::run_end::RunEnd;
@@ -13,14 +13,10 @@ use wb_model::run_end::RunEnd;
 const ABOVE: u32 = 24;
 
 /// Draws the end of a run that panicked, left or was cut, or that ended before the other run of its picture.
-pub fn put_ending(
-    text: &mut String,
-    lines: &ScriptLines<'_>,
-    scale: &Scale,
-    run: &WatchedRun,
-) -> Result<(), AllocError> {
-    let x = match &run.result.outcome {
-        Outcome::Panicked(_) => middle_of_last(scale),
+pub fn put_ending(drawing: &mut Drawing<'_>, run: &WatchedRun<'_>) -> Drawn {
+    let scale = drawing.scale;
+    let x = match &run.outcome {
+        Outcome::Panicked(_) => middle_of_last(&scale),
         Outcome::Cut(_) => scale.end(),
         Outcome::Ended { left: None, .. } | Outcome::NoCleanup
             if scale.end() == scale.frame.right() => {
@@ -28,16 +24,20 @@ pub fn put_ending(
         }
         Outcome::Ended { .. } | Outcome::NoCleanup => scale.end(),
     };
-    let line = Area {
-        left: x,
-        top: scale.frame.top,
-        right: x,
-        bottom: scale.frame.bottom(),
-    };
-    open_line(text, class_of(&run.result.outcome), line)?;
-    put_words(text, lines, run)?;
-    close_line(text)?;
-    put_label(text, lines, scale, run, x)
+    let line = Area::upright(x, scale.frame.top, scale.frame.bottom());
+    open_line(drawing, class_of(&run.outcome), line)?;
+    put_words(drawing, run)?;
+    close_line(drawing)?;
+    put_label(drawing, run, x)
+}
+
+/// The line at which a run ended: the one that panicked or left, or the last of `main`, whatever ran after it to undo; 0 if none was
+/// begun.
+fn last_line_of(run: &WatchedRun<'_>) -> u32 {
+    match &run.outcome {
+        Outcome::Ended { .. } => run.history.last_line_outside(),
+        Outcome::Panicked(_) | Outcome::NoCleanup | Outcome::Cut(_) => run.history.last_line(),
+    }
 }
 
 /// The style of the line at an end.
@@ -54,23 +54,14 @@ fn middle_of_last(scale: &Scale) -> u32 {
 }
 
 /// Says how the run ended, and at which line.
-fn put_words(
-    text: &mut String,
-    lines: &ScriptLines<'_>,
-    run: &WatchedRun,
-) -> Result<(), AllocError> {
-    put_outcome(text, &run.result.outcome)?;
-    lines.put_line(text, run.last_line())
+fn put_words(drawing: &mut Drawing<'_>, run: &WatchedRun<'_>) -> Drawn {
+    put_outcome(drawing, &run.outcome)?;
+    put_line(drawing, last_line_of(run))
 }
 
 /// Writes that above the line at an end, to its left or its right, whichever has room.
-fn put_label(
-    text: &mut String,
-    lines: &ScriptLines<'_>,
-    scale: &Scale,
-    run: &WatchedRun,
-    x: u32,
-) -> Result<(), AllocError> {
+fn put_label(drawing: &mut Drawing<'_>, run: &WatchedRun<'_>, x: u32) -> Drawn {
+    let scale = drawing.scale;
     let third = scale.frame.width / 3;
     let after = x.saturating_sub(scale.frame.left);
     let class = if after < third {
@@ -80,57 +71,57 @@ fn put_label(
     } else {
         "e"
     };
-    open_text(text, class, x, scale.frame.top.saturating_sub(ABOVE))?;
-    put_words(text, lines, run)?;
-    close_text(text)
+    open_text(drawing, class, x, scale.frame.top.saturating_sub(ABOVE))?;
+    put_words(drawing, run)?;
+    close_text(drawing)
 }
 
 /// Says how a run ended.
-pub fn put_outcome(text: &mut String, outcome: &Outcome) -> Result<(), AllocError> {
+pub fn put_outcome(drawing: &mut Drawing<'_>, outcome: &Outcome) -> Drawn {
     match outcome {
-        Outcome::Ended { left, leaks } => put_ended(text, *left, leaks.len()),
-        Outcome::Panicked(panic) => put_panic(text, *panic),
-        Outcome::NoCleanup => text.push_str("no cleanup stack"),
-        Outcome::Cut(why) => put_cut(text, *why),
+        Outcome::Ended { left, leaks } => put_ended(drawing, *left, leaks.len()),
+        Outcome::Panicked(panic) => put_panic(drawing, *panic),
+        Outcome::NoCleanup => drawing.text.push_str("no cleanup stack"),
+        Outcome::Cut(why) => put_cut(drawing, *why),
     }
 }
 
-fn put_panic(text: &mut String, panic: Panic) -> Result<(), AllocError> {
+fn put_panic(drawing: &mut Drawing<'_>, panic: Panic) -> Drawn {
     match panic {
-        Panic::User(number) => write!(text, "panic USER {number}"),
-        Panic::Alloc(place) => write!(text, "panic ALLOC {place:08x}"),
-        Panic::Workbench(number) => write!(text, "panic WORKBENCH {number}"),
+        Panic::User(number) => write!(drawing.text, "panic USER {number}"),
+        Panic::Alloc(place) => write!(drawing.text, "panic ALLOC {place:08x}"),
+        Panic::Workbench(number) => write!(drawing.text, "panic WORKBENCH {number}"),
     }
 }
 
-fn put_cut(text: &mut String, why: Why) -> Result<(), AllocError> {
-    text.push_str(match why {
+fn put_cut(drawing: &mut Drawing<'_>, why: Why) -> Drawn {
+    drawing.text.push_str(match why {
         Why::Budget => "cut at the budget",
         Why::Ceiling => "cut at the ceiling",
     })
 }
 
 /// Says how runs end, in the words of `put_outcome` as far as a table has room for them.
-pub fn put_run_end(text: &mut String, end: RunEnd) -> Result<(), AllocError> {
+pub fn put_run_end(drawing: &mut Drawing<'_>, end: RunEnd) -> Drawn {
     match end {
-        RunEnd::NoCleanup => text.push_str("no cleanup stack"),
-        RunEnd::Panicked(panic) => put_panic(text, panic),
-        RunEnd::Leaked(1) => text.push_str("1 leak"),
-        RunEnd::Leaked(leaks) => write!(text, "{leaks} leaks"),
-        RunEnd::Left(code) => write!(text, "left with {code}"),
-        RunEnd::Plain => text.push_str("ended"),
-        RunEnd::Cut(why) => put_cut(text, why),
+        RunEnd::NoCleanup => drawing.text.push_str("no cleanup stack"),
+        RunEnd::Panicked(panic) => put_panic(drawing, panic),
+        RunEnd::Leaked(1) => drawing.text.push_str("1 leak"),
+        RunEnd::Leaked(leaks) => write!(drawing.text, "{leaks} leaks"),
+        RunEnd::Left(code) => write!(drawing.text, "left with {code}"),
+        RunEnd::Plain => drawing.text.push_str("ended"),
+        RunEnd::Cut(why) => put_cut(drawing, why),
     }
 }
 
-fn put_ended(text: &mut String, left: Option<i32>, leaks: usize) -> Result<(), AllocError> {
+fn put_ended(drawing: &mut Drawing<'_>, left: Option<i32>, leaks: usize) -> Drawn {
     match left {
-        Some(code) => write!(text, "left with {code}")?,
-        None => text.push_str("ended")?,
+        Some(code) => write!(drawing.text, "left with {code}")?,
+        None => drawing.text.push_str("ended")?,
     }
     match leaks {
-        0 => text.push_str(", no leaks"),
-        1 => text.push_str(", 1 leak"),
-        _ => write!(text, ", {leaks} leaks"),
+        0 => drawing.text.push_str(", no leaks"),
+        1 => drawing.text.push_str(", 1 leak"),
+        _ => write!(drawing.text, ", {leaks} leaks"),
     }
 }

@@ -1,6 +1,6 @@
 //! Text of a user in a picture: the one way by which names, literals and lines of a script come into it.
 
-use std::alloc::AllocError;
+use crate::drawing::{Drawing, Drawn};
 
 /// The most characters of a line that are shown.
 const MOST_SHOWN: usize = 60;
@@ -10,19 +10,35 @@ const LETTER: u32 = 7;
 
 /// Writes the beginning of a text of a user. What has a meaning in XML is written as a reference, and what XML 1.0 can't have
 /// is left out; so nothing in the text can end the element or the attribute that it is in.
-pub fn put_escaped(text: &mut String, shown: &str) -> Result<(), AllocError> {
+pub fn put_escaped(drawing: &mut Drawing<'_>, shown: &str) -> Drawn {
     if is_plain(shown) {
-        return text.push_str(shown);
+        return drawing.text.push_str(shown);
     }
     let mut left = MOST_SHOWN;
     for letter in shown.chars() {
         if left == 0 {
-            return text.push_str("...");
+            return drawing.text.push_str("...");
         }
         left -= 1;
-        put_letter(text, letter)?;
+        put_letter(drawing, letter)?;
     }
     Ok(())
+}
+
+/// Writes the number of a line and the line, after a semicolon; nothing if there is no such line.
+pub fn put_line(drawing: &mut Drawing<'_>, number: u32) -> Drawn {
+    if number == 0 {
+        return Ok(());
+    }
+    write!(drawing.text, "; line {number}: ")?;
+    let line = drawing.lines.line(number);
+    put_escaped(drawing, line.trim())
+}
+
+/// Writes the name of a class, by its index.
+pub fn put_class(drawing: &mut Drawing<'_>, class: u16) -> Drawn {
+    let name = drawing.lines.class_name(class);
+    put_escaped(drawing, name)
 }
 
 /// Whether a text is shown as it is: it is short, and has only printable ASCII characters that have no meaning in XML.
@@ -44,15 +60,15 @@ pub fn width_of(shown: &str) -> u32 {
     u32::try_from(letters).unwrap_or(0).saturating_mul(LETTER)
 }
 
-fn put_letter(text: &mut String, letter: char) -> Result<(), AllocError> {
+fn put_letter(drawing: &mut Drawing<'_>, letter: char) -> Drawn {
     match letter {
-        '<' => text.push_str("&lt;"),
-        '>' => text.push_str("&gt;"),
-        '&' => text.push_str("&amp;"),
-        '"' => text.push_str("&quot;"),
-        '\'' => text.push_str("&#39;"),
-        '\t' => text.push(' '),
+        '<' => drawing.text.push_str("&lt;"),
+        '>' => drawing.text.push_str("&gt;"),
+        '&' => drawing.text.push_str("&amp;"),
+        '"' => drawing.text.push_str("&quot;"),
+        '\'' => drawing.text.push_str("&#39;"),
+        '\t' => drawing.text.push(' '),
         '\0'..='\u{1f}' | '\u{7f}'..='\u{9f}' | '\u{fffe}' | '\u{ffff}' => Ok(()),
-        _ => text.push(letter),
+        _ => drawing.text.push(letter),
     }
 }

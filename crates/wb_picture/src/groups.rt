@@ -1,9 +1,9 @@
 //! Which parts of cells are drawn as one rectangle: each part alone, or, of a run with many cells, those that look the same.
 
-use crate::cells::{NEVER, Part};
 use crate::colours::Paint;
 use crate::scale::{Area, Scale};
 use std::alloc::{AllocError, Global};
+use wb_history::{NEVER, Part};
 
 /// How wide a leak is at least, in pixels.
 const LEAST_LEAK: u32 = 6;
@@ -42,12 +42,7 @@ pub struct Group {
 
 impl Look {
     fn area(self) -> Area {
-        Area {
-            left: self.left,
-            top: self.top,
-            right: self.right,
-            bottom: self.bottom,
-        }
+        Area::between(self.left, self.top, self.right, self.bottom)
     }
 }
 

@@ -1,92 +1,124 @@
 //! The shapes and labels that a picture is made of: rectangles, lines and short texts.
 
+use crate::drawing::{Drawing, Drawn};
 use crate::scale::Area;
 use itoa::Buffer;
-use std::alloc::AllocError;
+use std::fmt::{Display, Write};
 
 /// Writes the digits of a number. A picture has thousands of numbers, and `write!` takes several times as long for each.
-pub fn put_digits(text: &mut String, number: u32) -> Result<(), AllocError> {
+pub fn put_digits(drawing: &mut Drawing<'_>, number: u32) -> Drawn {
     let mut buffer = Buffer::new();
-    text.push_str(buffer.format(number))
+    drawing.text.push_str(buffer.format(number))
 }
 
 /// Writes what comes before a number, and the number.
-fn put_both(text: &mut String, before: &str, number: u32) -> Result<(), AllocError> {
-    text.push_str(before)?;
-    put_digits(text, number)
+fn put_both(drawing: &mut Drawing<'_>, before: &str, number: u32) -> Drawn {
+    drawing.text.push_str(before)?;
+    put_digits(drawing, number)
 }
 
 /// Writes a rectangle and opens its title.
-pub fn open_rect(text: &mut String, class: &str, area: Area) -> Result<(), AllocError> {
-    text.push_str("<rect class=\"")?;
-    text.push_str(class)?;
-    put_edges(text, area)
+pub fn open_rect(drawing: &mut Drawing<'_>, class: &str, area: Area) -> Drawn {
+    drawing.text.push_str("<rect class=\"")?;
+    drawing.text.push_str(class)?;
+    put_edges(drawing, area)
 }
 
 /// Writes the rectangle of a cell, with the style of its edge and its paint, and opens its title.
-pub fn open_cell(text: &mut String, edge: &str, paint: &str, area: Area) -> Result<(), AllocError> {
-    text.push_str("<rect class=\"")?;
-    text.push_str(edge)?;
-    text.push(' ')?;
-    text.push_str(paint)?;
-    put_edges(text, area)
+pub fn open_cell(drawing: &mut Drawing<'_>, edge: &str, paint: &str, area: Area) -> Drawn {
+    drawing.text.push_str("<rect class=\"")?;
+    drawing.text.push_str(edge)?;
+    drawing.text.push(' ')?;
+    drawing.text.push_str(paint)?;
+    put_edges(drawing, area)
 }
 
 /// Writes after a class where a rectangle is, and opens its title.
-fn put_edges(text: &mut String, area: Area) -> Result<(), AllocError> {
-    put_both(text, "\" x=\"", area.left)?;
-    put_both(text, "\" y=\"", area.top)?;
-    put_both(text, "\" width=\"", area.width())?;
-    put_both(text, "\" height=\"", area.height())?;
-    text.push_str("\"><title>")
+fn put_edges(drawing: &mut Drawing<'_>, area: Area) -> Drawn {
+    put_both(drawing, "\" x=\"", area.left)?;
+    put_both(drawing, "\" y=\"", area.top)?;
+    put_both(drawing, "\" width=\"", area.width())?;
+    put_both(drawing, "\" height=\"", area.height())?;
+    drawing.text.push_str("\"><title>")
 }
 
 /// Closes a rectangle after its title.
-pub fn close_rect(text: &mut String) -> Result<(), AllocError> {
-    text.push_str("</title></rect>\n")
+pub fn close_rect(drawing: &mut Drawing<'_>) -> Drawn {
+    drawing.text.push_str("</title></rect>\n")
 }
 
 /// Writes a path through these points, straight down or across, and opens its title.
-pub fn open_line(text: &mut String, class: &str, area: Area) -> Result<(), AllocError> {
-    text.push_str("<path class=\"")?;
-    text.push_str(class)?;
-    put_both(text, "\" d=\"M", area.left)?;
-    put_both(text, " ", area.top)?;
-    put_both(text, "L", area.right)?;
-    put_both(text, " ", area.bottom)?;
-    text.push_str("\"><title>")
+pub fn open_line(drawing: &mut Drawing<'_>, class: &str, area: Area) -> Drawn {
+    drawing.text.push_str("<path class=\"")?;
+    drawing.text.push_str(class)?;
+    put_both(drawing, "\" d=\"M", area.left)?;
+    put_both(drawing, " ", area.top)?;
+    put_both(drawing, "L", area.right)?;
+    put_both(drawing, " ", area.bottom)?;
+    drawing.text.push_str("\"><title>")
 }
 
 /// Closes a path after its title.
-pub fn close_line(text: &mut String) -> Result<(), AllocError> {
-    text.push_str("</title></path>\n")
+pub fn close_line(drawing: &mut Drawing<'_>) -> Drawn {
+    drawing.text.push_str("</title></path>\n")
 }
 
 /// Opens a text, at the left end of its base line, or as its class says.
-pub fn open_text(text: &mut String, class: &str, x: u32, y: u32) -> Result<(), AllocError> {
-    text.push_str("<text class=\"")?;
-    text.push_str(class)?;
-    put_both(text, "\" x=\"", x)?;
-    put_both(text, "\" y=\"", y)?;
-    text.push_str("\">")
+pub fn open_text(drawing: &mut Drawing<'_>, class: &str, x: u32, y: u32) -> Drawn {
+    drawing.text.push_str("<text class=\"")?;
+    drawing.text.push_str(class)?;
+    put_both(drawing, "\" x=\"", x)?;
+    put_both(drawing, "\" y=\"", y)?;
+    drawing.text.push_str("\">")
 }
 
 /// Closes a text.
-pub fn close_text(text: &mut String) -> Result<(), AllocError> {
-    text.push_str("</text>\n")
+pub fn close_text(drawing: &mut Drawing<'_>) -> Drawn {
+    drawing.text.push_str("</text>\n")
 }
 
-/// Writes a number as a text.
-pub fn put_number(
-    text: &mut String,
+/// Writes a text at the left end of its base line, or as its class says.
+pub fn put_text<D: Display + Drop>(
+    drawing: &mut Drawing<'_>,
     class: &str,
     x: u32,
     y: u32,
-    number: u32,
-) -> Result<(), AllocError> {
-    open_text(text, class, x, y)?;
-    put_digits(text, number)?;
-    close_text(text)
+    words: D,
+) -> Drawn {
+    open_text(drawing, class, x, y)?;
+    write!(drawing.text, "{words}")?;
+    close_text(drawing)
+}
+
+/// Draws a rectangle with its title.
+pub fn put_rect<D: Display + Drop>(
+    drawing: &mut Drawing<'_>,
+    class: &str,
+    area: Area,
+    title: D,
+) -> Drawn {
+    open_rect(drawing, class, area)?;
+    write!(drawing.text, "{title}")?;
+    close_rect(drawing)
+}
+
+/// Draws a path, straight down or across, with its title.
+pub fn put_path<D: Display + Drop>(
+    drawing: &mut Drawing<'_>,
+    class: &str,
+    area: Area,
+    title: D,
+) -> Drawn {
+    open_line(drawing, class, area)?;
+    write!(drawing.text, "{title}")?;
+    close_line(drawing)
+}
+
+/// Writes a number as a text.
+pub fn put_number(drawing: &mut Drawing<'_>, class: &str, x: u32, y: u32, number: u32) -> Drawn {
+    open_text(drawing, class, x, y)?;
+    put_digits(drawing, number)?;
+    close_text(drawing)
 }
 
 /// How wide a number is as a text, in pixels.

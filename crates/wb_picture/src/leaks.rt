@@ -4,6 +4,7 @@
 use crate::axes::base_line;
 use crate::boxes::{LEAST_WITH_TEXT, put_name, width_of_name};
 use crate::colours::Paint;
+use crate::drawing::{Drawing, Drawn};
 use crate::groups::Group;
 use crate::labels::{close_text, open_text, width_of_number};
 use crate::panel::Panel;
@@ -58,10 +59,11 @@ pub fn is_free(labels: &[LeakLabel], area: &Area) -> bool {
 
 /// The labels of leaks, from the top down, none over another and all in the frame.
 pub fn labels_of(
-    alloc: Global,
-    panel: &Panel<'_, '_>,
+    drawing: &Drawing<'_>,
+    panel: &Panel<'_>,
     groups: &[Group],
 ) -> Result<Vec<LeakLabel>, AllocError> {
+    let alloc = *drawing.text.allocator();
     let leaks = leaks_of(alloc, &panel.scale, groups)?;
     let mut labels = Vec::new(alloc);
     let mut free = 0u32;
@@ -76,7 +78,7 @@ pub fn labels_of(
             0
         };
         let y = leak.y.max(free).min(lowest);
-        labels.push(label_at(panel, group, y, more))?;
+        labels.push(label_at(drawing, panel, group, y, more))?;
         free = y.saturating_add(APART);
         lowest = lowest.saturating_add(APART);
         if more > 0 {
@@ -113,8 +115,14 @@ fn leaks_of(alloc: Global, scale: &Scale, groups: &[Group]) -> Result<Vec<Leak>,
 }
 
 /// A label on this base line: inside its leak, after it, before it, or over it.
-fn label_at(panel: &Panel<'_, '_>, group: &Group, y: u32, more: usize) -> LeakLabel {
-    let width = width_of_label(panel, group);
+fn label_at(
+    drawing: &Drawing<'_>,
+    panel: &Panel<'_>,
+    group: &Group,
+    y: u32,
+    more: usize,
+) -> LeakLabel {
+    let width = width_of_label(drawing, panel, group);
     let area = group.area;
     let after = area.right.saturating_add(BESIDE);
     let before = area.left.saturating_sub(BESIDE);
@@ -130,12 +138,12 @@ fn label_at(panel: &Panel<'_, '_>, group: &Group, y: u32, more: usize) -> LeakLa
         ("over", over, over)
     };
     LeakLabel {
-        area: Area {
+        area: Area::between(
             left,
-            top: y.saturating_sub(APART - RISE),
-            right: left.saturating_add(width),
-            bottom: y.saturating_add(RISE / 2),
-        },
+            y.saturating_sub(APART - RISE),
+            left.saturating_add(width),
+            y.saturating_add(RISE / 2),
+        ),
         class,
         x,
         y,
@@ -145,27 +153,23 @@ fn label_at(panel: &Panel<'_, '_>, group: &Group, y: u32, more: usize) -> LeakLa
 }
 
 /// Writes the labels.
-pub fn put_labels(
-    text: &mut String,
-    panel: &Panel<'_, '_>,
-    labels: &[LeakLabel],
-) -> Result<(), AllocError> {
+pub fn put_labels(drawing: &mut Drawing<'_>, panel: &Panel<'_>, labels: &[LeakLabel]) -> Drawn {
     for label in labels {
-        open_text(text, label.class, label.x, label.y)?;
-        put_words(text, panel, label)?;
-        close_text(text)?;
+        open_text(drawing, label.class, label.x, label.y)?;
+        put_words(drawing, panel, label)?;
+        close_text(drawing)?;
     }
     Ok(())
 }
 
-fn width_of_label(panel: &Panel<'_, '_>, group: &Group) -> u32 {
-    let Some(part) = panel.run.course.cells.parts().get(group.first) else {
+fn width_of_label(drawing: &Drawing<'_>, panel: &Panel<'_>, group: &Group) -> u32 {
+    let Some(part) = panel.run.history.course.parts().get(group.first) else {
         return 0;
     };
     let words = if group.count > 1 {
         WORDS_OF_MANY
     } else {
-        width_of_name(panel.lines, part.kind).saturating_add(WORDS)
+        width_of_name(drawing.lines, part.kind).saturating_add(WORDS)
     };
     let numbers = width_of_number(part.number.max(group.count));
     words
@@ -173,25 +177,21 @@ fn width_of_label(panel: &Panel<'_, '_>, group: &Group) -> u32 {
         .saturating_add(width_of_number(part.line))
 }
 
-fn put_words(
-    text: &mut String,
-    panel: &Panel<'_, '_>,
-    label: &LeakLabel,
-) -> Result<(), AllocError> {
+fn put_words(drawing: &mut Drawing<'_>, panel: &Panel<'_>, label: &LeakLabel) -> Drawn {
     let (more, count) = (label.more, label.group.count);
     if more > 0 {
-        return write!(text, "and leaks in {more} more rectangles");
+        return write!(drawing.text, "and leaks in {more} more rectangles");
     }
-    let Some(part) = panel.run.course.cells.parts().get(label.group.first) else {
+    let Some(part) = panel.run.history.course.parts().get(label.group.first) else {
         return Ok(());
     };
     let (number, line) = (part.number, part.line);
     if count > 1 {
-        return write!(text, "{count} leaks, the first of line {line}");
+        return write!(drawing.text, "{count} leaks, the first of line {line}");
     }
-    write!(text, "leak {number}")?;
+    write!(drawing.text, "leak {number}")?;
     if part.kind != Kind::Raw {
-        put_name(text, panel.lines, part.kind)?;
+        put_name(drawing, part.kind)?;
     }
-    write!(text, ", line {line}")
+    write!(drawing.text, ", line {line}")
 }

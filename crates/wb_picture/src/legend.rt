@@ -1,12 +1,12 @@
 //! The legend of a picture: what is seen in it, and nothing else.
 
-use crate::cells::Part;
 use crate::colours::Paint;
+use crate::drawing::{Drawing, Drawn};
 use crate::escape::{put_escaped, width_of};
 use crate::labels::{close_text, open_text};
-use crate::lines::ScriptLines;
-use crate::watch::WatchedRun;
-use std::alloc::{AllocError, Global};
+use crate::shown::ShownRuns;
+use std::alloc::AllocError;
+use wb_history::{Part, ScriptLines, WatchedRun};
 use wb_model::heap::{Answer, Kind};
 
 /// How high a row is, and how wide an entry is beside its text, in pixels.
@@ -51,11 +51,8 @@ struct Seen {
 }
 
 impl Seen {
-    fn of(
-        alloc: Global,
-        lines: &ScriptLines<'_>,
-        runs: &[&WatchedRun],
-    ) -> Result<Seen, AllocError> {
+    fn of(drawing: &Drawing<'_>, runs: ShownRuns<'_>) -> Result<Seen, AllocError> {
+        let classes = drawing.lines.class_names().len();
         let mut seen = Seen {
             stack: false,
             raw: false,
@@ -63,17 +60,22 @@ impl Seen {
             leak: false,
             simulated: false,
             refused: false,
-            classes: vec![in alloc; false; lines.class_count()]?,
+            classes: vec![in *drawing.text.allocator(); false; classes]?,
         };
-        for run in runs {
-            for part in run.course.cells.parts() {
-                seen.see_part(part);
-            }
-            for attempt in run.course.attempts.as_slice() {
-                seen.see_answer(attempt.answer);
-            }
+        seen.see_run(runs.first);
+        if let Some(second) = runs.second {
+            seen.see_run(second);
         }
         Ok(seen)
+    }
+
+    fn see_run(&mut self, run: &WatchedRun<'_>) {
+        for part in run.history.course.parts() {
+            self.see_part(part);
+        }
+        for attempt in run.history.attempts.kept_attempts() {
+            self.see_answer(attempt.attempt.answer);
+        }
     }
 
     fn see_part(&mut self, part: &Part) {
@@ -105,16 +107,15 @@ impl Seen {
 impl<'a> Legend<'a> {
     /// The legend of these runs between two edges; `is_folded` says whether places are drawn shorter somewhere.
     pub fn of(
-        alloc: Global,
-        lines: &ScriptLines<'a>,
-        runs: &[&WatchedRun],
+        drawing: &Drawing<'a>,
+        runs: ShownRuns<'_>,
         is_folded: bool,
         edges: (u32, u32),
     ) -> Result<Legend<'a>, AllocError> {
         let (left, right) = edges;
-        let seen = Seen::of(alloc, lines, runs)?;
+        let seen = Seen::of(drawing, runs)?;
         let mut legend = Legend {
-            entries: Vec::new(alloc),
+            entries: Vec::new(*drawing.text.allocator()),
             left,
             right,
             x: left,
@@ -123,7 +124,7 @@ impl<'a> Legend<'a> {
         legend.add(seen.stack, Paint::Stack.name(), "cleanup stack")?;
         legend.add(seen.raw, Paint::Raw.name(), "raw cell")?;
         legend.add(seen.text, Paint::Text.name(), "text")?;
-        legend.add_classes(lines, seen.classes.as_slice())?;
+        legend.add_classes(drawing.lines, seen.classes.as_slice())?;
         legend.add(seen.leak, Paint::Leak.name(), "leak")?;
         legend.add(seen.simulated, "sim", "made to fail")?;
         legend.add(seen.refused, "ref", "refused by the limit")?;
@@ -132,7 +133,7 @@ impl<'a> Legend<'a> {
     }
 
     /// Adds an entry if what it is for is seen, in the next row if there is no room.
-    fn add(&mut self, is_seen: bool, class: &'static str, name: &'a str) -> Result<(), AllocError> {
+    fn add(&mut self, is_seen: bool, class: &'static str, name: &'a str) -> Drawn {
         if !is_seen {
             return Ok(());
         }
@@ -152,13 +153,13 @@ impl<'a> Legend<'a> {
         Ok(())
     }
 
-    fn add_classes(&mut self, lines: &ScriptLines<'a>, seen: &[bool]) -> Result<(), AllocError> {
+    fn add_classes(&mut self, lines: &ScriptLines<'a>, seen: &[bool]) -> Drawn {
         let mut class = 0u16;
         for is_seen in seen {
             let is_named = *is_seen && self.entries.len() < MOST_ENTRIES;
             self.add(
                 is_named,
-                Paint::of_class(class).name(),
+                Paint::of(Kind::Object(class)).name(),
                 lines.class_name(class),
             )?;
             class = class.saturating_add(1);
@@ -172,23 +173,23 @@ impl<'a> Legend<'a> {
     }
 
     /// Writes the legend; the base line of its first row is at `y`.
-    pub fn put(&self, text: &mut String, y: u32) -> Result<(), AllocError> {
+    pub fn put(&self, drawing: &mut Drawing<'_>, y: u32) -> Drawn {
         for entry in self.entries.as_slice() {
             let row = y.saturating_add(entry.row.saturating_mul(ROW));
-            put_entry(text, entry, row)?;
+            put_entry(drawing, entry, row)?;
         }
         Ok(())
     }
 }
 
 /// Writes a small rectangle and the text beside it.
-fn put_entry(text: &mut String, entry: &Entry<'_>, y: u32) -> Result<(), AllocError> {
+fn put_entry(drawing: &mut Drawing<'_>, entry: &Entry<'_>, y: u32) -> Drawn {
     let (class, x, top) = (entry.class, entry.x, y.saturating_sub(10));
     write!(
-        text,
+        drawing.text,
         "<rect class=\"{class}\" x=\"{x}\" y=\"{top}\" width=\"14\" height=\"11\"/>\n"
     )?;
-    open_text(text, "", x.saturating_add(20), y)?;
-    put_escaped(text, entry.name)?;
-    close_text(text)
+    open_text(drawing, "", x.saturating_add(20), y)?;
+    put_escaped(drawing, entry.name)?;
+    close_text(drawing)
 }

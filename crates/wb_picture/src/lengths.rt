@@ -2,12 +2,14 @@
 //! the committed length. Their labels are on the right of the frame.
 
 use crate::bands::put_length;
-use crate::labels::{close_line, close_text, open_line, open_text, put_number, width_of_number};
+use crate::drawing::{Drawing, Drawn};
+use crate::escape::put_line;
+use crate::labels::{close_line, open_line, put_number, put_path, put_text, width_of_number};
 use crate::leaks::{LeakLabel, is_free};
-use crate::lines::ScriptLines;
+use crate::marks::{ColumnAttempts, extend};
 use crate::scale::{Area, Scale};
-use crate::watch::{LocatedAttempt, WatchedRun};
 use std::alloc::{AllocError, Global};
+use wb_history::{AttemptMade, WatchedRun};
 use wb_model::heap::Rule;
 
 /// How far apart labels are, in pixels.
@@ -51,14 +53,14 @@ impl Name {
 }
 
 /// The attempts of a run, from a step on, that made the heap longer than all before them.
-pub fn rises_of(
+pub fn rises_of<'a>(
     alloc: Global,
-    run: &WatchedRun,
+    run: &'a WatchedRun<'a>,
     first: u32,
-) -> Result<Vec<LocatedAttempt>, AllocError> {
+) -> Result<Vec<AttemptMade<'a>>, AllocError> {
     let mut rises = Vec::new(alloc);
     let mut top = 0;
-    for it in run.course.attempts.as_slice() {
+    for it in run.history.attempts.kept_attempts() {
         if it.is_granted() && it.top() > top {
             top = it.top();
             if it.step >= first {
@@ -70,7 +72,7 @@ pub fn rises_of(
 }
 
 /// The greatest end of a cell, in bytes.
-pub fn longest_end(attempts: &[LocatedAttempt]) -> u32 {
+pub fn longest_end(attempts: &[AttemptMade<'_>]) -> u32 {
     let mut top = 0;
     for it in attempts {
         if it.is_granted() {
@@ -81,21 +83,30 @@ pub fn longest_end(attempts: &[LocatedAttempt]) -> u32 {
 }
 
 /// Draws the lines of all lengths, with their labels.
-pub fn put_lengths(text: &mut String, scale: &Scale, run: &WatchedRun) -> Result<(), AllocError> {
-    let mut labels = Vec::new(*text.allocator());
-    let longest = longest_end(run.course.attempts.as_slice());
-    let name = match &run.rule {
+pub fn put_lengths(drawing: &mut Drawing<'_>, run: &WatchedRun<'_>) -> Drawn {
+    let scale = drawing.scale;
+    let mut labels = Vec::new(*drawing.text.allocator());
+    let longest = longest_end(run.history.attempts.kept_attempts());
+    let name = match &run.parameters.rule {
         Rule::Unlimited | Rule::Number(0) | Rule::Every(0) => Name::Required,
         _ => Name::Longest,
     };
-    put_across(text, scale, name, longest, &mut labels)?;
-    if let Rule::Limit(limit) = &run.rule {
-        put_across(text, scale, Name::Limit, *limit, &mut labels)?;
+    put_across(drawing, name, longest, &mut labels)?;
+    if let Rule::Limit(limit) = &run.parameters.rule {
+        put_across(drawing, Name::Limit, *limit, &mut labels)?;
     }
-    put_length(text, Name::Committed.class(), scale, &run.course.committed)?;
-    labels.push(label_of(scale, Name::Committed, run.course.committed.greatest()))?;
+    put_length(
+        drawing,
+        Name::Committed.class(),
+        &run.history.course.committed,
+    )?;
+    labels.push(label_of(
+        &scale,
+        Name::Committed,
+        run.history.course.committed.greatest(),
+    ))?;
     labels.sort_unstable();
-    put_labels(text, scale, &labels)
+    put_labels(drawing, &labels)
 }
 
 fn label_of(scale: &Scale, name: Name, length: u32) -> Label {
@@ -108,57 +119,45 @@ fn label_of(scale: &Scale, name: Name, length: u32) -> Label {
 
 /// Draws a line across the frame, if the frame shows its length, and adds its label.
 fn put_across(
-    text: &mut String,
-    scale: &Scale,
+    drawing: &mut Drawing<'_>,
     name: Name,
     length: u32,
     labels: &mut Vec<Label>,
-) -> Result<(), AllocError> {
-    labels.push(label_of(scale, name, length))?;
+) -> Drawn {
+    let scale = drawing.scale;
+    labels.push(label_of(&scale, name, length))?;
     if !scale.shows(length) {
         return Ok(());
     }
     let y = scale.y(length);
-    let line = Area {
-        left: scale.frame.left,
-        top: y,
-        right: scale.frame.right(),
-        bottom: y,
-    };
-    open_line(text, name.class(), line)?;
-    put_name(text, name, length)?;
-    close_line(text)
-}
-
-fn put_name(text: &mut String, name: Name, length: u32) -> Result<(), AllocError> {
-    let word = name.text();
-    write!(text, "{word} {length}")
+    let line = Area::level(scale.frame.left, scale.frame.right(), y);
+    put_path(
+        drawing,
+        name.class(),
+        line,
+        format_args!("{} {length}", name.text()),
+    )
 }
 
 /// Writes the labels, from the top down, none over another.
-fn put_labels(text: &mut String, scale: &Scale, labels: &Vec<Label>) -> Result<(), AllocError> {
+fn put_labels(drawing: &mut Drawing<'_>, labels: &Vec<Label>) -> Drawn {
+    let scale = drawing.scale;
     let x = scale.frame.right().saturating_add(6);
     let mut free = 0;
     for label in labels.as_slice() {
         let y = label.y.saturating_add(4).max(free);
         free = y.saturating_add(APART);
-        open_text(text, "dim", x, y)?;
-        put_name(text, label.name, label.length)?;
-        text.push_str(" bytes")?;
-        if !scale.shows(label.length) {
-            text.push_str(" (above)")?;
-        }
-        close_text(text)?;
+        let (name, length) = (label.name.text(), label.length);
+        let above = if scale.shows(length) { "" } else { " (above)" };
+        put_text(
+            drawing,
+            "dim",
+            x,
+            y,
+            format_args!("{name} {length} bytes{above}"),
+        )?;
     }
     Ok(())
-}
-
-/// Rises that fall in one column.
-#[derive(Clone, Copy)]
-struct ColumnRises {
-    column: u32,
-    first: LocatedAttempt,
-    last: LocatedAttempt,
 }
 
 /// Where the last number was written.
@@ -170,107 +169,75 @@ struct Pen {
 
 /// Draws each rise as a line, from its step up to the next, with its attempt's number where there is room beside other labels.
 pub fn put_rises(
-    text: &mut String,
-    lines: &ScriptLines<'_>,
-    scale: &Scale,
-    rises: &[LocatedAttempt],
+    drawing: &mut Drawing<'_>,
+    rises: &[AttemptMade<'_>],
     labels: &[LeakLabel],
-) -> Result<(), AllocError> {
+) -> Drawn {
+    let scale = drawing.scale;
     let mut pen = Pen { x: 0, y: u32::MAX };
     let mut step = None;
     for rise in rises {
-        if let Some(done) = extend(&mut step, scale, rise) {
+        if let Some(done) = extend(&mut step, &scale, rise) {
             let end = scale.x_of_step(rise.step);
-            let line = line_of(scale, &done, end);
-            put_rise(text, lines, &done, line)?;
-            put_rise_number(text, &done.last, line, labels, &mut pen)?;
+            let line = line_of(&scale, &done, end);
+            put_rise(drawing, &done, line)?;
+            put_rise_number(drawing, &done.last, line, labels, &mut pen)?;
         }
     }
     if let Some(done) = step {
-        let line = line_of(scale, &done, scale.end());
-        put_rise(text, lines, &done, line)?;
-        put_rise_number(text, &done.last, line, labels, &mut pen)?;
+        let line = line_of(&scale, &done, scale.end());
+        put_rise(drawing, &done, line)?;
+        put_rise_number(drawing, &done.last, line, labels, &mut pen)?;
     }
     Ok(())
 }
 
-/// Adds a rise to those of its column; returns those before it once it begins another column.
-fn extend(
-    step: &mut Option<ColumnRises>,
-    scale: &Scale,
-    rise: &LocatedAttempt,
-) -> Option<ColumnRises> {
-    let column = scale.columns.column(rise.step);
-    if let Some(step) = step
-        && step.column == column
-    {
-        step.last = *rise;
-        return None;
-    }
-    step.replace(ColumnRises {
-        column,
-        first: *rise,
-        last: *rise,
-    })
-}
-
 /// The line of rises, up to where the next begins.
-fn line_of(scale: &Scale, step: &ColumnRises, end: u32) -> Area {
+fn line_of(scale: &Scale, step: &ColumnAttempts<'_>, end: u32) -> Area {
     let y = scale.y(step.last.top());
-    Area {
-        left: scale.x(step.column),
-        top: y,
-        right: end,
-        bottom: y,
-    }
+    Area::level(scale.x(step.column), end, y)
 }
 
-fn put_rise(
-    text: &mut String,
-    lines: &ScriptLines<'_>,
-    step: &ColumnRises,
-    line: Area,
-) -> Result<(), AllocError> {
-    open_line(text, "rise strong", line)?;
-    put_rise_title(text, lines, step)?;
-    close_line(text)
+fn put_rise(drawing: &mut Drawing<'_>, step: &ColumnAttempts<'_>, line: Area) -> Drawn {
+    open_line(drawing, "rise strong", line)?;
+    put_rise_title(drawing, step)?;
+    close_line(drawing)
 }
 
-fn put_rise_title(
-    text: &mut String,
-    lines: &ScriptLines<'_>,
-    step: &ColumnRises,
-) -> Result<(), AllocError> {
-    let (first, last) = (step.first.number, step.last.number);
+fn put_rise_title(drawing: &mut Drawing<'_>, step: &ColumnAttempts<'_>) -> Drawn {
+    let (first, last) = (step.first.attempt.number, step.last.attempt.number);
     let top = step.last.top();
     if first == last {
-        write!(text, "rise: attempt {first} made the heap {top} bytes long")?;
+        write!(
+            drawing.text,
+            "rise: attempt {first} made the heap {top} bytes long"
+        )?;
     } else {
         write!(
-            text,
+            drawing.text,
             "rises: attempts {first} to {last} made the heap {top} bytes long"
         )?;
     }
-    lines.put_line(text, step.first.line)
+    put_line(drawing, step.first.maker.line)
 }
 
 /// Writes the number of a rise above the beginning of its line, unless it would be past the line, or over the last one or a leak's label.
 fn put_rise_number(
-    text: &mut String,
-    rise: &LocatedAttempt,
+    drawing: &mut Drawing<'_>,
+    rise: &AttemptMade<'_>,
     line: Area,
     labels: &[LeakLabel],
     pen: &mut Pen,
-) -> Result<(), AllocError> {
-    let width = width_of_number(rise.number);
+) -> Drawn {
+    let width = width_of_number(rise.attempt.number);
     let left = line.left.saturating_add(3);
     let bottom = line.top.saturating_sub(3);
-    let number = Area {
+    let number = Area::between(
         left,
-        top: bottom.saturating_sub(9),
-        right: left.saturating_add(width),
+        bottom.saturating_sub(9),
+        left.saturating_add(width),
         bottom,
-    };
+    );
     let is_clear = line.top.saturating_add(11) < pen.y
         || line.left > pen.x.saturating_add(width).saturating_add(4);
     if !is_clear || number.right > line.right || !is_free(labels, &number) {
@@ -278,5 +245,5 @@ fn put_rise_number(
     }
     pen.x = line.left;
     pen.y = line.top;
-    put_number(text, "", left, bottom, rise.number)
+    put_number(drawing, "", left, bottom, rise.attempt.number)
 }

@@ -1,12 +1,12 @@
 //! The attempts of a run in its panel: a tick above the frame for each, and a mark at the place that was chosen for one that
 //! failed. Those that fall in one column are one tick or mark.
 
+use crate::drawing::{Drawing, Drawn};
 use crate::labels::{close_line, close_rect, open_line, open_rect, put_number, width_of_number};
-use crate::lines::ScriptLines;
 use crate::scale::{Area, Scale};
 use crate::titles::put_attempt_title;
-use crate::watch::LocatedAttempt;
 use std::alloc::AllocError;
+use wb_history::AttemptMade;
 use wb_model::heap::Answer;
 
 /// How wide a mark is at most, and how wide and high at least, in pixels.
@@ -19,10 +19,10 @@ const TICK: u32 = 6;
 
 /// Attempts one after the other that fall in one column.
 #[derive(Clone, Copy)]
-struct ColumnAttempts {
-    column: u32,
-    first: LocatedAttempt,
-    last: LocatedAttempt,
+pub struct ColumnAttempts<'a> {
+    pub column: u32,
+    pub first: AttemptMade<'a>,
+    pub last: AttemptMade<'a>,
     count: u32,
     /// How many of them failed.
     failed: u32,
@@ -32,53 +32,48 @@ struct ColumnAttempts {
 }
 
 /// Draws ticks for all attempts.
-pub fn put_ticks(
-    text: &mut String,
-    lines: &ScriptLines<'_>,
-    scale: &Scale,
-    attempts: &[LocatedAttempt],
-) -> Result<(), AllocError> {
+pub fn put_ticks(drawing: &mut Drawing<'_>, attempts: &[AttemptMade<'_>]) -> Drawn {
+    let scale = drawing.scale;
     let mut run = None;
     let mut free = 0;
     for it in attempts {
-        if let Some(done) = extend(&mut run, scale, it) {
-            free = put_tick(text, lines, scale, &done, free)?;
+        if let Some(done) = extend(&mut run, &scale, it) {
+            free = put_tick(drawing, &done, free)?;
         }
     }
     if let Some(done) = run {
-        put_tick(text, lines, scale, &done, free)?;
+        put_tick(drawing, &done, free)?;
     }
     Ok(())
 }
 
 /// Draws marks for the attempts with this answer.
 pub fn put_failed(
-    text: &mut String,
-    lines: &ScriptLines<'_>,
-    scale: &Scale,
-    attempts: &[LocatedAttempt],
+    drawing: &mut Drawing<'_>,
+    attempts: &[AttemptMade<'_>],
     answer: Answer,
-) -> Result<(), AllocError> {
+) -> Drawn {
+    let scale = drawing.scale;
     let mut run = None;
     for it in attempts {
-        if it.answer == answer
-            && let Some(done) = extend(&mut run, scale, it)
+        if it.attempt.answer == answer
+            && let Some(done) = extend(&mut run, &scale, it)
         {
-            put_mark(text, lines, scale, &done)?;
+            put_mark(drawing, &done)?;
         }
     }
     if let Some(done) = run {
-        put_mark(text, lines, scale, &done)?;
+        put_mark(drawing, &done)?;
     }
     Ok(())
 }
 
 /// Adds an attempt to those of its column; returns those before it once it begins another column.
-fn extend(
-    run: &mut Option<ColumnAttempts>,
+pub fn extend<'a>(
+    run: &mut Option<ColumnAttempts<'a>>,
     scale: &Scale,
-    attempt: &LocatedAttempt,
-) -> Option<ColumnAttempts> {
+    attempt: &AttemptMade<'a>,
+) -> Option<ColumnAttempts<'a>> {
     let column = scale.columns.column(attempt.step);
     let failed = u32::from(!attempt.is_granted());
     if let Some(run) = run
@@ -87,7 +82,7 @@ fn extend(
         run.last = *attempt;
         run.count = run.count.saturating_add(1);
         run.failed = run.failed.saturating_add(failed);
-        run.low = run.low.min(attempt.place);
+        run.low = run.low.min(attempt.attempt.place);
         run.high = run.high.max(attempt.top());
         return None;
     }
@@ -97,66 +92,56 @@ fn extend(
         last: *attempt,
         count: 1,
         failed,
-        low: attempt.place,
+        low: attempt.attempt.place,
         high: attempt.top(),
     })
 }
 
 /// Draws a tick, and its number if there is room; returns where room begins again.
 fn put_tick(
-    text: &mut String,
-    lines: &ScriptLines<'_>,
-    scale: &Scale,
-    run: &ColumnAttempts,
+    drawing: &mut Drawing<'_>,
+    run: &ColumnAttempts<'_>,
     free: u32,
 ) -> Result<u32, AllocError> {
+    let scale = drawing.scale;
     let x = scale.x(run.column);
     let bottom = scale.frame.top;
-    let tick = Area {
-        left: x,
-        top: bottom.saturating_sub(TICK),
-        right: x,
-        bottom,
-    };
-    open_line(text, "strong", tick)?;
-    put_run_title(text, lines, run)?;
-    close_line(text)?;
-    let number = run.first.number;
+    let tick = Area::upright(x, bottom.saturating_sub(TICK), bottom);
+    open_line(drawing, "strong", tick)?;
+    put_run_title(drawing, run)?;
+    close_line(drawing)?;
+    let number = run.first.attempt.number;
     let half = width_of_number(number) / 2;
     if x < free.saturating_add(half) {
         return Ok(free);
     }
-    put_number(text, "c", x, bottom.saturating_sub(TICK + 3), number)?;
+    put_number(drawing, "c", x, bottom.saturating_sub(TICK + 3), number)?;
     Ok(x.saturating_add(half).saturating_add(5))
 }
 
 /// Draws a mark: a box where the cell would have been, with a cross.
-fn put_mark(
-    text: &mut String,
-    lines: &ScriptLines<'_>,
-    scale: &Scale,
-    run: &ColumnAttempts,
-) -> Result<(), AllocError> {
+fn put_mark(drawing: &mut Drawing<'_>, run: &ColumnAttempts<'_>) -> Drawn {
+    let scale = drawing.scale;
     let x = scale.x(run.column);
     let end = scale.x(run.column.saturating_add(1));
-    let area = Area {
-        left: x,
-        top: scale.y(run.high),
-        right: end.min(x.saturating_add(WIDEST)),
-        bottom: scale.y(run.low),
-    };
+    let area = Area::between(
+        x,
+        scale.y(run.high),
+        end.min(x.saturating_add(WIDEST)),
+        scale.y(run.low),
+    );
     let area = area.at_least(LEAST, LEAST);
-    let class = match run.first.answer {
+    let class = match run.first.attempt.answer {
         Answer::Refused => "ref",
         Answer::Simulated | Answer::Granted => "sim",
     };
-    put_cross(text, class, area)?;
-    open_rect(text, class, area)?;
-    put_run_title(text, lines, run)?;
-    close_rect(text)
+    put_cross(drawing, class, area)?;
+    open_rect(drawing, class, area)?;
+    put_run_title(drawing, run)?;
+    close_rect(drawing)
 }
 
-fn put_cross(text: &mut String, class: &str, area: Area) -> Result<(), AllocError> {
+fn put_cross(drawing: &mut Drawing<'_>, class: &str, area: Area) -> Drawn {
     let Area {
         left,
         top,
@@ -164,22 +149,18 @@ fn put_cross(text: &mut String, class: &str, area: Area) -> Result<(), AllocErro
         bottom,
     } = area;
     write!(
-        text,
+        drawing.text,
         "<path class=\"{class}\" d=\"M{left} {top}L{right} {bottom}M{right} {top}L{left} {bottom}\"/>\n"
     )
 }
 
-fn put_run_title(
-    text: &mut String,
-    lines: &ScriptLines<'_>,
-    run: &ColumnAttempts,
-) -> Result<(), AllocError> {
+fn put_run_title(drawing: &mut Drawing<'_>, run: &ColumnAttempts<'_>) -> Drawn {
     if run.count == 1 {
-        return put_attempt_title(text, lines, &run.first);
+        return put_attempt_title(drawing, &run.first);
     }
     let count = run.count;
-    let (first, last) = (run.first.number, run.last.number);
-    write!(text, "{count} attempts, from {first} to {last}")?;
+    let (first, last) = (run.first.attempt.number, run.last.attempt.number);
+    write!(drawing.text, "{count} attempts, from {first} to {last}")?;
     let failed = run.failed;
-    write!(text, ", of which {failed} failed")
+    write!(drawing.text, ", of which {failed} failed")
 }

@@ -3,18 +3,17 @@
 use crate::axes::{put_frame, put_gaps};
 use crate::bands::{BAND, put_band};
 use crate::boxes::{put_cells, put_names};
+use crate::drawing::{Drawing, Drawn};
 use crate::endings::put_ending;
 use crate::groups::groups_of;
-use crate::labels::{close_line, close_text, open_line, open_text};
+use crate::labels::{put_path, put_text};
 use crate::leaks::{LeakLabel, labels_of, put_labels};
 use crate::lengths::{put_lengths, put_rises, rises_of};
-use crate::lines::ScriptLines;
 use crate::marks::{put_failed, put_ticks};
 use crate::ranges::put_ranges;
 use crate::refusals::put_refusals;
 use crate::scale::{Area, Scale};
-use crate::watch::{LocatedAttempt, WatchedRun};
-use std::alloc::AllocError;
+use wb_history::{AttemptMade, WatchedRun};
 use wb_model::heap::Answer;
 use wb_model::lengths::LengthRange;
 
@@ -47,114 +46,119 @@ pub struct Depths {
     pub items: u32,
 }
 
+impl Depths {
+    /// Returns the greater of each two.
+    pub fn or_greater(self, other: Depths) -> Depths {
+        Depths {
+            levels: self.levels.max(other.levels),
+            traps: self.traps.max(other.traps),
+            items: self.items.max(other.items),
+        }
+    }
+}
+
 /// A run, or the end of one, and where it is drawn.
 #[derive(Clone, Copy)]
-pub struct Panel<'a, 'b> {
-    pub run: &'a WatchedRun,
-    pub lines: &'a ScriptLines<'b>,
+pub struct Panel<'a> {
+    pub run: &'a WatchedRun<'a>,
     pub scale: Scale,
     pub depths: Depths,
     /// The attempts that are drawn: all of the run, or its last ones.
-    pub attempts: &'a [LocatedAttempt],
+    pub attempts: &'a [AttemptMade<'a>],
     /// What is at the side.
     pub table: Table<'a>,
     /// The most rectangles of cells.
     pub most_cells: usize,
     /// The attempt with which the lower run of two begins to fail.
-    pub failing: Option<LocatedAttempt>,
+    pub failing: Option<AttemptMade<'a>>,
 }
 
 /// Draws a panel, but for its heading. The leaks come after all lines, and what is written on cells comes last, so that nothing is over it.
-pub fn put_panel(text: &mut String, panel: &Panel<'_, '_>) -> Result<(), AllocError> {
-    let parts = panel.run.course.cells.parts();
-    let alloc = *text.allocator();
+pub fn put_panel(drawing: &mut Drawing<'_>, panel: &Panel<'_>) -> Drawn {
+    drawing.scale = panel.scale;
+    let parts = panel.run.history.course.parts();
+    let alloc = *drawing.text.allocator();
     let found = groups_of(alloc, parts, &panel.scale, panel.most_cells)?;
     let groups = found.groups.as_slice();
-    put_frame(text, &panel.scale)?;
-    put_cells(text, panel, groups, false)?;
+    put_frame(drawing)?;
+    put_cells(drawing, panel, groups, false)?;
     if found.is_partial {
-        put_omission(text, &panel.scale)?;
+        put_omission(drawing)?;
     }
-    let labels = labels_of(alloc, panel, groups)?;
-    put_lines(text, panel, labels.as_slice())?;
-    put_bands(text, panel)?;
-    put_cells(text, panel, groups, true)?;
-    put_gaps(text, &panel.scale)?;
-    put_names(text, panel, groups, labels.as_slice())?;
-    put_labels(text, panel, labels.as_slice())
+    let labels = labels_of(drawing, panel, groups)?;
+    put_lines(drawing, panel, labels.as_slice())?;
+    put_bands(drawing, panel)?;
+    put_cells(drawing, panel, groups, true)?;
+    put_gaps(drawing)?;
+    put_names(drawing, panel, groups, labels.as_slice())?;
+    put_labels(drawing, panel, labels.as_slice())
 }
 
 /// Says that not all cells are drawn.
-fn put_omission(text: &mut String, scale: &Scale) -> Result<(), AllocError> {
-    let (left, bottom) = (scale.frame.left, scale.frame.bottom());
-    open_text(
-        text,
+fn put_omission(drawing: &mut Drawing<'_>) -> Drawn {
+    let frame = drawing.scale.frame;
+    let (x, y) = (
+        frame.left.saturating_add(6),
+        frame.bottom().saturating_sub(6),
+    );
+    put_text(
+        drawing,
         "dim",
-        left.saturating_add(6),
-        bottom.saturating_sub(6),
-    )?;
-    text.push_str("cells that stay as they are from here on are left out")?;
-    close_text(text)
+        x,
+        y,
+        "cells that stay as they are from here on are left out",
+    )
 }
 
 /// Draws what is over the cells: lengths, attempts, and how the run ended.
-fn put_lines(
-    text: &mut String,
-    panel: &Panel<'_, '_>,
-    labels: &[LeakLabel],
-) -> Result<(), AllocError> {
-    put_lengths(text, &panel.scale, panel.run)?;
-    let rises = rises_of(*text.allocator(), panel.run, panel.scale.columns.first)?;
-    put_rises(text, panel.lines, &panel.scale, rises.as_slice(), labels)?;
+fn put_lines(drawing: &mut Drawing<'_>, panel: &Panel<'_>, labels: &[LeakLabel]) -> Drawn {
+    let scale = drawing.scale;
+    put_lengths(drawing, panel.run)?;
+    let rises = rises_of(*drawing.text.allocator(), panel.run, scale.columns.first)?;
+    put_rises(drawing, rises.as_slice(), labels)?;
     match panel.table {
         Table::Nothing => {}
-        Table::Refusals => put_refusals(text, panel.lines, &panel.scale, rises.as_slice())?,
-        Table::Lengths(ranges) => put_ranges(text, &panel.scale, ranges)?,
+        Table::Refusals => put_refusals(drawing, rises.as_slice())?,
+        Table::Lengths(ranges) => put_ranges(drawing, ranges)?,
     }
-    put_attempts(text, panel)?;
-    put_ending(text, panel.lines, &panel.scale, panel.run)?;
-    put_failing_step(text, panel)
+    put_attempts(drawing, panel)?;
+    put_ending(drawing, panel.run)?;
+    put_failing_step(drawing, panel)
 }
 
 /// Draws the part that is in this panel of the line at which the lower run begins to fail.
-fn put_failing_step(text: &mut String, panel: &Panel<'_, '_>) -> Result<(), AllocError> {
+fn put_failing_step(drawing: &mut Drawing<'_>, panel: &Panel<'_>) -> Drawn {
+    let scale = drawing.scale;
     let Some(attempt) = panel.failing else {
         return Ok(());
     };
-    if attempt.step < panel.scale.columns.first {
+    if attempt.step < scale.columns.first {
         return Ok(());
     }
-    let frame = panel.scale.frame;
-    let x = panel.scale.x_of_step(attempt.step);
-    let line = Area {
-        left: x,
-        top: frame.top,
-        right: x,
-        bottom: frame.bottom().saturating_add(UNDER - 14),
-    };
-    open_line(text, "fail strong", line)?;
-    let (number, step) = (attempt.number, attempt.step);
-    write!(
-        text,
-        "attempt {number}, in step {step}: from here on the run below fails"
-    )?;
-    close_line(text)
+    let frame = scale.frame;
+    let x = scale.x_of_step(attempt.step);
+    let line = Area::upright(x, frame.top, frame.bottom().saturating_add(UNDER - 14));
+    let (number, step) = (attempt.attempt.number, attempt.step);
+    put_path(
+        drawing,
+        "fail strong",
+        line,
+        format_args!("attempt {number}, in step {step}: from here on the run below fails"),
+    )
 }
 
-fn put_attempts(text: &mut String, panel: &Panel<'_, '_>) -> Result<(), AllocError> {
-    let (attempts, lines, scale) = (panel.attempts, panel.lines, &panel.scale);
-    put_failed(text, lines, scale, attempts, Answer::Refused)?;
-    put_failed(text, lines, scale, attempts, Answer::Simulated)?;
-    put_ticks(text, lines, scale, attempts)
+fn put_attempts(drawing: &mut Drawing<'_>, panel: &Panel<'_>) -> Drawn {
+    put_failed(drawing, panel.attempts, Answer::Refused)?;
+    put_failed(drawing, panel.attempts, Answer::Simulated)?;
+    put_ticks(drawing, panel.attempts)
 }
 
-fn put_bands(text: &mut String, panel: &Panel<'_, '_>) -> Result<(), AllocError> {
-    let (course, depths) = (&panel.run.course, panel.depths);
-    let scale = &panel.scale;
-    let top = scale.frame.bottom().saturating_add(BELOW);
-    put_band(text, "marks", scale, &course.levels, depths.levels, top)?;
+fn put_bands(drawing: &mut Drawing<'_>, panel: &Panel<'_>) -> Drawn {
+    let (course, depths) = (&panel.run.history.course, panel.depths);
+    let top = drawing.scale.frame.bottom().saturating_add(BELOW);
+    put_band(drawing, "marks", &course.levels, depths.levels, top)?;
     let top = top.saturating_add(BAND_STEP);
-    put_band(text, "TRAPs", scale, &course.traps, depths.traps, top)?;
+    put_band(drawing, "TRAPs", &course.traps, depths.traps, top)?;
     let top = top.saturating_add(BAND_STEP);
-    put_band(text, "cleanup", scale, &course.items, depths.items, top)
+    put_band(drawing, "cleanup", &course.items, depths.items, top)
 }

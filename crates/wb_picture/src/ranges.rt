@@ -1,10 +1,10 @@
 //! How runs end in heaps of every length, at the side of a panel: each range of lengths beside the part of the heap that fits in it.
 
+use crate::drawing::{Drawing, Drawn};
 use crate::endings::put_run_end;
-use crate::labels::{close_rect, close_text, open_rect, open_text};
-use crate::refusals::{BAR, BESIDE, LEAST, LEAST_WITH_TEXT};
-use crate::scale::{Area, Scale};
-use std::alloc::AllocError;
+use crate::labels::{close_rect, close_text, open_rect};
+use crate::refusals::{LEAST, LEAST_WITH_TEXT, bar_of, open_beside, put_head};
+use crate::scale::Scale;
 use wb_model::lengths::LengthRange;
 
 /// Ranges one after the other that are drawn as one: from a length up to before another.
@@ -45,12 +45,9 @@ impl Stretch {
 }
 
 /// Draws a table, up to the end of the frame. Ranges too low to be seen are drawn as one.
-pub fn put_ranges(
-    text: &mut String,
-    scale: &Scale,
-    ranges: &[LengthRange],
-) -> Result<(), AllocError> {
-    put_head(text, scale)?;
+pub fn put_ranges(drawing: &mut Drawing<'_>, ranges: &[LengthRange]) -> Drawn {
+    let scale = drawing.scale;
+    put_head(drawing, "how runs end in other heaps")?;
     let mut open: Option<Stretch> = None;
     let mut drawn = 0u32;
     for index in 0..ranges.len() {
@@ -62,24 +59,17 @@ pub fn put_ranges(
         }
         let until = end_of_range(ranges, index).min(scale.places.reach);
         let stretch = stretch_with(open.take(), range, until);
-        if stretch.height(scale) < LEAST {
+        if stretch.height(&scale) < LEAST {
             open = Some(stretch);
         } else {
-            put_stretch(text, scale, &stretch, drawn)?;
+            put_stretch(drawing, &stretch, drawn)?;
             drawn = drawn.saturating_add(1);
         }
     }
     match open {
-        Some(stretch) => put_stretch(text, scale, &stretch, drawn),
+        Some(stretch) => put_stretch(drawing, &stretch, drawn),
         None => Ok(()),
     }
-}
-
-fn put_head(text: &mut String, scale: &Scale) -> Result<(), AllocError> {
-    let x = scale.frame.right().saturating_add(BESIDE);
-    open_text(text, "dim", x, scale.frame.top.saturating_sub(9))?;
-    text.push_str("how runs end in other heaps")?;
-    close_text(text)
 }
 
 /// Up to before which length a range goes, by its index.
@@ -104,39 +94,26 @@ fn stretch_with(open: Option<Stretch>, range: &LengthRange, until: u32) -> Stret
     }
 }
 
-fn put_stretch(
-    text: &mut String,
-    scale: &Scale,
-    stretch: &Stretch,
-    index: u32,
-) -> Result<(), AllocError> {
-    let left = scale.frame.right().saturating_add(BESIDE);
-    let area = Area {
-        left,
-        top: scale.y(stretch.until),
-        right: left.saturating_add(BAR),
-        bottom: scale.y(stretch.from),
-    };
-    let area = area.at_least(BAR, LEAST);
-    open_rect(text, stretch.class(index), area)?;
-    put_stretch_title(text, stretch)?;
-    close_rect(text)?;
+fn put_stretch(drawing: &mut Drawing<'_>, stretch: &Stretch, index: u32) -> Drawn {
+    let area = bar_of(&drawing.scale, stretch.from, stretch.until);
+    open_rect(drawing, stretch.class(index), area)?;
+    put_stretch_title(drawing, stretch)?;
+    close_rect(drawing)?;
     if area.height() < LEAST_WITH_TEXT {
         return Ok(());
     }
-    let y = area.middle().saturating_add(4);
-    open_text(text, "", area.right.saturating_add(6), y)?;
-    put_stretch_title(text, stretch)?;
-    close_text(text)
+    open_beside(drawing, area)?;
+    put_stretch_title(drawing, stretch)?;
+    close_text(drawing)
 }
 
 /// From which length on runs end how; of several ranges that the runs end in several ways.
-fn put_stretch_title(text: &mut String, stretch: &Stretch) -> Result<(), AllocError> {
+fn put_stretch_title(drawing: &mut Drawing<'_>, stretch: &Stretch) -> Drawn {
     let (from, count) = (stretch.from, stretch.count);
-    write!(text, "from {from} ")?;
+    write!(drawing.text, "from {from} ")?;
     if count == 1 {
-        return put_run_end(text, stretch.first.end);
+        return put_run_end(drawing, stretch.first.end);
     }
-    write!(text, "{count} ranges")?;
-    text.push_str(if stretch.is_bad { ", some bad" } else { "" })
+    let some = if stretch.is_bad { ", some bad" } else { "" };
+    write!(drawing.text, "{count} ranges{some}")
 }

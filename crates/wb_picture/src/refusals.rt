@@ -1,15 +1,15 @@
 //! What shorter heaps refuse first, at the side of a panel: each range of lengths beside the part of the heap that it would cut.
 
-use crate::labels::{close_rect, close_text, open_rect, open_text};
-use crate::lines::ScriptLines;
+use crate::drawing::{Drawing, Drawn};
+use crate::escape::put_line;
+use crate::labels::{close_rect, close_text, open_rect, open_text, put_text};
 use crate::scale::{Area, Scale};
-use crate::watch::LocatedAttempt;
-use std::alloc::AllocError;
+use wb_history::AttemptMade;
 
 /// How far the table is from the frame, with room for labels between, and how wide its bar is, in pixels.
 pub const BESIDE: u32 = 212;
 
-pub const BAR: u32 = 12;
+const BAR: u32 = 12;
 
 /// The least height of a range that is drawn by itself, and of one that has a text.
 pub const LEAST: u32 = 2;
@@ -18,45 +18,58 @@ pub const LEAST_WITH_TEXT: u32 = 12;
 
 /// Lengths from one up to before another, and the attempts that a heap of these refuses first.
 #[derive(Clone, Copy)]
-struct Range {
+struct Range<'a> {
     from: u32,
     until: u32,
-    first: LocatedAttempt,
-    last: LocatedAttempt,
+    first: AttemptMade<'a>,
+    last: AttemptMade<'a>,
 }
 
 /// Draws the table of a run by its rises. Ranges too low to be seen are drawn as one.
-pub fn put_refusals(
-    text: &mut String,
-    lines: &ScriptLines<'_>,
-    scale: &Scale,
-    rises: &[LocatedAttempt],
-) -> Result<(), AllocError> {
-    put_head(text, scale)?;
-    let mut open: Option<Range> = None;
+pub fn put_refusals(drawing: &mut Drawing<'_>, rises: &[AttemptMade<'_>]) -> Drawn {
+    let scale = drawing.scale;
+    put_head(drawing, "what shorter heaps refuse first")?;
+    let mut open: Option<Range<'_>> = None;
     let mut from = 0;
     let mut class = "cut1";
     for rise in rises {
         let range = range_with(open.take(), from, rise);
         from = rise.top();
-        if height_of(&range, scale) < LEAST {
+        if height_of(&range, &scale) < LEAST {
             open = Some(range);
         } else {
-            put_range(text, lines, scale, &range, class)?;
+            put_range(drawing, &range, class)?;
             class = other(class);
         }
     }
     if let Some(range) = open {
-        put_range(text, lines, scale, &range, class)?;
+        put_range(drawing, &range, class)?;
     }
     Ok(())
 }
 
-fn put_head(text: &mut String, scale: &Scale) -> Result<(), AllocError> {
-    let x = scale.frame.right().saturating_add(BESIDE);
-    open_text(text, "dim", x, scale.frame.top.saturating_sub(9))?;
-    text.push_str("what shorter heaps refuse first")?;
-    close_text(text)
+/// Writes what a table is of.
+pub fn put_head(drawing: &mut Drawing<'_>, words: &str) -> Drawn {
+    let frame = drawing.scale.frame;
+    let x = frame.right().saturating_add(BESIDE);
+    put_text(drawing, "dim", x, frame.top.saturating_sub(9), words)
+}
+
+/// The bar of lengths from one up to before another, in bytes.
+pub fn bar_of(scale: &Scale, from: u32, until: u32) -> Area {
+    let left = scale.frame.right().saturating_add(BESIDE);
+    let right = left.saturating_add(BAR);
+    Area::between(left, scale.y(until), right, scale.y(from)).at_least(BAR, LEAST)
+}
+
+/// Opens the text beside a bar.
+pub fn open_beside(drawing: &mut Drawing<'_>, bar: Area) -> Drawn {
+    open_text(
+        drawing,
+        "",
+        bar.right.saturating_add(6),
+        bar.middle().saturating_add(4),
+    )
 }
 
 fn other(class: &'static str) -> &'static str {
@@ -64,7 +77,7 @@ fn other(class: &'static str) -> &'static str {
 }
 
 /// The range that an open one and that of a rise make.
-fn range_with(open: Option<Range>, from: u32, rise: &LocatedAttempt) -> Range {
+fn range_with<'a>(open: Option<Range<'a>>, from: u32, rise: &AttemptMade<'a>) -> Range<'a> {
     match open {
         Some(range) => Range {
             until: rise.top(),
@@ -80,43 +93,33 @@ fn range_with(open: Option<Range>, from: u32, rise: &LocatedAttempt) -> Range {
     }
 }
 
-fn height_of(range: &Range, scale: &Scale) -> u32 {
+fn height_of(range: &Range<'_>, scale: &Scale) -> u32 {
     scale.y(range.from).saturating_sub(scale.y(range.until))
 }
 
-fn put_range(
-    text: &mut String,
-    lines: &ScriptLines<'_>,
-    scale: &Scale,
-    range: &Range,
-    class: &str,
-) -> Result<(), AllocError> {
-    let left = scale.frame.right().saturating_add(BESIDE);
-    let area = Area {
-        left,
-        top: scale.y(range.until),
-        right: left.saturating_add(BAR),
-        bottom: scale.y(range.from),
-    };
-    let area = area.at_least(BAR, LEAST);
-    open_rect(text, class, area)?;
-    put_range_title(text, range)?;
-    lines.put_line(text, range.first.line)?;
-    close_rect(text)?;
+fn put_range(drawing: &mut Drawing<'_>, range: &Range<'_>, class: &str) -> Drawn {
+    let area = bar_of(&drawing.scale, range.from, range.until);
+    open_rect(drawing, class, area)?;
+    put_range_title(drawing, range)?;
+    put_line(drawing, range.first.maker.line)?;
+    close_rect(drawing)?;
     if area.height() < LEAST_WITH_TEXT {
         return Ok(());
     }
-    let y = area.middle().saturating_add(4);
-    open_text(text, "", area.right.saturating_add(6), y)?;
-    put_range_title(text, range)?;
-    close_text(text)
+    open_beside(drawing, area)?;
+    put_range_title(drawing, range)?;
+    close_text(drawing)
 }
 
-fn put_range_title(text: &mut String, range: &Range) -> Result<(), AllocError> {
-    let (from, first, last) = (range.from, range.first.number, range.last.number);
-    write!(text, "from {from} refuses {first}")?;
+fn put_range_title(drawing: &mut Drawing<'_>, range: &Range<'_>) -> Drawn {
+    let (from, first, last) = (
+        range.from,
+        range.first.attempt.number,
+        range.last.attempt.number,
+    );
+    write!(drawing.text, "from {from} refuses {first}")?;
     if first != last {
-        write!(text, " .. {last}")?;
+        write!(drawing.text, " .. {last}")?;
     }
     Ok(())
 }

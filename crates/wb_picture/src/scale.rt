@@ -42,6 +42,26 @@ impl Frame {
 }
 
 impl Area {
+    /// A line straight down.
+    pub fn upright(x: u32, top: u32, bottom: u32) -> Area {
+        Area::between(x, top, x, bottom)
+    }
+
+    /// A line across.
+    pub fn level(left: u32, right: u32, y: u32) -> Area {
+        Area::between(left, y, right, y)
+    }
+
+    /// The area between these edges.
+    pub fn between(left: u32, top: u32, right: u32, bottom: u32) -> Area {
+        Area {
+            left,
+            top,
+            right,
+            bottom,
+        }
+    }
+
     pub fn width(&self) -> u32 {
         self.right.saturating_sub(self.left)
     }

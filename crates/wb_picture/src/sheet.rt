@@ -1,20 +1,21 @@
 //! A picture of one run or two as a whole: what its panels share, and where each of them is.
 
 use crate::columns::Columns;
+use crate::drawing::{Drawing, Drawn};
 use crate::end_of_run::first_of_end;
 use crate::folding::Edges;
-use crate::labels::{close_text, open_text};
+use crate::labels::put_text;
 use crate::legend::Legend;
 use crate::lengths::longest_end;
-use crate::lines::{ScriptFile, ScriptLines};
 use crate::page::{close_page, open_page, put_end_heading, put_heading_text, put_script_name};
 use crate::panel::{ABOVE, Depths, Panel, Table, UNDER, put_panel};
 use crate::places::Places;
 use crate::refusals::BESIDE;
 use crate::scale::{Frame, Scale};
-use crate::watch::{LocatedAttempt, WatchedRun};
+use crate::shown::ShownRuns;
 use std::alloc::{AllocError, Global};
-use wb_model::heap::{Answer, Rule};
+use wb_history::{AttemptMade, ScriptLines, WatchedRun};
+use wb_model::heap::Rule;
 
 /// The left and the upper margin of a picture, and how wide a table is, in pixels.
 const LEFT: u32 = 76;
@@ -30,6 +31,9 @@ const HEIGHT: u32 = 340;
 
 const HEIGHT_OF_TWO: u32 = 260;
 
+/// The least place that is the highest of a frame, in bytes.
+const LEAST_SHOWN: u32 = 16;
+
 /// The most columns of a picture, and the most rectangles of cells.
 const MOST_COLUMNS: u32 = 2000;
 
@@ -44,13 +48,12 @@ struct EndOfRun {
 
 /// What all panels of a picture share.
 #[derive(Clone, Copy)]
-struct Sheet<'a, 'b> {
-    lines: &'a ScriptLines<'b>,
+struct Sheet<'a> {
     columns: Columns,
     places: Places,
     depths: Depths,
     /// The attempt with which the lower run of two begins to fail.
-    failing: Option<LocatedAttempt>,
+    failing: Option<AttemptMade<'a>>,
     /// The end of the last run, if it is drawn once more.
     end: Option<EndOfRun>,
     width: u32,
@@ -58,41 +61,43 @@ struct Sheet<'a, 'b> {
     most_cells: usize,
 }
 
-/// Draws one run or two, with a table at the side of the first.
-pub fn draw(
+/// Returns the picture of these runs, with a table at the side of the first. The only error is that memory ran out.
+pub fn draw<'a>(
     alloc: Global,
-    file: ScriptFile<'_>,
-    runs: &[&WatchedRun],
-    table: Table<'_>,
+    lines: &'a ScriptLines<'a>,
+    runs: ShownRuns<'a>,
+    table: Table<'a>,
 ) -> Result<String, AllocError> {
-    let lines = ScriptLines::of(alloc, file)?;
-    let mut text = String::new(alloc);
-    let sheet = sheet_for(alloc, &lines, runs)?;
-    put_page(&mut text, &sheet, runs, table)?;
-    Ok(text)
+    let sheet = sheet_for(alloc, runs)?;
+    let mut drawing = Drawing {
+        text: String::new(alloc),
+        lines,
+        scale: sheet.scale_at(0, 0),
+    };
+    put_page(&mut drawing, &sheet, runs, table)?;
+    Ok(drawing.text)
 }
 
 fn put_page<'a>(
-    text: &mut String,
-    sheet: &Sheet<'a, '_>,
-    runs: &[&'a WatchedRun],
+    drawing: &mut Drawing<'_>,
+    sheet: &Sheet<'a>,
+    runs: ShownRuns<'a>,
     table: Table<'a>,
-) -> Result<(), AllocError> {
-    let lines = sheet.lines;
+) -> Drawn {
     let right = LEFT.saturating_add(sheet.width).saturating_add(BESIDE);
     let width = right.saturating_add(width_of(table));
-    let count = u32::try_from(runs.len()).unwrap_or(2);
-    let bottom = sheet.panel_top(count.saturating_add(u32::from(sheet.end.is_some())));
+    let panels = runs.count().saturating_add(u32::from(sheet.end.is_some()));
+    let bottom = sheet.panel_top(panels);
     let edges = (LEFT, width);
-    let legend = Legend::of(*text.allocator(), lines, runs, sheet.is_folded(), edges)?;
+    let legend = Legend::of(drawing, runs, sheet.is_folded(), edges)?;
     let below = legend.height().saturating_add(30);
     let height = bottom.saturating_add(below);
-    open_page(text, width, height, lines, runs)?;
-    put_script_name(text, lines, LEFT, 22)?;
-    put_panels(text, sheet, runs, table)?;
-    legend.put(text, bottom.saturating_add(14))?;
-    put_note(text, sheet, height.saturating_sub(10))?;
-    close_page(text)
+    open_page(drawing, width, height, runs)?;
+    put_script_name(drawing, LEFT, 22)?;
+    put_panels(drawing, sheet, runs, table)?;
+    legend.put(drawing, bottom.saturating_add(14))?;
+    put_note(drawing, sheet, height.saturating_sub(10))?;
+    close_page(drawing)
 }
 
 /// How wide a table is, in pixels.
@@ -104,38 +109,49 @@ fn width_of(table: Table<'_>) -> u32 {
 }
 
 fn put_panels<'a>(
-    text: &mut String,
-    sheet: &Sheet<'a, '_>,
-    runs: &[&'a WatchedRun],
+    drawing: &mut Drawing<'_>,
+    sheet: &Sheet<'a>,
+    runs: ShownRuns<'a>,
     table: Table<'a>,
-) -> Result<(), AllocError> {
-    let mut index = 0u32;
-    for run in runs {
-        let top = sheet.panel_top(index);
-        let side = if index == 0 { table } else { Table::Nothing };
-        put_heading_text(text, run, LEFT, top.saturating_add(16))?;
-        put_panel(text, &sheet.panel(run, top, side))?;
-        index = index.saturating_add(1);
+) -> Drawn {
+    put_run_panel(drawing, sheet, runs.first, 0, table)?;
+    if let Some(second) = runs.second {
+        put_run_panel(drawing, sheet, second, 1, Table::Nothing)?;
     }
-    if let (Some(end), Some(run)) = (sheet.end, runs.last()) {
-        return put_end_panel(text, sheet, run, &end, sheet.panel_top(index));
+    if let Some(end) = sheet.end {
+        let top = sheet.panel_top(runs.count());
+        return put_end_panel(drawing, sheet, runs.last(), &end, top);
     }
     Ok(())
 }
 
+/// Draws a whole run, in the panel with this index.
+fn put_run_panel<'a>(
+    drawing: &mut Drawing<'_>,
+    sheet: &Sheet<'a>,
+    run: &'a WatchedRun<'a>,
+    index: u32,
+    table: Table<'a>,
+) -> Drawn {
+    let top = sheet.panel_top(index);
+    put_heading_text(drawing, run, LEFT, top.saturating_add(16))?;
+    let panel = sheet.panel(run, top, table);
+    put_panel(drawing, &panel)
+}
+
 /// Draws the end of a run once more, as wide as the whole run.
 fn put_end_panel<'a>(
-    text: &mut String,
-    sheet: &Sheet<'a, '_>,
-    run: &'a WatchedRun,
+    drawing: &mut Drawing<'_>,
+    sheet: &Sheet<'a>,
+    run: &'a WatchedRun<'a>,
     end: &EndOfRun,
     top: u32,
-) -> Result<(), AllocError> {
+) -> Drawn {
     let attempts = attempts_from(run, end.first);
-    put_end_heading(text, attempts, LEFT, top.saturating_add(16))?;
+    put_end_heading(drawing, attempts, LEFT, top.saturating_add(16))?;
     let panel = sheet.panel(run, top, Table::Nothing);
     let scale = Scale {
-        columns: Columns::between(end.first, run.course.steps, MOST_COLUMNS / 2),
+        columns: Columns::between(end.first, run.history.steps(), MOST_COLUMNS / 2),
         places: end.places,
         ..panel.scale
     };
@@ -144,12 +160,12 @@ fn put_end_panel<'a>(
         scale,
         ..panel
     };
-    put_panel(text, &panel)
+    put_panel(drawing, &panel)
 }
 
 /// The attempts of a run from a step on.
-fn attempts_from(run: &WatchedRun, first: u32) -> &[LocatedAttempt] {
-    let attempts = run.course.attempts.as_slice();
+fn attempts_from<'a>(run: &'a WatchedRun<'a>, first: u32) -> &'a [AttemptMade<'a>] {
+    let attempts = run.history.attempts.kept_attempts();
     let mut before = 0usize;
     for attempt in attempts {
         if attempt.step < first {
@@ -159,138 +175,125 @@ fn attempts_from(run: &WatchedRun, first: u32) -> &[LocatedAttempt] {
     attempts.get(before..).unwrap_or(attempts)
 }
 
-/// Returns the attempt with which the lower run of two begins to fail; `None` if there is one run.
-fn failing_attempt(runs: &[&WatchedRun]) -> Option<LocatedAttempt> {
-    match runs {
-        [_, failing] => first_failing(failing),
-        _ => None,
-    }
-}
-
 /// The first attempt that the run's own rule made fail.
-fn first_failing(run: &WatchedRun) -> Option<LocatedAttempt> {
-    let attempts = run.course.attempts.as_slice();
-    let number = match &run.rule {
-        Rule::Number(number) | Rule::Every(number) | Rule::Pair(number, _) => *number,
-        Rule::Set(numbers) => *numbers.get(0)?,
-        Rule::Limit(_) => return first_refused(attempts),
-        Rule::Unlimited => return None,
-    };
-    let at = number.checked_sub(1)? as usize;
-    attempts.get(at).copied()
-}
-
-/// The first attempt that the limit refused.
-fn first_refused(attempts: &[LocatedAttempt]) -> Option<LocatedAttempt> {
-    for it in attempts {
-        if it.answer == Answer::Refused {
-            return Some(*it);
+fn first_failing<'a>(run: &'a WatchedRun<'a>) -> Option<AttemptMade<'a>> {
+    let attempts = &run.history.attempts;
+    match &run.parameters.rule {
+        Rule::Number(number) | Rule::Every(number) | Rule::Pair(number, _) => {
+            attempts.find(*number)
         }
+        Rule::Set(numbers) => attempts.find(*numbers.get(0)?),
+        Rule::Limit(_) => attempts.first_refused(),
+        Rule::Unlimited => None,
     }
-    None
 }
 
 /// What the panels of these runs share: their columns, their places, and their size.
-fn sheet_for<'a, 'b>(
-    alloc: Global,
-    lines: &'a ScriptLines<'b>,
-    runs: &[&WatchedRun],
-) -> Result<Sheet<'a, 'b>, AllocError> {
-    let mut last = 0;
-    for run in runs {
-        last = run.course.steps.max(last);
-    }
-    let is_one = runs.len() == 1;
-    let most = if is_one {
-        MOST_COLUMNS
-    } else {
-        MOST_COLUMNS / 2
+fn sheet_for<'a>(alloc: Global, runs: ShownRuns<'a>) -> Result<Sheet<'a>, AllocError> {
+    let (columns, depths, failing, height, most_cells) = match runs.second {
+        None => (
+            Columns::between(0, runs.first.history.steps(), MOST_COLUMNS),
+            depths_of(runs.first),
+            None,
+            HEIGHT,
+            MOST_CELLS,
+        ),
+        Some(second) => (
+            columns_of_two(runs.first, second),
+            depths_of(runs.first).or_greater(depths_of(second)),
+            first_failing(second),
+            HEIGHT_OF_TWO,
+            MOST_CELLS / 2,
+        ),
     };
-    let columns = Columns::between(0, last, most);
     Ok(Sheet {
-        lines,
         columns,
         places: places_of(alloc, runs, 0)?,
-        depths: depths_of(runs),
-        failing: failing_attempt(runs),
+        depths,
+        failing,
         end: end_of_last(alloc, runs)?,
         width: columns.count.max(LEAST_WIDTH),
-        height: if is_one { HEIGHT } else { HEIGHT_OF_TWO },
-        most_cells: if is_one { MOST_CELLS } else { MOST_CELLS / 2 },
+        height,
+        most_cells,
     })
 }
 
+/// The columns that two runs share.
+fn columns_of_two(first: &WatchedRun<'_>, second: &WatchedRun<'_>) -> Columns {
+    let last = first.history.steps().max(second.history.steps());
+    Columns::between(0, last, MOST_COLUMNS / 2)
+}
+
 /// The end of the last of these runs, if it is drawn once more.
-fn end_of_last(alloc: Global, runs: &[&WatchedRun]) -> Result<Option<EndOfRun>, AllocError> {
-    let Some(run) = runs.last() else {
-        return Ok(None);
-    };
+fn end_of_last(alloc: Global, runs: ShownRuns<'_>) -> Result<Option<EndOfRun>, AllocError> {
+    let run = runs.last();
     let Some(first) = first_of_end(run) else {
         return Ok(None);
     };
-    let places = places_of(alloc, &[*run], first)?;
+    let places = places_of(alloc, ShownRuns::one(run), first)?;
     Ok(Some(EndOfRun { first, places }))
 }
 
-/// The greatest depths of these runs.
-fn depths_of(runs: &[&WatchedRun]) -> Depths {
-    let mut depths = Depths {
-        levels: 0,
-        traps: 0,
-        items: 0,
-    };
-    for run in runs {
-        depths.levels = run.course.levels.greatest().max(depths.levels);
-        depths.traps = run.course.traps.greatest().max(depths.traps);
-        depths.items = run.course.items.greatest().max(depths.items);
+/// The greatest depths of a run.
+fn depths_of(run: &WatchedRun<'_>) -> Depths {
+    Depths {
+        levels: run.history.course.levels.greatest(),
+        traps: run.history.course.traps.greatest(),
+        items: run.history.course.items.greatest(),
     }
-    depths
 }
 
 /// The places that the frames of these runs show. Those are drawn shorter in which nothing begins or ends from a step on, if they would
 /// leave little room for the others.
-fn places_of(alloc: Global, runs: &[&WatchedRun], first: u32) -> Result<Places, AllocError> {
-    let mut highest = 16;
-    for run in runs {
-        highest = highest_shown(run).max(highest);
-    }
+fn places_of(alloc: Global, runs: ShownRuns<'_>, first: u32) -> Result<Places, AllocError> {
+    let highest = highest_of(runs);
     let mut edges = Edges::up_to(alloc, highest)?;
-    for run in runs {
-        add_edges(&mut edges, run, first);
+    add_edges(&mut edges, runs.first, first);
+    if let Some(second) = runs.second {
+        add_edges(&mut edges, second, first);
     }
     Ok(edges.fold(alloc, Places::up_to(highest))?.with_margin())
 }
 
+/// The highest place that the frames of these runs show.
+fn highest_of(runs: ShownRuns<'_>) -> u32 {
+    let highest = highest_shown(runs.first).max(LEAST_SHOWN);
+    match runs.second {
+        Some(second) => highest_shown(second).max(highest),
+        None => highest,
+    }
+}
+
 /// Adds the edges of a run's cells and attempts that begin or end from a step on.
-fn add_edges(edges: &mut Edges, run: &WatchedRun, first: u32) {
-    for part in run.course.cells.parts() {
-        if part.from >= first || (first <= part.gone && part.gone <= run.course.steps) {
+fn add_edges(edges: &mut Edges, run: &WatchedRun<'_>, first: u32) {
+    for part in run.history.course.parts() {
+        if part.from >= first || (first <= part.gone && part.gone <= run.history.steps()) {
             edges.add(part.place);
             edges.add(part.top());
         }
     }
-    for attempt in run.course.attempts.as_slice() {
+    for attempt in run.history.attempts.kept_attempts() {
         if attempt.step >= first && !attempt.is_granted() {
-            edges.add(attempt.place);
+            edges.add(attempt.attempt.place);
             edges.add(attempt.top());
         }
     }
-    if let Rule::Limit(limit) = &run.rule {
+    if let Rule::Limit(limit) = &run.parameters.rule {
         edges.add(*limit);
     }
 }
 
 /// The highest place that a run's frame shows: the longest that the heap was, and past that what was refused and the limit, unless these
 /// are so far that little would be left for the cells.
-fn highest_shown(run: &WatchedRun) -> u32 {
-    let attempts = run.course.attempts.as_slice();
+fn highest_shown(run: &WatchedRun<'_>) -> u32 {
+    let attempts = run.history.attempts.kept_attempts();
     let longest = longest_end(attempts);
     let most = longest.saturating_mul(2).max(512);
     let mut highest = longest;
     for it in attempts {
         highest = it.top().min(most).max(highest);
     }
-    if let Rule::Limit(limit) = &run.rule
+    if let Rule::Limit(limit) = &run.parameters.rule
         && *limit <= most
     {
         highest = highest.max(*limit);
@@ -298,7 +301,7 @@ fn highest_shown(run: &WatchedRun) -> u32 {
     highest
 }
 
-impl<'a, 'b> Sheet<'a, 'b> {
+impl<'a> Sheet<'a> {
     /// The top of a panel, by its index.
     fn panel_top(&self, index: u32) -> u32 {
         let height = ABOVE.saturating_add(self.height).saturating_add(UNDER);
@@ -306,13 +309,12 @@ impl<'a, 'b> Sheet<'a, 'b> {
     }
 
     /// The panel of a whole run.
-    fn panel(&self, run: &'a WatchedRun, top: u32, table: Table<'a>) -> Panel<'a, 'b> {
+    fn panel(&self, run: &'a WatchedRun<'a>, top: u32, table: Table<'a>) -> Panel<'a> {
         Panel {
             run,
-            lines: self.lines,
-            scale: self.scale_at(top, run),
+            scale: self.scale_at(top, run.history.steps()),
             depths: self.depths,
-            attempts: run.course.attempts.as_slice(),
+            attempts: run.history.attempts.kept_attempts(),
             table,
             most_cells: self.most_cells,
             failing: self.failing,
@@ -328,7 +330,7 @@ impl<'a, 'b> Sheet<'a, 'b> {
         in_end || self.places.is_folded()
     }
 
-    fn scale_at(&self, top: u32, run: &WatchedRun) -> Scale {
+    fn scale_at(&self, top: u32, last: u32) -> Scale {
         Scale {
             frame: Frame {
                 left: LEFT,
@@ -338,21 +340,24 @@ impl<'a, 'b> Sheet<'a, 'b> {
             },
             columns: self.columns,
             places: self.places,
-            last: run.course.steps,
+            last,
         }
     }
 }
 
 /// Says how much is drawn as one.
-fn put_note(text: &mut String, sheet: &Sheet<'_, '_>, y: u32) -> Result<(), AllocError> {
+fn put_note(drawing: &mut Drawing<'_>, sheet: &Sheet<'_>, y: u32) -> Drawn {
     if sheet.columns.steps == 1 {
         return Ok(());
     }
-    open_text(text, "dim", LEFT, y)?;
     let steps = sheet.columns.steps;
-    write!(
-        text,
-        "Each column is {steps} steps. What falls in one column and looks the same is drawn as one mark, which says how much it is."
-    )?;
-    close_text(text)
+    put_text(
+        drawing,
+        "dim",
+        LEFT,
+        y,
+        format_args!(
+            "Each column is {steps} steps. What falls in one column and looks the same is drawn as one mark, which says how much it is."
+        ),
+    )
 }

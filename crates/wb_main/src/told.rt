@@ -1,0 +1,154 @@
+//! What is made of an answer beside the answer itself: what is said on standard error, and the picture. For both the script is read
+//! once more, and each run that they are about is watched once.
+
+ghost use Rattle.std.specs.Prelude.{IsTrue};
+ghost use Rattle.wb_model.specs.language.Sound.{is_script};
+
+use crate::asked::script_name;
+use crate::explanation::{explain_fault, explain_runs, has_nothing_to_say};
+use crate::recorded::FirstFault;
+use crate::runs::{Answer, Runs, runs_of};
+use std::alloc::Global;
+use wb_history::{ScriptFile, ScriptLines};
+use wb_mistakes::refused_script;
+use wb_model::memory::NoMemory;
+use wb_model::script::Script;
+use wb_picture::{ShownRuns, Table, draw};
+use workbench::Task;
+use workbench::exit_status::READ_OR_WRITE_FAULT;
+use workbench::findings::Findings;
+use workbench::program::Exit;
+
+/// What is made of an answer beside the answer itself.
+#[derive(Drop)]
+pub struct Told {
+    /// What is said on standard error; empty if there is nothing to say.
+    pub text: String,
+    /// The picture; `None` if none is wanted, if there is no report, and if the script is refused.
+    pub picture: Option<String>,
+}
+
+impl Told {
+    fn of_text(text: String) -> Told {
+        Told {
+            text,
+            picture: None,
+        }
+    }
+}
+
+/// Returns what is made of an answer, by what the program's words came to and by what failed first of what was read and written. The
+/// only error is that memory ran out.
+pub fn tell_answer(alloc: Global, exit: &Exit, first: FirstFault) -> Result<Told, NoMemory> {
+    let Some(command) = &exit.command else {
+        return Ok(Told::of_text(String::new(alloc)));
+    };
+    if exit.status == READ_OR_WRITE_FAULT {
+        let text = explain_fault(alloc, command, first)?;
+        return Ok(Told::of_text(text));
+    }
+    let Some(findings) = &exit.findings else {
+        return Ok(Told::of_text(String::new(alloc)));
+    };
+    let answer = Answer {
+        command,
+        findings,
+        status: exit.status,
+    };
+    tell_findings(alloc, answer)
+}
+
+/// Tells of a report. Where there is nothing to say and no picture is wanted, the script isn't read once more.
+fn tell_findings(alloc: Global, answer: Answer<'_>) -> Result<Told, NoMemory> {
+    if answer.command.picture.is_none() && has_nothing_to_say(answer) {
+        return Ok(Told::of_text(String::new(alloc)));
+    }
+    let bytes = answer.findings.bytes.as_slice();
+    match wb_script::read(alloc, bytes) {
+        Ok(script) => tell_runs(alloc, answer, &script),
+        Err(fault) => {
+            let name = script_name(answer.command);
+            let text = refused_script(alloc, name, bytes, &fault)?;
+            Ok(Told::of_text(text))
+        }
+    }
+}
+
+/// What the runs of the report found, and their picture if it is wanted.
+fn tell_runs(alloc: Global, answer: Answer<'_>, script: &Script) -> Result<Told, NoMemory>
+    requires { IsTrue (is_script script.now) }
+{
+    let Ok(text) = str::from_utf8(answer.findings.bytes.as_slice()) else {
+        return Ok(Told::of_text(String::new(alloc)));
+    };
+    let name = script_name(answer.command);
+    let lines = ScriptLines::of(alloc, ScriptFile { name, text })?;
+    let runs = runs_of(alloc, answer, script)?;
+    let text = say_runs(alloc, answer, script, &lines, &runs);
+    let picture = draw_runs(alloc, answer, &lines, &runs);
+    Ok(Told { text, picture })
+}
+
+/// What is said of these runs; nothing if memory runs out.
+fn say_runs(
+    alloc: Global,
+    answer: Answer<'_>,
+    script: &Script,
+    lines: &ScriptLines<'_>,
+    runs: &Runs<'_>,
+) -> String
+    requires { IsTrue (is_script script.now) }
+{
+    if has_nothing_to_say(answer) {
+        return String::new(alloc);
+    }
+    match explain_runs(alloc, answer, script, lines, runs) {
+        Ok(said) => said,
+        Err(NoMemory) => String::new(alloc),
+    }
+}
+
+/// The picture of these runs; `None` if none is wanted, or if memory runs out.
+fn draw_runs(
+    alloc: Global,
+    answer: Answer<'_>,
+    lines: &ScriptLines<'_>,
+    runs: &Runs<'_>,
+) -> Option<String> {
+    let Answer {
+        command,
+        findings,
+        ..
+    } = answer;
+    if command.picture.is_none() {
+        return None;
+    }
+    let Some(shown) = shown_runs(runs) else {
+        return Some(String::new(alloc));
+    };
+    let table = table_of(&command.task, findings);
+    draw(alloc, lines, shown, table).ok()
+}
+
+/// The runs that a picture shows; `None` if there are none.
+fn shown_runs<'a>(runs: &'a Runs<'a>) -> Option<ShownRuns<'a>> {
+    match (&runs.plain, &runs.found) {
+        (Some(first), found) => Some(ShownRuns {
+            first,
+            second: found.as_ref(),
+        }),
+        (None, Some(run)) => Some(ShownRuns::one(run)),
+        (None, None) => None,
+    }
+}
+
+/// What is at the side of a picture.
+fn table_of<'a>(task: &Task, findings: &'a Findings) -> Table<'a> {
+    match (task, &findings.ranges) {
+        (Task::Size | Task::Check(_) | Task::CheckAll(_) | Task::CheckSets(_), _) => {
+            Table::Refusals
+        }
+        (Task::Lengths, Some(ranges)) => Table::Lengths(ranges.as_slice()),
+        _ => Table::Nothing,
+    }
+}
