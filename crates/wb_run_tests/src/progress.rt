@@ -19,8 +19,8 @@ use workbench::program::program;
 struct Listener<'a> {
     /// The failures that are still to be reported.
     to_come: &'static [Failing],
-    /// The sets that are still to be reported.
-    sets_to_come: &'static [&'static [u32]],
+    /// The sets that are still to be reported, of three numbers at most.
+    sets_to_come: &'static [[u32; 3]],
     /// How many attempts those have that follow.
     many: u32,
     /// The lengths that are still to be reported, in bytes.
@@ -61,7 +61,7 @@ impl Progress for Listener<'_> {
     fn begin_set(&mut self, numbers: &Numbers) {
         match self.sets_to_come.split_first() {
             Some((next, rest)) => {
-                self.is_as_wanted &= numbers.as_slice() == *next;
+                self.is_as_wanted &= are_same(numbers, *next);
                 self.is_as_wanted &= numbers.len() as u64 == u64::from(self.many);
                 self.sets_to_come = rest;
             }
@@ -86,6 +86,23 @@ impl Progress for Listener<'_> {
     fn end(&mut self) {
         self.ended = self.ended.wrapping_add(1);
         self.is_under_way.set(false);
+    }
+}
+
+/// Whether these are the numbers of a set, of which one of two numbers ends in 0.
+fn are_same(numbers: &Numbers, set: [u32; 3]) -> bool {
+    let [first, second, third] = set;
+    numbers.len() <= 3
+        && number_at(numbers, 0) == first
+        && number_at(numbers, 1) == second
+        && number_at(numbers, 2) == third
+}
+
+/// The number at an index; 0 past the end.
+fn number_at(numbers: &Numbers, at: usize) -> u32 {
+    match numbers.get(at) {
+        Some(number) => *number,
+        None => 0,
     }
 }
 
@@ -143,7 +160,7 @@ struct Wanted {
     /// How many attempts the run without failure makes, if nothing is found in it.
     last: Option<u32>,
     failures: &'static [Failing],
-    sets: &'static [&'static [u32]],
+    sets: &'static [[u32; 3]],
 }
 
 /// A cell that nobody frees.
@@ -206,7 +223,7 @@ static TOLD: [Wanted; 15] = [
         lengths: &[],
         last: Some(3),
         failures: &[Failing::Number(1), Failing::Number(2), Failing::Number(3)],
-        sets: &[&[2, 3], &[2, 4]],
+        sets: &[[2, 3, 0], [2, 4, 0]],
     },
     // Three attempts fail, each made where those before it have failed.
     Wanted {
@@ -216,7 +233,7 @@ static TOLD: [Wanted; 15] = [
         lengths: &[],
         last: Some(2),
         failures: &[Failing::Number(1), Failing::Number(2)],
-        sets: &[&[2, 3], &[2, 3, 4]],
+        sets: &[[2, 3, 0], [2, 3, 4]],
     },
     Wanted {
         words: &["workbench", "sweep", "--failures=1"],
