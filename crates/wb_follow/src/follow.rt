@@ -42,7 +42,7 @@ pub fn follow_run<O: RowSink>(
     requires greatest { parameters.now.budget ≤ LARGEST_BUDGET }
 {
     if follow_all(alloc, lines, script, parameters, most, sink).is_err() {
-        sink.put(NO_MEMORY);
+        sink.take_rows(NO_MEMORY);
     }
 }
 

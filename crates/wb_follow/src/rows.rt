@@ -19,7 +19,7 @@ const MOST_INDENTS: u32 = 8;
 /// Where rows go.
 pub trait RowSink {
     /// Takes whole rows. Returns `false` if it takes no more.
-    fn put(&mut self, rows: &str) -> bool;
+    fn take_rows(&mut self, rows: &str) -> bool;
 }
 
 /// How wide the columns are.
@@ -64,7 +64,7 @@ impl Rows {
 
     /// Hands whole rows on. Returns `false` if no more are taken. The only error is that memory ran out.
     pub fn hand_to<O: RowSink>(&mut self, sink: &mut O) -> Result<bool, NoMemory> {
-        let takes = self.whole.is_empty() || sink.put(self.whole.as_str());
+        let takes = self.whole.is_empty() || sink.take_rows(self.whole.as_str());
         self.whole.clear();
         if self.is_cut {
             Err(NoMemory)

@@ -21,7 +21,7 @@ struct StandardError<'a> {
 }
 
 impl<'a> RowSink for StandardError<'a> {
-    fn put(&mut self, rows: &str) -> bool {
+    fn take_rows(&mut self, rows: &str) -> bool {
         self.rt.stderr().write_all(rows.as_bytes()).is_ok()
     }
 }

@@ -173,7 +173,7 @@ impl<'a> Legend<'a> {
     }
 
     /// Writes the legend; the base line of its first row is at `y`.
-    pub fn put(&self, drawing: &mut Drawing<'_>, y: u32) -> Drawn {
+    pub fn put_rows(&self, drawing: &mut Drawing<'_>, y: u32) -> Drawn {
         for entry in self.entries.as_slice() {
             let row = y.saturating_add(entry.row.saturating_mul(ROW));
             put_entry(drawing, entry, row)?;

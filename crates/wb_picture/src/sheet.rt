@@ -95,7 +95,7 @@ fn put_page<'a>(
     open_page(drawing, width, height, runs)?;
     put_script_name(drawing, LEFT, 22)?;
     put_panels(drawing, sheet, runs, table)?;
-    legend.put(drawing, bottom.saturating_add(14))?;
+    legend.put_rows(drawing, bottom.saturating_add(14))?;
     put_note(drawing, sheet, height.saturating_sub(10))?;
     close_page(drawing)
 }
