@@ -36,6 +36,8 @@ pub struct ProgressLine<'a> {
     work: Work,
     /// How many of the sets were that have as many attempts.
     sets: SetWork,
+    /// How many states before an attempt were met.
+    states: u32,
     /// When the first of them was; `None` where nothing is said of it.
     since: Option<Instant>,
     /// How many columns the line takes that is shown; 0 where none is.
@@ -52,6 +54,7 @@ impl<'a> ProgressLine<'a> {
             many: 0,
             work: Work::new(0),
             sets: SetWork::new(0, 0),
+            states: 0,
             since: None,
             width: 0,
         }
@@ -149,6 +152,13 @@ impl<'a> Progress for ProgressLine<'a> {
         }
     }
 
+    fn meet_state(&mut self) {
+        self.states = self.states.saturating_add(1);
+        if self.is_due() {
+            self.show(line_of_states(self.many, self.states));
+        }
+    }
+
     fn begin_lengths(&mut self) {
         self.begin_quietly();
     }
@@ -210,6 +220,13 @@ fn line_of_set(
         put_estimate(&mut line, estimate).ok()?;
     }
     Some(line)
+}
+
+/// The line of a search over states, by how many attempts fail and how many states were met.
+fn line_of_states(many: u32, states: u32) -> Option<ArrayString<WIDEST>> {
+    let mut line = ArrayString::new();
+    let put = write!(line, "trying sets of {many} attempts, {states} states met");
+    put.ok().map(|()| line)
 }
 
 /// Appends how much is done, and how long the rest takes: up to 99 seconds, then up to 99 minutes, then hours.

@@ -5,6 +5,7 @@ pub mod AlikePieces
 pub mod AlikeFrames
 pub mod CleanupCells
 pub mod EachStatement
+pub mod EverySetAnswers
 pub mod HeldNumbers
 pub mod LineExamples
 pub mod Places

@@ -2,6 +2,7 @@
 pub mod Account
 pub mod Agreement
 pub mod AllNumbers
+pub mod EverySet
 pub mod Follows
 pub mod FreeSlots
 pub mod Lengths

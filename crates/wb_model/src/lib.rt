@@ -5,6 +5,7 @@
 //! the workbench but small lists is here.
 #![tactic(auto)]
 
+pub mod every_set_laws;
 pub mod failures;
 pub mod fault;
 pub mod heap;

@@ -22,6 +22,10 @@ pub trait Progress {
     /// The run in which these attempts fail begins. Called once for each set that is tried.
     fn begin_set(&mut self, numbers: &Numbers);
 
+    /// A state before an attempt was met that is the same as no earlier one, but for allocation numbers. Called once for each that a
+    /// search over states keeps.
+    fn meet_state(&mut self);
+
     /// Runs in heaps of all lengths begin.
     fn begin_lengths(&mut self);
 
@@ -46,6 +50,8 @@ impl Progress for Silent {
     fn begin_sets(&mut self, _many: u32) {}
 
     fn begin_set(&mut self, _numbers: &Numbers) {}
+
+    fn meet_state(&mut self) {}
 
     fn begin_lengths(&mut self) {}
 

@@ -69,6 +69,8 @@ impl Progress for Listener<'_> {
         }
     }
 
+    fn meet_state(&mut self) {}
+
     fn begin_lengths(&mut self) {
         self.begin();
     }

@@ -1,0 +1,62 @@
+//! Laws of sweeps over all sets of a part, however many attempts a set has. Each is the contract of a function that does nothing, so
+//! that the gate proves it.
+
+ghost use Rattle.std.specs.Prelude.{◌≡◌, ◌≤◌, ◌↔◌, ℕ, List, true};
+ghost use Rattle.wb_model.specs.runs.EverySet.{IsEverySetAnswerIn, IsLeastSetCutIn, IsLeastSetFoundIn};
+ghost use Rattle.wb_model.specs.runs.EverySet.{IsNoSetOfAnySizeIn};
+ghost use Rattle.wb_model.specs.runs.Lengths.{IsNoBadLength};
+ghost use Rattle.wb_model.specs.runs.Parts.{last_attempt, AreTogether, IsNoneIn};
+ghost use Rattle.wb_model.specs.runs.Run.{run};
+ghost use Rattle.wb_model.specs.runs.SetAnswers.{least_set_of, SetAnswer};
+ghost use Rattle.wb_model.specs.runs.Sets.{AreAllSetsFine, IsLeastBadSet, IsLeastCutSet};
+ghost use Rattle.wb_model.specs.runs.Sweeps.{is_fine};
+ghost use Rattle.wb_model.specs.declared.failures.Failures.{Failures};
+ghost use Rattle.wb_model.specs.declared.failures.Failures.TheVariants.{Single};
+ghost use Rattle.wb_model.specs.declared.heap.Rule.{Rule};
+ghost use Rattle.wb_model.specs.declared.heap.Shape.{Shape};
+ghost use Rattle.wb_model.specs.declared.part.Part.{Part};
+ghost use Rattle.wb_model.specs.declared.run.RunResult.{RunResult};
+ghost use Rattle.wb_model.specs.declared.run.Why.{Why};
+ghost use Rattle.wb_model.specs.declared.script.Script.{Script};
+
+/// A sweep over the sets of a part that begins with number 0, and goes to the last attempt of the run without failure at least,
+/// answers what one over all sets does.
+pub fn a_whole_part_has_every_set()
+    ensures found { (part : Part) (script : Script) (budget : ℕ) (shape : Shape)
+        (numbers : List ℕ) (result : RunResult) → part.from ≡ 0 →
+        last_attempt Single script budget shape ≤ part.to →
+        IsLeastSetFoundIn part script budget shape numbers result
+        ↔ IsLeastBadSet script budget shape numbers result }
+    ensures cut { (part : Part) (script : Script) (budget : ℕ) (shape : Shape)
+        (numbers : List ℕ) (why : Why) → part.from ≡ 0 →
+        last_attempt Single script budget shape ≤ part.to →
+        IsLeastSetCutIn part script budget shape numbers why
+        ↔ IsLeastCutSet script budget shape numbers why }
+    ensures none { (part : Part) (script : Script) (budget : ℕ) (shape : Shape) →
+        part.from ≡ 0 → last_attempt Single script budget shape ≤ part.to →
+        IsNoSetOfAnySizeIn part script budget shape ↔ AreAllSetsFine script budget shape }
+{}
+
+/// A sweep over all sets of a part has one answer, and the lesser of the answers of two parts is that of both parts together.
+pub fn parts_of_every_set_have_one_answer()
+    ensures one { (part : Part) (script : Script) (budget : ℕ) (shape : Shape)
+        (answer another : SetAnswer) → IsEverySetAnswerIn part script budget shape answer →
+        IsEverySetAnswerIn part script budget shape another → answer ≡ another }
+    ensures least { (part next both : Part) (script : Script) (budget : ℕ) (shape : Shape)
+        (answer another : SetAnswer) → AreTogether part next both →
+        IsEverySetAnswerIn part script budget shape answer →
+        IsEverySetAnswerIn next script budget shape another →
+        IsEverySetAnswerIn both script budget shape (least_set_of answer another) }
+{}
+
+/// Where no set of failures shows a leak, a panic or a cut, no run under any rule does: no length of the heap, and no sweep of any
+/// kind over any part.
+pub fn nothing_shows_where_no_set_does()
+    ensures run { (script : Script) (budget : ℕ) (shape : Shape) (r : Rule) →
+        AreAllSetsFine script budget shape → is_fine (run script r budget shape) ≡ true }
+    ensures lengths { (script : Script) (budget : ℕ) (shape : Shape) →
+        AreAllSetsFine script budget shape → IsNoBadLength script budget shape }
+    ensures sweeps { (failures : Failures) (part : Part) (script : Script) (budget : ℕ)
+        (shape : Shape) → AreAllSetsFine script budget shape →
+        IsNoneIn failures part script budget shape }
+{}
