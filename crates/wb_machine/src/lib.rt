@@ -12,6 +12,7 @@ mod cleanup;
 mod control;
 mod depths;
 pub mod fault;
+mod fingerprint;
 pub mod finished;
 pub mod laws;
 mod leaves;

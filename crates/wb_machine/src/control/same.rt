@@ -10,6 +10,7 @@ ghost use Rattle.wb_machine.specs.SamePieces.{is_of_trap, ArePendingAlike, IsSam
 use super::Control;
 use crate::alike::code::same_statements;
 use crate::alike::names::Names;
+use crate::fingerprint::Fingerprint;
 use crate::pieces::{After, Context, Ending, PendingPiece, first_statement};
 use wb_model::heap::Ptr;
 
@@ -162,7 +163,33 @@ fn same_turns_left(pieces: &[PendingPiece], others: &[PendingPiece]) -> bool {
     true
 }
 
+/// Two numbers of a piece, which are those of each piece that is the same but for allocation numbers.
+fn numbers_of(piece: &PendingPiece) -> (u32, u32) {
+    match piece {
+        PendingPiece::Code(_, statements) => match statements.first() {
+            Some(first) => (1, first.line),
+            None => (0, 0),
+        },
+        PendingPiece::Turns(_, left, _) => (2, *left),
+        PendingPiece::Items(_, left) => (3, *left),
+        PendingPiece::Object(_, ptr) => (4, ptr.place),
+        PendingPiece::Trap(_, _, entry) => (5, *entry),
+        PendingPiece::Caught(..) => (6, 0),
+        PendingPiece::MainTrap => (7, 0),
+        PendingPiece::MainCaught(_) => (8, 0),
+        PendingPiece::Call(_, this, _) => (9, this.place),
+    }
+}
+
 impl<'a> Control<'a> {
+    /// What is pending, as all runs have it in common in which it is the same but for allocation numbers.
+    pub fn add_to(&self, print: &mut Fingerprint) {
+        for piece in self.pieces.as_slice() {
+            let (one, other) = numbers_of(piece);
+            print.add(one, other);
+        }
+    }
+
     /// The line of the statement that begins next; `None` if the piece on top begins with none.
     fn next_line(&self) -> Option<u32> {
         let first = first_statement(self.pieces.last()?)?;

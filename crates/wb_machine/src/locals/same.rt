@@ -7,6 +7,7 @@ ghost use Rattle.wb_machine.specs.LocalValues.{value_of, value_stored, values_st
 
 use super::{BufferIndex, Locals, Slot, Stored};
 use crate::alike::names::Names;
+use crate::fingerprint::{Fingerprint, MOST_WORDS};
 use wb_text::buf::Buf;
 use wb_text::{Base, View};
 
@@ -121,7 +122,47 @@ fn same_slots(
     true
 }
 
+/// The length of a buffer, and its first units.
+fn add_buffer(print: &mut Fingerprint, buf: &Buf) {
+    print.add(1, buf.length());
+    for unit in buf.units().iter().take(MOST_WORDS as usize) {
+        print.add(2, u32::from(*unit));
+    }
+}
+
+/// What a slot has in common with each that is the same but for allocation numbers.
+fn add_slot(print: &mut Fingerprint, slot: &Slot) {
+    match slot {
+        Slot::Pointer(ptr) => print.add(3, ptr.place),
+        Slot::Number(number) => print.add(4, number.cast_unsigned()),
+        Slot::View(window) => {
+            let view = window.view();
+            print.add(view.position, view.length);
+        }
+        Slot::NoBuffer => print.add(5, 0),
+    }
+}
+
+/// The same of what a local holds.
+fn add_stored(print: &mut Fingerprint, stored: &Stored, buffers: &[Buf]) {
+    match stored {
+        Stored::Small(slot) => add_slot(print, slot),
+        Stored::Buffer(index) => {
+            if let Some(buf) = buffer_at(buffers, *index) {
+                add_buffer(print, buf);
+            }
+        }
+    }
+}
+
 impl Locals {
+    /// The locals of all frames, as all runs have them in common in which they are the same but for allocation numbers.
+    pub fn add_to(&self, print: &mut Fingerprint) {
+        for stored in self.slots.as_slice() {
+            add_stored(print, stored, self.buffers.as_slice());
+        }
+    }
+
     /// Whether the locals of all frames are those of another run but for numbers.
     pub fn are_like(&self, names: &mut Names, other: &Locals) -> bool
         ensures callers { result ≡ true → AllBeside (IsSameValue names.new.names)

@@ -1,0 +1,130 @@
+//! A number of a run under way by which runs that go on alike are looked for: such runs have the same one, and most others have
+//! another. Nothing here changes a run, or decides whether two runs go on alike: `alike` does.
+
+ghost use Rattle.std.specs.Prelude.{◌≡◌, length};
+ghost use Rattle.wb_model.specs.cells.CellRow.{payload_of};
+
+use crate::machine::Machine;
+use crate::state::State;
+use wb_debug::DebugHeap;
+use wb_model::heap::{Header, Kind, Ptr};
+
+/// How many words of a cell, and how many units of a buffer, are looked at.
+pub const MOST_WORDS: u32 = 16;
+
+/// An odd number whose ones and zeros are spread over all of its bits.
+const FACTOR: u64 = 0x9e37_79b9_7f4a_7c15;
+
+/// A number that is made of others, one after another.
+#[derive(Drop)]
+pub struct Fingerprint {
+    value: u64,
+}
+
+impl Fingerprint {
+    /// Of nothing.
+    pub fn new() -> Fingerprint {
+        Fingerprint { value: FACTOR }
+    }
+
+    /// What it has come to.
+    pub fn value(&self) -> u64 {
+        self.value
+    }
+
+    /// Two more numbers.
+    pub fn add(&mut self, one: u32, other: u32) {
+        let word = (u64::from(one) << 32) | u64::from(other);
+        let product = (self.value ^ word).wrapping_mul(FACTOR);
+        self.value = product ^ (product >> 32);
+    }
+}
+
+/// A number for each kind of cell.
+fn number_of(kind: Kind) -> u32 {
+    match kind {
+        Kind::Raw => 0,
+        Kind::Text => 1,
+        Kind::Cleanup => 2,
+        Kind::Object(class) => 3 + u32::from(class),
+    }
+}
+
+/// The first of so many words of a payload.
+fn add_words(print: &mut Fingerprint, heap: &DebugHeap, ptr: Ptr, count: u32)
+    requires { length (payload_of ptr heap.now.heap.row) ≡ count }
+{
+    for i in 0..count.min(MOST_WORDS) {
+        print.add(i, heap.payload(ptr, i));
+    }
+}
+
+/// The places that the first fields of an object name, whose payload has so many words: two words each, from the third on.
+fn add_fields(print: &mut Fingerprint, heap: &DebugHeap, ptr: Ptr, count: u32)
+    requires { length (payload_of ptr heap.now.heap.row) ≡ count }
+{
+    for i in 1..count.min(MOST_WORDS) / 2 {
+        print.add(i, heap.payload(ptr, 2 * i));
+    }
+}
+
+/// What a payload of so many words holds but for allocation numbers. The items of the cleanup stack aren't looked at.
+fn add_content(print: &mut Fingerprint, heap: &DebugHeap, kind: Kind, ptr: Ptr, count: u32)
+    requires { length (payload_of ptr heap.now.heap.row) ≡ count }
+{
+    match kind {
+        Kind::Raw => add_words(print, heap, ptr, count),
+        Kind::Text => add_words(print, heap, ptr, count),
+        Kind::Object(_) => add_fields(print, heap, ptr, count),
+        Kind::Cleanup => {}
+    }
+}
+
+/// The cell that a pointer names. Answers where it ends; `None` if there is none.
+fn add_cell(print: &mut Fingerprint, heap: &DebugHeap, ptr: Ptr) -> Option<u32> {
+    let Some(cell) = heap.header(ptr) else {
+        return None;
+    };
+    print.add(cell.place, cell.length);
+    print.add(number_of(cell.kind), cell.level);
+    add_content(print, heap, cell.kind, ptr, cell.words());
+    Some(cell.end())
+}
+
+/// All live cells, by place.
+fn add_cells(print: &mut Fingerprint, heap: &DebugHeap) {
+    let (count, total) = heap.alloc_size();
+    print.add(count, total);
+    let mut at = 0;
+    for _ in 0..count {
+        let Some(cell) = heap.next_live(at) else {
+            return;
+        };
+        let Some(end) = add_cell(print, heap, cell.pointer()) else {
+            return;
+        };
+        at = end;
+    }
+}
+
+impl State {
+    /// What this state has in common with all that are the same but for allocation numbers.
+    fn add_to(&self, print: &mut Fingerprint) {
+        print.add(self.items(), self.heap.level());
+        print.add(0, self.this.place);
+        self.locals.add_to(print);
+        add_cells(print, &self.heap);
+    }
+}
+
+impl<'a> Machine<'a> {
+    /// A number of this run: where `goes_on_like` says of two runs that they go on alike, both have the same one. It is of what is
+    /// pending, the cleanup stack, the locals, and the live cells with the first words of what they hold; of a pointer it is the
+    /// place, and never the allocation number. It takes no memory.
+    pub fn fingerprint(&self) -> u64 {
+        let mut print = Fingerprint::new();
+        self.control.add_to(&mut print);
+        self.state.add_to(&mut print);
+        print.value()
+    }
+}

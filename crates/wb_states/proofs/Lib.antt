@@ -1,0 +1,12 @@
+mod AnswerLemmas
+pub mod ClosedLemmas
+mod EndLemmas
+mod FollowLemmas
+mod JoinLemmas
+mod Lists
+mod MeetingLemmas
+pub mod NoLater
+pub mod PastNumbers
+mod Results
+mod StateLemmas
+mod GrowLemmas

@@ -1,0 +1,150 @@
+-- What follows for a run that goes on like another, both under sets that lie behind them: the same further attempts fail in both.
+use Rattle.std.proofs.Common.{◌≡◌, ◌≢◌, ℕ, ◌+◌, ◌≤◌, ◌||◌, Bool, true, false, List, [], ◌∷◌, ◌++◌, refl, sym, ap, ◌∙◌, subst, arith, inr, Some, None, cond}
+use Rattle.std.specs.Prelude.{nat_eq}
+use Rattle.std.proofs.lemmas.Bool.{eq-eqb, eqb-true, eqb-false, ne_eqb, true≢false}
+use Rattle.wb_machine.specs.Alike.{reached_by, whole_run_under, GoesOnLike}
+use Rattle.wb_machine.specs.Seen.{Seen}
+use Rattle.wb_model.specs.declared.heap.Answer.TheVariants.{Simulated}
+use Rattle.wb_model.specs.declared.heap.Rule.{Rule}
+use Rattle.wb_model.specs.declared.heap.Rule.TheVariants.{Set}
+use Rattle.wb_model.specs.declared.heap.Shape.{Shape}
+use Rattle.wb_model.specs.declared.run.Outcome.TheVariants.{Cut}
+use Rattle.wb_model.specs.declared.run.RunResult.{RunResult}
+use Rattle.wb_model.specs.declared.run.Why.TheVariants.{Budget}
+use Rattle.wb_model.specs.declared.script.Script.{Script}
+use Rattle.wb_model.specs.runs.Follows.{ComesToTheSame, RefusesAlike, RestsAgree}
+use Rattle.wb_model.specs.runs.Rest.{Fits, SameSoFar}
+use Rattle.wb_model.specs.runs.Run.{run, whole_run, WholeRun}
+use Rattle.wb_model.specs.runs.Sets.{AscendsPast, IsSet}
+use Rattle.wb_model.specs.runs.Sweeps.{is_cut_outcome, is_fine}
+use Rattle.wb_model.proofs.PartAnswers.{fine_is_uncut}
+use Rattle.wb_model.proofs.SameTurned.{judged-same}
+use Rattle.wb_model.proofs.SetLemmas.{is_in, not-before}
+use Rattle.wb_states.specs.Ground.{past, run_of, Ground, Meets}
+use Rattle.wb_states.specs.States.{AreWithin, IsUnderWay}
+
+-- ---- which attempts are in a set
+
+any-append : (number : ℕ) (xs ys : List ℕ) → is_in number (xs ++ ys) ≡ (is_in number xs || is_in number ys)
+any-append number [] ys = refl
+any-append number (x ∷ xs) ys = by (nat_eq x number) (any-append number xs ys)
+  where
+    by : (b : Bool) → is_in number (xs ++ ys) ≡ (is_in number xs || is_in number ys) →
+        (b || is_in number (xs ++ ys)) ≡ ((b || is_in number xs) || is_in number ys)
+    by true h = refl
+    by false h = h
+
+or-false : (b : Bool) → (b || false) ≡ b
+or-false true = refl
+or-false false = refl
+
+-- numbers counted on from an attempt are past it
+past-ascends : (attempts before : ℕ) (ns : List ℕ) → AscendsPast before ns → AscendsPast (attempts + before) (past attempts ns)
+past-ascends attempts before [] up = tt
+past-ascends attempts before (n ∷ ns) up = (omega (arith, up.0), past-ascends attempts n ns up.1)
+
+not-past : (attempts number : ℕ) (more : List ℕ) → IsSet more → number ≤ attempts → is_in number (past attempts more) ≡ false
+not-past attempts number more up le = not-before (attempts + 0) number (past attempts more) (past-ascends attempts 0 more up) (omega (arith, le))
+
+same-difference : (attempts m n : ℕ) → nat_eq (attempts + m) (attempts + n) ≡ nat_eq m n
+same-difference attempts m n = by (nat_eq m n) refl
+  where
+    by : (b : Bool) → nat_eq m n ≡ b → nat_eq (attempts + m) (attempts + n) ≡ b
+    by true e = let same = eqb-true m n e in eq-eqb (attempts + m) (attempts + n) (omega (arith, same))
+    by false e = ne_eqb (attempts + m) (attempts + n) (λ z. let same : m ≡ n = omega (arith, z) in eqb-false m n e same)
+
+past-has : (attempts n : ℕ) (ns : List ℕ) → is_in (attempts + n) (past attempts ns) ≡ is_in n ns
+past-has attempts n [] = refl
+past-has attempts n (m ∷ ms) =
+    ap (λ b. b || is_in (attempts + n) (past attempts ms)) (same-difference attempts m n) ∙ ap (λ b. nat_eq m n || b) (past-has attempts n ms)
+
+-- none is past an attempt within which all are
+none-past : (attempts n : ℕ) (ns : List ℕ) → AreWithin attempts ns → 1 ≤ n → is_in (attempts + n) ns ≡ false
+none-past attempts n [] within from = refl
+none-past attempts n (m ∷ ms) within from =
+    ap (λ b. b || is_in (attempts + n) ms) (ne_eqb m (attempts + n) (λ z. omega (arith, z, within.0, from))) ∙ none-past attempts n ms within.1 from
+
+-- a set with further numbers past an attempt has those of the attempts so far that the set has
+so-far : (attempts number : ℕ) (set more : List ℕ) → IsSet more → number ≤ attempts → is_in number (set ++ past attempts more) ≡ is_in number set
+so-far attempts number set more up le =
+    any-append number set (past attempts more) ∙ ap (λ b. is_in number set || b) (not-past attempts number more up le) ∙ or-false (is_in number set)
+
+-- and of those past it the further ones
+from-there : (attempts n : ℕ) (set more : List ℕ) → AreWithin attempts set → 1 ≤ n → is_in (attempts + n) (set ++ past attempts more) ≡ is_in n more
+from-there attempts n set more within from =
+    any-append (attempts + n) set (past attempts more) ∙ ap (λ b. b || is_in (attempts + n) (past attempts more)) (none-past attempts n set within from)
+    ∙ past-has attempts n more
+
+-- ---- what the rules say
+
+same-so-far : (attempts : ℕ) (set more : List ℕ) → IsSet more → SameSoFar (Set (set ++ past attempts more)) (Set set) attempts
+same-so-far attempts set more up = record {
+  no_limit = refl;
+  own_no_limit = refl;
+  same = λ number end first made. ap (λ b. cond b (Some Simulated) None) (so-far attempts number set more up made);
+}
+
+-- the rule of a set with further numbers fits a run under the set that goes on
+fits-on : (m : Seen) (set more : List ℕ) → m.rule ≡ Set set → m.over ≡ false → IsSet more → Fits (Set (set ++ past m.attempts more)) m.rule m.over m.attempts
+fits-on m set more rule going up =
+    inr (going, subst (λ (own : Rule). SameSoFar (Set (set ++ past m.attempts more)) own m.attempts) (sym rule) (same-so-far m.attempts set more up))
+
+-- ---- what the runs come to
+
+-- a run of a machine that keeps lines, under a set, is the one of its script, its budget and its shape
+run-under : (g : Ground) (m : Seen) (set numbers : List ℕ) → IsUnderWay g set m → (whole_run_under (Set numbers) m).result ≡ run_of g numbers
+run-under g m set numbers is =
+    ap (λ (b : Bool). (whole_run b m.script (Set numbers) m.budget m.shape).result) is.lines
+    ∙ ap (λ (s : Script). run s (Set numbers) m.budget m.shape) is.script
+    ∙ ap (λ (b : ℕ). run g.script (Set numbers) b m.shape) is.budget
+    ∙ ap (λ (s : Shape). run g.script (Set numbers) g.budget s) is.shape
+
+module _ (g : Ground) (set other : List ℕ) (fork m : Seen) (goes : GoesOnLike fork m) (fork_going : fork.over ≡ false) (m_going : m.over ≡ false)
+    (fork_is : IsUnderWay g set fork) (m_is : IsUnderWay g other m) (more : List ℕ) (up : IsSet more) where
+  abbrev along : WholeRun
+  along = whole_run_under (Set (set ++ past fork.attempts more)) fork
+
+  abbrev ahead : WholeRun
+  ahead = whole_run_under (Set (other ++ past m.attempts more)) m
+
+  abbrev joined : RunResult
+  joined = run_of g (set ++ past fork.attempts more)
+
+  abbrev known : RunResult
+  known = run_of g (other ++ past m.attempts more)
+
+  forked : along.result ≡ joined
+  forked = run-under g fork set (set ++ past fork.attempts more) fork_is
+
+  ran : ahead.result ≡ known
+  ran = run-under g m other (other ++ past m.attempts more) m_is
+
+  uncut : is_fine known ≡ true → ahead.result.outcome ≢ Cut Budget
+  uncut fine e =
+      true≢false (sym (ap is_cut_outcome (ap (λ (r : RunResult). r.outcome) (sym ran) ∙ e)) ∙ fine_is_uncut known fine)
+
+  behind : RefusesAlike (Set (other ++ past m.attempts more)) (Set (set ++ past fork.attempts more)) (reached_by m) (reached_by fork)
+  behind n end from =
+      ap (λ b. cond b (Some Simulated) None)
+      (from-there fork.attempts n set more fork_is.made from ∙ sym (from-there m.attempts n other more m_is.made from))
+
+  agree : is_fine known ≡ true → RestsAgree fork.budget (reached_by m) (reached_by fork) ahead along
+  agree fine =
+      goes (Set (other ++ past m.attempts more)) (Set (set ++ past fork.attempts more)) (fits-on m other more m_is.rule m_going up)
+      (fits-on fork set more fork_is.rule fork_going up) (uncut fine) behind
+
+  pub meets-with : is_fine known ≡ true → known.steps + fork.steps ≤ g.budget + m.steps → (is_fine joined ≡ true) × (joined.steps + m.steps ≡ known.steps + fork.steps)
+  meets-with fine within =
+      let took = ap (λ (r : RunResult). r.steps) ran in
+      let takes = ap (λ (r : RunResult). r.steps) forked in
+      let same : ComesToTheSame (reached_by m) (reached_by fork) ahead along = (agree fine).alike (omega (arith, within, took, fork_is.budget)) in
+      let counted = same.steps in (
+        ap is_fine (sym forked) ∙ (judged-same ahead.result along.result same.outcome).1 ∙ ap is_fine ran ∙ fine,
+        omega (arith, counted, took, takes),
+      )
+
+-- where a run goes on like another, both under way, they have met
+pub met : (g : Ground) (set other : List ℕ) (fork m : Seen) → GoesOnLike fork m → fork.over ≡ false → m.over ≡ false → IsUnderWay g set fork → IsUnderWay g other m →
+    Meets g set fork.attempts fork.steps other m.attempts m.steps
+met g set other fork m goes fork_going m_going fork_is m_is more up fine within =
+    meets-with g set other fork m goes fork_going m_going fork_is m_is more up fine within

@@ -1,0 +1,16 @@
+-- The first state is the run without failure before its first attempt.
+use Rattle.std.proofs.Common.{false, [], ◌∷◌, ◌++◌, refl, sym, ◌∙◌, ap}
+use Rattle.wb_machine.specs.Seen.{seen_at_start}
+use Rattle.wb_model.specs.declared.heap.Rule.TheVariants.{Set}
+use Rattle.wb_states.specs.declared.state.State.{State}
+use Rattle.wb_states.proofs.GrowLemmas.{on-ok, sound-first}
+use Rattle.wb_states.proofs.search.Search.new.Goals as goal
+
+pub returns-clause-sound : goal.returns-clause-sound
+returns-clause-sound c =
+    let first : State = record { numbers = c.new-3.result; machine = c.in_ok-machine.machine } in
+    let pushed = on-ok c.push.result _ (sym c.is_err.ensures.value ∙ c.if-is_err.false) c.push.ensures.pushed in
+    let begins = c.in_ok-machine.ensures.seen in
+    sound-first _ first (pushed ∙ ap (λ xs. xs ++ first ∷ []) c.new-states.ensures) c.new-3.ensures
+    (begins ∙ ap (λ ns. seen_at_start false c.args.script.now (Set ns) c.args.budget c.args.shape) c.new.ensures) c.new-4.ensures c.new-5.ensures refl
+    c.requires.last

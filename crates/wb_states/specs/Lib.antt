@@ -1,0 +1,4 @@
+pub mod Answers
+pub mod Closed
+pub mod Ground
+pub mod States

@@ -1,0 +1,155 @@
+-- What is known of the states that a search keeps, and of how runs go on from them.
+use Rattle.std.specs.Prelude.{◌≡◌, ℕ, ◌+◌, ◌<◌, ◌≤◌, ◌⊎◌, ◌↔◌, List, [], ◌∷◌, ◌++◌, length, true, false, Some, slice_get, IfSome}
+use Rattle.wb_machine.specs.Seen.{Seen}
+use Rattle.wb_model.specs.declared.heap.Rule.TheVariants.{Set}
+use Rattle.wb_model.specs.runs.Sets.{IsSet}
+use Rattle.wb_model.specs.runs.Sweeps.{is_fine}
+use Rattle.wb_states.specs.Ground.{run_of, turns_of, past, Ground, IsNoLater, IsTriedSet, Meets}
+use Rattle.wb_states.specs.declared.search.Search.{Search}
+use Rattle.wb_states.specs.declared.state.Edge.{Edge}
+use Rattle.wb_states.specs.declared.state.Edge.TheVariants.{Joins, Ends, Shows, Untried}
+use Rattle.wb_states.specs.declared.state.Shown.{Shown}
+use Rattle.wb_states.specs.declared.state.State.{State}
+
+-- none of these numbers is past an attempt
+abbrev pub AreWithin : ℕ → List ℕ → Type 0
+AreWithin attempts [] = Unit {0}
+AreWithin attempts (n ∷ ns) = (n ≤ attempts) × AreWithin attempts ns
+
+-- a run under a set, before an attempt past all of its numbers
+pub record IsUnderWay (g : Ground) (numbers : List ℕ) (m : Seen) : Type 0 where
+  pub rule : m.rule ≡ Set numbers
+  pub script : m.script ≡ g.script
+  pub budget : m.budget ≡ g.budget
+  pub shape : m.shape ≡ g.shape
+  pub lines : m.keeps_rises ≡ false
+  pub well : m.failed ≡ false
+  pub set : IsSet numbers
+  pub made : AreWithin m.attempts numbers
+  pub steps : m.steps ≤ m.budget
+
+-- the set of the run without failure, or one that is tried
+abbrev pub IsNoneOrTried : Ground → List ℕ → Type 0
+IsNoneOrTried g numbers = (numbers ≡ []) ⊎ IsTriedSet g numbers
+
+pub record IsState (g : Ground) (state : State) : Type 0 where
+  pub under_way : IsUnderWay g state.numbers state.machine
+  pub tried : IsNoneOrTried g state.numbers
+  pub begun : (state.machine.begun ≡ true) ↔ (1 ≤ state.machine.attempts)
+  pub going : state.machine.over ≡ false
+  pub asks : state.machine.asks ≡ true
+
+-- the attempt that is made next
+abbrev pub next_attempt : State → ℕ
+next_attempt state = state.machine.attempts + 1
+
+-- the set in which it fails too
+abbrev pub failing_next : State → List ℕ
+failing_next state = state.numbers ++ next_attempt state ∷ []
+
+-- A run under a set goes on in this way from an attempt on, that was the next one of a state which had taken so many turns.
+pub record IsJoined (g : Ground) (states : List State) (turns : ℕ) (set : List ℕ) (attempts at steps : ℕ) : Type 0 where
+  pub state : State
+  pub is_at : slice_get states at ≡ Some state
+  pub later : turns < steps + 1
+  pub order : IsNoLater state.numbers state.machine.attempts set attempts
+  pub tried : (more : List ℕ) → IsSet more → IsTriedSet g (set ++ past attempts more) → IsTriedSet g (state.numbers ++ past state.machine.attempts more)
+  pub meets : Meets g set attempts steps state.numbers state.machine.attempts state.machine.steps
+
+pub record IsEnded (g : Ground) (set : List ℕ) (attempts steps : ℕ) : Type 0 where
+  pub fine : is_fine (run_of g set) ≡ true
+  pub steps_are : (run_of g set).steps ≡ steps
+  pub made : length (run_of g set).trace ≤ attempts
+
+abbrev pub GoesOn : Ground → List State → ℕ → List ℕ → ℕ → Edge → Type 0
+GoesOn g states turns set attempts (Joins at steps) = IsJoined g states turns set attempts at steps
+GoesOn g states turns set attempts (Ends steps) = IsEnded g set attempts steps
+GoesOn g states turns set attempts Shows = Unit {0}
+GoesOn g states turns set attempts Untried = (more : List ℕ) → IsSet more → IsTriedSet g (set ++ past attempts more) → ⊥
+
+-- how runs go on from the states, where their next attempts are granted
+abbrev pub AreGranted : Ground → List State → List Edge → Type 0
+AreGranted g states edges =
+    (i : ℕ) (state : State) (edge : Edge) → slice_get states i ≡ Some state → slice_get edges i ≡ Some edge →
+    GoesOn g states (turns_of state.machine) state.numbers (next_attempt state) edge
+
+-- and where they fail
+abbrev pub AreFailed : Ground → List State → List Edge → Type 0
+AreFailed g states edges =
+    (i : ℕ) (state : State) (edge : Edge) → slice_get states i ≡ Some state → slice_get edges i ≡ Some edge →
+    GoesOn g states (turns_of state.machine) (failing_next state) (next_attempt state) edge
+
+abbrev pub AreStates : Ground → List State → Type 0
+AreStates g states = (i : ℕ) (state : State) → slice_get states i ≡ Some state → IsState g state
+
+-- there is a state, and the first is the run without failure before its first attempt
+abbrev pub BeginsAtTheStart : List State → Type 0
+BeginsAtTheStart [] = ⊥
+BeginsAtTheStart (first ∷ rest) = (first.numbers ≡ []) × (first.machine.attempts ≡ 0) × (turns_of first.machine ≡ 0)
+
+-- a set that is tried, whose run is bad or cut, and that run
+pub record IsShown (g : Ground) (shown : Shown) : Type 0 where
+  pub tried : IsTriedSet g shown.numbers
+  pub shows : is_fine (run_of g shown.numbers) ≡ false
+  pub run_is : shown.result ≡ run_of g shown.numbers
+
+-- what a search has found so far is true
+pub record IsSearch (g : Ground) (search : Search) : Type 0 where
+  pub whole : search.whole ≡ g.whole
+  pub part : search.part ≡ g.part
+  pub last : search.last ≡ g.last
+  pub last_made : g.last ≡ length (run_of g []).trace
+  pub fewer_granted : length search.granted ≤ length search.states
+  pub fewer_failed : length search.failed ≤ length search.states
+  pub states : AreStates g search.states
+  pub first : BeginsAtTheStart search.states
+  pub granted : AreGranted g search.states search.granted
+  pub failed : AreFailed g search.states search.failed
+  pub shown : IfSome search.shown (IsShown g)
+
+-- A run is the same as a state from here on, but for numbers: the sets that go on from the state come no later, and are tried if those are that
+-- go on from the run.
+pub record Continues (g : Ground) (set : List ℕ) (m : Seen) (state : State) : Type 0 where
+  pub order : IsNoLater state.numbers state.machine.attempts set m.attempts
+  pub tried : (more : List ℕ) → IsSet more → IsTriedSet g (set ++ past m.attempts more) → IsTriedSet g (state.numbers ++ past state.machine.attempts more)
+  pub meets : Meets g set m.attempts m.steps state.numbers state.machine.attempts state.machine.steps
+
+-- what it goes over
+abbrev pub ground_of : Search → Ground
+ground_of s = record { script = s.script.now; budget = s.budget; shape = s.shape; whole = s.whole; part = s.part; last = s.last }
+
+abbrev pub IsSound : Search → Type 0
+IsSound s = IsSearch (ground_of s) s
+
+-- a search goes over the same, and has all states of another and maybe more, with the same edges
+pub record HasGrown (before after : Search) : Type 0 where
+  pub ground : ground_of after ≡ ground_of before
+  pub granted : after.granted ≡ before.granted
+  pub failed : after.failed ≡ before.failed
+  pub states : (i : ℕ) (state : State) → slice_get before.states i ≡ Some state → slice_get after.states i ≡ Some state
+
+-- a run under a set that is tried, or without failure
+pub record IsRunUnder (g : Ground) (numbers : List ℕ) (m : Seen) : Type 0 where
+  pub rule : m.rule ≡ Set numbers
+  pub script : m.script ≡ g.script
+  pub budget : m.budget ≡ g.budget
+  pub shape : m.shape ≡ g.shape
+  pub lines : m.keeps_rises ≡ false
+  pub well : m.failed ≡ false
+  pub set : IsSet numbers
+  pub tried : IsNoneOrTried g numbers
+
+-- a run is about to make an attempt past which none of a set is
+pub record IsAboutTo (g : Ground) (numbers : List ℕ) (m : Seen) : Type 0 where
+  pub rule : m.rule ≡ Set numbers
+  pub script : m.script ≡ g.script
+  pub budget : m.budget ≡ g.budget
+  pub shape : m.shape ≡ g.shape
+  pub lines : m.keeps_rises ≡ false
+  pub well : m.failed ≡ false
+  pub going : m.over ≡ false
+  pub asks : m.asks ≡ true
+  pub set : IsSet numbers
+  pub made : AreWithin (m.attempts + 1) numbers
+  pub steps : m.steps ≤ m.budget
+  pub tried : IsNoneOrTried g numbers

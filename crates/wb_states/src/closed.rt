@@ -1,0 +1,186 @@
+//! Whether what a search has found is enough for an answer: whether all sets that it is about were followed, and the budget allows each of them
+//! its steps.
+
+ghost use Rattle.std.specs.Prelude.{◌≡◌, ℕ, ◌≤◌, ◌^◌, List, true, slice_get, IfOk, Some};
+ghost use Rattle.wb_model.specs.runs.Sweeps.{is_fine};
+ghost use Rattle.wb_states.specs.Closed.{AreOutside, IsClosed, IsFollowed, IsStateClosed, IsWithin};
+ghost use Rattle.wb_states.specs.Ground.{run_of, turns_of, Ground, IsTriedSet};
+ghost use Rattle.wb_states.specs.States.{failing_next, ground_of, next_attempt, IsSound, IsState};
+ghost use Rattle.wb_states.specs.declared.closed.Bound.{Bound};
+ghost use Rattle.wb_states.specs.declared.state.State.{State};
+
+use crate::order::comes_before;
+use crate::search::Search;
+use crate::state::{Edge, State};
+use wb_model::heap::Numbers;
+use wb_model::items::Items;
+use wb_model::memory::NoMemory;
+
+/// The sets that an answer is about.
+#[derive(Debug, Drop)]
+pub(crate) enum Bound {
+    /// All of them.
+    All,
+    /// Those of at most so many attempts.
+    AtMost(u32),
+    /// Those that come before one.
+    Before(Numbers),
+}
+
+impl Bound {
+    /// Whether no set that the answer is about begins with this one.
+    fn excludes(&self, set: &Numbers) -> bool
+        ensures { result ≡ true → (attempts : ℕ) → AreOutside self.now set.now attempts }
+    {
+        match self {
+            Bound::All => false,
+            Bound::AtMost(most) => (*most as usize) < set.len(),
+            Bound::Before(other) => !comes_before(set, other),
+        }
+    }
+
+    /// Whether none begins with a state's set and its next attempt.
+    fn excludes_failure(&self, state: &State) -> Result<bool, NoMemory>
+        ensures { IfOk result (λ excluded. excluded ≡ true → (attempts : ℕ) →
+            AreOutside self.now (failing_next state.now) attempts) }
+    {
+        let Some(next) = state.machine.attempts().checked_add(1) else {
+            return Ok(false);
+        };
+        let mut set = state.numbers.try_copy()?;
+        set.push(next)?;
+        Ok(self.excludes(&set))
+    }
+}
+
+/// How many turns a state's run has taken. The first counts no step.
+pub(crate) fn turns_taken(state: &State) -> u64
+    ensures turns { (g : Ground) → IsState g state.now → result ≡ turns_of state.now.machine }
+    ensures few { result ≤ 2 ^ 32 }
+{
+    if state.machine.attempts() == 0 {
+        return 0;
+    }
+    u64::from(state.machine.steps()) + 1
+}
+
+/// Whether an edge is allowed, whatever comes to its state: that state's own run has taken `turns` turns, and any that comes to it `greatest` at most. What
+/// ends must do so within the budget, and what joins a state must come to it with no more turns than `most` has for that state. Nothing may show.
+fn allows(edge: Edge, turns: u64, greatest: u32, most: &Items<u32>, budget: u32) -> bool
+    requires few { turns ≤ 2 ^ 32 }
+    ensures { result ≡ true → (g : Ground) → g.budget ≡ budget →
+        (bound : Bound) (set : List ℕ) (attempts : ℕ) →
+        IsFollowed g most.now bound turns greatest set attempts (Some edge) }
+{
+    let greatest = u64::from(greatest);
+    match edge {
+        Edge::Joins { state, steps } => match most.get(state) {
+            Some(next) => greatest + u64::from(steps) + 1 <= u64::from(*next) + turns,
+            None => false,
+        },
+        Edge::Ends { steps } => u64::from(steps) + greatest <= u64::from(budget) + turns,
+        Edge::Shows => false,
+        Edge::Untried => true,
+    }
+}
+
+/// Whether all runs are followed in which a state's next attempt is granted.
+fn is_grant_followed(
+    edge: Option<Edge>,
+    state: &State,
+    greatest: u32,
+    most: &Items<u32>,
+    bound: &Bound,
+    budget: u32,
+) -> bool
+    ensures { result ≡ true → (g : Ground) → g.budget ≡ budget → IsState g state.now →
+        IsFollowed g most.now bound.now (turns_of state.now.machine) greatest state.now.numbers
+        (next_attempt state.now) edge }
+{
+    match edge {
+        None | Some(Edge::Shows) => bound.excludes(&state.numbers),
+        Some(edge) => allows(edge, turns_taken(state), greatest, most, budget),
+    }
+}
+
+/// The same where it fails.
+fn is_failure_followed(
+    edge: Option<Edge>,
+    state: &State,
+    greatest: u32,
+    most: &Items<u32>,
+    bound: &Bound,
+    budget: u32,
+) -> Result<bool, NoMemory>
+    ensures { IfOk result (λ followed. followed ≡ true → (g : Ground) → g.budget ≡ budget →
+        IsState g state.now →
+        IsFollowed g most.now bound.now (turns_of state.now.machine) greatest
+        (failing_next state.now) (next_attempt state.now) edge) }
+{
+    match edge {
+        None | Some(Edge::Shows) => bound.excludes_failure(state),
+        Some(edge) => Ok(allows(edge, turns_taken(state), greatest, most, budget)),
+    }
+}
+
+impl<'a> Search<'a> {
+    /// Whether a state is closed, the one at an index. At most `greatest` turns were taken where it is met.
+    fn is_state_closed(
+        &self,
+        at: usize,
+        state: &State,
+        greatest: u32,
+        most: &Items<u32>,
+        bound: &Bound,
+    ) -> Result<bool, NoMemory>
+        requires sound { IsSound self.now }
+        requires is_at { slice_get self.now.states at ≡ Some state.now }
+        requires greatest { slice_get most.now at ≡ Some greatest }
+        ensures { IfOk result (λ closed. closed ≡ true →
+            IsStateClosed (ground_of self.now) self.now most.now bound.now at state.now) }
+    {
+        let turns = u64::from(greatest);
+        if turns < turns_taken(state) || u64::from(self.budget) + 1 < turns {
+            return Ok(false);
+        }
+        let granted = self.granted.get(at).copied();
+        if !is_grant_followed(granted, state, greatest, most, bound, self.budget) {
+            return Ok(false);
+        }
+        let failed = self.failed.get(at).copied();
+        is_failure_followed(failed, state, greatest, most, bound, self.budget)
+    }
+
+    /// Whether the state at an index is closed.
+    fn is_closed_at(&self, at: usize, most: &Items<u32>, bound: &Bound) -> Result<bool, NoMemory>
+        requires sound { IsSound self.now }
+        ensures { IfOk result (λ closed. closed ≡ true → (state : State) →
+            slice_get self.now.states at ≡ Some state →
+            IsStateClosed (ground_of self.now) self.now most.now bound.now at state) }
+    {
+        match (self.states.get(at), most.get(at)) {
+            (Some(state), Some(greatest)) => self.is_state_closed(
+                at, state, *greatest, most, bound,
+            ),
+            _ => Ok(false),
+        }
+    }
+
+    /// Whether all states are closed, so that no set that the answer is about shows anything. `most` has a number of turns for each state: none that is
+    /// less than those of any run that comes to it.
+    pub(crate) fn is_closed(&self, most: &Items<u32>, bound: &Bound) -> Result<bool, NoMemory>
+        requires sound { IsSound self.now }
+        ensures closed { IfOk result (λ closed. closed ≡ true →
+            IsClosed (ground_of self.now) self.now most.now bound.now) }
+        ensures fine { IfOk result (λ closed. closed ≡ true → (numbers : List ℕ) →
+            IsTriedSet (ground_of self.now) numbers → IsWithin bound.now numbers →
+            is_fine (run_of (ground_of self.now) numbers) ≡ true) }
+    {
+        for at in 0..self.states.len() {
+            if !self.is_closed_at(at, most, bound)? {
+                return Ok(false);
+            }
+        }
+        Ok(self.states.len() > 0)
+    }
+}

@@ -1,0 +1,89 @@
+//! Where a run comes that makes its next attempt: to a state that is kept, to a new one, or to its end. Which runs are followed is not decided here.
+
+ghost use Rattle.std.specs.Prelude.{◌≡◌, ℕ, ◌+◌, ◌≤◌, false, true, length, IfOk, OnOk};
+ghost use Rattle.wb_model.specs.runs.Sets.{IsSet};
+ghost use Rattle.wb_model.specs.runs.Sweeps.{is_fine};
+ghost use Rattle.wb_states.specs.Ground.{run_of, turns_of, IsTriedSet};
+ghost use Rattle.wb_states.specs.States.{ground_of, GoesOn, HasGrown, IsAboutTo, IsRunUnder, IsSound};
+
+use crate::search::Search;
+use crate::state::{Edge, Shown};
+use crate::turns::go_past_attempt;
+use wb_machine::{Finished, Machine};
+use wb_model::heap::Numbers;
+use wb_model::memory::NoMemory;
+use wb_model::progress::Progress;
+use wb_model::run::{Outcome, RunResult};
+
+/// Whether a run is neither bad nor cut. A leave alone is fine, and so is a run without its cleanup stack.
+fn is_fine(run_result: &RunResult) -> bool
+    ensures { result ≡ is_fine run_result.now }
+{
+    match &run_result.outcome {
+        Outcome::Ended { leaks, .. } => leaks.len() == 0,
+        Outcome::Panicked(_) | Outcome::Cut(_) => false,
+        Outcome::NoCleanup => true,
+    }
+}
+
+impl<'a> Search<'a> {
+    /// Whether a set is tried; the empty one as number 0.
+    pub fn tries(&self, numbers: &Numbers) -> bool
+        requires set { IsSet numbers.now }
+        ensures tried { result ≡ true → IsTriedSet (ground_of self.now) numbers.now }
+        ensures untried { result ≡ false → IsTriedSet (ground_of self.now) numbers.now → ⊥ }
+    {
+        let least = match numbers.get(0) {
+            Some(number) => *number,
+            None => 0,
+        };
+        self.whole || (self.part.from <= least && least <= self.part.to && least <= self.last)
+    }
+
+    /// What the end of a run shows, in which the attempts of a set fail. Its memory is spare then.
+    fn end(&mut self, fork: Machine<'a>, numbers: Numbers) -> Result<Edge, NoMemory>
+        requires sound { IsSound self.old }
+        requires run { IsRunUnder (ground_of self.old) numbers fork }
+        requires over { fork.over ≡ true }
+        requires made { fork.attempts ≡ length (run_of (ground_of self.old) numbers).trace }
+        ensures grown { OnOk result (HasGrown self.old self.new) }
+        ensures sound { OnOk result (IsSound self.new) }
+        ensures goes { IfOk result (λ edge. (turns attempts : ℕ) → fork.entry.attempts ≤ attempts →
+            GoesOn (ground_of self.new) self.new.states turns numbers attempts edge) }
+    {
+        let Finished { result, heap } = fork.finish()?;
+        self.spare = Some(heap);
+        if is_fine(&result) {
+            return Ok(Edge::Ends {
+                steps: result.steps,
+            });
+        }
+        if !self.tries(&numbers) {
+            return Ok(Edge::Untried);
+        }
+        if self.shown.is_none() {
+            self.shown = Some(Shown { numbers, result });
+        }
+        Ok(Edge::Shows)
+    }
+
+    /// How a run goes on that makes its next attempt.
+    pub fn follow<P: Progress>(
+        &mut self,
+        mut fork: Machine<'a>,
+        numbers: Numbers,
+        progress: &mut P,
+    ) -> Result<Edge, NoMemory>
+        requires sound { IsSound self.old }
+        requires about { IsAboutTo (ground_of self.old) numbers fork }
+        ensures grown { OnOk result (HasGrown self.old self.new) }
+        ensures sound { OnOk result (IsSound self.new) }
+        ensures goes { IfOk result (λ edge. GoesOn (ground_of self.new) self.new.states
+            (turns_of fork.entry) numbers (fork.entry.attempts + 1) edge) }
+    {
+        match go_past_attempt(&mut fork)? {
+            None => self.join(fork, numbers, progress),
+            Some(_) => self.end(fork, numbers),
+        }
+    }
+}

@@ -1,0 +1,124 @@
+//! The numbers of turns with which states are met. They are guesses, which `is_closed` checks: too small a number makes it answer `false`.
+
+use crate::closed::turns_taken;
+use crate::search::Search;
+use crate::state::{Edge, State};
+use std::alloc::{AllocError, Global};
+use wb_model::items::Items;
+use wb_model::memory::NoMemory;
+
+/// How many turns a state's own run has taken.
+fn own_turns(state: &State) -> u32 {
+    u32::try_from(turns_taken(state)).unwrap_or(u32::MAX)
+}
+
+/// How many turns the own run of each state has taken.
+pub(crate) fn met_turns(alloc: Global, search: &Search) -> Result<Items<u32>, NoMemory> {
+    let mut turns = Items::new(alloc);
+    for state in search.states.as_slice() {
+        turns.push(own_turns(state))?;
+    }
+    Ok(turns)
+}
+
+/// A walk along the edges that goes on from a state once it has come there by all edges.
+#[derive(Drop)]
+struct Walk {
+    /// The greatest number of turns with which it has come to each state so far.
+    most: Vec<u32>,
+    /// By how many edges it is still to come to each state.
+    ahead: Vec<usize>,
+    /// The states to which it has come by all edges, and from which it hasn't gone on.
+    ready: Vec<usize>,
+}
+
+impl Walk {
+    /// Before it has begun.
+    fn new(alloc: Global, search: &Search) -> Result<Walk, AllocError> {
+        let mut most = Vec::new(alloc);
+        let mut ahead = Vec::new(alloc);
+        for state in search.states.as_slice() {
+            most.push(own_turns(state))?;
+            ahead.push(0)?;
+        }
+        Ok(Walk {
+            most,
+            ahead,
+            ready: Vec::new(alloc),
+        })
+    }
+
+    /// Counts the states that edges join.
+    fn count(&mut self, edges: &[Edge]) {
+        for edge in edges {
+            if let Edge::Joins { state, .. } = edge {
+                if let Some(ahead) = self.ahead.get_mut(*state) {
+                    *ahead = ahead.saturating_add(1);
+                }
+            }
+        }
+    }
+
+    /// Finds the states that no edge joins.
+    fn find_ready(&mut self) -> Result<(), AllocError> {
+        for at in 0..self.ahead.len() {
+            if self.ahead.get(at) == Some(&0) {
+                self.ready.push(at)?;
+            }
+        }
+        Ok(())
+    }
+
+    /// Comes to a state by an edge, with so many turns.
+    fn come(&mut self, state: usize, turns: u32) -> Result<(), AllocError> {
+        if let Some(most) = self.most.get_mut(state) {
+            *most = turns.max(*most);
+        }
+        if let Some(ahead) = self.ahead.get_mut(state) {
+            *ahead = ahead.saturating_sub(1);
+            if *ahead == 0 {
+                self.ready.push(state)?;
+            }
+        }
+        Ok(())
+    }
+
+    /// Goes along an edge of a state, if it joins one. The state's own run has taken `own` turns, and any that comes to it `most` at most.
+    fn go_along(&mut self, edge: Option<&Edge>, own: u32, most: u32) -> Result<(), AllocError> {
+        if let Some(Edge::Joins { state, steps }) = edge {
+            let further = steps.saturating_add(1).saturating_sub(own);
+            return self.come(*state, most.saturating_add(further));
+        }
+        Ok(())
+    }
+
+    /// Goes along the edges of a state.
+    fn go_on(&mut self, search: &Search, at: usize) -> Result<(), AllocError> {
+        let (Some(state), Some(most)) = (search.states.get(at), self.most.get(at).copied()) else {
+            return Ok(());
+        };
+        self.go_along(search.granted.get(at), own_turns(state), most)?;
+        self.go_along(search.failed.get(at), own_turns(state), most)
+    }
+
+    /// Goes on from each state that is ready, or comes to be.
+    fn go_all(&mut self, search: &Search) -> Result<(), AllocError> {
+        for _ in 0..search.states.len() {
+            let Some(at) = self.ready.pop() else {
+                return Ok(());
+            };
+            self.go_on(search, at)?;
+        }
+        Ok(())
+    }
+}
+
+/// With how many turns at most any run comes to each state. Of states in a cycle of edges, and past one, it may be more.
+pub(crate) fn greatest_turns(alloc: Global, search: &Search) -> Result<Items<u32>, NoMemory> {
+    let mut walk = Walk::new(alloc, search)?;
+    walk.count(search.granted.as_slice());
+    walk.count(search.failed.as_slice());
+    walk.find_ready()?;
+    walk.go_all(search)?;
+    Ok(Items::from_vec(walk.most))
+}

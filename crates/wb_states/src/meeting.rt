@@ -1,0 +1,58 @@
+//! Runs that have come to a state that is kept. Which states are compared with a run is not decided here.
+
+ghost use Rattle.std.specs.Prelude.{◌≡◌, false, true};
+ghost use Rattle.wb_machine.specs.Alike.{GoesOnLike};
+ghost use Rattle.wb_states.specs.Ground.{Ground, Meets};
+ghost use Rattle.wb_states.specs.States.{IsState, IsUnderWay};
+
+use crate::state::State;
+use wb_machine::Machine;
+use wb_model::heap::Numbers;
+
+/// The first attempt that fails under one of two sets alone; `None` if they are the same. Both ascend.
+fn first_apart(set: &[u32], other: &[u32]) -> Option<u32> {
+    let (mut left, mut other_left) = (set, other);
+    while let [number, rest @ ..] = left {
+        let [other, other_rest @ ..] = other_left else {
+            return Some(*number);
+        };
+        if *number != *other {
+            return Some(*number.min(other));
+        }
+        left = rest;
+        other_left = other_rest;
+    }
+    other_left.first().copied()
+}
+
+/// The last attempt up to which a run under a set and that of a state were one run.
+fn one_run_until(fork: &Machine, set: &Numbers, state: &State) -> u32 {
+    let both_made = fork.attempts().min(state.machine.attempts());
+    match first_apart(set.as_slice(), state.numbers.as_slice()) {
+        Some(number) => both_made.min(number.saturating_sub(1)),
+        None => both_made,
+    }
+}
+
+/// Whether a run goes on like that of a state, and asks for an attempt next. At first each allocation number may stand for any other, for
+/// no more than 64 of them. Then those of attempts that both made while they were one run stand for themselves, however many there are.
+fn goes_on_alike(fork: &Machine, set: &Numbers, state: &State) -> bool
+    requires script { state.now.machine.script ≡ fork.now.script }
+    ensures alike { result ≡ true → GoesOnLike fork.now state.now.machine }
+    ensures going { result ≡ true → fork.now.over ≡ false }
+{
+    fork.will_attempt()
+        && (fork.goes_on_like(&state.machine, 0)
+            || fork.goes_on_like(&state.machine, one_run_until(fork, set, state)))
+}
+
+/// Whether a run under a set is the same from here on as a state, but for allocation numbers. `false` may come where it is, and comes of a
+/// run that asks for no attempt next.
+pub(crate) fn is_met(fork: &Machine, set: &Numbers, state: &State) -> bool
+    requires script { state.now.machine.script ≡ fork.now.script }
+    ensures { result ≡ true → (g : Ground) → IsUnderWay g set.now fork.now → IsState g state.now →
+        Meets g set.now fork.now.attempts fork.now.steps
+        state.now.numbers state.now.machine.attempts state.now.machine.steps }
+{
+    goes_on_alike(fork, set, state)
+}

@@ -1,0 +1,41 @@
+//! What a search over states has found so far, and which state is which. How runs go on from a state is not decided here.
+
+use crate::state::{Edge, Shown, State};
+use std::collections::HashMap;
+use wb_machine::Heap;
+use wb_model::heap::Shape;
+use wb_model::items::Items;
+use wb_model::part::Part;
+use wb_model::script::Script;
+
+/// The states that were met, in the order of their sets and attempts, and how runs go on from each.
+#[derive(Drop)]
+pub(crate) struct Search<'a> {
+    pub script: &'a Script,
+    /// The greatest number of steps that a run may take.
+    pub budget: u32,
+    pub shape: Shape,
+    pub states: Items<State<'a>>,
+    /// How runs go on whose next attempt is granted, state by state. What isn't listed is still to be followed.
+    pub granted: Items<Edge>,
+    /// The same of those whose next attempt fails.
+    pub failed: Items<Edge>,
+    /// The first set that was found to show anything.
+    pub shown: Option<Shown>,
+    /// Whether all sets are tried.
+    pub whole: bool,
+    /// Else those whose least number this part has, and is no greater than `last`.
+    pub part: Part,
+    /// How many attempts the run without failure makes.
+    pub last: u32,
+    /// Whether a run only joins a state that was met with as many steps or more.
+    pub exact: bool,
+    /// How many states were met that are the same as no other, whatever their steps.
+    pub met: u32,
+    /// The latest state of each fingerprint.
+    pub latest: HashMap<u64, usize>,
+    /// Of each state, the one before it with its fingerprint; its own index if there is none.
+    pub earlier: Items<usize>,
+    /// The memory of a run that is over.
+    pub spare: Option<Heap>,
+}

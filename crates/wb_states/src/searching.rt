@@ -1,0 +1,244 @@
+//! A search over states, by how many attempts fail, until an answer is known.
+
+ghost use Rattle.std.specs.Prelude.{◌≡◌, ℕ, ◌+◌, ◌^◌, ◌<◌, ◌≤◌, List, [], length, true, false, IfOk, IfSome, OnOk, IsTrue};
+ghost use Rattle.wb_model.specs.heap.Space.{is_shape};
+ghost use Rattle.wb_model.specs.language.Sound.{is_script};
+ghost use Rattle.wb_model.specs.runs.EverySet.{AreAllSetsFineIn};
+ghost use Rattle.wb_model.specs.runs.Parts.{last_attempt};
+ghost use Rattle.wb_model.specs.runs.SetParts.{AreSetsFineIn, IsNoSetIn};
+ghost use Rattle.wb_model.specs.runs.Sets.{set_run};
+ghost use Rattle.wb_model.specs.runs.Sweeps.{is_fine};
+ghost use Rattle.wb_model.specs.declared.failures.Failures.TheVariants.{Single};
+ghost use Rattle.wb_states.specs.Answers.{at_least_one, IsAnswer, IsLeastShownIn, IsLookedTo};
+ghost use Rattle.wb_states.specs.Answers.{IsWholeIf};
+ghost use Rattle.wb_states.specs.Closed.{IsWithin};
+ghost use Rattle.wb_states.specs.Ground.{run_of, IsTriedSet};
+ghost use Rattle.wb_states.specs.States.{ground_of, IsSound};
+ghost use Rattle.wb_states.specs.declared.searching.Searched.TheVariants as found;
+ghost use Rattle.wb_states.specs.declared.state.Shown.{Shown};
+
+use crate::closed::Bound;
+use crate::grow::Plan;
+use crate::labels::{greatest_turns, met_turns};
+use crate::search::Search;
+use crate::state::Shown;
+use std::alloc::Global;
+use wb_machine::RunFault;
+use wb_model::heap::Shape;
+use wb_model::limits::LARGEST_BUDGET;
+use wb_model::memory::NoMemory;
+use wb_model::part::Part;
+use wb_model::progress::Progress;
+use wb_model::script::Script;
+
+/// What a search over states finds.
+#[derive(Debug, Drop)]
+pub enum Searched {
+    /// The least set that is tried whose run is bad or cut.
+    Shown(Shown),
+    /// No set that is tried shows anything, however many attempts it has.
+    Fine,
+    /// No set of at most so many attempts does, and nothing is known of others.
+    FineTo(u32),
+}
+
+/// What is known once more runs were followed.
+#[derive(Debug, Drop)]
+enum Looked {
+    /// The answer; `None` where what was followed doesn't say it.
+    Known(Option<Searched>),
+    /// Runs of sets of more attempts must be followed.
+    GoesOn,
+}
+
+impl<'a> Search<'a> {
+    /// Whether no set within a bound shows anything; `false` where what was followed doesn't say it.
+    fn shows_none_within(&self, alloc: Global, bound: &Bound) -> Result<bool, NoMemory>
+        requires sound { IsSound self.now }
+        ensures { IfOk result (λ none. none ≡ true → (numbers : List ℕ) →
+            IsTriedSet (ground_of self.now) numbers → IsWithin bound.now numbers →
+            is_fine (run_of (ground_of self.now) numbers) ≡ true) }
+    {
+        let most = if self.exact {
+            met_turns(alloc, self)?
+        } else {
+            greatest_turns(alloc, self)?
+        };
+        self.is_closed(&most, bound)
+    }
+
+    /// That no set of at most so many attempts shows anything; `None` where what was followed doesn't say it.
+    fn answer_to(&self, alloc: Global, most: u32) -> Result<Option<Searched>, NoMemory>
+        requires sound { IsSound self.now }
+        ensures { IfOk result (λ answer. IfSome answer (IsAnswer (ground_of self.now))) }
+    {
+        let none = self.shows_none_within(alloc, &Bound::AtMost(most))?;
+        Ok(none.then_some(Searched::FineTo(most)))
+    }
+
+    /// That no set shows anything.
+    fn answer_of_all(&self, alloc: Global) -> Result<Option<Searched>, NoMemory>
+        requires sound { IsSound self.now }
+        ensures { IfOk result (λ answer. IfSome answer (IsAnswer (ground_of self.now))) }
+    {
+        let none = self.shows_none_within(alloc, &Bound::All)?;
+        Ok(none.then_some(Searched::Fine))
+    }
+
+    /// The set that was found first, if no lesser one shows anything.
+    fn answer_of_shown(&mut self, alloc: Global) -> Result<Option<Searched>, NoMemory>
+        requires sound { IsSound self.old }
+        ensures { IfOk result (λ answer. IfSome answer (IsAnswer (ground_of self.old))) }
+    {
+        let Some(shown) = &self.shown else {
+            return Ok(None);
+        };
+        let bound = Bound::Before(shown.numbers.try_copy()?);
+        if !self.shows_none_within(alloc, &bound)? {
+            return Ok(None);
+        }
+        Ok(self.shown.take().map(Searched::Shown))
+    }
+
+    /// Follows the runs of sets of one attempt more than so many; those of fewer were followed.
+    fn look_further<P: Progress>(
+        &mut self,
+        alloc: Global,
+        fewer: u32,
+        states: u32,
+        progress: &mut P,
+    ) -> Result<Looked, NoMemory>
+        requires sound { IsSound self.old }
+        requires few { fewer + 1 < 2 ^ 32 }
+        ensures sound { result ≡ Ok Looked.GoesOn → IsSound self.new }
+        ensures ground { result ≡ Ok Looked.GoesOn → ground_of self.new ≡ ground_of self.old }
+        ensures answer { IfOk result (λ looked. IsLookedTo (ground_of self.old) looked) }
+    {
+        if fewer > 0 {
+            progress.begin_sets(fewer + 1);
+        }
+        if !self.grow(fewer + 1, states, progress)? {
+            return Ok(Looked::Known(self.answer_to(alloc, fewer)?));
+        }
+        if self.shown.is_some() {
+            return Ok(Looked::Known(self.answer_of_shown(alloc)?));
+        }
+        if self.failed.len() == self.states.len() {
+            return Ok(Looked::Known(self.answer_of_all(alloc)?));
+        }
+        Ok(Looked::GoesOn)
+    }
+
+    /// What sets of at most `most` attempts show, if no more than so many states are met; `None` where what was followed doesn't say it.
+    fn look<P: Progress>(
+        &mut self,
+        alloc: Global,
+        most: u32,
+        states: u32,
+        progress: &mut P,
+    ) -> Result<Option<Searched>, NoMemory>
+        requires sound { IsSound self.old }
+        ensures { IfOk result (λ answer. IfSome answer (IsAnswer (ground_of self.old))) }
+    {
+        for fewer in 0..most {
+            if let Looked::Known(answer) = self.look_further(alloc, fewer, states, progress)? {
+                return Ok(answer);
+            }
+        }
+        self.answer_to(alloc, most)
+    }
+}
+
+/// Whether a part has all numbers up to the last attempt.
+fn is_whole(part: Part, last: u32) -> bool
+    ensures { IsWholeIf result part last }
+{
+    part.from == 0 && last <= part.to
+}
+
+/// What a plan finds; `None` where what was followed doesn't say it.
+fn search_by<P: Progress>(
+    alloc: Global,
+    script: &Script,
+    plan: Plan,
+    most: u32,
+    states: u32,
+    budget: u32,
+    shape: Shape,
+    progress: &mut P,
+) -> Result<Option<Searched>, RunFault>
+    requires script { IsTrue (is_script script.now) }
+    requires least { 1 ≤ budget }
+    requires greatest { budget ≤ LARGEST_BUDGET }
+    requires last { plan.last ≡ length (set_run script.now budget shape []).trace }
+    ensures answer { IfOk result (λ answer. IfSome answer (IsAnswer (record {
+      script = script.now;
+      budget = budget;
+      shape = shape;
+      whole = plan.whole;
+      part = plan.part;
+      last = plan.last;
+    }))) }
+    ensures shape { result ≡ Err RunFault.BadShape → is_shape shape ≡ false }
+{
+    let mut search = Search::new(alloc, script, budget, shape, plan)?;
+    Ok(search.look(alloc, most, states, progress)?)
+}
+
+/// The least set of at most `most` attempts that makes the run bad or cuts it if they fail together, of those that are tried of a part; that no set does, however many
+/// attempts it has; or that none of at most so many does. The run without failure makes `last` attempts, and no single failure shows anything.
+///
+/// States before an attempt that are the same but for allocation numbers are followed once. No more than `states` of them are: then what is known is told of sets of fewer
+/// attempts. Where the budget may cut a run that joined a state with more steps, states are followed once more for each that is met with more steps than
+/// before.
+pub fn search_states<P: Progress>(
+    alloc: Global,
+    script: &Script,
+    part: Part,
+    last: u32,
+    most: u32,
+    states: u32,
+    budget: u32,
+    shape: Shape,
+    progress: &mut P,
+) -> Result<Searched, RunFault>
+    requires script { IsTrue (is_script script.now) }
+    requires least { 1 ≤ budget }
+    requires greatest { budget ≤ LARGEST_BUDGET }
+    requires last { last ≡ last_attempt Single script.now budget shape }
+    requires single { IsNoSetIn part 1 script.now budget shape }
+    ensures shown { (shown : Shown) → result ≡ Ok (found.Shown shown) →
+        IsLeastShownIn part script.now budget shape shown }
+    ensures fine { result ≡ Ok found.Fine → AreAllSetsFineIn part script.now budget shape }
+    ensures fine_to { (fine : ℕ) → result ≡ Ok (found.FineTo fine) →
+        (1 ≤ fine) × AreSetsFineIn part fine script.now budget shape }
+    ensures shape { result ≡ Err RunFault.BadShape → is_shape shape ≡ false }
+{
+    let quick = Plan {
+        whole: is_whole(part, last),
+        part,
+        last,
+        exact: false,
+    };
+    if let Some(answer) = search_by(alloc, script, quick, most, states, budget, shape, progress)? {
+        return Ok(at_least_one(answer));
+    }
+    let exact = Plan {
+        exact: true,
+        ..quick
+    };
+    match search_by(alloc, script, exact, most, states, budget, shape, progress)? {
+        Some(answer) => Ok(at_least_one(answer)),
+        None => Ok(Searched::FineTo(1)),
+    }
+}
+
+/// An answer where it is known that no single failure shows anything.
+fn at_least_one(answer: Searched) -> Searched
+    ensures { result ≡ at_least_one answer }
+{
+    match answer {
+        Searched::FineTo(fine) => Searched::FineTo(fine.max(1)),
+        known => known,
+    }
+}
