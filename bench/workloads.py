@@ -4,6 +4,8 @@ from collections.abc import Callable
 from math import comb
 from typing import NamedTuple
 
+from tools.paths import programs
+
 ARITHMETIC = """
 proc main
 int x
@@ -326,6 +328,43 @@ end
 end
 """
 
+# a thousand requests with a fallback, none of which has to do with the others: each set of them is fine
+FALLBACKS = """
+proc main
+ptr a
+repeat 1000
+alloc a 100
+if null a
+alloc a 20
+end
+if some a
+store a 0 1
+end
+free a
+end
+end
+"""
+
+
+# twenty attempts of which each set that fails comes to a state of its own, since a sum tells it from all others
+APART_NAMES = """\
+ptr a
+int failed
+int bit
+"""
+APART = """\
+set bit 1
+repeat 20
+alloc a 40
+if null a
+add failed bit
+end
+free a
+null a
+add bit bit
+end
+"""
+TOLD_APART = f"proc main\n{APART_NAMES}{APART}end\n"
 # so many cells, each named by an object; the cells can be freed from the highest down, and the objects from the lowest up
 AROUND = """
 class Node 0
@@ -411,13 +450,13 @@ def sets_swept(text: str) -> int:
 
 
 class Workload(NamedTuple):
-    """A script, the task for it, and what its cost is divided by, which is read off the report."""
+    """A script, the task for it, and what its cost is divided by, which is read off the report, or is how many states a sweep meets."""
 
     name: str
     task: str
     script: str
     unit: str
-    divisor: Callable[[str], int]
+    divisor: Callable[[str], int] | None
     # too long for callgrind, or told wrong by it, since it counts a large move of memory byte by byte
     by_time: bool = False
 
@@ -446,6 +485,10 @@ WORKLOADS = [
     Workload("a quarter of a sweep by pairs", "sweep --pairs --from 51 --to 100", SWEPT_BY_PAIRS, "pair of the whole", pairs_swept),
     Workload("sweep by sets of 3 of 60 attempts", "sweep --failures 3", SWEPT_TURNS.format(turns=59), "set", sets_swept),
     Workload("sweep by sets of 3 of 120 attempts", "sweep --failures 3", SWEPT_TURNS.format(turns=119), "set", sets_swept),
+    *(Workload(f"every set of `{it.name}`", "sweep --sets", it.read_text(), "state", None) for it in programs()),
+    Workload("every set of 1,000 fallbacks", "sweep --sets", FALLBACKS, "state", None),
+    Workload("sets up to 10,000 states", "sweep --sets --states 10000", TOLD_APART, "state", lambda _: 10_000),
+    Workload("sets up to 100,000 states", "sweep --sets", TOLD_APART, "state", lambda _: 100_000, by_time=True),
     Workload("lengths of 1,001 attempts", "lengths", SWEPT, "search", lambda _: 1),
     Workload("lengths of a loader", "lengths", LOADER, "search", lambda _: 1),
     Workload("lengths of a greedy fill", "lengths", GREEDY, "run", lambda _: GREEDY_RUNS, by_time=True),

@@ -35,12 +35,12 @@ _workbench()
             values='--budget --min --step --picture'
             ;;
         sweep)
-            options='--every --pairs --all --failures --from --to --budget --min --step --json --picture --help'
-            values='--failures --from --to --budget --min --step --picture'
+            options='--every --pairs --all --failures --sets --states --from --to --budget --min --step --json --picture --help'
+            values='--failures --states --from --to --budget --min --step --picture'
             ;;
         check)
-            options='--every --pairs --all --failures --budget --min --step --json --picture --help'
-            values='--failures --budget --min --step --picture'
+            options='--every --pairs --all --failures --sets --states --budget --min --step --json --picture --help'
+            values='--failures --states --budget --min --step --picture'
             ;;
         help)
             _workbench_words 'run size lengths sweep check help' "$word"

@@ -103,6 +103,7 @@ CASES = [
     (SCRIPT, "attempts 1\nnumber 0\nended\nleaks 0\nsteps 0\n", "sweep --pairs", "1 theorems"),
     (SCRIPT, "cut 2 4 budget\n", "sweep --pairs", "1 theorems"),
     (SCRIPT, "attempts 1\nset none to 3\n", "sweep --failures 3", "0 theorems"),
+    (SCRIPT, "attempts 1\nset none\n", "sweep --sets --states 9", "0 theorems"),
     (SCRIPT, "attempts 1\npair none\n", "sweep", "`pair` is not known as the second line of this sweep's text"),
     (SCRIPT, "attempts 1\nevery none\n", "sweep --pairs", "`every` is not known as the second line of this sweep's text"),
     (SCRIPT, "attempts 1\nnumber none\n", "sweep --every", "`number` is not known as the second line of this sweep's text"),

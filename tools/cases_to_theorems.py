@@ -47,6 +47,8 @@ def arguments_of(words: list[str]) -> tuple[argparse.Namespace, list[str]]:
         parser.add_argument("--every", action="store_true")
     parser.add_argument("--pairs", action="store_true")
     parser.add_argument("--failures", type=int)
+    parser.add_argument("--sets", action="store_true")
+    parser.add_argument("--states", type=int)
     parser.add_argument("--all", action="store_true")
     parser.add_argument("--from", type=int, default=0, dest="first")
     parser.add_argument("--to", type=int, default=CEILING, dest="last")
@@ -106,7 +108,7 @@ def accepted_at(path: Path, most_steps: int) -> Accepted | str:
         return "not accepted"
     a, files = arguments_of(case.args)
     script = (ROOT / files[0]).read_bytes() if files else case.script
-    if a.failures is not None:
+    if a.failures is not None or a.sets:
         return "sets of failures"
     version, told = "3" if a.task == "lengths" or a.all else "2", case.stdout.decode()
     report = lines_of_object(told, version) if a.json else told.removesuffix("\n").split("\n")

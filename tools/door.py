@@ -24,6 +24,7 @@ COMMANDS = {
     "rates": "rates",
     "pairs": "pairs",
     "failures": "failures",
+    "every-set": "every_set",
     "sets": "sets",
     "parts": "parts",
     "lengths": "lengths",

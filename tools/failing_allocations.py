@@ -62,6 +62,9 @@ explained/follow/items-that-a-leave-destroys.run
 explained/sets/sweep-finds-three-failures.sweep explained/sets/picture-of-a-sweep-over-sets.sweep
 failures/leak-that-needs-three-failures-json.sweep failures/retry-that-fails-again.check
 failures/cut-set-before-a-bad-one.sweep failures/leak-that-needs-three-failures-of-two-json.check
+every-set/leak-that-needs-three-failures.sweep every-set/pointer-to-another-cell.sweep
+every-set/steps-before-a-budget.sweep every-set/more-states-than-one.sweep
+every-set/every-answer-is-looked-at-json.sweep
 """.split()
 # the program that makes a call once more where it found no memory
 CALLS = ROOT / "crates/wb_call_tests/out/wb_call_tests"

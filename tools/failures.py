@@ -11,6 +11,7 @@ number or the set as `number`. A script that differs is kept in the folder, and 
 outcome must come often enough among the scripts that are made.
 """
 
+import math
 from collections.abc import Iterable, Iterator
 from itertools import islice
 from pathlib import Path
@@ -73,7 +74,7 @@ class ScriptWithFailures(Script):
     def outcome_of_sets(self, sweep: Report, attempts: int) -> str:
         """The outcome of a script of which no number shows anything, and whose run without failure makes so many attempts."""
         found = set_of(sweep)
-        must(found is None or self.is_made(found), f"there is no set {found}")
+        must(found is None or self.is_made(found) and len(found) <= MOST, f"there is no set {found}")
         for numbers in self.sets_to_try(found):
             must(self.run_of(numbers).status == FINE, f"`{self.command()}` passes over {numbers}")
         self.compare_past()
@@ -93,7 +94,7 @@ class ScriptWithFailures(Script):
     def is_made(self, numbers: Numbers) -> bool:
         """Whether two attempts or more have these ascending numbers, up to the last that is made in which the others fail."""
         last = attempts_of(self.run_of(numbers[:-1]))
-        return 2 <= len(numbers) <= MOST and list(numbers) == sorted(set(numbers)) and 1 <= numbers[0] and numbers[-1] <= last
+        return len(numbers) >= 2 and list(numbers) == sorted(set(numbers)) and 1 <= numbers[0] and numbers[-1] <= last
 
     def sets_of(self, many: int) -> Iterator[Numbers]:
         """All sets of so many attempts that are made, in order."""
@@ -142,9 +143,9 @@ def set_of(sweep: Report) -> Numbers | None:
     return None if words[1] == "none" else tuple(int(it) for it in words[1:] if it.isdigit())
 
 
-def rank(numbers: Numbers | None) -> tuple[int, Numbers]:
+def rank(numbers: Numbers | None) -> tuple[float, Numbers]:
     """The place of a set in the order of sets; none comes last."""
-    return (MOST + 1, ()) if numbers is None else (len(numbers), numbers)
+    return (math.inf, ()) if numbers is None else (len(numbers), numbers)
 
 
 def renamed(told: Report, word: str, other: str) -> Report:

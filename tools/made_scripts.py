@@ -4,7 +4,7 @@ Each script is a `main` that calls some parts, each within a TRAP: cells, cells 
 requests with a fallback. Most scripts have one part with a mistake, which some failure or other shows: of a single attempt, or only of two.
 Around the parts there may be `failnext`, `failevery`, `failnone` and heap marks. The same numbers give the same scripts. The commands
 `rates`, `pairs` and `lengths` try the program on them, and `forks` the program that compares forks. `failures` has scripts of its own, of
-which some take three failures.
+which some take three failures, and `every-set` others, of which some take four or more.
 """
 
 import argparse
@@ -265,7 +265,151 @@ def long_wait(chance: random.Random, is_wrong: bool) -> list[str]:
     return lines(f"ptr cell; {body}; if null cell; {body}; end; if null cell; {body}; {waits}; end; free cell")
 
 
-# parts whose mistakes a single failure shows, and those whose mistakes take two, or three; what is named once more comes twice as often
+def fourth_try(chance: random.Random, is_wrong: bool) -> list[str]:
+    """An object whose list is asked for four times, for less each time; wrong: the last request leaves, and the object isn't pushed."""
+    push, end = ("", "delete note") if is_wrong else ("pushobj note", "popdestroy 1")
+    less = "; ".join(f"if null list; alloc list {room(chance)}; end" for _ in range(2))
+    tried = f"alloc list {room(chance) + 5000}; {less}; if null list; allocl list 16; end"
+    return lines(f"ptr note Note; ptr list; newleave note Note; {push}; {tried}; free list; {end}")
+
+
+def many_turns(chance: random.Random, is_wrong: bool) -> list[str]:
+    """A request that is made in each of some turns, as long as there is nothing; wrong: nobody looks whether the last came about."""
+    store = "store cell 0 7" if is_wrong else "if some cell; store cell 0 7; end"
+    tried = f"repeat {chance.randint(4, 6)}; if null cell; alloc cell {room(chance)}; end; end"
+    return lines(f"ptr cell; {tried}; {store}; free cell")
+
+
+def missed_turns(chance: random.Random, is_wrong: bool) -> list[str]:
+    """A request in each of some turns, and a count of those that are refused; wrong: where all are, what is kept is forgotten."""
+    count, given_up = chance.randint(4, 5), "" if is_wrong else "free kept"
+    turn = f"alloc cell {room(chance)}; if null cell; add missed 1; end; free cell; null cell"
+    all_missed = f"if eq missed {count}; {given_up}; leave -9; end"
+    return lines(f"ptr kept; ptr cell; int missed; allocl kept 16; repeat {count}; {turn}; end; {all_missed}; free kept")
+
+
+def longest_wait(chance: random.Random, is_wrong: bool) -> list[str]:
+    """A request that is made in each of four turns, as long as there is nothing; wrong: where there is none, it waits past the budget."""
+    waits = "if null cell; repeat 20000; end; end" if is_wrong else ""
+    return lines(f"ptr cell; repeat 4; if null cell; alloc cell {room(chance)}; end; end; {waits}; free cell")
+
+
+def remembered(chance: random.Random, body: str, changed: str, shown: str) -> list[str]:
+    """A request, then another: where the first is refused something is changed, and looked at where the second is refused too. The body has
+    both in the place of the star, and may leave past a cell that is kept. The first takes more steps where it is granted, so that a run in
+    which it is refused isn't looked at for its steps."""
+    more = "else; repeat 8; end"
+    tried = ((changed, more), (shown, ""))
+    first, second = (f"alloc cell {room(chance)}; if null cell; {it}; {rest}; end; free cell; null cell" for it, rest in tried)
+    return lines(f"ptr cell; ptr kept; int seen; {body.replace('*', f'{first}; {second}')}")
+
+
+def given_up(is_wrong: bool) -> str:
+    """A leave after what is kept is freed; wrong: it isn't freed."""
+    return f"{'' if is_wrong else 'free kept'}; leave -9"
+
+
+def counted(chance: random.Random, is_wrong: bool) -> list[str]:
+    """A number says that a request was refused."""
+    shown = f"if eq seen 1; {given_up(is_wrong)}; end"
+    return remembered(chance, "allocl kept 16; *; free kept", "add seen 1", shown)
+
+
+def written(chance: random.Random, is_wrong: bool) -> list[str]:
+    """A word of a cell says that a request was refused."""
+    shown = f"load seen kept 2; if eq seen 5; {given_up(is_wrong)}; end"
+    return remembered(chance, "allocl kept 16; *; free kept", "store kept 2 5", shown)
+
+
+def lengthened(chance: random.Random, is_wrong: bool) -> list[str]:
+    """The length of a text in a cell says it."""
+    shown = f"getlen seen name; if eq seen 4; {given_up(is_wrong)}; end"
+    body = 'ptr name; hnewl name 6; push name; copy name "a"; allocl kept 16; *; free kept; popdestroy 1'
+    return remembered(chance, body, 'copy name "abcd"', shown)
+
+
+def buffered(chance: random.Random, is_wrong: bool) -> list[str]:
+    """A text in a buffer gets longer than that holds; wrong: nobody looks at its length."""
+    shown = 'append line "xyz"' if is_wrong else 'getlen seen line; if less seen 3; append line "xyz"; end'
+    return remembered(chance, "buf line 6; allocl kept 16; *; free kept", 'copy line "abcd"', shown)
+
+
+def viewed(chance: random.Random, is_wrong: bool) -> list[str]:
+    """The length of a view says that a request was refused."""
+    shown = f"getlen seen part; if eq seen 3; {given_up(is_wrong)}; end"
+    body = 'buf line 6; view part; copy line "abcd"; left part line 2; allocl kept 16; *; free kept'
+    return remembered(chance, body, "left part line 3", shown)
+
+
+def shortened(chance: random.Random, is_wrong: bool) -> list[str]:
+    """A cell gives up its end; wrong: a word is written there."""
+    shown = "store kept 8 1" if is_wrong else "store kept 3 1"
+    return remembered(chance, "allocl kept 40; *; free kept", "realloc kept kept 16", shown)
+
+
+def pointed(chance: random.Random, is_wrong: bool) -> list[str]:
+    """One of two cells is written; wrong: where it is the second, what is kept is forgotten."""
+    body = "ptr one; ptr other; ptr at; allocl one 16; push one; allocl other 16; push other; allocl kept 16; set at one; *"
+    shown = f"store at 0 3; load seen other 0; if eq seen 3; {given_up(is_wrong)}; end"
+    return remembered(chance, f"{body}; free kept; popdestroy 2", "set at other", shown)
+
+
+def owned(chance: random.Random, is_wrong: bool) -> list[str]:
+    """The same, where an object has the pointer."""
+    made = "; ".join(f"allocl {it} 16; push {it}" for it in ("one", "other"))
+    body = f"ptr note Note; ptr one; ptr other; newleave note Note; push note; {made}; allocl kept 16; set note.text one; *"
+    shown = f"store note.text 0 3; load seen other 0; if eq seen 3; {given_up(is_wrong)}; end"
+    return remembered(chance, f"{body}; free kept; popdestroy 3", "set note.text other", shown)
+
+
+def emptied(chance: random.Random, is_wrong: bool) -> list[str]:
+    """An object gives up its text; wrong: the text is read."""
+    shown = "print note.text" if is_wrong else "if some note.text; print note.text; end"
+    body = "ptr note Note; newleave note Note; pushobj note; construct note; *; popdestroy 1"
+    return remembered(chance, body, "free note.text; null note.text", shown)
+
+
+def pushed_anew(chance: random.Random, is_wrong: bool) -> list[str]:
+    """An object's item is made anew; wrong: as that of a plain cell, so that a leave forgets the text."""
+    body = "ptr note Note; newleave note Note; pushobj note; construct note; *; pop 1; delete note"
+    return remembered(chance, body, f"pop 1; {'push' if is_wrong else 'pushobj'} note", "leave -9")
+
+
+def marked(chance: random.Random, is_wrong: bool) -> list[str]:
+    """A level is opened; wrong: cells of the level before are looked for in it."""
+    changed = "mark" if is_wrong else "mark; markend 0"
+    return remembered(chance, "mark; allocl kept 16; *; free kept", changed, "check 1")
+
+
+def set_to_fail(chance: random.Random, is_wrong: bool) -> list[str]:
+    """The script's own setting refuses a request that is made later."""
+    body = f"allocl kept 16; *; alloc cell 16; if null cell; if eq seen 1; {given_up(is_wrong)}; end; end; free cell; free kept"
+    return remembered(chance, body, "failnext 2", "set seen 1")
+
+
+def turned(chance: random.Random, is_wrong: bool) -> list[str]:
+    """There is one turn more of a loop; wrong: where the request of each is refused, what is kept is forgotten."""
+    body = "int turns; int missed; set turns 1; allocl kept 16; *; free kept"
+    turn = "set turns 0; alloc cell 16; if null cell; add missed 1; end; free cell; null cell"
+    return remembered(chance, body, "set turns 2", f"repeat turns; {turn}; end; if eq missed 2; {given_up(is_wrong)}; end")
+
+
+def moved(chance: random.Random, is_wrong: bool) -> list[str]:
+    """A cell is above another, where a request before them was refused, and else below it; wrong: it is freed by its old pointer after it
+    grew, though it has moved."""
+    freed = "" if is_wrong else "if some grown; set kept grown; end"
+    made = f"alloc cell {room(chance) + 200}; alloc kept 16; free cell; null cell; leaveifnull kept; push kept; allocl above 16; push above"
+    tried = f"alloc cell 300; if null cell; realloc grown kept 64; pop 2; {freed}; free above; free kept; leave -9; end"
+    return lines(f"ptr cell; ptr kept; ptr above; ptr grown; {made}; {tried}; free cell; popdestroy 2")
+
+
+def stepped(chance: random.Random, is_wrong: bool) -> list[str]:
+    """Two waits; wrong: both together are longer than the budget."""
+    return remembered(chance, "*", f"repeat {9_200 if is_wrong else 20}; end", "repeat 900; end")
+
+
+# parts whose mistakes a single failure shows, and those whose mistakes take two, three, or four and more; what is named once more comes
+# twice as often
 Parts = tuple[Part, ...]
 PARTS: Parts = (
     *(cell, grown_cell, two_cells, text, note, operation, many_pushes, loop, greed, retry, leave, stale, inner_trap),
@@ -276,6 +420,12 @@ PARTS_OF_TWO: Parts = (
     *(fallback, wait),
 )
 PARTS_OF_THREE: Parts = (third_try, loader, three_turns, two_spares, long_wait)
+# those whose mistakes take two, of which the first changes something that the second looks at later
+PARTS_THAT_REMEMBER: Parts = (
+    *(counted, written, lengthened, buffered, viewed, shortened, pointed, owned, emptied, pushed_anew, marked, set_to_fail, turned, moved),
+    *(stepped,),
+)
+PARTS_OF_FOUR: Parts = (fourth_try, many_turns, missed_turns, longest_wait)
 # the sorts of parts that scripts are made of, if nothing else is said
 SORTS = (PARTS, PARTS_OF_TWO)
 

@@ -14,3 +14,8 @@ PROGRAM = ROOT / "crates" / PROGRAM_CRATE / "out" / PROGRAM_CRATE
 def examples() -> list[Path]:
     """The scripts of the examples."""
     return sorted(EXAMPLES.glob("*.oom"))
+
+
+def programs() -> list[Path]:
+    """Longer scripts, as code is that is tested, in which some sets of failures or none show a mistake."""
+    return sorted((TOOLS / "programs").glob("*.oom"))

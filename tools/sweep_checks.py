@@ -1,4 +1,5 @@
-"""What `rates.py`, `pairs.py`, `failures.py` and `lengths.py` share: what the program answers of a script, and how all scripts are compared."""
+"""What `rates.py`, `pairs.py`, `failures.py`, `every_set.py` and `lengths.py` share: what the program answers of a script, and how all
+scripts are compared."""
 
 import argparse
 import json
@@ -86,16 +87,25 @@ class Script:
             written = self.answer(*words)
             told = json.loads(written.lines[0])
             values = self.values_of_object(plain) | values_of(plain.status, sweep.lines)
-            found = {key: told.get(key) for key in values}
+            found = {key: told.get(key, "no such key") for key in values}
             must(found == values and written.status == plain.status, f"`{' '.join(words)}` gives {found}")
 
     def values_of_object(self, plain: Report) -> dict[str, object]:
         """What the JSON of a report must hold beside how many attempts there are and which failure was found."""
         return {"version": self.VERSION, "kind": self.KIND, "lines": plain.lines, "status": plain.status}
 
+    @classmethod
+    def files(cls) -> list[Path]:
+        """The scripts that are tried beside those that are made."""
+        return examples()
+
     def outcome(self) -> str:
         """What comes of the script, by its name in WANTED, once all of the program's answers agree."""
         raise NotImplementedError
+
+    def outcomes(self) -> list[str]:
+        """All that comes of the script, where that may be more than one."""
+        return [self.outcome()]
 
 
 def attempts_of(run: Report) -> int:
@@ -132,12 +142,12 @@ def shown(answer: Report) -> str:
     return f"status {answer.status} and {answer.lines[:4]}"
 
 
-def compared(script: type[Script], program: Path, name: str, text: bytes) -> tuple[str | None, str | None]:
+def compared(script: type[Script], program: Path, name: str, text: bytes) -> tuple[list[str], str | None]:
     """What comes of a script, or what is wrong."""
     try:
-        return script(program, text).outcome(), None
+        return script(program, text).outcomes(), None
     except (Difference, NoAnswer, ValueError, LookupError) as fault:
-        return None, f"{name}: {fault}"
+        return [], f"{name}: {fault}"
 
 
 def too_few(wanted: Wanted, outcomes: Counter[str], count: int) -> list[str]:
@@ -165,14 +175,14 @@ def compare_scripts(script: type[Script], wanted: Wanted, about: str | None, wor
     """Compares the answers for examples and made scripts, prints what comes how often, and the totals, and gives the exit status."""
     given, tally = arguments(about, words), Tally()
     made = [(f"made {number}", it.encode("ascii")) for number, it in enumerate(scripts(given.scripts, given.seed, script.SORTS))]
-    named = [*((it.name, it.read_bytes()) for it in examples()), *made]
+    named = [*((it.name, it.read_bytes()) for it in script.files()), *made]
     with ThreadPoolExecutor(processors()) as pool:
         told = list(pool.map(lambda it: compared(script, given.program, *it), named))
     for _, fault in told:
         tally.check(fault is None, fault or "")
     if given.keep:
         keep_scripts(given.keep, (it for it, (_, fault) in zip(named, told) if fault))
-    outcomes = Counter(outcome for outcome, _ in told[len(told) - len(made) :] if outcome)
+    outcomes = Counter(outcome for found, _ in told[len(told) - len(made) :] for outcome in found)
     for rare in too_few(wanted, outcomes, given.scripts):
         tally.check(False, f"too few scripts with {rare}")
     print(f"{script.command()} of made scripts: " + ", ".join(f"{outcomes[it]} with {it}" for it in wanted))

@@ -22,7 +22,7 @@ PICTURE = "--picture"
 # the commands that read a script, and the options that take a further word; those of the second set do so of `run` alone, those of
 # the third of `sweep` alone
 COMMANDS = {"run", "size", "lengths", "sweep", "check"}
-WITH_VALUE = {"--min", "--step", "--budget", "--limit", "--fail", "--failures", PICTURE}
+WITH_VALUE = {"--min", "--step", "--budget", "--limit", "--fail", "--failures", "--states", PICTURE}
 OF_RUN = {"--also", "--every", "--set", "--follow-steps"}
 OF_SWEEP = {"--from", "--to"}
 

@@ -3,7 +3,7 @@
 import random
 import unittest
 
-from tools.made_scripts import PARTS, PARTS_OF_THREE, PARTS_OF_TWO, scripts
+from tools.made_scripts import PARTS, PARTS_OF_FOUR, PARTS_OF_THREE, PARTS_OF_TWO, PARTS_THAT_REMEMBER, scripts
 from tools.script_terms import Reader
 
 
@@ -19,13 +19,13 @@ class WhatIsMade(unittest.TestCase):
         self.assertGreaterEqual(len(set(scripts())), 290)
 
     def test_mistakes(self) -> None:
-        for part in (*PARTS, *PARTS_OF_TWO, *PARTS_OF_THREE):
+        for part in (*PARTS, *PARTS_OF_TWO, *PARTS_OF_THREE, *PARTS_OF_FOUR, *PARTS_THAT_REMEMBER):
             with self.subTest(part.__name__):
                 right, wrong = ([part(random.Random(seed), is_wrong) for seed in range(5)] for is_wrong in (False, True))
                 self.assertTrue(all(one != other for one, other in zip(right, wrong)))
 
     def test_scripts_that_can_be_read(self) -> None:
-        for made in (*scripts(), *scripts(40, sorts=(PARTS_OF_THREE,))):
+        for made in (*scripts(), *scripts(60, sorts=(PARTS_OF_THREE, PARTS_OF_FOUR, PARTS_THAT_REMEMBER))):
             Reader(made).script()
 
     def test_lines_of_all_sorts(self) -> None:

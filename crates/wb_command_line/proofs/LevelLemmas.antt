@@ -4,7 +4,7 @@ use Rattle.std.specs.Prelude.{◌==◌}
 use Rattle.std.specs.Str.{bytes_eq}
 use Rattle.clap.specs.Simple.{filled}
 use Rattle.clap.specs.Walk.{Row, Rule, Text, arg_by_index, arg_by_long, arg_by_short}
-use Rattle.wb_command_line.specs.CommandLine.{all_flag, also_option, budget_option, every_option, fail_option, failures_option, follow_flag, follow_steps_option, from_option, joined_level, json_flag, level, limit_option, min_option, pairs_flag, rates_flag, step_option, to_option}
+use Rattle.wb_command_line.specs.CommandLine.{all_flag, also_option, budget_option, every_option, fail_option, failures_option, follow_flag, follow_steps_option, from_option, joined_level, json_flag, level, limit_option, min_option, pairs_flag, rates_flag, sets_flag, states_option, step_option, to_option}
 use Rattle.wb_command_line.specs.Passed.{IsIn, RowsPass}
 use Rattle.wb_command_line.specs.declared.command_line.parser.Takes.{Takes}
 use Rattle.wb_command_line.specs.declared.command_line.parser.Takes.TheVariants as taking
@@ -62,25 +62,29 @@ level_long called taking.Failures name e =
     let pairs = first_false (bytes_eq (codes "pairs") name) _ every.1 in
     let all = first_false (bytes_eq (codes "all") name) _ pairs.1 in
     let failures = first_false (bytes_eq (codes "failures") name) _ all.1 in
-    let budget = first_false (bytes_eq (codes "budget") name) _ failures.1 in
+    let sets = first_false (bytes_eq (codes "sets") name) _ failures.1 in
+    let states = first_false (bytes_eq (codes "states") name) _ sets.1 in
+    let budget = first_false (bytes_eq (codes "budget") name) _ states.1 in
     let min = first_false (bytes_eq (codes "min") name) _ budget.1 in
     let step = first_false (bytes_eq (codes "step") name) _ min.1 in
     let json = first_false (bytes_eq (codes "json") name) _ step.1 in
     let picture = first_false (bytes_eq (codes "picture") name) _ json.1 in
-    rw (every.0, pairs.0, all.0, failures.0, budget.0, min.0, step.0, json.0, picture.0) (help_asks (bytes_eq (codes "help") name))
+    rw (every.0, pairs.0, all.0, failures.0, sets.0, states.0, budget.0, min.0, step.0, json.0, picture.0) (help_asks (bytes_eq (codes "help") name))
 level_long called taking.Part name e =
     let every = first_false (bytes_eq (codes "every") name) _ e in
     let pairs = first_false (bytes_eq (codes "pairs") name) _ every.1 in
     let all = first_false (bytes_eq (codes "all") name) _ pairs.1 in
     let failures = first_false (bytes_eq (codes "failures") name) _ all.1 in
-    let from = first_false (bytes_eq (codes "from") name) _ failures.1 in
+    let sets = first_false (bytes_eq (codes "sets") name) _ failures.1 in
+    let states = first_false (bytes_eq (codes "states") name) _ sets.1 in
+    let from = first_false (bytes_eq (codes "from") name) _ states.1 in
     let to = first_false (bytes_eq (codes "to") name) _ from.1 in
     let budget = first_false (bytes_eq (codes "budget") name) _ to.1 in
     let min = first_false (bytes_eq (codes "min") name) _ budget.1 in
     let step = first_false (bytes_eq (codes "step") name) _ min.1 in
     let json = first_false (bytes_eq (codes "json") name) _ step.1 in
     let picture = first_false (bytes_eq (codes "picture") name) _ json.1 in
-    rw (every.0, pairs.0, all.0, failures.0, from.0, to.0, budget.0, min.0, step.0, json.0, picture.0) (help_asks (bytes_eq (codes "help") name))
+    rw (every.0, pairs.0, all.0, failures.0, sets.0, states.0, from.0, to.0, budget.0, min.0, step.0, json.0, picture.0) (help_asks (bytes_eq (codes "help") name))
 level_long called taking.Neither name e =
     let budget = first_false (bytes_eq (codes "budget") name) _ e in
     let min = first_false (bytes_eq (codes "min") name) _ budget.1 in
@@ -114,7 +118,7 @@ own_rule_in a (inr (inr (inr (inr (inl every))))) = inr (inr (inr (inr (inl ever
 own_rule_in a (inr (inr (inr (inr (inr (inl set)))))) = inr (inr (inr (inr (inr (inl set)))))
 own_rule_in a (inr (inr (inr (inr (inr (inr (inl follow))))))) = inr (inr (inr (inr (inr (inr (inl follow))))))
 own_rule_in a (inr (inr (inr (inr (inr (inr (inr (inl steps)))))))) = inr (inr (inr (inr (inr (inr (inr (inl steps)))))))
-own_rule_in a (inr (inr (inr (inr (inr (inr (inr (inr shared)))))))) = inr (inr (inr (inr (inr (inr (inr (inr (inr (inr (inr (inr (inr (inr shared)))))))))))))
+own_rule_in a (inr (inr (inr (inr (inr (inr (inr (inr shared)))))))) = inr (inr (inr (inr (inr (inr (inr (inr (inr (inr (inr (inr (inr (inr (inr (inr shared)))))))))))))))
 
 part_in : (a : Rule) → IsIn a (level [] taking.Part).rules → IsIn a joined_level.rules
 part_in a (inl file) = inl file
@@ -126,11 +130,13 @@ failures_in a (inr (inl rates)) = inr (inr (inr (inr (inr (inr (inr (inr (inl ra
 failures_in a (inr (inr (inl pairs))) = inr (inr (inr (inr (inr (inr (inr (inr (inr (inl pairs)))))))))
 failures_in a (inr (inr (inr (inl all)))) = inr (inr (inr (inr (inr (inr (inr (inr (inr (inr (inl all))))))))))
 failures_in a (inr (inr (inr (inr (inl together))))) = inr (inr (inr (inr (inr (inr (inr (inr (inr (inr (inr (inl together)))))))))))
-failures_in a (inr (inr (inr (inr (inr shared))))) = inr (inr (inr (inr (inr (inr (inr (inr (inr (inr (inr (inr (inr (inr shared)))))))))))))
+failures_in a (inr (inr (inr (inr (inr (inl sets)))))) = inr (inr (inr (inr (inr (inr (inr (inr (inr (inr (inr (inr (inl sets))))))))))))
+failures_in a (inr (inr (inr (inr (inr (inr (inl states))))))) = inr (inr (inr (inr (inr (inr (inr (inr (inr (inr (inr (inr (inr (inl states)))))))))))))
+failures_in a (inr (inr (inr (inr (inr (inr (inr shared))))))) = inr (inr (inr (inr (inr (inr (inr (inr (inr (inr (inr (inr (inr (inr (inr (inr shared)))))))))))))))
 
 shared_in : (a : Rule) → IsIn a (level [] taking.Neither).rules → IsIn a joined_level.rules
 shared_in a (inl file) = inl file
-shared_in a (inr shared) = inr (inr (inr (inr (inr (inr (inr (inr (inr (inr (inr (inr (inr (inr shared)))))))))))))
+shared_in a (inr shared) = inr (inr (inr (inr (inr (inr (inr (inr (inr (inr (inr (inr (inr (inr (inr (inr shared)))))))))))))))
 
 wider_rows : (c d : List Rule) → ((a : Rule) → IsIn a c → IsIn a d) → (rows : List Row) → RowsPass c rows → RowsPass d rows
 wider_rows c d wide [] passed = tt
@@ -173,6 +179,12 @@ all_rule = filled all_flag
 
 abbrev pub failures_rule : Rule
 failures_rule = filled failures_option
+
+abbrev pub sets_rule : Rule
+sets_rule = filled sets_flag
+
+abbrev pub states_rule : Rule
+states_rule = filled states_option
 
 abbrev pub from_rule : Rule
 from_rule = filled from_option
@@ -222,6 +234,12 @@ only_all = only joined_level.rules (codes "all") all_rule refl
 
 pub only_failures : IsOnly joined_level.rules (codes "failures") failures_rule
 only_failures = only joined_level.rules (codes "failures") failures_rule refl
+
+pub only_sets : IsOnly joined_level.rules (codes "sets") sets_rule
+only_sets = only joined_level.rules (codes "sets") sets_rule refl
+
+pub only_states : IsOnly joined_level.rules (codes "states") states_rule
+only_states = only joined_level.rules (codes "states") states_rule refl
 
 pub only_from : IsOnly joined_level.rules (codes "from") from_rule
 only_from = only joined_level.rules (codes "from") from_rule refl

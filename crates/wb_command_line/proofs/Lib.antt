@@ -10,6 +10,7 @@ pub mod RefusalLemmas
 pub mod RuleLemmas
 pub mod SetLemmas
 pub mod WordLemmas
+pub mod WorkedEverySet
 pub mod WorkedFailures
 pub mod WorkedFollowing
 pub mod WorkedPairs

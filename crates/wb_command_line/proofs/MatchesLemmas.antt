@@ -27,14 +27,14 @@ use Rattle.wb_command_line.specs.CommandLine.{command_line, joined_level}
 use Rattle.wb_command_line.specs.Fault.{IsAfterUsage, IsFaultOf, IsFaultOfOptions}
 use Rattle.wb_command_line.specs.Spelled.{IsMeantBy, IsSpelledBy, are_several, command_of, decimal, disorders, doubles, flag_of, gives_several_numbers, mislists, number_of, numbered_rule_of, rule_by, spell_both, spell_disorder, spell_no_list, spelled}
 use Rattle.wb_command_line.specs.Subcommands.{Subcommand, subcommand_named}
-use Rattle.wb_command_line.specs.declared.command_line.failures.TheConstants.{MOST_TOGETHER}
 use Rattle.wb_command_line.specs.declared.command_line.following.TheConstants.{MOST_FOLLOWED}
+use Rattle.wb_command_line.specs.declared.command_line.sets.TheConstants.{MOST_STATES, MOST_TOGETHER}
 use Rattle.wb_command_line.specs.declared.command.Command.{Command}
 use Rattle.wb_command_line.specs.declared.command.CommandFault.{CommandFault}
 use Rattle.wb_command_line.specs.declared.command.CommandFault.TheVariants.{Usage, Both, Also, Range, NoMemory}
 use Rattle.wb_command_line.specs.declared.command.CommandFault.TheVariants as F
 use Rattle.wb_command_line.proofs.CommandLineLemmas.{one_is_met, text_is}
-use Rattle.wb_command_line.proofs.LevelLemmas.{all_rule, also_rule, budget_rule, every_rule, fail_rule, failures_rule, follow_rule, follow_steps_rule, from_rule, json_rule, level_wide, limit_rule, min_rule, only_all, only_also, only_budget, only_every, only_fail, only_failures, only_follow, only_follow_steps, only_from, only_json, only_limit, only_min, only_pairs, only_rates, only_step, only_to, pairs_rule, rates_rule, step_rule, to_rule}
+use Rattle.wb_command_line.proofs.LevelLemmas.{all_rule, also_rule, budget_rule, every_rule, fail_rule, failures_rule, follow_rule, follow_steps_rule, from_rule, json_rule, level_wide, limit_rule, min_rule, only_all, only_also, only_budget, only_every, only_fail, only_failures, only_follow, only_follow_steps, only_from, only_json, only_limit, only_min, only_pairs, only_rates, only_sets, only_states, only_step, only_to, pairs_rule, rates_rule, sets_rule, states_rule, step_rule, to_rule}
 use Rattle.wb_command_line.specs.Passed.{RowsPass}
 use Rattle.wb_command_line.proofs.PassedValues.{IsOnly, PassedAs, first_passed}
 
@@ -193,6 +193,9 @@ module _ (E : Type 0) (G : List ℕ → Result ℕ E → Type 0) (parses : (u : 
   pub failures_is : OptionRead (codes "failures") 1 MOST_TOGETHER
   failures_is f r passed = number_is joined_level.rules (codes "failures") failures_rule 1 MOST_TOGETHER f r refl (omega arith) only_failures passed
 
+  pub states_is : OptionRead (codes "states") 1 MOST_STATES
+  states_is f r passed = number_is joined_level.rules (codes "states") states_rule 1 MOST_STATES f r refl (omega arith) only_states passed
+
   pub from_is : OptionRead (codes "from") 0 CEILING
   from_is f r passed = number_is joined_level.rules (codes "from") from_rule 0 CEILING f r refl (omega arith) only_from passed
 
@@ -271,6 +274,9 @@ pairs_is = flag_is (codes "pairs") pairs_rule only_pairs (λ t passed. passed) r
 
 pub all_is : FlagRead (codes "all")
 all_is = flag_is (codes "all") all_rule only_all (λ t passed. passed) refl
+
+pub sets_is : FlagRead (codes "sets")
+sets_is = flag_is (codes "sets") sets_rule only_sets (λ t passed. passed) refl
 
 -- the number of an option, or the default, in its range
 pub record IsGivenOr (id : Text) (rows : List Row) (low high default n : ℕ) : Type 0 where

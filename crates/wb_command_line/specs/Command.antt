@@ -7,11 +7,11 @@ use Rattle.wb_model.specs.declared.limits.TheConstants.{CEILING, LARGEST_BUDGET}
 use Rattle.wb_model.specs.declared.heap.Rule.TheVariants.{Every, Limit, Number, Pair, Set, Unlimited}
 use Rattle.wb_model.specs.declared.heap.Shape.{Shape}
 use Rattle.wb_model.specs.declared.part.Part.{Part}
-use Rattle.wb_command_line.specs.declared.command_line.failures.TheConstants.{MOST_TOGETHER}
 use Rattle.wb_command_line.specs.declared.command_line.following.TheConstants.{MOST_FOLLOWED}
+use Rattle.wb_command_line.specs.declared.command_line.sets.TheConstants.{MOST_STATES, MOST_TOGETHER}
 use Rattle.wb_command_line.specs.declared.command.Command.{Command}
 use Rattle.wb_command_line.specs.declared.command.Task.{Task}
-use Rattle.wb_command_line.specs.declared.command.Task.TheVariants.{Run, Size, Lengths, Sweep, All, Sets, Check, CheckAll, CheckSets}
+use Rattle.wb_command_line.specs.declared.command.Task.TheVariants.{Run, Size, Lengths, Sweep, All, Sets, EverySet, Check, CheckAll, CheckSets, CheckEverySet}
 
 -- attempts count from 1, and the second comes after the first
 abbrev pub are_in_order : ℕ → ℕ → Bool
@@ -34,9 +34,13 @@ are_of_set numbers = are_ascending numbers && (nat_le 1 (length numbers) && nat_
 abbrev pub may_fail_together : ℕ → Bool
 may_fail_together most = nat_le 1 most && nat_le most MOST_TOGETHER
 
+-- so many states may be met at most
+abbrev pub may_be_met : ℕ → Bool
+may_be_met states = nat_le 1 states && nat_le states MOST_STATES
+
 -- a limit, the number of an attempt, or a rate is no greater than the greatest length of a heap; of two attempts,
 -- which are in order, the second is; of a set they all are; of a part its last number is; and of the sets that are tried, as many
--- attempts fail at most as may
+-- attempts fail at most as may, or as many states are met at most
 abbrev pub is_in_range : Task → Bool
 is_in_range (Run Unlimited) = true
 is_in_range (Run (Limit l)) = nat_le l CEILING
@@ -49,9 +53,11 @@ is_in_range Lengths = true
 is_in_range (Sweep failures part) = nat_le part.to CEILING
 is_in_range (All failures part) = nat_le part.to CEILING
 is_in_range (Sets most part) = may_fail_together most && nat_le part.to CEILING
+is_in_range (EverySet states part) = may_be_met states && nat_le part.to CEILING
 is_in_range (Check failures) = true
 is_in_range (CheckAll failures) = true
 is_in_range (CheckSets most) = may_fail_together most
+is_in_range (CheckEverySet states) = may_be_met states
 
 -- a part has a number
 abbrev pub has_number : Part → Bool
@@ -62,6 +68,7 @@ abbrev pub is_filled : Task → Bool
 is_filled (Sweep failures part) = has_number part
 is_filled (All failures part) = has_number part
 is_filled (Sets most part) = has_number part
+is_filled (EverySet states part) = has_number part
 is_filled _ = true
 
 -- the minimum length and the step are multiples of 16

@@ -6,12 +6,12 @@ use Rattle.clap.specs.declared.builder.action.ArgAction.TheVariants.{SetTrue}
 use Rattle.clap.specs.declared.builder.value_parser.ValueParser.TheVariants.{Signed}
 use Rattle.wb_model.specs.declared.limits.TheConstants.{CEILING, LARGEST_BUDGET, LARGEST_MINIMUM, LARGEST_STEP, SMALLEST_STEP}
 use Rattle.wb_command_line.specs.Subcommands.{Subcommand, subcommands}
-use Rattle.wb_command_line.specs.declared.command_line.failures.TheConstants.{MOST_TOGETHER}
 use Rattle.wb_command_line.specs.declared.command_line.following.TheConstants.{MOST_FOLLOWED}
 use Rattle.wb_command_line.specs.declared.command_line.parser.Level.{Level}
 use Rattle.wb_command_line.specs.declared.command_line.parser.NumberOption.{NumberOption}
 use Rattle.wb_command_line.specs.declared.command_line.parser.Takes.{Takes}
 use Rattle.wb_command_line.specs.declared.command_line.parser.Takes.TheVariants as taking
+use Rattle.wb_command_line.specs.declared.command_line.sets.TheConstants.{MOST_STATES, MOST_TOGETHER}
 
 -- `--NAME N`, where N is a number from the least to the most
 abbrev pub number_option : Text → ℕ → ℕ → Rule
@@ -83,8 +83,19 @@ follow_steps_option = number_option (codes "follow-steps") 1 MOST_FOLLOWED
 abbrev pub failures_option : Rule
 failures_option = number_option (codes "failures") 1 MOST_TOGETHER
 
+abbrev pub sets_flag : Rule
+sets_flag = flag (codes "sets") (codes "sets")
+
+-- `--states N`, where N states are met at most
+abbrev pub states_option : Rule
+states_option = number_option (codes "states") 1 MOST_STATES
+
+-- those that ask for sets of attempts
+abbrev pub set_options : List Rule
+set_options = failures_option ∷ sets_flag ∷ states_option ∷ []
+
 abbrev pub failure_options : List Rule
-failure_options = rates_flag ∷ pairs_flag ∷ all_flag ∷ failures_option ∷ []
+failure_options = rates_flag ∷ pairs_flag ∷ all_flag ∷ set_options
 
 abbrev pub part_options : List Rule
 part_options = from_option ∷ to_option ∷ []
@@ -119,8 +130,8 @@ abbrev pub line_with : Text → List Rule → App
 line_with name options = with_rules (new_app name) (file_argument ∷ options ++ shared_options)
 
 -- `NAME [--limit L] [--fail N] [--also J] [--every N] [--set LIST] [--follow] [--follow-steps N] [--budget B] [--min M] [--step G] [--json]
--- [--picture FILE] [FILE]`, the same with `--every`, `--pairs`, `--all` and `--failures K` in the place of a rule and of the steps, with
--- these and `[--from I] [--to J]`, or with none of them
+-- [--picture FILE] [FILE]`, the same with `--every`, `--pairs`, `--all`, `--failures K`, `--sets` and `--states N` in the place of a rule and
+-- of the steps, with these and `[--from I] [--to J]`, or with none of them
 abbrev pub subcommand_line : Text → Takes → App
 subcommand_line name takes = line_with name (own_options takes)
 

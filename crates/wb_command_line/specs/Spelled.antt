@@ -17,6 +17,7 @@ use Rattle.wb_command_line.specs.CommandLine.{command_line}
 use Rattle.wb_command_line.specs.SetList.{is_list, numbers_in}
 use Rattle.wb_command_line.specs.Subcommands.{Trial, subcommand_named}
 use Rattle.wb_command_line.specs.declared.command_line.following.TheConstants.{DEFAULT_FOLLOWED}
+use Rattle.wb_command_line.specs.declared.command_line.sets.TheConstants.{DEFAULT_STATES}
 use Rattle.wb_command_line.specs.declared.command.Command.{Command}
 use Rattle.wb_command_line.specs.declared.command.Task.{Task}
 use Rattle.wb_command_line.specs.declared.command_line.parser.Takes.{Takes}
@@ -125,18 +126,30 @@ budget_of rows = unwrap_or (number_of (codes "budget") rows) DEFAULT_BUDGET
 abbrev pub flag_of : Text → List Row → Bool
 flag_of option rows = option_map_or (bytes_eq (codes "true")) (one_of option rows) false
 
--- how many attempts fail together at most, where sets are asked for
+-- how many attempts fail together at most, where sets of so many are asked for
 abbrev pub most_of : List Row → Option ℕ
 most_of rows = number_of (codes "failures") rows
 
+-- how many states may be met, if all sets are asked for
+abbrev pub met_of : List Row → ℕ
+met_of rows = unwrap_or (number_of (codes "states") rows) DEFAULT_STATES
+
+-- `None` where they are not: a number without the flag asks for none
+abbrev pub states_of : List Row → Option ℕ
+states_of rows = if flag_of (codes "sets") rows then Some (met_of rows) else None
+
 -- pairs are asked for together with rates, or with all that is found; or sets together with any of these
-abbrev pub are_too_many : Bool → Bool → Bool → Bool → Bool
-are_too_many rates pairs all sets = (pairs && (rates || all)) || (sets && (rates || (pairs || all)))
+abbrev pub are_both_sorts : Bool → Bool → Bool → Bool → Bool
+are_both_sorts rates pairs all sets = (pairs && (rates || all)) || (sets && (rates || (pairs || all)))
+
+-- so are they where sets of so many attempts are asked for, or all sets; or both of these are
+abbrev pub are_too_many : Bool → Bool → Bool → Bool → Bool → Bool
+are_too_many rates pairs all few every_set = (few && every_set) || are_both_sorts rates pairs all (few || every_set)
 
 -- the options of a subcommand that tries failures ask for that
 abbrev pub gives_too_many : List Row → Bool
 gives_too_many rows =
-    are_too_many (flag_of (codes "rates") rows) (flag_of (codes "pairs") rows) (flag_of (codes "all") rows) (is_some (most_of rows))
+    are_too_many (flag_of (codes "rates") rows) (flag_of (codes "pairs") rows) (flag_of (codes "all") rows) (is_some (most_of rows)) (is_some (states_of rows))
 
 -- the failures that are to be tried: rates with the flag `--every`, pairs of attempts with `--pairs`, and single attempts
 -- with neither
@@ -159,7 +172,7 @@ part_of rows = record {
 }
 
 abbrev pub trial_of : List Row → Trial
-trial_of rows = record { failures = failures_of rows; part = part_of rows; all = flag_of (codes "all") rows; most = most_of rows }
+trial_of rows = record { failures = failures_of rows; part = part_of rows; all = flag_of (codes "all") rows; most = most_of rows; states = states_of rows }
 
 -- what a subcommand asks for, by its name and matches
 abbrev pub task_of : Text → List Row → Option Task
@@ -204,7 +217,7 @@ gives_more_than_one taking.Part rows = gives_too_many rows
 gives_more_than_one taking.Neither rows = false
 
 -- the subcommand takes a rule, and more than one of a limit, a number, a rate and a set is given to it; or failures, and pairs are
--- asked for together with rates or with all that is found, or sets with any of these
+-- asked for together with rates or with all that is found, or sets with any of these, or sets of so many attempts with all sets
 abbrev pub doubles : Text → List Row → Bool
 doubles name rows =
     option_map_or (λ s. gives_more_than_one s.takes rows) (subcommand_named name) false

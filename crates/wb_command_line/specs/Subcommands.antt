@@ -7,25 +7,29 @@ use Rattle.wb_model.specs.declared.failures.Failures.{Failures}
 use Rattle.wb_model.specs.declared.heap.Rule.{Rule}
 use Rattle.wb_model.specs.declared.part.Part.{Part}
 use Rattle.wb_command_line.specs.declared.command.Task.{Task}
-use Rattle.wb_command_line.specs.declared.command.Task.TheVariants.{Run, Size, Lengths, Sweep, All, Sets, Check, CheckAll, CheckSets}
+use Rattle.wb_command_line.specs.declared.command.Task.TheVariants.{Run, Size, Lengths, Sweep, All, Sets, EverySet, Check, CheckAll, CheckSets, CheckEverySet}
 use Rattle.wb_command_line.specs.declared.command_line.parser.Takes.{Takes}
 use Rattle.wb_command_line.specs.declared.command_line.parser.Takes.TheVariants as taking
 
 -- what is to be tried: which failures, which of their numbers, and whether the run under each is told of, or the least alone that
--- leaks or panics; and how many attempts fail together at most, where sets are tried
+-- leaks or panics; how many attempts fail together at most, where sets of so many are tried; and how many states are met at most, where
+-- all sets are
 pub record Trial : Type 0 where
   pub failures : Failures
   pub part : Part
   pub all : Bool
   pub most : Option ℕ
+  pub states : Option ℕ
 
 abbrev pub sweep_task : Trial → Task
 sweep_task trial =
-    option_map_or (λ most. Sets most trial.part) trial.most (if trial.all then All trial.failures trial.part else Sweep trial.failures trial.part)
+    option_map_or (λ states. EverySet states trial.part) trial.states
+    (option_map_or (λ most. Sets most trial.part) trial.most (if trial.all then All trial.failures trial.part else Sweep trial.failures trial.part))
 
 -- of all their numbers
 abbrev pub check_task : Trial → Task
-check_task trial = option_map_or CheckSets trial.most (if trial.all then CheckAll trial.failures else Check trial.failures)
+check_task trial =
+    option_map_or CheckEverySet trial.states (option_map_or CheckSets trial.most (if trial.all then CheckAll trial.failures else Check trial.failures))
 
 pub record Subcommand : Type 0 where
   pub name : Text

@@ -30,12 +30,17 @@ pub enum Task {
     /// The least set of at most so many attempts that leaks or panics if they fail together, and the run in which it does: from 1
     /// to 8. Those sets are tried whose least number the part has.
     Sets(u32, Part),
+    /// The least set of attempts, however many, that leaks or panics if they fail together, and the run in which it does. At most so
+    /// many states are met on the way, from 1 to 10,000,000. Those sets are tried whose least number the part has.
+    EverySet(u32, Part),
     /// `Size`, and then `Sweep` with all these failures.
     Check(Failures),
     /// `Size`, and then `All` with all these failures.
     CheckAll(Failures),
     /// `Size`, and then `Sets` with all numbers.
     CheckSets(u32),
+    /// `Size`, and then `EverySet` with all numbers.
+    CheckEverySet(u32),
 }
 
 /// A command: what is to be done, and with what.
@@ -64,8 +69,8 @@ pub enum CommandFault {
     #[error("{0}")]
     Usage(clap::Error),
     /// `clap` takes the words, but they give more than one of a limit, the number of an attempt, a rate and a set; or ask for
-    /// pairs to be tried and for rates, or for each failure to be told of; or for sets to be tried and for any of these. It
-    /// comes before `Also`.
+    /// pairs to be tried and for rates, or for each failure to be told of; or for sets to be tried and for any of these; or for sets
+    /// of at most so many attempts and for all sets. It comes before `Also`.
     #[error("error: two of these options don't go together\n")]
     Both,
     /// `clap` takes the words, but they give the number of a second attempt that fails, and not that of a first, or a first

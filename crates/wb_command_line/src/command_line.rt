@@ -1,9 +1,9 @@
 //! How the words of a command line are read: `workbench run [--limit L | --fail N [--also J] | --every N | --set LIST] [--follow]
-//! [--follow-steps N] [--budget B] [--min M] [--step G] [--json] [--picture FILE] [FILE]`, the same with `--every`, `--pairs`, `--all` and `--failures K` in the place of a rule
-//! after `sweep` and `check`, after `sweep` with `[--from I] [--to J]` too, and with none of them after `size` and `lengths`. Nothing
-//! is opened or run here.
+//! [--follow-steps N] [--budget B] [--min M] [--step G] [--json] [--picture FILE] [FILE]`, the same with `--every`, `--pairs`, `--all`,
+//! `--failures K`, `--sets` and `--states N` in the place of a rule after `sweep` and `check`, after `sweep` with `[--from I] [--to J]`
+//! too, and with none of them after `size` and `lengths`. Nothing is opened or run here.
 ghost use Rattle.std.specs.Prelude.{◌≡◌, ◌≤◌, All, IfErr, IfOk, IsSome, IsTrue, List, Some, OnErr, OnOk, codes, false};
-ghost use Rattle.std.specs.Prelude.{IfSome, if◌then◌else◌, is_some, map, true};
+ghost use Rattle.std.specs.Prelude.{◌&&◌, ◌||◌, IfSome, if◌then◌else◌, is_some, map, true};
 ghost use Rattle.std.specs.Option.{option_map_or};
 ghost use Rattle.std.specs.Str.{IsUtf8};
 ghost use Rattle.clap.specs.Words.{Text, first_of, found_of, rows_of, takes};
@@ -12,7 +12,8 @@ ghost use Rattle.wb_command_line.specs.Command.{has_number, is_answerable, is_fi
 ghost use Rattle.wb_command_line.specs.CommandLine.{command_line, joined_level};
 ghost use Rattle.wb_command_line.specs.Fault.{IsAfterUsage, IsFaultOf, IsFaultOfOptions, IsFaultOfTask};
 ghost use Rattle.wb_command_line.specs.Passed.{RowsPass};
-ghost use Rattle.wb_command_line.specs.Spelled.{IsMeantBy, IsSpelledBy, are_too_many, budget_of as spelled_budget};
+ghost use Rattle.wb_command_line.specs.Spelled.{IsMeantBy, IsSpelledBy, are_both_sorts, are_too_many};
+ghost use Rattle.wb_command_line.specs.Spelled.{budget_of as spelled_budget, states_of};
 ghost use Rattle.wb_command_line.specs.Spelled.{disorders, doubles, failures_by, failures_of as spelled_failures};
 ghost use Rattle.wb_command_line.specs.Spelled.{flag_of, gives_too_many, mislists, most_of, part_of as spelled_part};
 ghost use Rattle.wb_command_line.specs.Spelled.{shape_of as spelled_shape, spell_no_list};
@@ -27,13 +28,15 @@ mod number_help;
 mod parser;
 mod rules;
 mod set_list;
+mod sets;
 
 use crate::command::{Command, CommandFault, Task};
-use crate::command_line::failures::{MOST_TOGETHER, most_in};
 use crate::command_line::following::follow_in;
 use crate::command_line::number_help::NumberHelp;
 use crate::command_line::parser::parser;
 use crate::command_line::rules::rule_in;
+pub use crate::command_line::sets::MOST_STATES;
+use crate::command_line::sets::{MOST_TOGETHER, most_in, states_in};
 use crate::file_name::FileName;
 use clap::ArgMatches;
 use std::alloc::{AllocError, Global};
@@ -51,7 +54,7 @@ const GRANULE: u32 = 16;
 ///
 /// Words that `clap` doesn't take, and calls for help or the version, are `Usage`. Where it takes them, a set whose text is no
 /// list is `Usage` too. Else more than one of a limit, the number of an attempt, a rate and a set is `Both`, and so are pairs
-/// together with rates or with all that is found, and sets with any of these. Else the number of a second attempt is `Also` where that of a first is
+/// together with rates or with all that is found, and sets with any of these, and sets of so many attempts with all sets. Else the number of a second attempt is `Also` where that of a first is
 /// missing, 0 or not less; else a minimum length or a step that is no multiple of 16 is `Shape`; and else a part that ends
 /// before it begins is `Range`. `NoMemory` comes where a growth was refused, of the workbench or of `clap`, and says nothing of
 /// the words.
@@ -122,9 +125,11 @@ fn check_part_of(task: &Task) -> Result<(), CommandFault>
     ensures empty { OnErr result (is_filled task.now ≡ false) }
 {
     match task {
-        Task::Sweep(_, part) | Task::All(_, part) | Task::Sets(_, part) => check_part(*part),
+        Task::Sweep(_, part) | Task::All(_, part) => check_part(*part),
+        Task::Sets(_, part) | Task::EverySet(_, part) => check_part(*part),
         Task::Run(_) | Task::Size | Task::Lengths => Ok(()),
-        Task::Check(_) | Task::CheckAll(_) | Task::CheckSets(_) => Ok(()),
+        Task::Check(_) | Task::CheckAll(_) => Ok(()),
+        Task::CheckSets(_) | Task::CheckEverySet(_) => Ok(()),
     }
 }
 
@@ -152,22 +157,34 @@ fn sweep_in(options: &ArgMatches) -> Result<Task, CommandFault>
     ensures both { OnErr result (gives_too_many (rows_of (found_of options.now)) ≡ true) }
 {
     let most = most_in(options);
-    let failures = failures_in(options, most.is_some())?;
-    Ok(sweep_by(failures, part_in(options), all_in(options), most))
+    let states = states_in(options);
+    let failures = failures_in(options, most.is_some(), states.is_some())?;
+    let (part, all) = (part_in(options), all_in(options));
+    Ok(sweep_by(failures, part, all, most, states))
 }
 
-/// A sweep over the numbers of a part, of the least failure or of all that are found; or over sets of at most so many attempts.
-fn sweep_by(failures: Failures, part: Part, all: bool, most: Option<u32>) -> Task
+/// A sweep over the numbers of a part, of the least failure or of all that are found; or over sets of at most so many attempts, or over
+/// all sets, for which so many states are met at most.
+fn sweep_by(
+    failures: Failures,
+    part: Part,
+    all: bool,
+    most: Option<u32>,
+    states: Option<u32>,
+) -> Task
     requires part { part.to ≤ CEILING }
     requires most { IfSome most (λ k. (1 ≤ k) × (k ≤ MOST_TOGETHER)) }
-    ensures is { result ≡ option_map_or (λ k. Task.Sets k part) most
-        (if all then Task.All failures part else Task.Sweep failures part) }
+    requires states { IfSome states (λ n. (1 ≤ n) × (n ≤ MOST_STATES)) }
+    ensures is { result ≡ option_map_or (λ n. Task.EverySet n part) states
+        (option_map_or (λ k. Task.Sets k part) most
+        (if all then Task.All failures part else Task.Sweep failures part)) }
     ensures range { IsTrue (is_in_range result) }
 {
-    match most {
-        Some(most) => Task::Sets(most, part),
-        None if all => Task::All(failures, part),
-        None => Task::Sweep(failures, part),
+    match (states, most) {
+        (Some(states), _) => Task::EverySet(states, part),
+        (None, Some(most)) => Task::Sets(most, part),
+        (None, None) if all => Task::All(failures, part),
+        (None, None) => Task::Sweep(failures, part),
     }
 }
 
@@ -182,28 +199,38 @@ fn check_in(options: &ArgMatches) -> Result<Task, CommandFault>
     ensures both { OnErr result (gives_too_many (rows_of (found_of options.now)) ≡ true) }
 {
     let most = most_in(options);
-    let failures = failures_in(options, most.is_some())?;
-    Ok(check_by(failures, all_in(options), most))
+    let states = states_in(options);
+    let failures = failures_in(options, most.is_some(), states.is_some())?;
+    Ok(check_by(failures, all_in(options), most, states))
 }
 
-/// A check of the least failure, or of all that are found; or of sets of at most so many attempts.
-fn check_by(failures: Failures, all: bool, most: Option<u32>) -> Task
-    requires { IfSome most (λ k. (1 ≤ k) × (k ≤ MOST_TOGETHER)) }
-    ensures is { result ≡ option_map_or Task.CheckSets most
-        (if all then Task.CheckAll failures else Task.Check failures) }
+/// A check of the least failure, or of all that are found; or of sets of at most so many attempts, or of all sets.
+fn check_by(failures: Failures, all: bool, most: Option<u32>, states: Option<u32>) -> Task
+    requires most { IfSome most (λ k. (1 ≤ k) × (k ≤ MOST_TOGETHER)) }
+    requires states { IfSome states (λ n. (1 ≤ n) × (n ≤ MOST_STATES)) }
+    ensures is { result ≡ option_map_or Task.CheckEverySet states
+        (option_map_or Task.CheckSets most
+        (if all then Task.CheckAll failures else Task.Check failures)) }
     ensures range { IsTrue (is_in_range result) }
 {
-    match most {
-        Some(most) => Task::CheckSets(most),
-        None if all => Task::CheckAll(failures),
-        None => Task::Check(failures),
+    match (states, most) {
+        (Some(states), _) => Task::CheckEverySet(states),
+        (None, Some(most)) => Task::CheckSets(most),
+        (None, None) if all => Task::CheckAll(failures),
+        (None, None) => Task::Check(failures),
     }
 }
 
-/// The failures that the options of `sweep` and `check` ask to be tried, which ask for sets or not; or `Both`.
-fn failures_in(options: &ArgMatches, is_of_sets: bool) -> Result<Failures, CommandFault>
+/// The failures that the options of `sweep` and `check` ask to be tried, which ask for sets of so many attempts or not, and for all
+/// sets or not; or `Both`.
+fn failures_in(
+    options: &ArgMatches,
+    is_of_few: bool,
+    is_of_every_set: bool,
+) -> Result<Failures, CommandFault>
     requires passed { RowsPass joined_level.rules (rows_of (found_of options.now)) }
-    requires sets { is_of_sets ≡ is_some (most_of (rows_of (found_of options.now))) }
+    requires few { is_of_few ≡ is_some (most_of (rows_of (found_of options.now))) }
+    requires every { is_of_every_set ≡ is_some (states_of (rows_of (found_of options.now))) }
     ensures ok { IfOk result
         (λ failures. failures ≡ spelled_failures (rows_of (found_of options.now))) }
     ensures alone { OnOk result (gives_too_many (rows_of (found_of options.now)) ≡ false) }
@@ -213,10 +240,30 @@ fn failures_in(options: &ArgMatches, is_of_sets: bool) -> Result<Failures, Comma
     let rates = options.get_flag("rates");
     let pairs = options.get_flag("pairs");
     let all = options.get_flag("all");
-    failures_by(rates, pairs, all, is_of_sets)
+    failures_or_sets(rates, pairs, all, is_of_few, is_of_every_set)
 }
 
-/// The failures that these flags ask to be tried, or `Both`. Sets are tried after single failures.
+/// The failures that these flags ask to be tried, or `Both`: sets of so many attempts don't go together with all sets.
+fn failures_or_sets(
+    rates: bool,
+    pairs: bool,
+    all: bool,
+    is_of_few: bool,
+    is_of_every_set: bool,
+) -> Result<Failures, CommandFault>
+    ensures ok { IfOk result (λ failures. failures ≡ failures_by rates pairs) }
+    ensures alone { OnOk result (are_too_many rates pairs all is_of_few is_of_every_set ≡ false) }
+    ensures fault { IfErr result (λ fault. fault ≡ CommandFault.Both) }
+    ensures both { OnErr result (are_too_many rates pairs all is_of_few is_of_every_set ≡ true) }
+{
+    if is_of_few && is_of_every_set {
+        Err(CommandFault::Both)
+    } else {
+        failures_by(rates, pairs, all, is_of_few || is_of_every_set)
+    }
+}
+
+/// The failures that these flags ask to be tried, with sets or without; or `Both`. Sets are tried after single failures.
 fn failures_by(
     rates: bool,
     pairs: bool,
@@ -224,9 +271,9 @@ fn failures_by(
     is_of_sets: bool,
 ) -> Result<Failures, CommandFault>
     ensures ok { IfOk result (λ failures. failures ≡ failures_by rates pairs) }
-    ensures alone { OnOk result (are_too_many rates pairs all is_of_sets ≡ false) }
+    ensures alone { OnOk result (are_both_sorts rates pairs all is_of_sets ≡ false) }
     ensures fault { IfErr result (λ fault. fault ≡ CommandFault.Both) }
-    ensures both { OnErr result (are_too_many rates pairs all is_of_sets ≡ true) }
+    ensures both { OnErr result (are_both_sorts rates pairs all is_of_sets ≡ true) }
 {
     match (rates, pairs, all, is_of_sets) {
         (false, false, false, _) => Ok(Failures::Single),

@@ -25,7 +25,7 @@ pub fn message_of<S: AsStr>(
         }
         CommandFault::Both => String::from_str(
             alloc,
-            too_many(word_at(words, 1), asks_for_sets(words)),
+            too_many(word_at(words, 1), asked_for(words)),
         ),
         _ => format!(in alloc; "{fault}"),
     }
@@ -39,24 +39,41 @@ fn without_usage(alloc: Global, text: String) -> Result<String, AllocError> {
     }
 }
 
-/// Which options of a subcommand don't go together, if they ask for sets or not.
-fn too_many(subcommand: &str, is_of_sets: bool) -> &'static str {
-    match subcommand {
-        "run" => "error: give one of '--limit', '--fail', '--every' and '--set'\n",
-        _ if is_of_sets => "error: give '--failures' without '--every', '--pairs' and '--all'\n",
-        _ => "error: give '--pairs' without '--every' and without '--all'\n",
+/// Which sets words ask for.
+#[derive(Clone, Copy)]
+enum Asked {
+    None,
+    Few,
+    All,
+}
+
+/// Which options of a subcommand don't go together, if they ask for such sets.
+fn too_many(subcommand: &str, asked: Asked) -> &'static str {
+    if subcommand == "run" {
+        return "error: give one of '--limit', '--fail', '--every' and '--set'\n";
+    }
+    match asked {
+        Asked::None => "error: give '--pairs' without '--every' and without '--all'\n",
+        Asked::Few => "error: give '--failures' without '--every', '--pairs' and '--all'\n",
+        Asked::All => {
+            "error: give '--sets' without '--every', '--pairs', '--failures' and '--all'\n"
+        }
     }
 }
 
-/// Whether a word names the option that asks for sets.
-fn asks_for_sets<S: AsStr>(words: &[S]) -> bool {
+/// Which sets words ask for: all, if one of them does.
+fn asked_for<S: AsStr>(words: &[S]) -> Asked {
+    let mut asked = Asked::None;
     for word in words {
         let word = word.as_str();
+        if word == "--sets" {
+            return Asked::All;
+        }
         if word == "--failures" || word.starts_with("--failures=") {
-            return true;
+            asked = Asked::Few;
         }
     }
-    false
+    asked
 }
 
 /// The text of an error of `clap`, with this tip in the place of its own.
@@ -154,7 +171,7 @@ fn subcommands_with(name: &str) -> &'static str {
     match name {
         "limit" | "fail" | "also" | "set" | "follow" | "follow-steps" => "run",
         "every" => "run, sweep and check",
-        "pairs" | "all" | "failures" => "sweep and check",
+        "pairs" | "all" | "failures" | "sets" | "states" => "sweep and check",
         "from" | "to" => "sweep",
         _ => "",
     }

@@ -30,6 +30,7 @@ mod script_page;
 mod sentences;
 mod sets;
 mod spread;
+mod states;
 mod stories;
 mod told;
 
@@ -38,9 +39,11 @@ use crate::runs::heaps::{put_heaps, put_warning};
 use crate::runs::lengths::put_lengths;
 use crate::runs::numbers::put_numbers;
 use crate::runs::script_page::ScriptPage;
+use crate::runs::states::put_many_states;
 pub use heaps::greatest_bad;
 pub use lengths::last_named;
 pub use numbers::last_bad;
+pub use states::ManyStates;
 use std::alloc::{AllocError, Global};
 use wb_history::{Attempts, ScriptLines, WatchedRun};
 use wb_model::failures::Failures;
@@ -102,6 +105,17 @@ pub fn numbers_found(
 ) -> Result<String, AllocError> {
     let mut page = ScriptPage::new(alloc, lines);
     put_numbers(&mut page, alloc, attempts, failures, ends)?;
+    page.whole_text()
+}
+
+/// Returns what is known of a search that met more states than it may. The only error is that memory ran out.
+pub fn states_found(
+    alloc: Global,
+    lines: &ScriptLines<'_>,
+    met: ManyStates,
+) -> Result<String, AllocError> {
+    let mut page = ScriptPage::new(alloc, lines);
+    put_many_states(&mut page, met);
     page.whole_text()
 }
 

@@ -3,13 +3,15 @@
 
 ghost use Rattle.std.specs.Prelude.{◌≤◌};
 
+use wb_command_line::command_line::MOST_STATES;
+use wb_explain::runs::ManyStates;
 use wb_history::RunParameters;
 use wb_model::heap::Rule;
 use wb_model::lengths::LengthTable;
 use wb_model::limits::LARGEST_BUDGET;
 use wb_model::memory::NoMemory;
 use workbench::findings::Findings;
-use workbench::{Command, FileName};
+use workbench::{Command, FileName, Task};
 
 /// How standard input is called before the number of a line.
 const INPUT: &str = "<stdin>";
@@ -61,6 +63,29 @@ pub fn rule_named(findings: &Findings) -> Result<Option<Rule>, NoMemory> {
     match &findings.set {
         Some(numbers) => Ok(Some(Rule::Set(numbers.try_copy()?))),
         None => Ok(findings.at.map(|it| it.rule())),
+    }
+}
+
+/// Returns what is known of a search that met more states than the command allows; `None` if the report isn't that of one.
+pub fn many_states(command: &Command, findings: &Findings) -> Option<ManyStates> {
+    let fine = findings.fine?;
+    let most = match &command.task {
+        Task::EverySet(states, _) | Task::CheckEverySet(states) => *states,
+        _ => return None,
+    };
+    Some(ManyStates {
+        most,
+        fine,
+        raised: more_states(most),
+    })
+}
+
+/// How many states may be met next; `None` if no more may.
+fn more_states(states: u32) -> Option<u32> {
+    if states < MOST_STATES {
+        Some(states.saturating_mul(10).min(MOST_STATES))
+    } else {
+        None
     }
 }
 

@@ -3,14 +3,14 @@
 ghost use Rattle.std.specs.Prelude.{IsTrue};
 ghost use Rattle.wb_model.specs.language.Sound.{is_script};
 
-use crate::asked::{budget_of, parameters_of, source_name};
+use crate::asked::{budget_of, many_states, parameters_of, source_name};
 use crate::recorded::FirstFault;
 use crate::runs::{Answer, Runs, has_run_to_explain, plain_run};
 use std::alloc::Global;
 use wb_explain::files::{Deed, file_fault};
 use wb_explain::runs::{
     greatest_bad, heaps_found, heaps_warning, last_bad, last_named, lengths_found, numbers_found,
-    run_found,
+    run_found, states_found,
 };
 use wb_history::{Attempts, ScriptLines, Until, watch_attempts};
 use wb_model::failures::Failures;
@@ -29,11 +29,18 @@ use workbench::{Command, Task};
 pub fn has_nothing_to_say(answer: Answer<'_>) -> bool {
     let task = &answer.command.task;
     match task {
-        Task::Size | Task::Check(_) | Task::CheckAll(_) | Task::CheckSets(_) => false,
-        Task::Run(_) | Task::Lengths | Task::Sweep(..) | Task::All(..) | Task::Sets(..) => {
-            answer.status == NOTHING_FOUND && !has_run_to_explain(task, answer.findings)
+        Task::Size | Task::Check(_) | Task::CheckAll(_) => false,
+        Task::CheckSets(_) | Task::CheckEverySet(_) => false,
+        Task::Run(_) | Task::Lengths => is_found_nothing(answer),
+        Task::Sweep(..) | Task::All(..) | Task::Sets(..) | Task::EverySet(..) => {
+            is_found_nothing(answer)
         }
     }
+}
+
+/// Whether nothing was found, and no run is explained all the same.
+fn is_found_nothing(answer: Answer<'_>) -> bool {
+    answer.status == NOTHING_FOUND && !has_run_to_explain(&answer.command.task, answer.findings)
 }
 
 /// Returns why the script's file could not be read, or the report not written. The only error is that memory ran out.
@@ -68,13 +75,23 @@ pub fn explain_runs(
         let found = run_found(alloc, lines, run)?;
         said.push_str(found.as_str())?;
     }
-    if let Task::Check(_) | Task::CheckAll(_) | Task::CheckSets(_) = &command.task
-        && answer.status == NOTHING_FOUND
-    {
+    if let Some(met) = many_states(command, answer.findings) {
+        let states = states_found(alloc, lines, met)?;
+        said.push_str(states.as_str())?;
+    }
+    if is_check(&command.task) && answer.status == NOTHING_FOUND {
         let warning = heaps_warning(alloc, lines, script, budget_of(command), command.shape)?;
         said.push_str(warning.as_str())?;
     }
     Ok(said)
+}
+
+/// Whether a task is a size and a sweep.
+fn is_check(task: &Task) -> bool {
+    matches!(
+        task,
+        Task::Check(_) | Task::CheckAll(_) | Task::CheckSets(_) | Task::CheckEverySet(_)
+    )
 }
 
 /// What shorter heaps refuse first, what heaps of every length show, and what all numbers show; empty if the report says none of

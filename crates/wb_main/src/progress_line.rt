@@ -86,6 +86,12 @@ impl<'a> ProgressLine<'a> {
         self.sets.estimate(numbers, elapsed)
     }
 
+    /// How many seconds ago the sets that are tried began; `None` if that isn't known.
+    fn seconds(&self) -> Option<u64> {
+        let elapsed = self.since?.elapsed(self.rt).ok()?;
+        Some(elapsed.as_secs())
+    }
+
     /// Begins to wait, where standard error is a terminal.
     fn begin_quietly(&mut self) {
         if self.rt.stderr().is_terminal() {
@@ -155,7 +161,7 @@ impl<'a> Progress for ProgressLine<'a> {
     fn meet_state(&mut self) {
         self.states = self.states.saturating_add(1);
         if self.is_due() {
-            self.show(line_of_states(self.many, self.states));
+            self.show(line_of_states(self.many, self.states, self.seconds()));
         }
     }
 
@@ -222,11 +228,14 @@ fn line_of_set(
     Some(line)
 }
 
-/// The line of a search over states, by how many attempts fail and how many states were met.
-fn line_of_states(many: u32, states: u32) -> Option<ArrayString<WIDEST>> {
+/// The line of a search over states: how many attempts fail, how many states were met, and since how many seconds so many fail, where that is known.
+fn line_of_states(many: u32, states: u32, seconds: Option<u64>) -> Option<ArrayString<WIDEST>> {
     let mut line = ArrayString::new();
-    let put = write!(line, "trying sets of {many} attempts, {states} states met");
-    put.ok().map(|()| line)
+    write!(line, "trying sets of {many} attempts, {states} states met").ok()?;
+    if let Some(seconds) = seconds {
+        write!(line, ", {seconds} s").ok()?;
+    }
+    Some(line)
 }
 
 /// Appends how much is done, and how long the rest takes: up to 99 seconds, then up to 99 minutes, then hours.

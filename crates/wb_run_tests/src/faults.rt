@@ -13,7 +13,7 @@ enum Fault {
 }
 
 /// Words after the program's name, and their fault.
-static FAULTS: [(&[&str], Fault); 33] = [
+static FAULTS: [(&[&str], Fault); 38] = [
     (&["run", "--limit", "176", "--fail", "2"], Fault::Both),
     (&["run", "--limit", "176", "--every", "2"], Fault::Both),
     (&["run", "--fail", "2", "--every", "2"], Fault::Both),
@@ -42,6 +42,10 @@ static FAULTS: [(&[&str], Fault); 33] = [
     (&["sweep", "--failures", "2", "--pairs"], Fault::Both),
     (&["sweep", "--every", "a.oom", "--failures=1"], Fault::Both),
     (&["check", "--all", "--failures=8", "--min=8"], Fault::Both),
+    (&["sweep", "--sets", "--every"], Fault::Both),
+    (&["check", "--pairs", "a.oom", "--sets"], Fault::Both),
+    (&["sweep", "--failures", "2", "--sets"], Fault::Both),
+    (&["check", "--all", "--sets", "--min=8"], Fault::Both),
     (&["run", "--also", "2"], Fault::Also),
     (&["run", "--also", "0"], Fault::Also),
     (&["run", "--also", "2", "--fail", "0"], Fault::Also),
@@ -59,6 +63,7 @@ static FAULTS: [(&[&str], Fault); 33] = [
     (&["check", "--pairs", "--step", "40"], Fault::Shape),
     (&["sweep", "--failures=3", "--min", "8"], Fault::Shape),
     (&["check", "--failures", "2", "--step=40"], Fault::Shape),
+    (&["sweep", "--sets", "--min", "8"], Fault::Shape),
 ];
 
 /// The fault of the words after the program's name, if they have one of these.

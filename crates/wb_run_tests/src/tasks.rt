@@ -15,9 +15,11 @@ pub(crate) enum Asks {
     Sweep(Failures, Part),
     All(Failures, Part),
     Sets(u32, Part),
+    EverySet(u32, Part),
     Check(Failures),
     CheckAll(Failures),
     CheckSets(u32),
+    CheckEverySet(u32),
 }
 
 impl Asks {
@@ -34,9 +36,13 @@ impl Asks {
                 *failures == wanted && *part == of
             }
             (Asks::Sets(wanted, of), Task::Sets(most, part)) => *most == wanted && *part == of,
+            (Asks::EverySet(wanted, of), Task::EverySet(states, part)) => {
+                *states == wanted && *part == of
+            }
             (Asks::Check(wanted), Task::Check(failures)) => *failures == wanted,
             (Asks::CheckAll(wanted), Task::CheckAll(failures)) => *failures == wanted,
             (Asks::CheckSets(wanted), Task::CheckSets(most)) => *most == wanted,
+            (Asks::CheckEverySet(wanted), Task::CheckEverySet(states)) => *states == wanted,
             _ => false,
         }
     }

@@ -272,8 +272,9 @@ static RUNS: [(&[&str], Refuses, Shape, Option<&str>); 25] = [
     ),
 ];
 
-/// The subcommands that take the flags `--every`, `--pairs` and `--all`, and `--failures`, and what each asks for with one of them.
-static WITH_A_FLAG: [(&str, &str, Asks); 9] = [
+/// The subcommands that take the flags `--every`, `--pairs`, `--all` and `--sets`, `--failures` and `--states`, and what each asks for with
+/// one of them.
+static WITH_A_FLAG: [(&str, &str, Asks); 13] = [
     ("sweep", "--all", Asks::All(Failures::Single, Part::WHOLE)),
     ("check", "--all", Asks::CheckAll(Failures::Single)),
     (
@@ -291,6 +292,14 @@ static WITH_A_FLAG: [(&str, &str, Asks); 9] = [
     ("sweep", "--failures=1", Asks::Sets(1, Part::WHOLE)),
     ("sweep", "--failures=8", Asks::Sets(8, Part::WHOLE)),
     ("check", "--failures=+03", Asks::CheckSets(3)),
+    ("sweep", "--sets", Asks::EverySet(100_000, Part::WHOLE)),
+    ("check", "--sets", Asks::CheckEverySet(100_000)),
+    (
+        "sweep",
+        "--states=1",
+        Asks::Sweep(Failures::Single, Part::WHOLE),
+    ),
+    ("check", "--states=+07", Asks::Check(Failures::Single)),
 ];
 
 /// Whether the command has this task and these options.

@@ -57,9 +57,9 @@ impl<'a> Search<'a> {
         }
     }
 
-    /// The state before one with the same fingerprint, if there is one.
+    /// The state before one with the same fingerprint, if there is one. The first state is listed with none.
     fn before(&self, at: usize) -> Option<usize> {
-        match self.earlier.get(at) {
+        match self.earlier.get(at.checked_sub(1)?) {
             Some(earlier) if *earlier != at => Some(*earlier),
             _ => None,
         }

@@ -34,7 +34,7 @@ pub(crate) struct Search<'a> {
     pub met: u32,
     /// The latest state of each fingerprint.
     pub latest: HashMap<u64, usize>,
-    /// Of each state, the one before it with its fingerprint; its own index if there is none.
+    /// Of each state but the first, the one before it with its fingerprint; its own index if there is none.
     pub earlier: Items<usize>,
     /// The memory of a run that is over.
     pub spare: Option<Heap>,

@@ -16,3 +16,4 @@ mod SetSearchLemmas
 mod SetPartLemmas
 mod SingleSets
 mod Errors
+mod EverySetFaults

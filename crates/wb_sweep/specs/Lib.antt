@@ -1,4 +1,6 @@
 pub mod AllOfAPart
+pub mod EverySetFaults
+pub mod EverySetSweeping
 pub mod Families
 pub mod Fault
 pub mod Meetings

@@ -4,6 +4,8 @@
 
 mod all_numbers;
 mod alone;
+pub mod every_set;
+pub mod every_set_answer;
 mod family;
 pub mod fault;
 mod followed;
@@ -20,6 +22,8 @@ pub mod sweeping;
 mod walk;
 
 pub use all_numbers::sweep_all;
+pub use every_set::sweep_every_set;
+pub use every_set_answer::EverySetFault;
 pub use fault::SweepFault;
 pub use fork::result_under;
 pub use found::{AllNumbers, Found, Sweep};

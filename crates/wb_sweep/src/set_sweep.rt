@@ -185,7 +185,7 @@ fn as_set_fault(alloc: Global, fault: SweepFault) -> SetFault
 }
 
 /// The sweep itself, of whose beginning and end the caller notifies.
-fn find_least_set<P: Progress>(
+pub(crate) fn find_least_set<P: Progress>(
     alloc: Global,
     script: &Script,
     part: Part,

@@ -19,6 +19,7 @@ use Rattle.workbench.specs.declared.report_values.ReportValues.{ReportValues}
 use Rattle.workbench.specs.Answer.{AreFindings, AreFirst, IsAnswer, IsAnyMessage, IsMessage, IsPartWritten, IsReportOf, IsReported, IsReportWritten, IsSaid}
 use Rattle.wb_command_line.specs.Spelled.{whole}
 use Rattle.workbench.specs.AllReport.{IsAllReport, IsCheckAllReport, fine_status}
+use Rattle.workbench.specs.EverySetReport.{IsCheckEverySetReport, IsEverySetReport}
 use Rattle.workbench.specs.JsonReport.{laid_out}
 use Rattle.workbench.specs.PartReport.{IsReportOver, is_whole}
 use Rattle.workbench.specs.Report.{IsReport, IsTaskReport, no_memory}
@@ -86,6 +87,18 @@ check_sets_status_le : (most : ℕ) (script : Script) (budget : ℕ) (shape : Sh
 check_sets_status_le most script budget shape text values status (inl r) = sets_status_le every_number most script budget shape r.second r.sweep status r.tried
 check_sets_status_le most script budget shape text values status (inr r) = omega (arith, r.1)
 
+every_set_status_le : (part : Part) (script : Script) (budget : ℕ) (shape : Shape) (text : List ℕ) (values : ReportValues) (status : ℕ)
+    → IsEverySetReport part script budget shape text values status → status ≤ 3
+every_set_status_le part script budget shape text values status (inl r) = omega (arith, r.1)
+every_set_status_le part script budget shape text values status (inr (inl r)) = omega (arith, r.1)
+every_set_status_le part script budget shape text values status (inr (inr (inl r))) = omega (arith, r.1)
+every_set_status_le part script budget shape text values status (inr (inr (inr r))) = omega (arith, r.1)
+
+check_every_set_status_le : (script : Script) (budget : ℕ) (shape : Shape) (text : List ℕ) (values : ReportValues) (status : ℕ)
+    → IsCheckEverySetReport script budget shape text values status → status ≤ 3
+check_every_set_status_le script budget shape text values status (inl r) = every_set_status_le every_number script budget shape r.second r.sweep status r.searched
+check_every_set_status_le script budget shape text values status (inr r) = omega (arith, r.1)
+
 lengths_status_le : (script : Script) (budget : ℕ) (shape : Shape) (text : List ℕ) (values : ReportValues) (status : ℕ) → IsLengthsReport script budget shape text values status → status ≤ 3
 lengths_status_le script budget shape text values status (inl r) = omega (arith, r.1)
 lengths_status_le script budget shape text values status (inr r) = by r.status_is
@@ -104,6 +117,10 @@ task_status_le (T.All failures part) script budget shape text values status r =
     all_status_le failures part script budget shape text values status r
 task_status_le (T.Sets most part) script budget shape text values status r =
     sets_status_le (numbers_tried part) most script budget shape text values status r
+task_status_le (T.EverySet states part) script budget shape text values status r =
+    every_set_status_le (numbers_tried part) script budget shape text values status r
+task_status_le (T.CheckEverySet states) script budget shape text values status r =
+    check_every_set_status_le script budget shape text values status r
 task_status_le (T.CheckSets most) script budget shape text values status r =
     check_sets_status_le most script budget shape text values status r
 task_status_le (T.CheckAll failures) script budget shape text values status r =

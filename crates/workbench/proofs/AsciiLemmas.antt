@@ -36,6 +36,7 @@ use Rattle.workbench.specs.Ascii.{IsPrintableText, IsTextByte}
 use Rattle.workbench.specs.Report.{fault_line, no_memory, read_fault, refused, refused_at}
 use Rattle.workbench.specs.EndWords.{cut_words, eight_digits, end_words, panic_words}
 use Rattle.workbench.specs.AllReport.{all_text, bad_line, number_word, told_line, told_lines}
+use Rattle.workbench.specs.EverySetReport.{cut_states_line, many_states_text, no_set_at_all_line}
 use Rattle.workbench.specs.LengthsReport.{range_line, table_lines}
 use Rattle.workbench.specs.RunText.{answer_word, attempt_line, end_line, leak_line, leaks_text, line, note_line, outcome_text, print_line, run_text}
 use Rattle.workbench.specs.SetsReport.{cut_several_line, cut_set_line, found_set_text, no_set_line, numbers_text, set_line, several_line, spaced, why_word}
@@ -273,6 +274,14 @@ of_found_set numbers r are = both (set_line numbers) (run_text r) (of_set number
 
 pub of_no_set : (most : ℕ) → IsPrintableText (no_set_line most)
 of_no_set most = of_number (codes "set none to ") most refl
+
+pub of_no_set_at_all : IsPrintableText no_set_at_all_line
+of_no_set_at_all = of_word (codes "set none") refl
+
+pub of_many_states : (attempts fine : ℕ) → IsPrintableText (many_states_text attempts fine)
+of_many_states attempts fine =
+    both (attempts_line attempts ++ no_set_line fine) cut_states_line
+    (both (attempts_line attempts) (no_set_line fine) (of_attempts attempts) (of_no_set fine)) (of_word (codes "cut states") refl)
 
 of_why : (why : Why) → IsPrintableText (why_word why)
 of_why Budget = of_word (codes " budget") refl

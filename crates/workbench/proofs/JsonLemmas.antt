@@ -132,6 +132,22 @@ report_has_none (T.CheckSets most) text values status =
       count_has_none values.required,
       rises_have_none values.rises,
     ) refl
+report_has_none (T.EverySet states part) text values status =
+    rw (
+      count_has_none values.attempts,
+      lines_have_none text,
+      number_has_none values.number values.set,
+      count_has_none values.required,
+      rises_have_none values.rises,
+    ) refl
+report_has_none (T.CheckEverySet states) text values status =
+    rw (
+      count_has_none values.attempts,
+      lines_have_none text,
+      number_has_none values.number values.set,
+      count_has_none values.required,
+      rises_have_none values.rises,
+    ) refl
 
 -- ---- lines
 

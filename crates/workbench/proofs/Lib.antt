@@ -2,10 +2,12 @@ pub mod AllLemmas
 pub mod AnswerLemmas
 pub mod AsciiLemmas
 pub mod AsciiReports
+pub mod EverySetLemmas
 pub mod Hexadecimal
 pub mod JsonLemmas
 pub mod KnownBytesLemmas
 pub mod LineLemmas
+pub mod OneEverySetReport
 pub mod OneReport
 pub mod OneSet
 pub mod OneSetReport
@@ -14,5 +16,6 @@ pub mod ProgramLemmas
 pub mod RiseLemmas
 pub mod SetsLemmas
 pub mod WordsLemmas
+pub mod WorkedEverySets
 pub mod WorkedReports
 pub mod WorkedSets

@@ -32,6 +32,7 @@ use Rattle.wb_script.proofs.one_script.ScriptLaws.{script_once}
 use Rattle.workbench.specs.declared.report_values.ReportValues.{ReportValues}
 use Rattle.workbench.specs.declared.report_values.FailingNumber.TheVariants.{At, Length, Never}
 use Rattle.workbench.specs.AllReport.{IsAllReport, IsCheckAllReport, IsSizedAndTold, IsToldWithBad, all_text, told_of}
+use Rattle.workbench.specs.EverySetReport.{tries_every_set}
 use Rattle.workbench.specs.LengthsReport.{IsBadLengthFound, IsFineStatus, IsLengthsReport, IsNoBadLengthFound, bad_length_text, found_length_text, table_lines}
 use Rattle.workbench.specs.PartReport.{IsFailingIn, IsPartReport, IsReportOver, IsUnsweptIn, is_whole}
 use Rattle.workbench.specs.RunText.{run_text}
@@ -42,7 +43,7 @@ use Rattle.workbench.specs.TwoNumbers.{IsBoth, IsCheckReport, IsFailing, IsSized
 use Rattle.workbench.proofs.OneSetReport.{one_sets}
 
 -- the same text and the same values
-abbrev Alike : List ℕ → ReportValues → List ℕ → ReportValues → Type 0
+abbrev pub Alike : List ℕ → ReportValues → List ℕ → ReportValues → Type 0
 Alike text values text' figures' = (text ≡ text') × (values ≡ figures')
 
 one_why : (a b : Why) (outcome : Outcome) → outcome ≡ Cut a → outcome ≡ Cut b → a ≡ b
@@ -62,7 +63,7 @@ module _ (script : Script) (budget : ℕ) (shape : Shape) where
       by (inr (inl less)) = absurd (enough_here m n rs ss one other less)
       by (inr (inr less)) = absurd (enough_here n m ss rs other one less)
 
-  one_size : (text text' : List ℕ) (values figures' : ReportValues) → IsSized script budget shape text values → IsSized script budget shape text' figures'
+  pub one_size : (text text' : List ℕ) (values figures' : ReportValues) → IsSized script budget shape text values → IsSized script budget shape text' figures'
       → Alike text values text' figures'
   one_size text text' values figures' s t =
       let same : s.required ≡ t.required = one_length s.required t.required s.rises t.rises s.needed t.needed in
@@ -71,13 +72,13 @@ module _ (script : Script) (budget : ℕ) (shape : Shape) where
         s.values_are ∙ ap (λ n. size_values n s.rises) same ∙ ap (size_values t.required) rows ∙ sym t.values_are,
       )
 
-  one_cut : (text text' : List ℕ) (values figures' : ReportValues) → IsUnsized script budget shape text values → IsUnsized script budget shape text' figures'
+  pub one_cut : (text text' : List ℕ) (values figures' : ReportValues) → IsUnsized script budget shape text values → IsUnsized script budget shape text' figures'
       → Alike text values text' figures'
   one_cut text text' values figures' s t =
       let why = one_why s.why t.why _ s.cut t.cut in
       (s.text_is ∙ ap (cut_at_line (Number 0)) why ∙ sym t.text_is, s.values_are ∙ sym t.values_are)
 
-  never_both : (text text' : List ℕ) (values figures' : ReportValues) → IsSized script budget shape text values → IsUnsized script budget shape text' figures' → ⊥
+  pub never_both : (text text' : List ℕ) (values figures' : ReportValues) → IsSized script budget shape text values → IsUnsized script budget shape text' figures' → ⊥
   never_both text text' values figures' s t = s.uncut t.why t.cut
 
   one_sizing : (text text' : List ℕ) (values figures' : ReportValues) (status status' : ℕ) → IsSizeReport script budget shape text values status
@@ -307,44 +308,46 @@ module _ (script : Script) (budget : ℕ) (shape : Shape) where
 -- ---- by the task
 
 module _ (script : Script) (budget : ℕ) (shape : Shape) where
-  one_task : (task : Task) (text text' : List ℕ) (values figures' : ReportValues) (status status' : ℕ) → IsTaskReport task script budget shape text values status
+  pub one_task : (task : Task) → tries_every_set task ≡ false → (text text' : List ℕ) (values figures' : ReportValues) (status status' : ℕ) → IsTaskReport task script budget shape text values status
       → IsTaskReport task script budget shape text' figures' status' → Alike text values text' figures' × (status ≡ status')
-  one_task (T.Run rule) text text' values figures' status status' s t =
+  one_task (T.Run rule) old text text' values figures' status status' s t =
       ((s.text_is ∙ sym t.text_is, s.values_are ∙ sym t.values_are), s.status_is ∙ sym t.status_is)
-  one_task T.Size text text' values figures' status status' s t =
+  one_task T.Size old text text' values figures' status status' s t =
       one_sizing script budget shape text text' values figures' status status' s t
-  one_task T.Lengths text text' values figures' status status' s t =
+  one_task T.Lengths old text text' values figures' status status' s t =
       one_lengths script budget shape text text' values figures' status status' s t
-  one_task (T.Sweep failures part) text text' values figures' status status' s t =
+  one_task (T.Sweep failures part) old text text' values figures' status status' s t =
       one_over failures script budget shape part (is_whole part) text text' values figures' status status' s t
-  one_task (T.All failures part) text text' values figures' status status' s t =
+  one_task (T.All failures part) old text text' values figures' status status' s t =
       one_all failures script budget shape part text text' values figures' status status' s t
-  one_task (T.Check failures) text text' values figures' status status' s t =
+  one_task (T.Check failures) old text text' values figures' status status' s t =
       one_check failures script budget shape text text' values figures' status status' s t
-  one_task (T.Sets most part) text text' values figures' status status' s t =
+  one_task (T.Sets most part) old text text' values figures' status status' s t =
       one_sets (numbers_tried part) most script budget shape text text' values figures' status status' s t
-  one_task (T.CheckSets most) text text' values figures' status status' s t =
+  one_task (T.CheckSets most) old text text' values figures' status status' s t =
       one_check_sets most script budget shape text text' values figures' status status' s t
-  one_task (T.CheckAll failures) text text' values figures' status status' s t =
+  one_task (T.CheckAll failures) old text text' values figures' status status' s t =
       one_check_all failures script budget shape text text' values figures' status status' s t
+  one_task (T.EverySet states part) old text text' values figures' status status' s t = absurd (false≢true (sym old))
+  one_task (T.CheckEverySet states) old text text' values figures' status status' s t = absurd (false≢true (sym old))
 
 -- ---- of a script, or of a fault
 
 module _ (command : Command) (bytes text text' : List ℕ) (values figures' : ReportValues) (status status' : ℕ) where
-  of_script : IsReportOfScript command bytes text values status → IsReportOfScript command bytes text' figures' status'
+  of_script : tries_every_set command.task ≡ false → IsReportOfScript command bytes text values status → IsReportOfScript command bytes text' figures' status'
       → Alike text values text' figures' × (status ≡ status')
-  of_script s t =
+  of_script old s t =
       let same : s.script ≡ t.script = script_once bytes s.script t.script s.spelled t.spelled in
-      one_task t.script command.budget command.shape command.task text text' values figures' status status'
+      one_task t.script command.budget command.shape command.task old text text' values figures' status status'
       (subst (λ script. IsTaskReport command.task script command.budget command.shape text values status) same s.task_report) t.task_report
 
-  of_fault : IsReportOfFault bytes text values status → IsReportOfFault bytes text' figures' status' → Alike text values text' figures' × (status ≡ status')
+  pub of_fault : IsReportOfFault bytes text values status → IsReportOfFault bytes text' figures' status' → Alike text values text' figures' × (status ≡ status')
   of_fault s t =
       let same : s.fault ≡ t.fault = fault_once bytes s.fault t.fault s.found t.found in
       ((s.text_is ∙ ap fault_line same ∙ sym t.text_is, s.values_are ∙ sym t.values_are), s.status_is ∙ sym t.status_is)
 
-  pub report_once : IsReport command bytes text values status → IsReport command bytes text' figures' status' → (text ≡ text') × (values ≡ figures') × (status ≡ status')
-  report_once (inl s) (inl t) = let ((words, values), same) = of_script s t in (words, values, same)
-  report_once (inl s) (inr t) = absurd (no_fault bytes s.script t.fault s.spelled t.found)
-  report_once (inr s) (inl t) = absurd (no_fault bytes t.script s.fault t.spelled s.found)
-  report_once (inr s) (inr t) = let ((words, values), same) = of_fault s t in (words, values, same)
+  pub report_once : tries_every_set command.task ≡ false → IsReport command bytes text values status → IsReport command bytes text' figures' status' → (text ≡ text') × (values ≡ figures') × (status ≡ status')
+  report_once old (inl s) (inl t) = let ((words, values), same) = of_script old s t in (words, values, same)
+  report_once old (inl s) (inr t) = absurd (no_fault bytes s.script t.fault s.spelled t.found)
+  report_once old (inr s) (inl t) = absurd (no_fault bytes t.script s.fault t.spelled s.found)
+  report_once old (inr s) (inr t) = let ((words, values), same) = of_fault s t in (words, values, same)

@@ -48,9 +48,11 @@ kind_of T.Lengths = string (codes "lengths")
 kind_of (T.Sweep failures part) = failures_kind failures
 kind_of (T.All failures part) = failures_kind failures
 kind_of (T.Sets most part) = string (codes "sets")
+kind_of (T.EverySet states part) = string (codes "sets")
 kind_of (T.Check failures) = failures_kind failures
 kind_of (T.CheckAll failures) = failures_kind failures
 kind_of (T.CheckSets most) = string (codes "sets")
+kind_of (T.CheckEverySet states) = string (codes "sets")
 
 abbrev pub line_string : List ℕ → Data
 line_string text = string text
@@ -116,10 +118,13 @@ with_all (T.All failures part) ends members = put (codes "all") (told_pairs ends
 with_all (T.CheckAll failures) ends members = put (codes "all") (told_pairs ends) members
 with_all _ ends members = members
 
--- the reports of sets alone have it: how many attempts fail together at most; by its letters their key comes after `lines`
+-- the reports of sets alone have it: how many attempts fail together at most, `null` where there is no such number; by its letters their
+-- key comes after `lines`
 abbrev pub with_most : Task → Members → Members
 with_most (T.Sets most part) members = put (codes "most") (count most) members
 with_most (T.CheckSets most) members = put (codes "most") (count most) members
+with_most (T.EverySet states part) members = put (codes "most") null members
+with_most (T.CheckEverySet states) members = put (codes "most") null members
 with_most _ members = members
 
 abbrev pub version_of : Task → ℕ
@@ -128,6 +133,8 @@ version_of (T.All failures part) = 3
 version_of (T.CheckAll failures) = 3
 version_of (T.Sets most part) = 3
 version_of (T.CheckSets most) = 3
+version_of (T.EverySet states part) = 3
+version_of (T.CheckEverySet states) = 3
 version_of _ = 2
 
 -- what each object has, by the task, the text report, its values and its status

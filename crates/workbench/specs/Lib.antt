@@ -2,6 +2,7 @@ pub mod AllReport
 pub mod Answer
 pub mod Ascii
 pub mod EndWords
+pub mod EverySetReport
 pub mod ReportValues
 pub mod JsonReport
 pub mod LengthsReport

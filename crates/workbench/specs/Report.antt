@@ -14,6 +14,7 @@ use Rattle.wb_command_line.specs.declared.command.Task.{Task}
 use Rattle.wb_command_line.specs.declared.command.Task.TheVariants as T
 use Rattle.workbench.specs.declared.report_values.ReportValues.{ReportValues}
 use Rattle.workbench.specs.AllReport.{IsAllReport, IsCheckAllReport}
+use Rattle.workbench.specs.EverySetReport.{IsCheckEverySetReport, IsEverySetReport}
 use Rattle.workbench.specs.LengthsReport.{IsLengthsReport}
 use Rattle.workbench.specs.PartReport.{IsReportOver, is_whole}
 use Rattle.workbench.specs.ReportValues.{no_values, run_values}
@@ -68,12 +69,16 @@ IsTaskReport (T.All failures part) script budget shape text values status =
     IsAllReport failures part script budget shape text values status
 IsTaskReport (T.Sets most part) script budget shape text values status =
     IsSetsReport (numbers_tried part) most script budget shape text values status
+IsTaskReport (T.EverySet states part) script budget shape text values status =
+    IsEverySetReport (numbers_tried part) script budget shape text values status
 IsTaskReport (T.Check failures) script budget shape text values status =
     IsCheckReport failures script budget shape text values status
 IsTaskReport (T.CheckAll failures) script budget shape text values status =
     IsCheckAllReport failures script budget shape text values status
 IsTaskReport (T.CheckSets most) script budget shape text values status =
     IsCheckSetsReport most script budget shape text values status
+IsTaskReport (T.CheckEverySet states) script budget shape text values status =
+    IsCheckEverySetReport script budget shape text values status
 
 -- the bytes spell a script, and this is what the command's task comes to on it
 pub record IsReportOfScript (command : Command) (bytes text : List ℕ) (values : ReportValues) (status : ℕ) : Type 0 where

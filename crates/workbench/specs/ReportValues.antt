@@ -13,7 +13,7 @@ use Rattle.workbench.specs.declared.report_values.ReportValues.{ReportValues}
 
 -- of a refused script
 abbrev pub no_values : ReportValues
-no_values = record { attempts = None; number = None; required = None; rises = None; ranges = None; all = None; named = None; set = None }
+no_values = record { attempts = None; number = None; required = None; rises = None; ranges = None; all = None; named = None; set = None; fine = None }
 
 -- of a run that was cut under this failure
 abbrev pub cut_values : Failing → ReportValues
@@ -28,6 +28,10 @@ single_of (m ∷ n ∷ ns) = None
 -- of a run that was cut in which the attempts of a set fail: with no more than one as of a single number
 abbrev pub cut_set_values : List ℕ → ReportValues
 cut_set_values numbers = option_map_or (λ n. cut_values (Number n)) (single_of numbers) (record no_values { set = Some numbers })
+
+-- of a search that met more states than it may, where no set of at most so many attempts showed anything
+abbrev pub many_states_values : ℕ → ReportValues
+many_states_values fine = record no_values { fine = Some fine }
 
 -- of one run, a cut one too: the length of its trace
 abbrev pub run_values : RunResult → ReportValues
@@ -70,6 +74,7 @@ both_values first second = record {
   all = second.all;
   named = second.named;
   set = second.set;
+  fine = second.fine;
 }
 
 -- of the search through all lengths: its table, and what it found

@@ -218,6 +218,7 @@ fn lay_out(
             bytes,
             at: values.named,
             set: values.set,
+            fine: values.fine,
             rises: values.rises,
             ranges: values.ranges,
             all: values.all,

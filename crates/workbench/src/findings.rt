@@ -15,6 +15,8 @@ pub struct Findings {
     pub at: Option<Failing>,
     /// The set of two attempts or more that it names so; `None` if it names none.
     pub set: Option<Numbers>,
+    /// Up to how many attempts no set shows anything, if more states were met than a search may meet; `None` if it isn't so.
+    pub fine: Option<u32>,
     /// The attempt that each shorter heap refuses first; `None` if the script wasn't sized.
     pub rises: Option<Rises>,
     /// How the run ends in heaps of every length; `None` if that wasn't asked for, or the script is refused.

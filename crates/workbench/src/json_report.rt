@@ -109,8 +109,9 @@ fn put_ranges(
             put(members, alloc, "ranges", pairs)
         }
         Task::Run(_) | Task::Size => Ok(()),
-        Task::Sweep(..) | Task::All(..) | Task::Sets(..) => Ok(()),
-        Task::Check(_) | Task::CheckAll(_) | Task::CheckSets(_) => Ok(()),
+        Task::Sweep(..) | Task::All(..) | Task::Sets(..) | Task::EverySet(..) => Ok(()),
+        Task::Check(_) | Task::CheckAll(_) => Ok(()),
+        Task::CheckSets(_) | Task::CheckEverySet(_) => Ok(()),
     }
 }
 
@@ -130,11 +131,12 @@ fn put_told(
             put(members, alloc, "all", pairs)
         }
         Task::Run(_) | Task::Size | Task::Lengths => Ok(()),
-        Task::Sweep(..) | Task::Sets(..) | Task::Check(_) | Task::CheckSets(_) => Ok(()),
+        Task::Sweep(..) | Task::Sets(..) | Task::EverySet(..) => Ok(()),
+        Task::Check(_) | Task::CheckSets(_) | Task::CheckEverySet(_) => Ok(()),
     }
 }
 
-/// Puts how many attempts fail together at most in its place, where the task tries sets.
+/// Puts how many attempts fail together at most in its place, where the task tries sets: `null` where it tries all.
 fn put_most(members: &mut Map<String, Value>, alloc: Global, task: &Task) -> Result<(), AllocError>
     ensures { OnOk result (members_view members.new.entries
         ≡ with_most task.now (members_view members.old.entries)) }
@@ -143,6 +145,7 @@ fn put_most(members: &mut Map<String, Value>, alloc: Global, task: &Task) -> Res
         Task::Sets(most, _) | Task::CheckSets(most) => {
             put(members, alloc, "most", Value::from(*most))
         }
+        Task::EverySet(..) | Task::CheckEverySet(_) => put(members, alloc, "most", Value::Null),
         Task::Run(_) | Task::Size | Task::Lengths => Ok(()),
         Task::Sweep(..) | Task::All(..) | Task::Check(_) | Task::CheckAll(_) => Ok(()),
     }
@@ -155,6 +158,7 @@ fn version_of(task: &Task) -> u32
     match task {
         Task::Lengths | Task::All(..) | Task::CheckAll(_) => LATER_VERSION,
         Task::Sets(..) | Task::CheckSets(_) => LATER_VERSION,
+        Task::EverySet(..) | Task::CheckEverySet(_) => LATER_VERSION,
         Task::Run(_) | Task::Size | Task::Sweep(..) | Task::Check(_) => VERSION,
     }
 }
@@ -167,6 +171,7 @@ fn kind_of(alloc: Global, task: &Task) -> Result<Value, AllocError>
         Task::Sweep(failures, _) | Task::All(failures, _) => failures_kind(alloc, *failures),
         Task::Check(failures) | Task::CheckAll(failures) => failures_kind(alloc, *failures),
         Task::Sets(..) | Task::CheckSets(_) => Value::try_from_str(alloc, "sets"),
+        Task::EverySet(..) | Task::CheckEverySet(_) => Value::try_from_str(alloc, "sets"),
         Task::Lengths => Value::try_from_str(alloc, "lengths"),
         Task::Run(_) | Task::Size => Ok(Value::Null),
     }

@@ -1,6 +1,6 @@
 //! Laws of reports and of the program. Each is the contract of a function that does nothing, so that the gate proves it.
 
-ghost use Rattle.std.specs.Prelude.{◌≡◌, ℕ, List, IsTrue};
+ghost use Rattle.std.specs.Prelude.{◌≡◌, ℕ, List, None, IsTrue, false};
 ghost use Rattle.clap.specs.Words.{Text};
 ghost use Rattle.wb_command_line.specs.Command.{is_answerable};
 ghost use Rattle.wb_command_line.specs.Spelled.{IsSpelledBy};
@@ -11,6 +11,7 @@ ghost use Rattle.wb_model.specs.declared.heap.Rule.TheVariants.{Unlimited};
 ghost use Rattle.wb_model.specs.declared.heap.Shape.{Shape};
 ghost use Rattle.wb_model.specs.declared.script.Script.{Script};
 ghost use Rattle.workbench.specs.Ascii.{HasPrintableLines, IsPrintableText};
+ghost use Rattle.workbench.specs.EverySetReport.{tries_every_set};
 ghost use Rattle.workbench.specs.Program.{IsWordsFault};
 ghost use Rattle.workbench.specs.Report.{IsReport, no_memory, read_fault};
 ghost use Rattle.workbench.specs.Rises.{AreRises};
@@ -25,10 +26,18 @@ pub fn rises_are()
         → AreRises (run script Unlimited budget shape).trace (rises script budget shape) }
 {}
 
-/// The bytes and the command determine the report: any two reports of them have one text, one status and the same values.
+/// The bytes and the command determine the report: any two reports of them have one text, one status and the same values. Where all sets
+/// are tried, this holds of reports that aren't cut by their states: a report that is doesn't say how states are counted.
 pub fn one_report()
-    ensures { (command : Command) (bytes text other_text : List ℕ)
+    ensures one { (command : Command) (bytes text other_text : List ℕ)
         (values other_values : ReportValues) (status other_status : ℕ) →
+        tries_every_set command.task ≡ false →
+        IsReport command bytes text values status →
+        IsReport command bytes other_text other_values other_status →
+        (text ≡ other_text) × (values ≡ other_values) × (status ≡ other_status) }
+    ensures ended { (command : Command) (bytes text other_text : List ℕ)
+        (values other_values : ReportValues) (status other_status : ℕ) →
+        values.fine ≡ None → other_values.fine ≡ None →
         IsReport command bytes text values status →
         IsReport command bytes other_text other_values other_status →
         (text ≡ other_text) × (values ≡ other_values) × (status ≡ other_status) }

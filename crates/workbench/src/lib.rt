@@ -7,6 +7,8 @@ mod all_text;
 pub mod answer;
 mod appending;
 mod end_text;
+mod every_set;
+mod every_set_text;
 pub mod exit_status;
 pub mod findings;
 pub mod host;

@@ -3,7 +3,8 @@
 
 ghost use Rattle.std.specs.Prelude.{◌≡◌};
 ghost use Rattle.workbench.specs.ReportValues.{all_values, both_values, cut_values, found_failing, lengths_values};
-ghost use Rattle.workbench.specs.ReportValues.{cut_set_values, no_values, run_values, set_values, single_of, size_values, sweep_values};
+ghost use Rattle.workbench.specs.ReportValues.{cut_set_values, many_states_values, no_values, run_values, set_values};
+ghost use Rattle.workbench.specs.ReportValues.{single_of, size_values, sweep_values};
 
 use wb_model::failures::Failing;
 use wb_model::heap::Numbers;
@@ -56,6 +57,8 @@ pub struct ReportValues {
     pub named: Option<Failing>,
     /// The set of two attempts or more that they name so. `None` if they name none.
     pub set: Option<Numbers>,
+    /// Up to how many attempts no set shows anything, if more states were met than a search may meet. `None` if it isn't so.
+    pub fine: Option<u32>,
 }
 
 /// The number of the one attempt of a set; 0 if it is empty, `None` if it has more than one.
@@ -83,6 +86,7 @@ impl ReportValues {
             all: None,
             named: None,
             set: None,
+            fine: None,
         }
     }
 
@@ -106,6 +110,16 @@ impl ReportValues {
                 set: Some(numbers),
                 ..ReportValues::none()
             },
+        }
+    }
+
+    /// Those of a search that met more states than it may. No set of at most so many attempts showed anything.
+    pub fn of_many_states(fine: u32) -> ReportValues
+        ensures { result ≡ many_states_values fine }
+    {
+        ReportValues {
+            fine: Some(fine),
+            ..ReportValues::none()
         }
     }
 
@@ -180,6 +194,7 @@ impl ReportValues {
             all: sweep.all,
             named: sweep.named,
             set: sweep.set,
+            fine: sweep.fine,
         }
     }
 

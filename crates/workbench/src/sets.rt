@@ -23,7 +23,7 @@ use wb_model::script::Script;
 use wb_sweep::{FoundSet, Progress, SetFault, SetSweep, sweep_sets};
 
 /// All numbers that there are.
-const EVERY_NUMBER: Part = Part {
+pub const EVERY_NUMBER: Part = Part {
     from: 0,
     to: u32::MAX,
 };
@@ -70,23 +70,32 @@ fn swept_report(alloc: Global, most: u32, sweep: SetSweep) -> Result<Report, NoM
 {
     let mut text = Vec::new(alloc);
     put_sets(&mut text, most, &sweep)?;
+    Ok(report_with(text, sweep))
+}
+
+/// The report with this text of what a sweep over sets found.
+pub fn report_with(text: Vec<u8>, sweep: SetSweep) -> Report
+    ensures text { result.text ≡ text }
+    ensures values { result.values ≡ swept_values sweep }
+    ensures status { result.status ≡ swept_status sweep }
+{
     let SetSweep { attempts, found } = sweep;
     match found {
-        Some(FoundSet { numbers, result: _ }) => Ok(Report {
+        Some(FoundSet { numbers, result: _ }) => Report {
             text,
             values: ReportValues::of_set(attempts, numbers),
             status: FOUND,
-        }),
-        None => Ok(Report {
+        },
+        None => Report {
             text,
             values: ReportValues::of_sweep(attempts, FailingNumber::Never),
             status: NOTHING_FOUND,
-        }),
+        },
     }
 }
 
 /// The report of a run that was cut in which these attempts fail.
-fn cut_set_report(alloc: Global, numbers: Numbers, why: Why) -> Result<Report, NoMemory>
+pub fn cut_set_report(alloc: Global, numbers: Numbers, why: Why) -> Result<Report, NoMemory>
     ensures text { IfOk result (λ r. r.text.items ≡ cut_set_line numbers why) }
     ensures values { IfOk result (λ r. r.values ≡ cut_set_values numbers) }
     ensures status { IfOk result (λ r. r.status ≡ 3) }

@@ -28,7 +28,8 @@ pub fn put_sets(text: &mut Vec<u8>, most: u32, sweep: &SetSweep) -> Result<(), N
     }
 }
 
-fn put_found_set(text: &mut Vec<u8>, found: &FoundSet) -> Result<(), NoMemory>
+/// Appends the line of a set that was found, and the run under it.
+pub fn put_found_set(text: &mut Vec<u8>, found: &FoundSet) -> Result<(), NoMemory>
     ensures { OnOk result (text.new.items
         ≡ text.old.items ++ found_set_text found.now.numbers found.now.result) }
 {

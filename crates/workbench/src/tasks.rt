@@ -1,5 +1,5 @@
 //! What each task comes to on a script: the text, its values, and the exit status. Nothing is read or written here. Sweeps over
-//! parts, and those that tell of all that they find, are in `parts`, and those over sets in `sets`.
+//! parts, and those that tell of all that they find, are in `parts`, those over sets in `sets`, and those over all sets in `every_set`.
 
 ghost use Rattle.std.specs.Prelude.{◌≡◌, ◌≤◌, IfOk, IsTrue, if◌then◌else◌};
 ghost use Rattle.wb_model.specs.runs.Run.{run};
@@ -12,6 +12,7 @@ ghost use Rattle.workbench.specs.Report.{IsRunReport, IsTaskReport};
 ghost use Rattle.workbench.specs.RunText.{outcome_status};
 ghost use Rattle.workbench.specs.TwoNumbers.{IsSizeReport, IsSweepReport, IsCheckReport};
 
+use crate::every_set::{check_every_set_report, every_set_report};
 use crate::exit_status::{CUT, FOUND, NOTHING_FOUND};
 use crate::lengths_text::put_lengths;
 use crate::numbers_text::{put_cut_at, put_sizing, put_sweep};
@@ -61,11 +62,18 @@ pub fn carry_out<P: Progress>(
             let numbers = numbers_tried(*part);
             sets_report(alloc, script, numbers, *most, budget, shape, progress)
         }
+        Task::EverySet(states, part) => {
+            let numbers = numbers_tried(*part);
+            every_set_report(alloc, script, numbers, *states, budget, shape, progress)
+        }
         Task::Check(failures) => check_report(alloc, script, *failures, budget, shape, progress),
         Task::CheckAll(failures) => {
             check_all_report(alloc, script, *failures, budget, shape, progress)
         }
         Task::CheckSets(most) => check_sets_report(alloc, script, *most, budget, shape, progress),
+        Task::CheckEverySet(states) => {
+            check_every_set_report(alloc, script, *states, budget, shape, progress)
+        }
     }
 }
 

@@ -1,20 +1,16 @@
-//! The options of `sweep` and `check` that say which failures are tried, and how many attempts fail together at most.
+//! The options of `sweep` and `check` that say which failures are tried, and whether all that are found are told of. Those that ask
+//! for sets of attempts are in `sets`.
 
-ghost use Rattle.std.specs.Prelude.{◌≡◌, ◌≤◌, IfOk, IfSome, codes, false};
-ghost use Rattle.clap.specs.Words.{app_of, found_of, rows_of, rule_of};
+ghost use Rattle.std.specs.Prelude.{◌≡◌, IfOk, false};
+ghost use Rattle.clap.specs.Words.{app_of, rule_of};
 ghost use Rattle.clap.specs.declared.builder.command.Command.TheViews.{out-Command as fields_of};
-ghost use Rattle.wb_command_line.specs.CommandLine.{all_flag, failure_options, joined_level, pairs_flag, rates_flag};
-ghost use Rattle.wb_command_line.specs.CommandLine.{with_rules};
-ghost use Rattle.wb_command_line.specs.Passed.{RowsPass};
-ghost use Rattle.wb_command_line.specs.Spelled.{most_of};
+ghost use Rattle.wb_command_line.specs.CommandLine.{all_flag, failure_options, pairs_flag, rates_flag, with_rules};
 
 use crate::command_line::number_help::NumberHelp;
-use crate::command_line::parser::{NumberOption, with_argument, with_numbers};
-use clap::{Arg, ArgAction, ArgMatches};
+use crate::command_line::parser::with_argument;
+use crate::command_line::sets::with_sets;
+use clap::{Arg, ArgAction};
 use std::alloc::{AllocError, Global};
-
-/// The most attempts that may be asked to fail together.
-pub const MOST_TOGETHER: u32 = 8;
 
 /// The subcommand with the options that say which failures are tried, and whether all that are found are told of.
 pub(super) fn with_failures<'a>(
@@ -30,17 +26,7 @@ pub(super) fn with_failures<'a>(
     let line = with_argument(line, rates(alloc))?;
     let line = with_argument(line, pairs(alloc))?;
     let line = with_argument(line, all(alloc))?;
-    with_numbers(
-        alloc,
-        line,
-        &[NumberOption {
-            name: "failures",
-            value: "K",
-            least: 1,
-            most: MOST_TOGETHER,
-            help: help.failures.as_str(),
-        }],
-    )
+    with_sets(alloc, line, help)
 }
 
 /// The flag that asks for rates to be tried. Its id is not `every`, which is an option of `run` that takes a number.
@@ -78,13 +64,4 @@ fn all<'a>(alloc: Global) -> Arg<'a>
         .long("all")
         .action(ArgAction::SetTrue)
         .help("Tells of every number whose run leaks, panics or is cut, and not of the least alone")
-}
-
-/// The most attempts that the options ask to fail together; `None` if they don't ask for sets.
-pub(super) fn most_in(options: &ArgMatches) -> Option<u32>
-    requires { RowsPass joined_level.rules (rows_of (found_of options.now)) }
-    ensures is { result ≡ most_of (rows_of (found_of options.now)) }
-    ensures range { IfSome result (λ most. (1 ≤ most) × (most ≤ MOST_TOGETHER)) }
-{
-    options.get_one("failures")
 }

@@ -13,9 +13,9 @@ Begin with a script, a text file with one statement per line:
 `workbench run FILE` runs it and reports its leaks; `workbench check FILE` finds how long the heap must be, and
 which failed allocation leaks or panics; `workbench lengths FILE` finds the lengths of heap in which it leaks
 or panics; `workbench sweep --every FILE` makes every n-th allocation fail, and `workbench sweep --pairs FILE`
-any two, `workbench sweep --failures 3 FILE` any three; `workbench sweep --all FILE` tells of each allocation whose
-failure leaks or panics. `workbench help run` lists the options, docs/LANGUAGE.md explains each line of a script,
-and examples/ has scripts to learn from.";
+any two, `workbench sweep --failures 3 FILE` any three, `workbench sweep --sets FILE` any number of them;
+`workbench sweep --all FILE` tells of each allocation whose failure leaks or panics. `workbench help run` lists the
+options, docs/LANGUAGE.md explains each line of a script, and examples/ has scripts to learn from.";
 
 /// What the help of a subcommand says at its top, by its name.
 pub(crate) fn long_about(name: &str) -> &'static str {
@@ -63,6 +63,7 @@ With --every: finds the least n for which the script leaks or panics when every 
 With --pairs: finds the same; and if no single failure leaks or panics, finds the least pair of attempts i < j,
 in order of i and then of j, for which the script leaks or panics when both fail
 With --failures K: finds the same as with --pairs, and goes on from two attempts to three, and so on up to K
+With --sets: goes on so until no set of attempts is left, of any size, or more states were met than --states allows
 With --all, alone or with --every: tells of each attempt, or each n, for which the script leaks, panics or is cut
 With --from I or --to J: tries attempts from I to J alone, or each n from I to J; of pairs and larger sets those
 whose first number is one of these
@@ -72,6 +73,7 @@ Example: workbench sweep --all examples/second-phase-leaks.oom
 Example: workbench sweep --every examples/fallback-leaks.oom
 Example: workbench sweep --pairs examples/clean-up-fails.oom
 Example: workbench sweep --failures 3 examples/save-leaks.oom
+Example: workbench sweep --sets examples/save-leaks-mended.oom
 Example: workbench sweep --pairs --from 1 --to 2 examples/clean-up-fails.oom
 
 Exit status: 0 no failure that was tried leaks or panics, 1 one does, 2 the script is refused, 3 a run was cut,
@@ -83,6 +85,7 @@ With --every: finds the least n for which the script leaks or panics when every 
 With --pairs: finds the same; and if no single failure leaks or panics, finds the least pair of attempts i < j,
 in order of i and then of j, for which the script leaks or panics when both fail
 With --failures K: finds the same as with --pairs, and goes on from two attempts to three, and so on up to K
+With --sets: goes on so until no set of attempts is left, of any size, or more states were met than --states allows
 With --all, alone or with --every: tells of each attempt, or each n, for which the script leaks, panics or is cut
 
 Example: workbench check examples/second-phase-leaks.oom
@@ -90,6 +93,7 @@ Example: workbench check --all examples/second-phase-leaks.oom
 Example: workbench check --every examples/fallback-leaks.oom
 Example: workbench check --pairs examples/clean-up-fails.oom
 Example: workbench check --failures 3 examples/save-leaks.oom
+Example: workbench check --sets examples/save-leaks-mended.oom
 
 Exit status: 0 no failure that was tried leaks or panics, 1 one does, 2 the script is refused, 3 a run was cut,
 4 no memory, 5 reading or writing failed, 6 command line";

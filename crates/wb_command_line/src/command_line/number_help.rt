@@ -3,9 +3,9 @@
 ghost use Rattle.std.specs.Prelude.{◌≡◌, pos};
 
 use super::GRANULE;
-use super::failures::MOST_TOGETHER;
 use super::following::{DEFAULT_FOLLOWED, MOST_FOLLOWED};
 use super::set_list::MOST_NUMBERS;
+use super::sets::{DEFAULT_STATES, LEAST_STATES, MOST_STATES, MOST_TOGETHER};
 use clap::builder::ValueParser;
 use clap::value_parser;
 use std::alloc::{AllocError, Global};
@@ -24,6 +24,7 @@ pub(crate) struct NumberHelp {
     pub set: String,
     pub follow_steps: String,
     pub failures: String,
+    pub states: String,
     pub from: String,
     pub to: String,
     pub budget: String,
@@ -56,6 +57,10 @@ impl NumberHelp {
             failures: format!(in alloc;
                 "If no single failure leaks or panics, makes two attempts fail, then three, up to K, from 1 to \
                  {MOST_TOGETHER}, and finds the least set that does"
+            )?,
+            states: format!(in alloc;
+                "With --sets: most states that may be met, N from {LEAST_STATES} to {MOST_STATES} \
+                 [default: {DEFAULT_STATES}]"
             )?,
             from: format!(in alloc;
                 "Tries numbers from I on, I from 0 to {CEILING}; of pairs those with such a first number \

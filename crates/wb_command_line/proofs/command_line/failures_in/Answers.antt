@@ -12,11 +12,11 @@ returns c =
     let rates = rates_is found c.get_flag-rates.result c.requires.passed c.get_flag-rates.ensures.none c.get_flag-rates.ensures.value c.get_flag-rates.ensures.other in
     let pairs = pairs_is found c.get_flag-pairs.result c.requires.passed c.get_flag-pairs.ensures.none c.get_flag-pairs.ensures.value c.get_flag-pairs.ensures.other in
     let all = all_is found c.get_flag-all.result c.requires.passed c.get_flag-all.ensures.none c.get_flag-all.ensures.value c.get_flag-all.ensures.other in
-    let many : are_too_many c.get_flag-rates.result c.get_flag-pairs.result c.get_flag-all.result c.args.is_of_sets ≡ gives_too_many (rows_of found) =
-    λ i. are_too_many (rates i) (pairs i) (all i) (c.requires.sets i) in
+    let many : are_too_many c.get_flag-rates.result c.get_flag-pairs.result c.get_flag-all.result c.args.is_of_few c.args.is_of_every_set ≡ gives_too_many (rows_of found) =
+    λ i. are_too_many (rates i) (pairs i) (all i) (c.requires.few i) (c.requires.every i) in
     record {
-      ok = subst (λ (f : Failures). IfOk c.failures_by.result (λ failures. failures ≡ f)) (ap₂ failures_by rates pairs) c.failures_by.ensures.ok;
-      alone = subst (λ (b : Bool). OnOk c.failures_by.result (b ≡ false)) many c.failures_by.ensures.alone;
-      fault = c.failures_by.ensures.fault;
-      both = subst (λ (b : Bool). OnErr c.failures_by.result (b ≡ true)) many c.failures_by.ensures.both;
+      ok = subst (λ (f : Failures). IfOk c.failures_or_sets.result (λ failures. failures ≡ f)) (ap₂ failures_by rates pairs) c.failures_or_sets.ensures.ok;
+      alone = subst (λ (b : Bool). OnOk c.failures_or_sets.result (b ≡ false)) many c.failures_or_sets.ensures.alone;
+      fault = c.failures_or_sets.ensures.fault;
+      both = subst (λ (b : Bool). OnErr c.failures_or_sets.result (b ≡ true)) many c.failures_or_sets.ensures.both;
     }

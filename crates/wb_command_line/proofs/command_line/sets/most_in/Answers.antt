@@ -1,7 +1,7 @@
 use Rattle.std.specs.Str.Parse.{ExplainsUnsignedError, HasUnsignedDigitsIfOk, ParsesUnsigned}
 use Rattle.clap.specs.Words.{found_of}
 use Rattle.wb_command_line.proofs.MatchesLemmas.{failures_is}
-use Rattle.wb_command_line.proofs.command_line.failures.most_in.Goals as goal
+use Rattle.wb_command_line.proofs.command_line.sets.most_in.Goals as goal
 
 pub returns : goal.returns
 returns c =

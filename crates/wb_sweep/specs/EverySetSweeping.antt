@@ -1,0 +1,15 @@
+-- What a sweep over all sets says of those of a part, however many attempts they have: the least whose run is bad, or that none is.
+use Rattle.std.specs.Prelude.{◌≡◌, ℕ, None, IfSome}
+use Rattle.wb_model.specs.declared.failures.Failures.TheVariants.{Single}
+use Rattle.wb_model.specs.declared.heap.Shape.{Shape}
+use Rattle.wb_model.specs.declared.part.Part.{Part}
+use Rattle.wb_model.specs.declared.script.Script.{Script}
+use Rattle.wb_model.specs.runs.EverySet.{IsLeastSetFoundIn, IsNoSetOfAnySizeIn}
+use Rattle.wb_model.specs.runs.Parts.{last_attempt}
+use Rattle.wb_sweep.specs.declared.set_answer.SetSweep.{SetSweep}
+
+-- The sets of a part are spoken of, of any number of attempts.
+pub record IsEverySetSweepIn (part : Part) (script : Script) (budget : ℕ) (shape : Shape) (sweep : SetSweep) : Type 0 where
+  pub attempts : sweep.attempts ≡ last_attempt Single script budget shape
+  pub found : IfSome sweep.found (λ found. IsLeastSetFoundIn part script budget shape found.numbers found.result)
+  pub none : sweep.found ≡ None → IsNoSetOfAnySizeIn part script budget shape

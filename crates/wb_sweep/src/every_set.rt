@@ -1,0 +1,156 @@
+//! A sweep over all sets of attempts that fail together, however many they are.
+
+ghost use Rattle.std.specs.Prelude.{◌≡◌, ◌≢◌, ℕ, ◌≤◌, ◌↔◌, List, None, true, false, IfOk, IfSome, IsTrue};
+ghost use Rattle.wb_model.specs.language.Sound.{is_script};
+ghost use Rattle.wb_model.specs.heap.Space.{is_shape};
+ghost use Rattle.wb_model.specs.runs.EverySet.{IsLeastSetCutIn, IsLeastSetFoundIn, IsNoSetOfAnySizeIn};
+ghost use Rattle.wb_model.specs.runs.Parts.{last_attempt, IsUncut};
+ghost use Rattle.wb_model.specs.runs.SetParts.{AreSetsFineIn, IsNoSetIn};
+ghost use Rattle.wb_model.specs.runs.Sweeps.{is_fine};
+ghost use Rattle.wb_model.specs.declared.failures.Failures.TheVariants.{Single};
+ghost use Rattle.wb_model.specs.declared.run.Outcome.TheVariants as outcomes;
+ghost use Rattle.wb_model.specs.declared.run.Why.{Why};
+ghost use Rattle.wb_sweep.specs.EverySetSweeping.{IsEverySetSweepIn};
+ghost use Rattle.wb_sweep.specs.SetSearch.{IsBadSet};
+
+use crate::every_set_answer::EverySetFault;
+use crate::set_answer::{FoundSet, SetSweep};
+use crate::set_sweep::find_least_set;
+use crate::sets::judge_set;
+use std::alloc::Global;
+use wb_machine::RunFault;
+use wb_model::heap::Shape;
+use wb_model::limits::LARGEST_BUDGET;
+use wb_model::part::Part;
+use wb_model::progress::Progress;
+use wb_model::script::Script;
+use wb_states::{Searched, Shown, search_states};
+
+/// What a set amounts to that shows something: found where its run is bad, and `Cut` where it is cut.
+fn judge_shown(shown: Shown) -> Result<Option<FoundSet>, EverySetFault>
+    ensures fine { IfOk result (λ found. found ≡ None → is_fine shown.result ≡ true) }
+    ensures bad { IfOk result (λ found. IfSome found (IsBadSet shown.numbers shown.result)) }
+    ensures cut { (numbers : List ℕ) (why : Why) → result ≡ Err (EverySetFault.Cut numbers why) →
+        (numbers ≡ shown.numbers) × (shown.result.outcome ≡ outcomes.Cut why) }
+    ensures known { (most : ℕ) → result ≢ Err (EverySetFault.ManyStates most) }
+    ensures shape { result ≢ Err EverySetFault.BadShape }
+{
+    let Shown { numbers, result } = shown;
+    Ok(judge_set(numbers, result)?)
+}
+
+/// The least set whose run is bad, of those of a part; `None` if the run of each is fine. Those of at most one number are. The run without
+/// failure makes so many attempts, and at most so many states may be met.
+fn search_every_set<P: Progress>(
+    alloc: Global,
+    script: &Script,
+    part: Part,
+    attempts: u32,
+    states: u32,
+    budget: u32,
+    shape: Shape,
+    progress: &mut P,
+) -> Result<Option<FoundSet>, EverySetFault>
+    requires script { IsTrue (is_script script.now) }
+    requires least { 1 ≤ budget }
+    requires greatest { budget ≤ LARGEST_BUDGET }
+    requires states { 1 ≤ states }
+    requires uncut { IsUncut Single script.now budget shape }
+    requires last { attempts ≡ last_attempt Single script.now budget shape }
+    requires fine { AreSetsFineIn part 1 script.now budget shape }
+    ensures none { IfOk result (λ found. found ≡ None →
+        IsNoSetOfAnySizeIn part script.now budget shape) }
+    ensures found { IfOk result (λ found. IfSome found (λ bad.
+        IsLeastSetFoundIn part script.now budget shape bad.numbers bad.result)) }
+    ensures cut { (numbers : List ℕ) (why : Why) → result ≡ Err (EverySetFault.Cut numbers why) →
+        IsLeastSetCutIn part script.now budget shape numbers why }
+    ensures many { (most : ℕ) → result ≡ Err (EverySetFault.ManyStates most) →
+        (1 ≤ most) × IsNoSetIn part most script.now budget shape }
+    ensures shape { result ≡ Err EverySetFault.BadShape → is_shape shape ≡ false }
+{
+    let searched = search_states(
+        alloc,
+        script,
+        part,
+        attempts,
+        u32::MAX,
+        states,
+        budget,
+        shape,
+        progress,
+    );
+    match searched {
+        Ok(Searched::Fine) => Ok(None),
+        Ok(Searched::FineTo(fine)) => Err(EverySetFault::ManyStates { fine }),
+        Ok(Searched::Shown(shown)) => judge_shown(shown),
+        Err(RunFault::BadShape) => Err(EverySetFault::BadShape),
+        Err(RunFault::NoMemory) => Err(EverySetFault::NoMemory),
+    }
+}
+
+/// The sweep itself, of whose beginning and end the caller notifies.
+fn find_among_all<P: Progress>(
+    alloc: Global,
+    script: &Script,
+    part: Part,
+    states: u32,
+    budget: u32,
+    shape: Shape,
+    progress: &mut P,
+) -> Result<SetSweep, EverySetFault>
+    requires script { IsTrue (is_script script.now) }
+    requires least { 1 ≤ budget }
+    requires greatest { budget ≤ LARGEST_BUDGET }
+    requires states { 1 ≤ states }
+    ensures swept { IfOk result (IsEverySetSweepIn part script.now budget shape) }
+    ensures cut { (numbers : List ℕ) (why : Why) → result ≡ Err (EverySetFault.Cut numbers why) →
+        IsLeastSetCutIn part script.now budget shape numbers why }
+    ensures many { (most : ℕ) → result ≡ Err (EverySetFault.ManyStates most) →
+        (1 ≤ most) × IsNoSetIn part most script.now budget shape }
+    ensures shape { (result ≡ Err EverySetFault.BadShape) ↔ (is_shape shape ≡ false) }
+{
+    let single = find_least_set(alloc, script, part, 1, budget, shape, progress)?;
+    if single.found.is_some() {
+        return Ok(single);
+    }
+    let attempts = single.attempts;
+    let found = search_every_set(
+        alloc, script, part, attempts, states, budget, shape, progress,
+    )?;
+    Ok(SetSweep { attempts, found })
+}
+
+/// The least set of attempts, however many, that makes the run bad if they fail together, of those whose least number is the part's and
+/// no greater than the last attempt of the run without failure. Sets are in the order of `sweep_sets`.
+///
+/// Single numbers are tried as `sweep_part` tries them. Once they show nothing, sets of two numbers and more are, for which at most so
+/// many states are met. `ManyStates` says up to how many attempts all sets were tried where that isn't enough: none of these shows
+/// anything. `Cut` names the least set whose run is cut, where no lesser one's is bad. `BadShape` comes exactly where the shape is none
+/// that a heap may have.
+///
+/// `progress` is notified that the sweep begins, of each failure that is tried before its run, and that the sweep is over.
+pub fn sweep_every_set<P: Progress>(
+    alloc: Global,
+    script: &Script,
+    part: Part,
+    states: u32,
+    budget: u32,
+    shape: Shape,
+    progress: &mut P,
+) -> Result<SetSweep, EverySetFault>
+    requires script { IsTrue (is_script script.now) }
+    requires least { 1 ≤ budget }
+    requires greatest { budget ≤ LARGEST_BUDGET }
+    requires states { 1 ≤ states }
+    ensures swept { IfOk result (IsEverySetSweepIn part script.now budget shape) }
+    ensures cut { (numbers : List ℕ) (why : Why) → result ≡ Err (EverySetFault.Cut numbers why) →
+        IsLeastSetCutIn part script.now budget shape numbers why }
+    ensures many { (most : ℕ) → result ≡ Err (EverySetFault.ManyStates most) →
+        (1 ≤ most) × IsNoSetIn part most script.now budget shape }
+    ensures shape { (result ≡ Err EverySetFault.BadShape) ↔ (is_shape shape ≡ false) }
+{
+    progress.begin();
+    let swept = find_among_all(alloc, script, part, states, budget, shape, progress);
+    progress.end();
+    swept
+}

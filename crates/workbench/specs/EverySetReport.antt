@@ -1,0 +1,109 @@
+-- What `--sets` says, as lines and as values, and what that means of runs: the least set of attempts, however many, whose simulated failure
+-- in one run leaks or panics (`wb_model`, `specs/runs/EverySet.antt`). A set is spoken of as `--failures` does. Where more states were met
+-- than were allowed, it is said of which sets the runs are known.
+use Rattle.std.specs.Prelude.{◌≡◌, ◌⊎◌, ◌≤◌, ℕ, List, ◌++◌, Bool, false, true, codes}
+use Rattle.std.specs.Option.{option_map_or}
+use Rattle.wb_model.specs.declared.failures.Failures.TheVariants.{Single}
+use Rattle.wb_model.specs.declared.heap.Shape.{Shape}
+use Rattle.wb_model.specs.declared.part.Part.{Part}
+use Rattle.wb_model.specs.declared.run.RunResult.{RunResult}
+use Rattle.wb_model.specs.declared.run.Why.{Why}
+use Rattle.wb_model.specs.declared.script.Script.{Script}
+use Rattle.wb_model.specs.runs.EverySet.{IsLeastSetCutIn, IsLeastSetFoundIn, IsNoSetOfAnySizeIn}
+use Rattle.wb_model.specs.runs.SetParts.{IsNoSetIn}
+use Rattle.wb_sweep.specs.declared.set_answer.SetSweep.{SetSweep}
+use Rattle.wb_command_line.specs.declared.command.Task.{Task}
+use Rattle.wb_command_line.specs.declared.command.Task.TheVariants as T
+use Rattle.workbench.specs.declared.report_values.FailingNumber.TheVariants.{Never}
+use Rattle.workbench.specs.declared.report_values.ReportValues.{ReportValues}
+use Rattle.workbench.specs.ReportValues.{both_values, cut_set_values, many_states_values, set_values, sweep_values}
+use Rattle.workbench.specs.RunText.{line}
+use Rattle.workbench.specs.SetsReport.{cut_set_line, every_number, found_set_text, no_set_line}
+use Rattle.workbench.specs.TwoNumbers.{IsSized, IsUnsized, attempts_line, attempts_of}
+
+-- ---- the lines
+
+-- no set is found, however many attempts it has
+abbrev pub no_set_at_all_line : List ℕ
+no_set_at_all_line = line (codes "set none")
+
+-- what a sweep over all sets found, as it is printed
+abbrev pub every_set_text : SetSweep → List ℕ
+every_set_text sweep =
+    attempts_line sweep.attempts ++ option_map_or (λ found. found_set_text found.numbers found.result) sweep.found no_set_at_all_line
+
+-- more states were met than were allowed
+abbrev pub cut_states_line : List ℕ
+cut_states_line = line (codes "cut states")
+
+-- no set of at most so many attempts is found, and of others nothing is said
+abbrev pub many_states_text : ℕ → ℕ → List ℕ
+many_states_text attempts fine = attempts_line attempts ++ no_set_line fine ++ cut_states_line
+
+-- ---- what they mean
+
+-- A set is printed, and the run in which its attempts fail. It is the least of all that are tried whose run leaks or panics; no lesser
+-- one's run is cut (`IsLeastSetFoundIn`).
+pub record IsLeastFailingSet (part : Part) (script : Script) (budget : ℕ) (shape : Shape) (text : List ℕ) (values : ReportValues) : Type 0 where
+  pub numbers : List ℕ
+  pub result : RunResult
+  pub found : IsLeastSetFoundIn part script budget shape numbers result
+  pub text_is : text ≡ attempts_line (attempts_of Single script budget shape) ++ found_set_text numbers result
+  pub values_are : values ≡ set_values (attempts_of Single script budget shape) numbers
+
+-- the run leaks or panics under no set that is tried, and is cut under none, however many attempts it has
+pub record IsNoFailingSetAtAll (part : Part) (script : Script) (budget : ℕ) (shape : Shape) (text : List ℕ) (values : ReportValues) : Type 0 where
+  pub none : IsNoSetOfAnySizeIn part script budget shape
+  pub text_is : text ≡ attempts_line (attempts_of Single script budget shape) ++ no_set_at_all_line
+  pub values_are : values ≡ sweep_values (attempts_of Single script budget shape) Never
+
+-- there is no answer: the run without failure is cut; or that of a set which is tried, and no lesser one's leaks, panics or is cut
+-- (`IsLeastSetCutIn`)
+pub record IsUnsweptEverySet (part : Part) (script : Script) (budget : ℕ) (shape : Shape) (text : List ℕ) (values : ReportValues) : Type 0 where
+  pub numbers : List ℕ
+  pub why : Why
+  pub cut : IsLeastSetCutIn part script budget shape numbers why
+  pub text_is : text ≡ cut_set_line numbers why
+  pub values_are : values ≡ cut_set_values numbers
+
+-- There is none: more states were met than were allowed. The run leaks, panics or is cut under no set that is tried of at most so many
+-- attempts, which is at least one. How states are counted isn't said, and so not which number this is.
+pub record IsCutByStates (part : Part) (script : Script) (budget : ℕ) (shape : Shape) (text : List ℕ) (values : ReportValues) : Type 0 where
+  pub fine : ℕ
+  pub some : 1 ≤ fine
+  pub none : IsNoSetIn part fine script budget shape
+  pub text_is : text ≡ many_states_text (attempts_of Single script budget shape) fine
+  pub values_are : values ≡ many_states_values fine
+
+-- the report of `sweep --sets`
+abbrev pub IsEverySetReport : Part → Script → ℕ → Shape → List ℕ → ReportValues → ℕ → Type 0
+IsEverySetReport part script budget shape text values status =
+    (IsLeastFailingSet part script budget shape text values × (status ≡ 1))
+    ⊎ ((IsNoFailingSetAtAll part script budget shape text values × (status ≡ 0))
+    ⊎ ((IsUnsweptEverySet part script budget shape text values × (status ≡ 3))
+    ⊎ (IsCutByStates part script budget shape text values × (status ≡ 3))))
+
+-- ---- after a size
+
+-- the length, and then the set that is found, or that there is none
+pub record IsSizedAndSearched (script : Script) (budget : ℕ) (shape : Shape) (text : List ℕ) (values : ReportValues) (status : ℕ) : Type 0 where
+  pub first : List ℕ
+  pub second : List ℕ
+  pub size : ReportValues
+  pub sweep : ReportValues
+  pub sized : IsSized script budget shape first size
+  pub searched : IsEverySetReport every_number script budget shape second sweep status
+  pub text_is : text ≡ first ++ second
+  pub values_are : values ≡ both_values size sweep
+
+-- the report of `check --sets`; where there is no length, the sweep isn't made
+abbrev pub IsCheckEverySetReport : Script → ℕ → Shape → List ℕ → ReportValues → ℕ → Type 0
+IsCheckEverySetReport script budget shape text values status =
+    IsSizedAndSearched script budget shape text values status
+    ⊎ (IsUnsized script budget shape text values × (status ≡ 3))
+
+-- the task tries all sets, so that its report may be that of a search with too many states
+abbrev pub tries_every_set : Task → Bool
+tries_every_set (T.EverySet states part) = true
+tries_every_set (T.CheckEverySet states) = true
+tries_every_set _ = false
