@@ -38,7 +38,10 @@ fn rule_for(numbers: &Numbers) -> Result<Rule, NoMemory>
 }
 
 /// What the run under a set amounts to: found where it is bad, `Cut` where it is cut, and `None` if it is fine.
-pub(crate) fn judge_set(numbers: Numbers, run_result: RunResult) -> Result<Option<FoundSet>, SetFault>
+pub(crate) fn judge_set(
+    numbers: Numbers,
+    run_result: RunResult,
+) -> Result<Option<FoundSet>, SetFault>
     ensures fine { IfOk result (λ found. found ≡ None → is_fine run_result ≡ true) }
     ensures bad { IfOk result (λ found. IfSome found (IsBadSet numbers run_result)) }
     ensures cut { IfErr result (λ fault. (why : Why) × (fault ≡ SetFault.Cut numbers why)
