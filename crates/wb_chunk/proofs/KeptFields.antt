@@ -1,9 +1,9 @@
 -- A chunk's fields after a write to a range of its words.
-use Rattle.std.proofs.Common.{◌≡◌, ℕ, ◌+◌, ◌*◌, ◌/◌, ◌<◌, ◌≤◌, ◌⊎◌, inl, inr, ◌++◌, List, Bool, false, Some, length, take, drop, sym, ap, subst, ◌∙◌, arith, get_or}
+use Rattle.std.proofs.Common.{◌≡◌, ℕ, ◌+◌, ◌*◌, ◌/◌, ◌<◌, ◌≤◌, ◌⊎◌, inl, inr, ◌++◌, List, Bool, false, Option, Some, length, take, drop, sym, ap, subst, ◌∙◌, arith, get_or}
 use Rattle.std.proofs.Math.Seq.{take-append_seam}
 use Rattle.std.proofs.lemmas.List.{length-append, length-replicate}
 use Rattle.std.specs.declared.alloc.Global.{Global}
-use Rattle.wb_chunk.specs.Fields.{IsKept}
+use Rattle.wb_chunk.specs.Fields.{HasRoom, IsKept, words_of}
 use Rattle.wb_chunk.specs.Lending.{with_words}
 use Rattle.wb_chunk.specs.Halves.{with_halves}
 use Rattle.wb_chunk.specs.Marks.{AreMarked, MarksToo}
@@ -41,10 +41,10 @@ kept-halves r new count capacity i end len hs marks more alloc kept is far same 
     nearer k (inl lt) = inl lt
     nearer k (inr le) = inr (omega (arith, le, far))
 
--- the words went to a longer region, with zeros after them
-pub kept-grown : (r : Region Global) (ws : List ℕ) (count n capacity : ℕ) (marks more : List Bool) (alloc : Global) → count ≡ length ws → r.words ≡ ws ++ zeros n →
-    (r.capacity ≡ capacity) × (r.alloc ≡ alloc) → count + n ≤ capacity → capacity ≤ MOST_WORDS → capacity ≤ BLOCK * length more → AreMarked marks ws →
-    ((j : ℕ) → j * 1024 < length ws → get_or more j false ≡ get_or marks j false) → IsKept (Some r) (count + n) capacity more alloc
+-- there is room for more words, and zeros after those that were there
+pub kept-grown : (r : Option (Region Global)) (ws : List ℕ) (count n capacity : ℕ) (marks more : List Bool) (alloc : Global) → count ≡ length ws → words_of r ≡ ws ++ zeros n →
+    HasRoom r capacity alloc → count + n ≤ capacity → capacity ≤ MOST_WORDS → capacity ≤ BLOCK * length more → AreMarked marks ws →
+    ((j : ℕ) → j * 256 < length ws → get_or more j false ≡ get_or marks j false) → IsKept r (count + n) capacity more alloc
 kept-grown r ws count n capacity marks more alloc counted is room within bounded covered marked same = record {
   counted = omega (arith, counted, ap length is, length-append ws (zeros n), length-replicate {A = ℕ} n 0);
   room = room;

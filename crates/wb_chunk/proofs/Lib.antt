@@ -1,4 +1,6 @@
 mod KeptFields
 mod MarkedWords
+mod MovedWords
+mod NextMarks
 mod RegionSteps
 pub mod WrittenHalves

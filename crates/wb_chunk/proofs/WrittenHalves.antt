@@ -3,7 +3,7 @@ use Rattle.std.proofs.Common.{◌≡◌, ◌≢◌, ℕ, zero, suc, ◌+◌, ◌
 use Rattle.std.specs.Prelude.{nat_eq}
 use Rattle.std.proofs.lemmas.Bool.{cases_lt, cases_eq}
 use Rattle.std.proofs.lemmas.List.{ext_get_or, get_or-set_same, get_or-set_other, get_or-append_right, get_or_append_left, get_or-replicate, get_or-take, get_or-drop, get_or_past, length-set, length-append, length-replicate, length-take-le, length-drop, length_push, get_or_push}
-use Rattle.wb_chunk.specs.Halves.{half_of, halves_from, high_and_low, with_half, with_halves, AreShifted}
+use Rattle.wb_chunk.specs.Halves.{half_of, halves_from, with_half, with_halves, AreMoved}
 
 -- a half has 16 bits
 abbrev pub AreHalves : List ℕ → Type 0
@@ -301,12 +301,11 @@ zeros-written ws ys t m fits is =
         words-in ws ys (drop m (drop t ws)) t j (omega arith) (omega (arith, long)) ∙ ap (λ us. get_or us j 0) is ∙ get_or-replicate m j 0 0 lt in
         omega (arith, first, second, read)
 
--- words that were copied
-pub pairs-copied : (old new : List ℕ) (s t m : ℕ) → length new ≡ length old → t + m ≤ length old → All (λ w. w < 2 ^ 32) old →
-    ((j : ℕ) → j < m → get_or new (t + j) 0 ≡ get_or old (s + j) 0) → ((j : ℕ) → (j < t) ⊎ (t + m ≤ j) → get_or new j 0 ≡ get_or old j 0) →
+-- words that were moved
+pub pairs-moved : (old new : List ℕ) (s t m : ℕ) → length new ≡ length old → t + m ≤ length old → All (λ w. w < 2 ^ 32) old → AreMoved false old new s t m →
     new ≡ with_halves old (2 * t) (halves_from old (2 * s) (2 * m))
-pairs-copied old new s t m same fits fit inside outside =
-    set-pairs old new t m (halves_from old (2 * s) (2 * m)) (length-halves_from old (2 * s) (2 * m)) fits (halves-fit old (2 * s) (2 * m) fit) same word outside
+pairs-moved old new s t m same fits fit are =
+    set-pairs old new t m (halves_from old (2 * s) (2 * m)) (length-halves_from old (2 * s) (2 * m)) fits (halves-fit old (2 * s) (2 * m) fit) same word are.outside
   where
     word : (j : ℕ) → j < m → get_or new (t + j) 0 ≡ get_or (halves_from old (2 * s) (2 * m)) (2 * j) 0 + get_or (halves_from old (2 * s) (2 * m)) (suc (2 * j)) 0 * 2 ^ 16
     word j lt =
@@ -314,15 +313,13 @@ pairs-copied old new s t m same fits fit inside outside =
         let f : 2 * s + suc (2 * j) ≡ suc (2 * (s + j)) = omega arith in
         let l = get_or-halves_from old (2 * s) (2 * m) (2 * j) (omega arith) ∙ ap (half_of old) e ∙ low old (s + j) in
         let h = get_or-halves_from old (2 * s) (2 * m) (suc (2 * j)) (omega arith) ∙ ap (half_of old) f ∙ high old (s + j) in
-        omega (arith, inside j lt, l, h)
+        omega (arith, are.inside j lt, l, h)
 
--- words that were copied and shifted by a half
-pub pairs-shifted : (old new : List ℕ) (s t m : ℕ) → length new ≡ length old → t + m ≤ length old → All (λ w. w < 2 ^ 32) old →
-    ((j : ℕ) → j < m → get_or new (t + j) 0 ≡ high_and_low (get_or old (s + j) 0) (get_or old (s + j + 1) 0)) →
-    ((j : ℕ) → (j < t) ⊎ (t + m ≤ j) → get_or new j 0 ≡ get_or old j 0) →
+-- words that were shifted by a half
+pub pairs-shifted : (old new : List ℕ) (s t m : ℕ) → length new ≡ length old → t + m ≤ length old → All (λ w. w < 2 ^ 32) old → AreMoved true old new s t m →
     new ≡ with_halves old (2 * t) (halves_from old (suc (2 * s)) (2 * m))
-pairs-shifted old new s t m same fits fit inside outside =
-    set-pairs old new t m (halves_from old (suc (2 * s)) (2 * m)) (length-halves_from old (suc (2 * s)) (2 * m)) fits (halves-fit old (suc (2 * s)) (2 * m) fit) same word outside
+pairs-shifted old new s t m same fits fit are =
+    set-pairs old new t m (halves_from old (suc (2 * s)) (2 * m)) (length-halves_from old (suc (2 * s)) (2 * m)) fits (halves-fit old (suc (2 * s)) (2 * m) fit) same word are.outside
   where
     word : (j : ℕ) → j < m →
         get_or new (t + j) 0 ≡ get_or (halves_from old (suc (2 * s)) (2 * m)) (2 * j) 0 + get_or (halves_from old (suc (2 * s)) (2 * m)) (suc (2 * j)) 0 * 2 ^ 16
@@ -331,30 +328,4 @@ pairs-shifted old new s t m same fits fit inside outside =
         let f : suc (2 * s) + suc (2 * j) ≡ 2 * (s + j + 1) = omega arith in
         let l = get_or-halves_from old (suc (2 * s)) (2 * m) (2 * j) (omega arith) ∙ ap (half_of old) e ∙ high old (s + j) in
         let h = get_or-halves_from old (suc (2 * s)) (2 * m) (suc (2 * j)) (omega arith) ∙ ap (half_of old) f ∙ low old (s + j + 1) in
-        omega (arith, inside j lt, l, h)
-
--- words that were copied, and then shifted where they are
-pub shift-written : (old moved ys : List ℕ) (s t m next : ℕ) → length moved ≡ length old → t + m ≤ length old → length ys ≡ m → All (λ w. w < 2 ^ 32) old →
-    next ≡ get_or old (s + m) 0 → ((j : ℕ) → j < m → get_or moved (t + j) 0 ≡ get_or old (s + j) 0) →
-    ((j : ℕ) → (j < t) ⊎ (t + m ≤ j) → get_or moved j 0 ≡ get_or old j 0) → AreShifted (take m (drop t moved)) next ys →
-    take t moved ++ (ys ++ drop m (drop t moved)) ≡ with_halves old (2 * t) (halves_from old (suc (2 * s)) (2 * m))
-shift-written old moved ys s t m next same fits long fit is inside outside shifted =
-    pairs-shifted old (take t moved ++ (ys ++ drop m (drop t moved))) s t m (length-written moved ys t m (omega (arith, same)) long ∙ same) fits fit
-    (λ j lt. words-in moved ys (drop m (drop t moved)) t j (omega (arith, same)) (omega (arith, long)) ∙ shifted j (omega (arith, part))
-    ∙ ap (λ w. high_and_low w (get_or (take m (drop t moved) ++ next ∷ []) (j + 1) 0)) (here j lt)
-    ∙ ap (λ w. high_and_low (get_or old (s + j) 0) w) (following j lt (cases_lt (j + 1) m)))
-    (λ j away. words-out moved ys t m j (omega (arith, same)) long away ∙ outside j away)
-  where
-    part : length (take m (drop t moved)) ≡ m
-    part = length-take-le m (drop t moved) (omega (arith, length-drop t moved, same))
-
-    here : (j : ℕ) → j < m → get_or (take m (drop t moved)) j 0 ≡ get_or old (s + j) 0
-    here j lt = get_or-take m (drop t moved) j 0 lt ∙ get_or-drop t moved j 0 ∙ inside j lt
-
-    following : (j : ℕ) → j < m → (j + 1 < m) ⊎ (m ≤ j + 1) → get_or (take m (drop t moved) ++ next ∷ []) (j + 1) 0 ≡ get_or old (s + j + 1) 0
-    following j lt (inl more) =
-        let e : s + (j + 1) ≡ s + j + 1 = omega arith in
-        get_or_append_left (take m (drop t moved)) (next ∷ []) 0 (j + 1) (omega (arith, part)) ∙ here (j + 1) more ∙ ap (λ n. get_or old n 0) e
-    following j lt (inr last) =
-        let e : s + m ≡ s + j + 1 = omega arith in
-        get_or_push (take m (drop t moved)) next 0 (j + 1) (omega (arith, part)) ∙ is ∙ ap (λ n. get_or old n 0) e
+        omega (arith, are.inside j lt, l, h)

@@ -1,5 +1,5 @@
 -- A list of words as halves of 16 bits: half 2k is the low half of word k, and half 2k + 1 the high one.
-use Rattle.std.specs.Prelude.{◌≡◌, ℕ, zero, suc, ◌+◌, ◌*◌, ◌/◌, ◌%◌, ◌^◌, ◌<◌, List, [], ◌∷◌, ◌++◌, length, nat_eq, if◌then◌else◌, slice_index, slice_set}
+use Rattle.std.specs.Prelude.{◌≡◌, ℕ, zero, suc, ◌+◌, ◌*◌, ◌/◌, ◌%◌, ◌^◌, ◌<◌, ◌≤◌, ◌⊎◌, List, [], ◌∷◌, Bool, nat_eq, if◌then◌else◌, slice_index, slice_set}
 
 -- the half at a place
 abbrev pub half_of : List ℕ → ℕ → ℕ
@@ -23,10 +23,11 @@ abbrev pub with_halves : List ℕ → ℕ → List ℕ → List ℕ
 with_halves words i [] = words
 with_halves words i (v ∷ vs) = with_half (with_halves words (suc i) vs) i v
 
--- the word of the high half of one and the low half of another
-abbrev pub high_and_low : ℕ → ℕ → ℕ
-high_and_low word next = word / 2 ^ 16 + next % 2 ^ 16 * 2 ^ 16
+-- a word, or the one of its high half and the low half of the next
+abbrev pub word_of : Bool → ℕ → ℕ → ℕ
+word_of shifted word next = if shifted then word / 2 ^ 16 + next % 2 ^ 16 * 2 ^ 16 else word
 
--- each half is one place before where it was, with the low half of another word after them
-abbrev pub AreShifted : List ℕ → ℕ → List ℕ → Type 0
-AreShifted old next new = (k : ℕ) → k < length old → slice_index new k ≡ high_and_low (slice_index old k) (slice_index (old ++ next ∷ []) (k + 1))
+-- the words from one place on are those from another place on, shifted by a half or as they were, and the others stayed
+pub record AreMoved (shifted : Bool) (old new : List ℕ) (from to n : ℕ) : Type 0 where
+  pub inside : (k : ℕ) → k < n → slice_index new (to + k) ≡ word_of shifted (slice_index old (from + k)) (slice_index old (from + k + 1))
+  pub outside : (k : ℕ) → (k < to) ⊎ (to + n ≤ k) → slice_index new k ≡ slice_index old k

@@ -1,15 +1,16 @@
 //! How a region is filled, and by how much it grows: plain code over a region's own calls.
 
-ghost use Rattle.std.specs.Prelude.{◌≡◌, ◌+◌, ◌-◌, ◌*◌, ◌≤◌, ◌++◌, length, max, min, replicate, take};
+ghost use Rattle.std.specs.Prelude.{◌≡◌, ◌+◌, ◌*◌, ◌≤◌, ◌++◌, length, max, min, replicate, OnOk, OnErr};
+ghost use Rattle.wb_chunk.specs.Fields.{HasRoom, words_of};
 ghost use Rattle.wb_chunk.specs.Marks.{AreMarked};
 
 use crate::MOST_WORDS;
 use crate::marks::BLOCK;
 use crate::region::Region;
-use std::alloc::Global;
+use std::alloc::{AllocError, Global};
 
 /// Writes words after the `count` that are there.
-pub(crate) fn append_words(region: &mut Region<Global>, count: u32, words: &[u32])
+fn append_words(region: &mut Region<Global>, count: u32, words: &[u32])
     requires fits { (count ≡ length region.old.words)
         × (count + length words.now ≤ region.old.capacity) }
     requires bound { region.old.capacity ≤ MOST_WORDS }
@@ -46,7 +47,7 @@ pub(crate) fn append_marked(region: &mut Region<Global>, words: &[u32], marks: &
 }
 
 /// Writes `n` words that are 0 after the `count` that are there.
-pub(crate) fn append_zeros(region: &mut Region<Global>, count: u32, n: u32)
+fn append_zeros(region: &mut Region<Global>, count: u32, n: u32)
     requires fits { (count ≡ length region.old.words) × (count + n ≤ region.old.capacity) }
     requires bound { region.old.capacity ≤ MOST_WORDS }
     ensures words { region.new.words ≡ region.old.words ++ replicate n 0 }
@@ -58,21 +59,63 @@ pub(crate) fn append_zeros(region: &mut Region<Global>, count: u32, n: u32)
     }
 }
 
-/// Leaves the first `wanted` of the `count` words that are there, or appends words that are 0 until there are `wanted`.
-pub(crate) fn set_count(region: &mut Region<Global>, count: u32, wanted: u32)
-    requires there { (count ≡ length region.old.words) × (count ≤ region.old.capacity) }
-    requires fits { wanted ≤ region.old.capacity }
-    requires bound { region.old.capacity ≤ MOST_WORDS }
-    ensures words { region.new.words
-        ≡ take wanted region.old.words ++ replicate (wanted - count) 0 }
-    ensures room { (region.new.capacity ≡ region.old.capacity)
-        × (region.new.alloc ≡ region.old.alloc) }
+/// The same of a region that is handed over. As a local it is read once, so that many words are written at a time.
+fn with_zeros(mut region: Region<Global>, count: u32, n: u32) -> Region<Global>
+    requires fits { (count ≡ length region.words) × (count + n ≤ region.capacity) }
+    requires bound { region.capacity ≤ MOST_WORDS }
+    ensures words { result.words ≡ region.words ++ replicate n 0 }
+    ensures room { (result.capacity ≡ region.capacity) × (result.alloc ≡ region.alloc) }
 {
-    if wanted <= count {
-        region.truncate(count, wanted);
-    } else {
-        append_zeros(region, count, wanted - count);
+    append_zeros(&mut region, count, n);
+    region
+}
+
+/// Writes `n` words that are 0 after the `count` that are there.
+pub(crate) fn extend(
+    region: &mut Option<Region<Global>>,
+    alloc: &Global,
+    count: u32,
+    capacity: u32,
+    n: u32,
+)
+    requires room { HasRoom region.old capacity alloc.now }
+    requires fits { (count ≡ length (words_of region.old)) × (count + n ≤ capacity) }
+    requires bound { capacity ≤ MOST_WORDS }
+    ensures words { words_of region.new ≡ words_of region.old ++ replicate n 0 }
+    ensures room { HasRoom region.new capacity alloc.now }
+{
+    if let Some(held) = region.take() {
+        let longer = with_zeros(held, count, n);
+        if let Some(other) = region.replace(longer) {
+            other.free(alloc, capacity);
+        }
     }
+}
+
+/// Makes room for `wanted` words where there was room for `capacity`. The words stay as they are: of a large block the system moves
+/// the pages, and no word is copied. On `Err` nothing has changed.
+pub(crate) fn make_room(
+    region: &mut Option<Region<Global>>,
+    alloc: &Global,
+    count: u32,
+    capacity: u32,
+    wanted: u32,
+) -> Result<(), AllocError>
+    requires room { HasRoom region.old capacity alloc.now }
+    requires count { (count ≡ length (words_of region.old)) × (count ≤ capacity) }
+    requires more { capacity ≤ wanted }
+    ensures made { OnOk result ((words_of region.new ≡ words_of region.old)
+        × HasRoom region.new wanted alloc.now) }
+    ensures refused { OnErr result (region.new ≡ region.old) }
+{
+    if let Some(region) = region {
+        return region.grow(alloc, count, capacity, wanted);
+    }
+    let first = Region::allocate(alloc, wanted)?;
+    if let Some(other) = region.replace(first) {
+        other.free(alloc, capacity);
+    }
+    Ok(())
 }
 
 /// For how many words the next region has room: for twice as many as before as far as the bound allows, or for those

@@ -3,10 +3,11 @@
 
 ghost use Rattle.std.specs.Prelude.{◌≡◌, ◌+◌, ◌*◌, ◌%◌, ◌^◌, ◌<◌, ◌≤◌, length, replicate};
 ghost use Rattle.std.specs.List.{All};
-ghost use Rattle.wb_chunk.specs.Halves.{AreShifted, half_of, halves_from, with_half, with_halves};
+ghost use Rattle.wb_chunk.specs.Halves.{half_of, halves_from, with_half, with_halves};
 ghost use Rattle.wb_chunk.specs.Marks.{AreMarked};
 
 use crate::marks::{self, BLOCK};
+use crate::moves::{move_words, shift_words};
 
 /// The half at a place.
 pub(crate) fn half(words: &[u32], i: usize) -> u16
@@ -137,22 +138,8 @@ fn copy_pairs(words: &mut [u32], from: usize, to: usize, n: usize)
 {
     let start = from / 2;
     if from % 2 == 0 {
-        words.copy_within(start..start + n, to);
-    } else if 0 < n {
-        let next = words[start + n];
-        words.copy_within(start..start + n, to);
-        shift(&mut words[to..to + n], next);
+        move_words(words, start, to, n);
+    } else {
+        shift_words(words, start, to, n);
     }
-}
-
-/// Moves each half to the place before it; the first is lost, and the low half of `next` comes last.
-fn shift(words: &mut [u32], next: u32)
-    requires { 1 ≤ length words.old }
-    ensures { AreShifted words.old next words.new }
-{
-    let last = words.len() - 1;
-    for i in 0..last {
-        words[i] = words[i] / 0x1_0000 + words[i + 1] % 0x1_0000 * 0x1_0000;
-    }
-    words[last] = words[last] / 0x1_0000 + next % 0x1_0000 * 0x1_0000;
 }

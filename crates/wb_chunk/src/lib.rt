@@ -10,8 +10,9 @@ ghost use Rattle.std.specs.List.{All, replace_range};
 ghost use Rattle.wb_chunk.specs.Halves.{half_of, halves_from, with_half, with_halves};
 ghost use Rattle.wb_chunk.specs.Marks.{AreSameWords};
 
-use growth::{append_marked, append_words, append_zeros, larger, set_count};
+use growth::{append_marked, extend, larger, make_room};
 use marks::BLOCK;
+use moves::move_words;
 use region::Region;
 use std::alloc::{AllocError, Global};
 use std::marker::Model;
@@ -19,6 +20,8 @@ use std::marker::Model;
 mod growth;
 mod halves;
 mod marks;
+mod moves;
+mod next_marks;
 mod region;
 
 /// The most words that a chunk can have: 16,777,216 bytes, the ceiling of a simulated heap.
@@ -98,21 +101,21 @@ impl Chunk {
     {
         let count = self.count + n;
         if count <= self.capacity {
-            if let Some(region) = &mut self.region {
-                append_zeros(region, self.count, n);
-            }
+            extend(&mut self.region, &self.alloc, self.count, self.capacity, n);
             self.count = count;
             return Ok(());
         }
         let capacity = larger(self.capacity, count);
         self.marks
             .resize((capacity as usize).div_ceil(BLOCK), false)?;
-        let mut region = Region::allocate(&self.alloc, capacity)?;
-        append_words(&mut region, 0, self.as_slice());
-        append_zeros(&mut region, self.count, n);
-        if let Some(old) = self.region.replace(region) {
-            old.free(&self.alloc, self.capacity);
-        }
+        make_room(
+            &mut self.region,
+            &self.alloc,
+            self.count,
+            self.capacity,
+            capacity,
+        )?;
+        extend(&mut self.region, &self.alloc, self.count, capacity, n);
         self.capacity = capacity;
         self.count = count;
         Ok(())
@@ -138,20 +141,17 @@ impl Chunk {
         })
     }
 
-    /// A chunk of the same words, over the memory of `spare`, whose words are lost, where that has room for them; else in
-    /// memory of its own. Only blocks that may differ are written: those that are marked in either. On `Err` memory was
-    /// refused.
+    /// A chunk of the same words, over the memory of `spare`, whose words are lost. Where that has no room for them it is made
+    /// larger. Only blocks that may differ are written: those that are marked in either. On `Err` memory was refused.
     pub fn try_copy_over(&self, mut spare: Chunk) -> Result<Chunk, AllocError>
         ensures { IfOk result (λ copy. copy ≡ self.now) }
     {
-        if spare.capacity < self.count {
-            drop(spare);
-            return self.try_copy();
-        }
+        let missing = self.count.saturating_sub(spare.count);
+        spare.grow(missing)?;
         let Some(region) = &mut spare.region else {
             return self.try_copy();
         };
-        set_count(region, spare.count, self.count);
+        region.truncate(spare.count, self.count);
         spare.count = self.count;
         marks::overwrite(
             region.as_mut_slice(self.count),
@@ -265,6 +265,7 @@ impl Chunk {
 
     /// Puts the `n` words from `from` on at `to`, as if all had been read before any was written: the two ranges may
     /// overlap.
+    #[tactic(auto, using(crate::proofs::MovedWords::moved_range))]
     pub fn copy(&mut self, from: u32, to: u32, n: u32)
         requires source { from + n ≤ length self.old }
         requires target { to + n ≤ length self.old }
@@ -274,7 +275,7 @@ impl Chunk {
         marks::mark(self.marks.as_mut_slice(), to as usize, (to + n) as usize);
         if let Some(region) = &mut self.region {
             let words = region.as_mut_slice(self.count);
-            words.copy_within(from as usize..(from + n) as usize, to as usize);
+            move_words(words, from as usize, to as usize, n as usize);
         }
     }
 

@@ -1,12 +1,14 @@
-//! Which blocks of a chunk may hold anything but zeros: a mark for each 4,096 bytes. What a block without a mark holds is
+//! Which blocks of a chunk may hold anything but zeros: a mark for each 1,024 bytes. What a block without a mark holds is
 //! known, so nobody zeroes it again, reads it to copy it, or writes zeros over it.
 
 ghost use Rattle.std.specs.Prelude.{◌≡◌, ◌+◌, ◌*◌, ◌<◌, ◌≤◌, true, length, replicate};
 ghost use Rattle.std.specs.List.{replace_range};
 ghost use Rattle.wb_chunk.specs.Marks.{AreMarked, AreSameWords, IsUnmarkedFrom, MarksToo};
 
+use crate::next_marks::{next_in_either, next_marked};
+
 /// How many words a block has.
-pub(crate) const BLOCK: usize = 1024;
+pub(crate) const BLOCK: usize = 256;
 
 /// Marks the block of one word.
 pub(crate) fn mark_one(marks: &mut [bool], i: usize)
@@ -36,13 +38,14 @@ pub(crate) fn zero(words: &mut [u32], marks: &mut [bool], i: usize, n: usize)
     ensures marked { AreMarked marks.new words.new }
 {
     let end = i + n;
-    for block in i / BLOCK..end.div_ceil(BLOCK) {
-        if marks[block] {
-            let first = i.max(block * BLOCK);
-            let last = end.min(block * BLOCK + BLOCK);
-            words[first..last].fill(0);
-            marks[block] = last - first < BLOCK;
-        }
+    let blocks = end.div_ceil(BLOCK);
+    let mut block = next_marked(marks, i / BLOCK, blocks);
+    while block < blocks {
+        let first = i.max(block * BLOCK);
+        let last = end.min(block * BLOCK + BLOCK);
+        words[first..last].fill(0);
+        marks[block] = last - first < BLOCK;
+        block = next_marked(marks, block + 1, blocks);
     }
 }
 
@@ -64,31 +67,32 @@ pub(crate) fn overwrite(
     ensures after { IsUnmarkedFrom marks.new (length source.now) }
 {
     let blocks = source.len().div_ceil(BLOCK);
-    for block in 0..blocks {
+    let mut block = next_in_either(marks, source_marks, 0, blocks);
+    while block < blocks {
         let first = block * BLOCK;
         let last = source.len().min(first + BLOCK);
         if source_marks[block] {
             words[first..last].copy_from_slice(&source[first..last]);
-        } else if marks[block] {
+        } else {
             words[first..last].fill(0);
         }
         marks[block] = source_marks[block];
+        block = next_in_either(marks, source_marks, block + 1, blocks);
     }
     marks[blocks..].fill(false);
 }
 
-/// Whether the words from `first` up to `end` are those of another list.
+/// Whether the words from `first` up to `end` are those of another list. No difference ends the search, so that many are read at once.
 fn same_words(words: &[u32], others: &[u32], first: usize, end: usize) -> bool
     requires within { end ≤ length words.now }
     requires others_within { end ≤ length others.now }
     ensures { result ≡ true → AreSameWords words.now others.now first end }
 {
+    let mut same = true;
     for i in first..end {
-        if words[i] != others[i] {
-            return false;
-        }
+        same &= words[i] == others[i];
     }
-    true
+    same
 }
 
 /// Whether the `n` words from `i` on are those of another list with marks of its own. Blocks that are marked in neither aren't read:
@@ -110,15 +114,15 @@ pub(crate) fn same_range(
     ensures { result ≡ true → AreSameWords words.now others.now i (i + n) }
 {
     let end = i + n;
-    let first_block = i / BLOCK;
-    for block in first_block..end.div_ceil(BLOCK) {
-        if marks[block] || other_marks[block] {
-            let first = i.max(block * BLOCK);
-            let last = end.min(block * BLOCK + BLOCK);
-            if !same_words(words, others, first, last) {
-                return false;
-            }
+    let blocks = end.div_ceil(BLOCK);
+    let mut block = next_in_either(marks, other_marks, i / BLOCK, blocks);
+    while block < blocks {
+        let first = i.max(block * BLOCK);
+        let last = end.min(block * BLOCK + BLOCK);
+        if !same_words(words, others, first, last) {
+            return false;
         }
+        block = next_in_either(marks, other_marks, block + 1, blocks);
     }
     true
 }

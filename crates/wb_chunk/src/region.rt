@@ -3,7 +3,7 @@
 //! Only the functions here follow a raw pointer, and each is proved by hand. A region does not keep how many words it
 //! has, nor for how many it has room: its owner does, and passes them in.
 
-ghost use Rattle.std.specs.Prelude.{◌≡◌, ℕ, ◌<◌, ◌≤◌, List, [], ◌∷◌, ◌++◌, length, take, IfOk};
+ghost use Rattle.std.specs.Prelude.{◌≡◌, ℕ, ◌<◌, ◌≤◌, List, [], ◌∷◌, ◌++◌, length, take, IfOk, OnOk, OnErr};
 ghost use Rattle.std.specs.Borrow.{u32, Array, sem};
 ghost use Rattle.std.specs.Allocator.{block_with_items};
 ghost use denote.Struct.Lending.{lent_at};
@@ -42,6 +42,36 @@ impl<A: Allocator> Region<A> {
                 start: block as *mut u32,
                 mark: PhantomData,
             }),
+            Err(error) => Err(error),
+        }
+    }
+
+    /// Makes room for `wanted` words, in a block that may lie elsewhere. On `Err` the region is as it was.
+    pub(crate) fn grow(
+        &mut self,
+        alloc: &A,
+        count: u32,
+        capacity: u32,
+        wanted: u32,
+    ) -> Result<(), AllocError>
+        requires alloc { self.old.alloc ≡ alloc.now }
+        requires count { (count ≡ length self.old.words) × (count ≤ capacity) }
+        requires capacity { (self.old.capacity ≡ capacity) × (capacity ≤ wanted) }
+        ensures { OnOk result ((self.new.words ≡ self.old.words) × (self.new.capacity ≡ wanted)
+            × (self.new.alloc ≡ self.old.alloc)) × OnErr result (self.new ≡ self.old) }
+    {
+        match unsafe {
+            alloc.grow(
+                self.start,
+                count as usize,
+                capacity as usize,
+                wanted as usize,
+            )
+        } {
+            Ok(block) => {
+                self.start = block;
+                Ok(())
+            }
             Err(error) => Err(error),
         }
     }

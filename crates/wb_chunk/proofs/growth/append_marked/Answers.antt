@@ -7,11 +7,11 @@ pub loop-block-preserved : goal.loop-block-preserved
 loop-block-preserved c =
     let ws = c.args.words.now in
     let block = c.loop-block.block in
-    let first = c.loop-block.block * 1024 in
+    let first = c.loop-block.block * 256 in
     let last = c.min-last.result in
     let is = c.loop-block.invariant in
-    let within : block * 1024 ≤ length ws = omega (arith, c.loop-block-test.true, c.div_ceil-block-end.ensures) in
-    let one : block * 1024 + 1024 ≡ (block + 1) * 1024 = omega arith in
+    let within : block * 256 ≤ length ws = omega (arith, c.loop-block-test.true, c.div_ceil-block-end.ensures) in
+    let one : block * 256 + 256 ≡ (block + 1) * 256 = omega arith in
     let more = next-block ws first last c.min-last.ensures within ∙ ap (λ n. take n ws) one in
     elim c.if-marks-block.branch [
       | then-marks-block w ↦

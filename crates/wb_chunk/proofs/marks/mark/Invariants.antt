@@ -3,4 +3,4 @@ use Rattle.std.proofs.Common.{◌≡◌, ℕ, ◌/◌, ◌<◌, ◌≤◌, ◌�
 use Rattle.wb_chunk.proofs.marks.mark.Given as goal
 
 abbrev pub invariant-loop-block : goal.invariant-loop-block
-invariant-loop-block l = (j : ℕ) → get_or l.marks j false ≡ false → (get_or l.fn.marks j false ≡ false) × ((j < l.first / 1024) ⊎ (l.block ≤ j))
+invariant-loop-block l = (j : ℕ) → get_or l.marks j false ≡ false → (get_or l.fn.marks j false ≡ false) × ((j < l.first / 256) ⊎ (l.block ≤ j))

@@ -1,0 +1,6 @@
+-- The blocks before this one have no mark.
+use Rattle.wb_chunk.specs.Marks.{AreUnmarked}
+use Rattle.wb_chunk.proofs.next_marks.first_in_either.Given as goal
+
+abbrev pub invariant-loop-block : goal.invariant-loop-block
+invariant-loop-block l = AreUnmarked l.marks l.from l.block × AreUnmarked l.others l.from l.block

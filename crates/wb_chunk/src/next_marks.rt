@@ -1,0 +1,108 @@
+//! Searches for the next block that bears a mark. Blocks without one are mostly many, and are passed over many at once.
+
+ghost use Rattle.std.specs.Prelude.{◌≡◌, ◌<◌, ◌≤◌, false, length};
+ghost use Rattle.wb_chunk.specs.Marks.{AreUnmarked, IsNextInEither, IsNextMarked};
+
+/// How many marks are looked at together: so many first, since the compiler needs no loop for a number that it knows, and then those
+/// that are left.
+const TOGETHER: usize = 64;
+
+/// The first block from one on that bears a mark; `end` where there is none below it.
+pub(crate) fn next_marked(marks: &[bool], from: usize, end: usize) -> usize
+    requires { (from ≤ end) × (end ≤ length marks.now) }
+    ensures { IsNextMarked marks.now from end result }
+{
+    if from == end || marks[from] {
+        return from;
+    }
+    search_marked(marks, from, end)
+}
+
+/// The same, many at once.
+#[inline(never)]
+fn search_marked(marks: &[bool], from: usize, end: usize) -> usize
+    requires { (from ≤ end) × (end ≤ length marks.now) }
+    ensures { IsNextMarked marks.now from end result }
+{
+    let mut block = from;
+    while TOGETHER <= end - block {
+        if has_mark(marks, block, block + TOGETHER) {
+            return first_marked(marks, block, block + TOGETHER);
+        }
+        block += TOGETHER;
+    }
+    if has_mark(marks, block, end) {
+        return first_marked(marks, block, end);
+    }
+    end
+}
+
+/// The same, one by one.
+fn first_marked(marks: &[bool], from: usize, end: usize) -> usize
+    requires { (from ≤ end) × (end ≤ length marks.now) }
+    ensures { IsNextMarked marks.now from end result }
+{
+    for block in from..end {
+        if marks[block] {
+            return block;
+        }
+    }
+    end
+}
+
+/// The first block from one on that bears a mark in either list; `end` where there is none below it.
+pub(crate) fn next_in_either(marks: &[bool], others: &[bool], from: usize, end: usize) -> usize
+    requires { (from ≤ end) × (end ≤ length marks.now) × (end ≤ length others.now) }
+    ensures { IsNextInEither marks.now others.now from end result }
+{
+    if from == end || marks[from] || others[from] {
+        return from;
+    }
+    search_either(marks, others, from, end)
+}
+
+/// The same, many at once.
+#[inline(never)]
+fn search_either(marks: &[bool], others: &[bool], from: usize, end: usize) -> usize
+    requires { (from ≤ end) × (end ≤ length marks.now) × (end ≤ length others.now) }
+    ensures { IsNextInEither marks.now others.now from end result }
+{
+    let mut block = from;
+    while TOGETHER <= end - block {
+        let next = block + TOGETHER;
+        if has_mark(marks, block, next) || has_mark(others, block, next) {
+            return first_in_either(marks, others, block, next);
+        }
+        block = next;
+    }
+    if has_mark(marks, block, end) || has_mark(others, block, end) {
+        return first_in_either(marks, others, block, end);
+    }
+    end
+}
+
+/// The same, one by one.
+fn first_in_either(marks: &[bool], others: &[bool], from: usize, end: usize) -> usize
+    requires { (from ≤ end) × (end ≤ length marks.now) × (end ≤ length others.now) }
+    ensures { IsNextInEither marks.now others.now from end result }
+{
+    for block in from..end {
+        if marks[block] || others[block] {
+            return block;
+        }
+    }
+    end
+}
+
+/// Whether a block from one up to another bears a mark. No mark ends the search, so that many are read at once.
+fn has_mark(marks: &[bool], from: usize, end: usize) -> bool
+    requires { (from ≤ end) × (end ≤ length marks.now) }
+    ensures off { result ≡ false → AreUnmarked marks.now from end }
+    ensures on { AreUnmarked marks.now from end → result ≡ false }
+{
+    let mut any = false;
+    for block in from..end {
+        any |= marks[block];
+    }
+    any
+}
