@@ -25,6 +25,7 @@ pub mod Lengths
 pub mod Levels
 pub mod Resizing
 pub mod Spans
+pub mod Apart
 pub mod RowGaps
 pub mod Fitting
 pub mod Nearest

@@ -132,6 +132,10 @@ link_past : (words : List ℕ) (g : Gap) (low high : List Gap) (at none : ℕ) �
 link_past words g [] high at none links = first_of words high _ links.5
 link_past words g (h ∷ low) high at none links = link_past words h low high _ g.place links.5
 
+-- the index lists none below the first
+pub none_under : (words lengths : List ℕ) (gs : List Gap) (at k : ℕ) → Links words at gs → AreListed gs lengths → 16 * k < at → slice_index lengths k ≡ 0
+none_under words lengths gs at k links listed lt = listed.listed k ∙ gap_of-below gs at k (ascend_links words gs at links) lt
+
 -- the words at a free cell
 pub within_listed : (words : List ℕ) (gs : List Gap) (at k : ℕ) → Links words at gs → 0 < gap_of gs k → 16 * k / 16 * 4 + 4 ≤ length words
 within_listed words [] at k links some = absurd (omega (arith, some))

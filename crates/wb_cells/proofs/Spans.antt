@@ -3,7 +3,7 @@ use Rattle.std.proofs.Common.{◌≡◌, ◌≢◌, ℕ, ◌+◌, ◌-◌, ◌*�
 use Rattle.std.proofs.lemmas.Bool.{cases_lt, cases_eq}
 use Rattle.std.proofs.lemmas.List.{get_or_append_left, get_or-append_right, get_or_past, length-replicate, get_or-replicate}
 use Rattle.wb_chunk.specs.declared.TheConstants.{MOST_WORDS}
-use Rattle.wb_cells.specs.Maxima.{IsFirst, IsLast, IsFirstLong, IsThere, IsGreatest, AreGreatest, AreMaxima}
+use Rattle.wb_cells.specs.Maxima.{IsFirst, IsLast, IsFirstLong, IsThere, IsGreatest, AreGreatest, AreOfBlocks, AreRanked}
 
 -- numbers that are 0 more, which read as those past the end
 pub slice_index-zeros : (xs : List ℕ) (n k : ℕ) → slice_index (xs ++ replicate n 0) k ≡ slice_index xs k
@@ -34,13 +34,18 @@ all_same f g xs ys same spans are j =
     subst (λ n. IsGreatest g (64 * j) (64 * j + 64) n) (spans j) (greatest_same f g (64 * j) (64 * j + 64) (slice_index xs j) same (are j))
 
 -- no numbers
-pub none_greatest : AreMaxima [] [] [] 0
-none_greatest = record {
-  of_blocks = λ j. record { most = λ k low high. omega arith; some = λ any. absurd (any refl) };
-  of_regions = λ j. record { most = λ k low high. omega arith; some = λ any. absurd (any refl) };
+pub none_ranked : AreRanked [] [] 0
+none_ranked = record {
+  of_spans = λ j. record { most = λ k low high. omega arith; some = λ any. absurd (any refl) };
   of_all = record { most = λ k low high. omega arith; some = λ any. absurd (any refl) };
   room = omega arith;
-  more_room = omega arith;
+  bounded = omega arith;
+}
+
+pub none_of_blocks : AreOfBlocks [] []
+none_of_blocks = record {
+  of_blocks = λ j. record { most = λ k low high. omega arith; some = λ any. absurd (any refl) };
+  room = omega arith;
   bounded = omega arith;
 }
 
@@ -131,6 +136,13 @@ module _ (f g : ℕ → ℕ) (from end was at : ℕ) (above : from ≤ at) (belo
       each k least high (inl e) = rw e (omega (arith, low))
       each k least high (inr other) = omega (arith, is.most k least high, others k other)
 
+-- a span's bounds, with the factors in either order
+pub turned : (f : ℕ → ℕ) (j greatest : ℕ) → IsGreatest f (64 * j) (64 * j + 64) greatest → IsGreatest f (j * 64) (j * 64 + 64) greatest
+turned f j greatest is = subst (λ n. IsGreatest f n (n + 64) greatest) (omega arith) is
+
+pub turned_back : (f : ℕ → ℕ) (j greatest : ℕ) → IsGreatest f (j * 64) (j * 64 + 64) greatest → IsGreatest f (64 * j) (64 * j + 64) greatest
+turned_back f j greatest is = subst (λ n. IsGreatest f n (n + 64) greatest) (omega arith) is
+
 -- and with it those of all spans are right
 pub renewed_spans : (f g : ℕ → ℕ) (spans spans' : List ℕ) (at : ℕ) → AreGreatest f spans → ((k : ℕ) → k ≢ at → f k ≡ g k) →
     ((j : ℕ) → j ≢ at / 64 → slice_index spans' j ≡ slice_index spans j) →
@@ -180,16 +192,21 @@ grown_greatest numbers n greatest is = record {
       record { at = t.at; above = t.above; below = omega (arith, t.below, length-append numbers (replicate n 0)); is = slice_index-zeros numbers n t.at ∙ t.is };
 }
 
-pub grown_maxima : (numbers blocks regions : List ℕ) (longest : ℕ) → AreMaxima numbers blocks regions longest → (n b r : ℕ) →
-    length numbers + n ≤ 64 * (length blocks + b) → length blocks + b ≤ 64 * (length regions + r) → length numbers + n ≤ MOST_WORDS →
-    AreMaxima (numbers ++ replicate n 0) (blocks ++ replicate b 0) (regions ++ replicate r 0) longest
-grown_maxima numbers blocks regions longest are n b r room more small = record {
-  of_blocks = grown_spans numbers blocks n b are.of_blocks;
-  of_regions = grown_spans blocks regions b r are.of_regions;
-  of_all = grown_greatest regions r longest are.of_all;
-  room = grown_room numbers blocks n b room;
-  more_room = grown_room blocks regions b r more;
+pub grown_ranked : (numbers spans : List ℕ) (greatest : ℕ) → AreRanked numbers spans greatest → (n m : ℕ) →
+    length numbers + n ≤ 64 * (length spans + m) → length numbers + n ≤ MOST_WORDS → AreRanked (numbers ++ replicate n 0) (spans ++ replicate m 0) greatest
+grown_ranked numbers spans greatest are n m room small = record {
+  of_spans = grown_spans numbers spans n m are.of_spans;
+  of_all = grown_greatest spans m greatest are.of_all;
+  room = grown_room numbers spans n m room;
   bounded = omega (arith, small, length-append numbers (replicate n 0), length-replicate {A = ℕ} n 0);
+}
+
+pub grown_blocks : (lengths blocks : List ℕ) → AreOfBlocks lengths blocks → (n m : ℕ) →
+    length lengths + n ≤ 64 * (length blocks + m) → length lengths + n ≤ MOST_WORDS → AreOfBlocks (lengths ++ replicate n 0) (blocks ++ replicate m 0)
+grown_blocks lengths blocks are n m room small = record {
+  of_blocks = grown_spans lengths blocks n m are.of_blocks;
+  room = grown_room lengths blocks n m room;
+  bounded = omega (arith, small, length-append lengths (replicate n 0), length-replicate {A = ℕ} n 0);
 }
 
 -- a span with a number that is not 0 begins within the numbers

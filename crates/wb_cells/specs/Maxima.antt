@@ -40,11 +40,20 @@ pub record AreMarked (numbers : List ℕ) (marks : List Bool) : Type 0 where
   pub told : (k : ℕ) → slice_index_or marks k false ≡ not (nat_eq (slice_index numbers k) 0)
   pub room : length numbers ≤ length marks
 
--- the greatest of each 64 numbers, of each 64 of these, and of all
-pub record AreMaxima (numbers blocks regions : List ℕ) (longest : ℕ) : Type 0 where
-  pub of_blocks : AreGreatest (slice_index numbers) blocks
-  pub of_regions : AreGreatest (slice_index blocks) regions
-  pub of_all : IsGreatest (slice_index regions) 0 (length regions) longest
-  pub room : length numbers ≤ 64 * length blocks
-  pub more_room : length blocks ≤ 64 * length regions
+-- the greatest of each 64 numbers, and of all
+pub record AreRanked (numbers spans : List ℕ) (greatest : ℕ) : Type 0 where
+  pub of_spans : AreGreatest (slice_index numbers) spans
+  pub of_all : IsGreatest (slice_index spans) 0 (length spans) greatest
+  pub room : length numbers ≤ 64 * length spans
   pub bounded : length numbers ≤ MOST_WORDS
+
+-- a number that is kept apart from a list, which has none that is greater in its place
+pub record IsKeptApart (numbers : List ℕ) (at number : ℕ) : Type 0 where
+  pub low : slice_index numbers at ≤ number
+  pub within : 0 < number → at < length numbers
+
+-- the greatest length of each block
+pub record AreOfBlocks (lengths blocks : List ℕ) : Type 0 where
+  pub of_blocks : AreGreatest (slice_index lengths) blocks
+  pub room : length lengths ≤ 64 * length blocks
+  pub bounded : length lengths ≤ MOST_WORDS

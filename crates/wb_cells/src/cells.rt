@@ -76,8 +76,8 @@ impl Cells {
         })
     }
 
-    /// The same cells, with as many bytes held, over the memory of `spare`, whose cells are lost, where that has room; else in
-    /// memory of its own. Of the words only blocks that may differ are written. What is done to one changes nothing in the
+    /// The same cells, with as many bytes held, over the memory of `spare`, whose cells are lost. It is made larger if need be.
+    /// Of the words only blocks that may differ are written. What is done to one changes nothing in the
     /// other. On `Err` memory was refused.
     pub fn try_copy_over(&self, spare: Cells) -> Result<Cells, NoMemory>
         ensures { IfOk result (λ copy. copy ≡ self.now) }
@@ -217,7 +217,8 @@ impl Cells {
         hole.start = ptr.place + length;
         self.gaps.close(self.ends.top, ptr.place + old, hole);
         self.words.set_word(layout::words_in(ptr.place), length);
-        self.words.zero(
+        layout::zero(
+            &mut self.words,
             layout::words_in(ptr.place + old),
             layout::words_in(length.saturating_sub(old)),
         );

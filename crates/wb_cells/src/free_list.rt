@@ -62,21 +62,22 @@ pub fn neighbours_of(words: &Chunk, gaps: &GapIndex, first: u32, place: u32) -> 
     match gaps.last_below(place / 16) {
         None => none,
         Some(at) => Neighbours {
-            prior: prior_to(words, gaps, at, place),
+            prior: prior_to(words, gaps, first, at, place),
             before: 16 * at,
             after: link_at(words, 16 * at),
         },
     }
 }
 
-/// Where the last free cell before one begins, or NONE. It is sought only where the one, whose index is given, ends at a
-/// place.
-fn prior_to(words: &Chunk, gaps: &GapIndex, at: u32, place: u32) -> u32
+/// Where the last free cell before one begins, or NONE. It is sought only where the one, whose index is given, is not the first
+/// and ends at a place.
+fn prior_to(words: &Chunk, gaps: &GapIndex, first: u32, at: u32, place: u32) -> u32
     requires below { (16 * at < place) × (place < NO_PLACE) }
     requires within { 16 * at / 16 * 4 + 4 ≤ length words.now }
+    requires first { (k : ℕ) → 16 * k < first → slice_index gaps.now k ≡ 0 }
     ensures { end_at words.now (16 * at) ≡ place → IsPrior gaps.now at result }
 {
-    if length_at(words, 16 * at) != place - 16 * at {
+    if 16 * at == first || length_at(words, 16 * at) != place - 16 * at {
         return NONE;
     }
     match gaps.last_below(at) {

@@ -1,5 +1,5 @@
 //! The lengths of the free cells, by place, and what finds them without a walk: the greatest length of each 1,024 bytes,
-//! of each 65,536 bytes, and of all.
+//! among which others are found in turn.
 
 ghost use Rattle.std.specs.Prelude.{◌≡◌, ◌≢◌, ◌+◌, ◌-◌, ◌/◌, ◌<◌, ◌≤◌, [], ◌++◌, length, replicate, slice_index};
 ghost use Rattle.std.specs.Prelude.{slice_set, IfOk, IsOk, OnOk, OnErr};
@@ -7,6 +7,7 @@ ghost use Rattle.wb_cells.specs.Maxima.{IsFirstLong, IsGreatest, IsLast};
 ghost use Rattle.wb_cells.specs.RowGaps.{closed_lengths, opened_lengths};
 
 use crate::bits::MOST_PLACES;
+use crate::blocks::Blocks;
 use crate::free_list::Hole;
 use crate::maxima::{self, SPAN};
 use crate::numbers::Numbers;
@@ -19,23 +20,19 @@ use wb_model::limits::CEILING;
 #[derive(Drop)]
 pub struct GapIndex {
     lengths: Numbers,
-    /// The greatest of each 64 lengths.
-    blocks: Numbers,
-    /// The greatest of each 64 blocks.
-    regions: Numbers,
-    /// The greatest of all.
-    longest: u32,
+    /// The greatest of each 64 lengths; each is a block.
+    blocks: Blocks,
 }
 
 impl Model for GapIndex {
     ghost use Rattle.std.specs.Prelude.{ℕ, List};
-    ghost use Rattle.wb_cells.specs.Maxima.{AreMaxima};
+    ghost use Rattle.wb_cells.specs.Maxima.{AreOfBlocks};
 
     ghost Value = { List ℕ };
 
     ghost view = { λ g. g.lengths };
 
-    ghost invariant = { λ g. AreMaxima g.lengths g.blocks g.regions g.longest };
+    ghost invariant = { λ g. AreOfBlocks g.lengths g.blocks };
 }
 
 impl GapIndex {
@@ -45,9 +42,7 @@ impl GapIndex {
     {
         GapIndex {
             lengths: Numbers::new(alloc),
-            blocks: Numbers::new(alloc),
-            regions: Numbers::new(alloc),
-            longest: 0,
+            blocks: Blocks::new(alloc),
         }
     }
 
@@ -58,26 +53,17 @@ impl GapIndex {
         Ok(GapIndex {
             lengths: self.lengths.try_copy()?,
             blocks: self.blocks.try_copy()?,
-            regions: self.regions.try_copy()?,
-            longest: self.longest,
         })
     }
 
-    /// The same lengths, over the memory of `spare`, whose lengths are lost, where that has room for them. On `Err` memory
-    /// was refused.
+    /// The same lengths, over the memory of `spare`, whose lengths are lost. It is made larger if need be. On `Err` memory was
+    /// refused.
     pub fn try_copy_over(&self, spare: GapIndex) -> Result<GapIndex, AllocError>
         ensures { IfOk result (λ copy. copy ≡ self.now) }
     {
         let lengths = self.lengths.try_copy_over(spare.lengths)?;
         let blocks = self.blocks.try_copy()?;
-        let regions = self.regions.try_copy()?;
-        let longest = self.longest;
-        Ok(GapIndex {
-            lengths,
-            blocks,
-            regions,
-            longest,
-        })
+        Ok(GapIndex { lengths, blocks })
     }
 
     /// Appends places where no free cell begins until there are `count`. Where memory is refused, the lengths are as they
@@ -88,7 +74,6 @@ impl GapIndex {
         ensures enough { count ≤ length self.old → IsOk result }
         ensures refused { OnErr result (self.new ≡ self.old) }
     {
-        self.regions.grow_to(count.div_ceil(SPAN * SPAN))?;
         self.blocks.grow_to(count.div_ceil(SPAN))?;
         self.lengths.grow_to(count)?;
         Ok(())
@@ -114,16 +99,13 @@ impl GapIndex {
             return;
         }
         self.lengths.set(at, bytes);
-        let Some(block) = maxima::renew(&self.lengths, &mut self.blocks, at, length) else {
-            return;
-        };
-        let Some(region) = maxima::renew(&self.blocks, &mut self.regions, at / SPAN, block) else {
-            return;
-        };
-        let at = at / SPAN / SPAN;
-        let count = self.regions.count();
-        let longest = maxima::greatest_now(&self.regions, 0, count, self.longest, at, region);
-        self.longest = longest;
+        let block = at / SPAN;
+        let was = self.blocks.number(block);
+        let first = block * SPAN;
+        let now = maxima::greatest_now(&self.lengths, first, first + SPAN, was, at, length);
+        if now != was {
+            self.blocks.set(block, now);
+        }
     }
 
     /// Lists what a cell of `bytes` bytes leaves of the free cell at whose start it is put, and nothing if it is put at
@@ -184,12 +166,7 @@ impl GapIndex {
         requires { 0 < bytes }
         ensures { IsFirstLong (slice_index self.now) bytes result }
     {
-        if self.longest < bytes {
-            return None;
-        }
-        let region = maxima::first_among(&self.regions, 0, self.regions.count(), bytes)?;
-        let blocks = region * SPAN;
-        let block = maxima::first_among(&self.blocks, blocks, blocks + SPAN, bytes)?;
+        let block = self.blocks.first_long(bytes)?;
         let places = block * SPAN;
         maxima::first_among(&self.lengths, places, places + SPAN, bytes)
     }
@@ -202,7 +179,7 @@ impl GapIndex {
         if own.is_some() {
             return own;
         }
-        let block = maxima::last_below(&self.blocks, &self.regions, at / SPAN)?;
+        let block = self.blocks.last_below(at / SPAN)?;
         self.lengths.last(block * SPAN, block * SPAN + SPAN)
     }
 
@@ -210,6 +187,6 @@ impl GapIndex {
     pub fn longest(&self) -> u32
         ensures { IsGreatest (slice_index self.now) 0 (length self.now) result }
     {
-        self.longest
+        self.blocks.greatest()
     }
 }

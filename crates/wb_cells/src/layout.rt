@@ -94,3 +94,13 @@ pub fn grow_to(words: &mut Chunk, count: u32) -> Result<(), AllocError>
     }
     words.grow(count - words.words())
 }
+
+/// Makes the `n` words from an index on 0; of no words nothing is asked.
+pub fn zero(words: &mut Chunk, i: u32, n: u32)
+    requires { i + n ≤ length words.old }
+    ensures { words.new ≡ replace_range words.old i (i + n) (replicate n 0) }
+{
+    if n > 0 {
+        words.zero(i, n);
+    }
+}

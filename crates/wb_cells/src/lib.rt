@@ -6,6 +6,7 @@ pub use wb_model::heap::{Header, Ptr};
 pub use wb_model::memory::NoMemory;
 
 mod bits;
+mod blocks;
 pub mod cells;
 mod free_list;
 mod gap_index;
@@ -13,3 +14,4 @@ mod layout;
 mod maxima;
 mod numbers;
 mod payloads;
+mod ranked;

@@ -1,7 +1,7 @@
 //! Numbers in a row, the greatest of each 64 of them, and searches among them. What the numbers mean is not said here.
 
 ghost use Rattle.std.specs.Prelude.{◌≡◌, ◌≢◌, ℕ, ◌+◌, ◌*◌, ◌/◌, ◌<◌, ◌≤◌, length, slice_index, IfNone, IfSome};
-ghost use Rattle.wb_cells.specs.Maxima.{AreGreatest, IsFirst, IsGreatest, IsLast};
+ghost use Rattle.wb_cells.specs.Maxima.{AreGreatest, IsFirst, IsGreatest};
 
 use crate::numbers::Numbers;
 use wb_chunk::MOST_WORDS;
@@ -43,19 +43,6 @@ fn greatest_among(numbers: &Numbers, from: u32, end: u32, most: u32) -> u32
         stop = at;
     }
     greatest
-}
-
-/// The last number below an index that is not 0, where the greatest of each span is known.
-pub fn last_below(numbers: &Numbers, spans: &Numbers, at: u32) -> Option<u32>
-    requires { AreGreatest (slice_index numbers.now) spans.now }
-    ensures { IsLast (slice_index numbers.now) 0 at result }
-{
-    let own = numbers.last(at / SPAN * SPAN, at);
-    if own.is_some() {
-        return own;
-    }
-    let span = spans.last(0, at / SPAN)?;
-    numbers.last(span * SPAN, span * SPAN + SPAN)
 }
 
 /// Makes the greatest of a span right again, once the number at an index, which was `old`, was changed. Answers what the

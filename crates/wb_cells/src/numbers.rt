@@ -50,8 +50,8 @@ impl Numbers {
         })
     }
 
-    /// The same numbers, over the memory of `spare`, whose numbers are lost, where that has room for them. On `Err` memory
-    /// was refused.
+    /// The same numbers, over the memory of `spare`, whose numbers are lost. It is made larger if need be. On `Err` memory was
+    /// refused.
     pub fn try_copy_over(&self, spare: Numbers) -> Result<Numbers, AllocError>
         ensures { IfOk result (λ copy. copy ≡ self.now) }
     {

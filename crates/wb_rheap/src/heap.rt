@@ -87,8 +87,8 @@ impl Heap {
         self.try_copy_over(None)
     }
 
-    /// The same heap, over the memory of `spare`, whose cells are lost, where there is one and it has room; else in memory of
-    /// its own. What is done to one changes nothing in the other. `NoMemory` where memory was refused.
+    /// The same heap, over the memory of `spare`, whose cells are lost and which is made larger if need be; where there is none, in memory
+    /// of its own. What is done to one changes nothing in the other. `NoMemory` where memory was refused.
     pub fn try_copy_over(&self, spare: Option<Heap>) -> Result<Heap, NoMemory>
         ensures { IfOk result (λ copy. copy ≡ self.now) }
     {

@@ -1,5 +1,5 @@
 use Rattle.std.proofs.Common.{arith}
-use Rattle.wb_cells.proofs.Nearest.{round_first, round_none, round_some, within_listed}
+use Rattle.wb_cells.proofs.Nearest.{none_under, round_first, round_none, round_some, within_listed}
 use Rattle.wb_cells.proofs.free_list.neighbours_of.Goals as goal
 
 pub returns-then-place-first-clause-round : goal.returns-then-place-first-clause-round
@@ -15,6 +15,12 @@ prior_to-requires-clause-within c =
     let cells = c.requires.linked.0 in
     let links = c.requires.linked.1 in
     within_listed c.args.words.now cells c.args.first c.in-Some.at links (omega (arith, c.in-Some.ensures.2, (c.requires.listed cells links).listed c.in-Some.at))
+
+pub prior_to-requires-clause-first : goal.prior_to-requires-clause-first
+prior_to-requires-clause-first c =
+    let cells = c.requires.linked.0 in
+    let links = c.requires.linked.1 in
+    λ k lt. none_under c.args.words.now c.args.gaps.now cells c.args.first k links (c.requires.listed cells links) lt
 
 pub link_at-requires : goal.link_at-requires
 link_at-requires c =

@@ -1,15 +1,8 @@
-use Rattle.std.proofs.Common.{◌≡◌, ◌≢◌, ◌+◌, ◌*◌, ◌/◌, ℕ, slice_index, refl, sym, ◌∙◌, ap, subst, arith}
+use Rattle.std.proofs.Common.{◌≡◌, ◌≢◌, ◌+◌, ◌*◌, ◌/◌, ℕ, slice_index, refl, sym, ◌∙◌, ap, subst}
 use Rattle.std.proofs.lemmas.List.{get_or-set_same, get_or-set_other}
 use Rattle.wb_cells.specs.Maxima.{IsGreatest}
-use Rattle.wb_cells.proofs.Spans.{renewed_spans}
+use Rattle.wb_cells.proofs.Spans.{renewed_spans, turned, turned_back}
 use Rattle.wb_cells.proofs.maxima.renew.Goals as goal
-
--- a span's bounds, with the factors in either order
-turned : (f : ℕ → ℕ) (j greatest : ℕ) → IsGreatest f (64 * j) (64 * j + 64) greatest → IsGreatest f (j * 64) (j * 64 + 64) greatest
-turned f j greatest is = subst (λ n. IsGreatest f n (n + 64) greatest) (omega arith) is
-
-turned_back : (f : ℕ → ℕ) (j greatest : ℕ) → IsGreatest f (j * 64) (j * 64 + 64) greatest → IsGreatest f (64 * j) (64 * j + 64) greatest
-turned_back f j greatest is = subst (λ n. IsGreatest f n (n + 64) greatest) (omega arith) is
 
 pub returns-then-now-was-clause-renewed : goal.returns-then-now-was-clause-renewed
 returns-then-now-was-clause-renewed c f old others are =

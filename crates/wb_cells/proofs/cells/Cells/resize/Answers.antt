@@ -109,7 +109,7 @@ invariant_of-self c =
     let r = resized _ _ _ _ c.self.invariant.laid c.args.ptr c.args.self.now.row (ap (λ v. v.row) c.self.view_is) (some_cell c.args.ptr c.args.self.now.row c.requires.live)
     c.neighbours_of-around.result c.neighbours_of-around.ensures.round c.args.length c.requires.rounded c.requires.least within c.requires.fits
     c.length_at-old.result c.length_at-old.ensures c.hole_after-hole.result c.hole_after-hole.ensures in
-    let bytes : c.zero.new.self ≡ lengthened_words c.self.inside.words c.args.ptr.place c.length_at-old.result c.args.length =
+    let bytes : c.zero.new.words ≡ lengthened_words c.self.inside.words c.args.ptr.place c.length_at-old.result c.args.length =
     rw (c.zero.ensures, c.set_word.ensures, c.words_in.ensures, c.words_in-2.ensures, c.words_in-3.ensures, c.saturating_sub.ensures) refl in
     let count : length c.close-ends.new.words ≡ length c.self.inside.words = c.close-ends.ensures.count ∙ ap length bytes ∙ r.count in
     let laid_now : IsLaid c.close-ends.new.words c.self.inside.starts c.close-ends.result.top c.close-ends.result.first =
@@ -137,7 +137,7 @@ returns-clause-resized c =
     let r = resized _ _ _ _ c.self.invariant.laid c.args.ptr c.args.self.now.row (ap (λ v. v.row) c.self.view_is) (some_cell c.args.ptr c.args.self.now.row c.requires.live)
     c.neighbours_of-around.result c.neighbours_of-around.ensures.round c.args.length c.requires.rounded c.requires.least within c.requires.fits
     c.length_at-old.result c.length_at-old.ensures c.hole_after-hole.result c.hole_after-hole.ensures in
-    let bytes : c.zero.new.self ≡ lengthened_words c.self.inside.words c.args.ptr.place c.length_at-old.result c.args.length =
+    let bytes : c.zero.new.words ≡ lengthened_words c.self.inside.words c.args.ptr.place c.length_at-old.result c.args.length =
     rw (c.zero.ensures, c.set_word.ensures, c.words_in.ensures, c.words_in-2.ensures, c.words_in-3.ensures, c.saturating_sub.ensures) refl in
     let row : spelled c.close-ends.new.words c.close-ends.result.top ≡ with_length c.args.ptr c.args.length c.args.self.now.row =
     rw (c.close-ends.ensures.words, c.close-ends.ensures.ends, bytes) r.spells in

@@ -1,0 +1,151 @@
+//! The greatest length of each block of places. That of the block which changed last is kept apart: as long as it rises, or falls
+//! no lower than it was before, no other number is written.
+
+ghost use Rattle.std.specs.Prelude.{◌≡◌, ◌-◌, ◌<◌, ◌≤◌, [], ◌++◌, length, replicate, slice_index, slice_set, IfOk, IsOk};
+ghost use Rattle.std.specs.Prelude.{OnOk, OnErr};
+ghost use Rattle.wb_cells.specs.Maxima.{IsFirstLong, IsGreatest, IsLast};
+
+use crate::bits::MOST_PLACES;
+use crate::ranked::Ranked;
+use std::alloc::{AllocError, Global};
+use std::marker::Model;
+
+/// A number for each block, in a list that grows at its end.
+#[derive(Drop)]
+pub struct Blocks {
+    /// Of the latest block it has a number that may be less than its own.
+    ranked: Ranked,
+    /// The block that changed last.
+    latest: u32,
+    /// Its number.
+    number: u32,
+}
+
+impl Model for Blocks {
+    ghost use Rattle.std.specs.Prelude.{ℕ, List, slice_set};
+    ghost use Rattle.wb_cells.specs.Maxima.{IsKeptApart};
+
+    ghost Value = { List ℕ };
+
+    ghost view = { λ b. slice_set b.ranked b.latest b.number };
+
+    ghost invariant = { λ b. IsKeptApart b.ranked b.latest b.number };
+}
+
+impl Blocks {
+    /// No blocks, which takes no memory.
+    pub fn new(alloc: Global) -> Blocks
+        ensures { result ≡ [] }
+    {
+        Blocks {
+            ranked: Ranked::new(alloc),
+            latest: 0,
+            number: 0,
+        }
+    }
+
+    /// The same numbers, in memory of their own. On `Err` memory was refused.
+    pub fn try_copy(&self) -> Result<Blocks, AllocError>
+        ensures { IfOk result (λ copy. copy ≡ self.now) }
+    {
+        Ok(Blocks {
+            ranked: self.ranked.try_copy()?,
+            latest: self.latest,
+            number: self.number,
+        })
+    }
+
+    /// Appends numbers that are 0 until there are `count`. Where memory is refused, the numbers are as they were; it
+    /// takes none if there are that many.
+    pub fn grow_to(&mut self, count: u32) -> Result<(), AllocError>
+        requires { count ≤ MOST_PLACES }
+        ensures grown { OnOk result (self.new ≡ self.old ++ replicate (count - length self.old) 0) }
+        ensures enough { count ≤ length self.old → IsOk result }
+        ensures refused { OnErr result (self.new ≡ self.old) }
+    {
+        self.ranked.grow_to(count)?;
+        Ok(())
+    }
+
+    /// The number of a block.
+    pub fn number(&self, at: u32) -> u32
+        requires { at < length self.now }
+        ensures { result ≡ slice_index self.now at }
+    {
+        if at == self.latest {
+            return self.number;
+        }
+        self.ranked.number(at)
+    }
+
+    /// Gives a block another number.
+    pub fn set(&mut self, at: u32, number: u32)
+        requires { at < length self.old }
+        ensures { self.new ≡ slice_set self.old at number }
+    {
+        if at != self.latest {
+            settle(&mut self.ranked, self.latest, self.number);
+            self.latest = at;
+        }
+        lower(&mut self.ranked, at, number);
+        self.number = number;
+    }
+
+    /// The first block with a number that is at least so great.
+    pub fn first_long(&self, least: u32) -> Option<u32>
+        requires { 0 < least }
+        ensures { IsFirstLong (slice_index self.now) least result }
+    {
+        let other = self.ranked.first_long(least);
+        if self.number < least {
+            return other;
+        }
+        match other {
+            Some(at) => Some(at.min(self.latest)),
+            None => Some(self.latest),
+        }
+    }
+
+    /// The last block below another with a number that is not 0.
+    pub fn last_below(&self, at: u32) -> Option<u32>
+        ensures { IsLast (slice_index self.now) 0 at result }
+    {
+        let other = self.ranked.last_below(at);
+        if self.number == 0 || at <= self.latest {
+            return other;
+        }
+        match other {
+            Some(below) => Some(below.max(self.latest)),
+            None => Some(self.latest),
+        }
+    }
+
+    /// The greatest number, or 0 where there is none.
+    pub fn greatest(&self) -> u32
+        ensures { IsGreatest (slice_index self.now) 0 (length self.now) result }
+    {
+        self.ranked.greatest().max(self.number)
+    }
+}
+
+/// Puts a number that was kept apart where it belongs.
+fn settle(ranked: &mut Ranked, at: u32, number: u32)
+    requires within { 0 < number → at < length ranked.old }
+    requires low { slice_index ranked.old at ≤ number }
+    ensures { ranked.new ≡ slice_set ranked.old at number }
+{
+    if number > 0 {
+        ranked.set(at, number);
+    }
+}
+
+/// Makes the number at an index no greater than another, and changes nothing else.
+fn lower(ranked: &mut Ranked, at: u32, most: u32)
+    requires { at < length ranked.old }
+    ensures same { slice_set ranked.new at most ≡ slice_set ranked.old at most }
+    ensures low { slice_index ranked.new at ≤ most }
+{
+    if most < ranked.number(at) {
+        ranked.set(at, most);
+    }
+}
