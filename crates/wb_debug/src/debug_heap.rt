@@ -100,7 +100,7 @@ impl DebugHeap {
         self.try_copy_over(None)
     }
 
-    /// The same, its cells over the memory of `spare`, whose own are lost, where there is one and it has room.
+    /// The same, its cells over the memory of `spare`, whose own are lost, where there is one.
     pub fn try_copy_over(&self, spare: Option<Heap>) -> Result<DebugHeap, NoMemory>
         ensures { IfOk result (λ copy. copy ≡ self.now) }
     {
@@ -308,6 +308,7 @@ impl DebugHeap {
 
     /// The line that the next attempt adds to the trace, for a cell of this length at this place, both in bytes; `None` if
     /// the ceiling cuts the run. The setting is asked first, then the rule, then the ceiling.
+    #[inline(always)]
     fn next_line(&self, len: u32, place: u32) -> Option<Attempt>
         requires number { self.now.attempts + 1 < 2 ^ 32 }
         requires end { place + len < 2 ^ 32 }

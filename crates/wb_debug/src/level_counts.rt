@@ -124,15 +124,34 @@ impl LevelCounts {
 
     /// Counts some cells more of a level, none of which is below `lowest`. Where they are more than a `u32` says, the level isn't
     /// known any more.
+    #[inline(always)]
     pub fn add(&mut self, level: u32, count: u32, lowest: u32)
         ensures { Edits (set_at self.old.counts level
             (with_more (counted_at self.old.counts level) count lowest)) self.old self.new }
     {
-        let Some(cells) = self.get(level) else {
+        if u64::from(level) < self.known_from {
             return;
-        };
-        match cells.with_more(count, lowest) {
-            Some(more) => self.set(level, more),
+        }
+        match self.search(level) {
+            Ok(at) => self.add_at(at, level, count, lowest),
+            Err(at) => self.insert(
+                at,
+                LevelCount {
+                    level,
+                    cells: Counted { count, lowest },
+                },
+            ),
+        }
+    }
+
+    /// The same of a level whose count is at an index.
+    fn add_at(&mut self, at: usize, level: u32, count: u32, lowest: u32)
+        requires { IsAt self.old.counts level at }
+        ensures { Edits (set_at self.old.counts level
+            (with_more (counted_at self.old.counts level) count lowest)) self.old self.new }
+    {
+        match self.counts[at].cells.with_more(count, lowest) {
+            Some(more) => self.replace(at, level, more),
             None => self.forget(level),
         }
     }
@@ -142,8 +161,12 @@ impl LevelCounts {
         ensures { Edits (set_at self.old.counts level (one_less (counted_at self.old.counts level)))
             self.old self.new }
     {
-        if let Some(cells) = self.get(level) {
-            self.set(level, cells.one_less());
+        if u64::from(level) < self.known_from {
+            return;
+        }
+        if let Ok(at) = self.search(level) {
+            let fewer = self.counts[at].cells.one_less();
+            self.replace(at, level, fewer);
         }
     }
 
@@ -170,18 +193,17 @@ impl LevelCounts {
         }
     }
 
-    /// Puts these cells in the place of what is counted of a level.
-    fn set(&mut self, level: u32, cells: Counted)
+    /// Puts these cells in the place of what is counted of a level, whose count is at an index.
+    fn replace(&mut self, at: usize, level: u32, cells: Counted)
+        requires { IsAt self.old.counts level at }
         ensures { Edits (set_at self.old.counts level cells) self.old self.new }
     {
-        let count = LevelCount { level, cells };
-        match self.search(level) {
-            Ok(at) => self.counts[at] = count,
-            Err(at) => self.insert(at, count),
-        }
+        self.counts[at] = LevelCount { level, cells };
     }
 
     /// Puts the count of a level into the gap for it. Where the table is full, the outermost level is forgotten.
+    #[cold]
+    #[inline(never)]
     fn insert(&mut self, at: usize, count: LevelCount)
         requires { IsGapFor self.old.counts count.level at }
         ensures { Edits (set_at self.old.counts count.level count.cells) self.old self.new }
@@ -227,6 +249,7 @@ impl LevelCounts {
     }
 
     /// The same among all levels.
+    #[inline(never)]
     fn halve(&self, level: u32) -> Result<usize, usize>
         ensures found { IfOk result (IsAt self.now.counts level) }
         ensures absent { IfErr result (IsGapFor self.now.counts level) }

@@ -96,6 +96,7 @@ impl Log {
 
     /// One more attempt. Returns whether it added its line, or the rise that it is; one that adds nothing never fails. On
     /// `Err` nothing has changed.
+    #[inline(always)]
     pub fn push(&mut self, line: Attempt) -> Result<bool, NoMemory>
         requires { end_of_attempt line < 2 ^ 32 }
         ensures pushed { OnOk result (self.new ≡ logged self.old line) }
