@@ -13,14 +13,15 @@ pub fn is_too_long(bytes: &[u8]) -> bool
     bytes.len() > LONGEST_SCRIPT as usize
 }
 
-/// Whether a byte is none that may be in a line or end one.
+/// Whether a byte is none that may be in a line or end one. Nothing here is a branch, so that many bytes are looked at in one step.
 pub fn is_foreign(byte: u8) -> bool
     ensures { result ≡ is_foreign byte }
 {
-    !matches!(byte, b'\t' | b'\n' | b'\r' | b' '..=b'~')
+    let is_printable = (byte >= b' ') & (byte <= b'~');
+    !(is_printable | (byte == b'\t') | (byte == b'\n') | (byte == b'\r'))
 }
 
-/// Whether a byte is one that no line holds. All bytes are looked at, so that many are at a time.
+/// Whether a byte is one that no line holds. All bytes are looked at, many at a time.
 fn has_foreign(bytes: &[u8]) -> bool
     ensures { result ≡ list_any is_foreign bytes.now }
 {

@@ -16,6 +16,9 @@ pub fn is_blank(byte: u8) -> bool
     matches!(byte, b' ' | b'\t' | b'\r')
 }
 
+/// How long a line mostly is: there is room at once for as many lines as bytes of this length make.
+const USUAL_LENGTH: usize = 16;
+
 /// What bytes are cut into.
 #[derive(Clone, Copy)]
 enum Cut {
@@ -63,7 +66,7 @@ fn first_segment<'a>(cut: Cut, bytes: &'a [u8]) -> (&'a [u8], &'a [u8])
 fn pieces<'a>(alloc: Global, cut: Cut, bytes: &'a [u8]) -> Result<Vec<&'a [u8]>, AllocError>
     ensures { IfOk result (λ found. bytes_of_texts found.items ≡ pieces (ends_of cut) bytes.now) }
 {
-    let mut found = Vec::new(alloc);
+    let mut found = Vec::with_capacity(alloc, bytes.len() / USUAL_LENGTH)?;
     let mut rest = bytes;
     while !rest.is_empty() {
         let (piece, after) = first_segment(cut, rest);
