@@ -13,3 +13,4 @@ pub mod OneOperand
 pub mod OperandPlaces
 pub mod ReadLemmas
 pub mod ResolvedLemmas
+pub mod Tables

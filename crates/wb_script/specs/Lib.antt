@@ -5,3 +5,4 @@ pub mod Fitting
 pub mod BytesOf
 pub mod Reads
 pub mod Stated
+pub mod Tables

@@ -1,5 +1,6 @@
 //! The checks of names, kinds and limits: one pass over all lines, which also finds what their names stand for.
 
+pub(crate) mod declarations;
 pub(crate) mod items;
 pub(crate) mod kinds;
 pub(crate) mod leaving;
@@ -7,6 +8,7 @@ pub(crate) mod limits;
 pub(crate) mod names;
 pub(crate) mod names_so_far;
 pub(crate) mod resolved;
+pub(crate) mod tables;
 
 ghost use Rattle.std.specs.Prelude.{◌≡◌, ◌+◌, ◌<◌, ◌≤◌, [], ◌∷◌, ◌++◌, List, length, IfOk, OnOk};
 ghost use Rattle.wb_model.specs.declared.script_lines.Form as model;
@@ -18,7 +20,7 @@ ghost use Rattle.wb_lines.specs.BytesOf.{bytes_of_form, bytes_of_forms};
 ghost use Rattle.wb_script.specs.BytesOf.{bytes_of_items};
 ghost use Rattle.wb_script.specs.Checks.{known_in, or_here, AreChecked, IsFew};
 
-use crate::checks::items::Declaration;
+use crate::checks::declarations::Declarations;
 use crate::checks::kinds::has_wrong_kind;
 use crate::checks::leaving::may_leave;
 use crate::checks::limits::passes_limit;
@@ -54,7 +56,7 @@ impl FirstLines {
     /// With one more line, by its number: its form, and what its names stand for.
     fn with(
         self,
-        items: &[Declaration],
+        items: &Declarations,
         known: &NamesSoFar,
         number: u32,
         form: &Form<&[u8]>,
@@ -121,7 +123,7 @@ impl<'a> Checked<'a> {
     fn add_line(
         &mut self,
         alloc: Global,
-        items: &[Declaration],
+        items: &Declarations,
         form: &Form<&'a [u8]>,
     ) -> Result<(), AllocError>
         requires few { length self.now.lines.items < LONGEST_SCRIPT }
@@ -147,7 +149,7 @@ impl<'a> Checked<'a> {
 /// What the lines of a script are found to be.
 pub(crate) fn checked_lines<'a>(
     alloc: Global,
-    items: &[Declaration],
+    items: &Declarations,
     forms: &[Form<&'a [u8]>],
 ) -> Result<Checked<'a>, AllocError>
     requires { length forms.now ≤ LONGEST_SCRIPT }

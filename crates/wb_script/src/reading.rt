@@ -15,7 +15,7 @@ ghost use Rattle.wb_script.specs.BytesOf.{declared_by, bytes_of_items};
 ghost use Rattle.wb_script.specs.Reads.{roles_of, IsFormsFault};
 ghost use Rattle.wb_lines.specs.Typed.{AreTyped};
 
-use crate::checks::items::{Declaration, items_of};
+use crate::checks::declarations::Declarations;
 use crate::checks::resolved::item_referent;
 use crate::checks::{FirstLines, checked_lines};
 use crate::tree::bodies_of;
@@ -78,7 +78,7 @@ fn literals_of(alloc: Global, texts: &[&[u8]]) -> Result<Items<Chars>, AllocErro
 /// The script of lines that have no fault, with these literals and the index of its `main`.
 fn script_of(
     alloc: Global,
-    items: &[Declaration],
+    items: &Declarations,
     lines: &[Form<Referent>],
     literals: &[&[u8]],
     main: usize,
@@ -110,7 +110,7 @@ fn script_of(
 }
 
 /// The index of `main` among the procedures, or the first fault, by the first lines that the checks refuse.
-fn place_of_main(items: &[Declaration], first: FirstLines) -> Result<usize, ScriptFault>
+fn place_of_main(items: &Declarations, first: FirstLines) -> Result<usize, ScriptFault>
     ensures found { IfOk result (IsMain (bytes_of_items items.now) first) }
     ensures fault { IfErr result (IsFirstFault (bytes_of_items items.now) first) }
 {
@@ -147,7 +147,7 @@ fn check_and_build(
     ensures sound { IfOk result (λ answer. IfOk answer (λ s. IsTrue (is_script s))) }
     ensures fault { IfOk result (λ answer. IfErr answer (IsLinesFault (bytes_of_forms forms.now))) }
 {
-    let items = items_of(alloc, forms)?;
+    let items = Declarations::of(alloc, forms)?;
     let found = checked_lines(alloc, &items, forms)?;
     match place_of_main(&items, found.first) {
         Err(fault) => Ok(Err(fault)),

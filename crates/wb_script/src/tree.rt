@@ -26,7 +26,7 @@ ghost use Rattle.wb_script.specs.Growing.{AreSound, GrowsWhereFit, IsBelow, IsSo
 ghost use Rattle.wb_script.specs.Growing.{if_added, in_body, items_in_order, outside};
 ghost use Rattle.wb_script.specs.BytesOf.{declared_by};
 
-use crate::checks::items::Declaration;
+use crate::checks::declarations::Declarations;
 use crate::tree::bodies::{BodyProgress, OpenBody, add_statement_in_place, add_to_body};
 use crate::tree::classes::{add_to_class, begin_class};
 use crate::tree::openings::{begin_operation, begin_procedure};
@@ -240,7 +240,7 @@ fn items_from(
 pub(crate) fn bodies_of(
     alloc: Global,
     literals: u32,
-    items: &[Declaration],
+    items: &Declarations,
     lines: &[Form<Referent>],
 ) -> Result<WholeItems, AllocError>
     requires grammar { IsGrammatical (map role_of_form lines.now) }
@@ -258,7 +258,7 @@ pub(crate) fn bodies_of(
         signatures_of b.procedures ≡ (counts_of lines.now).procedures) }
     ensures operations { IfOk result (λ b. length b.operations ≡ (counts_of lines.now).operations) }
 {
-    let fields = field_counts(alloc, items)?;
+    let fields = field_counts(alloc, items.as_slice())?;
     let space = Space {
         literals,
         items,

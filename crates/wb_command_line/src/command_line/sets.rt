@@ -66,7 +66,8 @@ fn with_number<'a>(
     line: clap::Command<'a>,
     option: NumberOption<'a>,
 ) -> Result<clap::Command<'a>, AllocError>
-    ensures added { IfOk result (λ more. app_of more ≡ with_option (app_of line.entry) option.entry) }
+    ensures added { IfOk result
+        (λ more. app_of more ≡ with_option (app_of line.entry) option.entry) }
     ensures own { IfOk result
         (λ more. (fields_of more).has_globals ≡ (fields_of line.entry).has_globals) }
 {

@@ -2,11 +2,10 @@
 
 ghost use Rattle.std.specs.Prelude.{◌≡◌, IfOk, OnOk, ◌++◌, map};
 ghost use Rattle.std.specs.List.{flat_map};
-ghost use Rattle.std.specs.Option.{option_map};
 ghost use Rattle.wb_model.specs.language.Forms.{renamed_parameter_type};
-ghost use Rattle.wb_model.specs.language.Names.{count_among, fields_in_item, following_fields, first_declaration_of};
-ghost use Rattle.wb_model.specs.language.Names.{is_same_kind, declaration_of, item_of_kind, items_by};
-ghost use Rattle.wb_model.specs.language.Names.{items_of, names_of, parameters_in, parameter_type_of};
+ghost use Rattle.wb_model.specs.language.Names.{count_among, fields_in_item, following_fields};
+ghost use Rattle.wb_model.specs.language.Names.{is_same_kind, declaration_of, items_by};
+ghost use Rattle.wb_model.specs.language.Names.{items_of, parameters_in, parameter_type_of};
 ghost use Rattle.wb_lines.specs.BytesOf.{bytes_of_form, bytes_of_forms, bytes_of_operands};
 ghost use Rattle.wb_lines.specs.BytesOf.{bytes_of_text, bytes_of_texts};
 ghost use Rattle.wb_script.specs.BytesOf.{bytes_of_item, bytes_of_items};
@@ -15,7 +14,6 @@ use std::alloc::{AllocError, Global};
 use wb_lines::declares::{first_name, item_kind_in, parameter_type_of};
 use wb_lines::forms::role;
 use wb_lines::lists::{add, add_some};
-use wb_lines::same::are_same;
 use wb_model::items::Items;
 use wb_model::script_lines::{Form, ItemKind, Operand, ParameterType, Role};
 
@@ -148,7 +146,7 @@ pub(crate) fn items_of<'a>(
     Ok(items)
 }
 
-fn is_same_kind(kind: ItemKind, other: ItemKind) -> bool
+pub(crate) fn is_same_kind(kind: ItemKind, other: ItemKind) -> bool
     ensures { result ≡ is_same_kind kind other }
 {
     match kind {
@@ -169,37 +167,4 @@ pub(crate) fn count_among(kind: ItemKind, items: &[Declaration]) -> usize
         }
     }
     count
-}
-
-/// The one of a kind with an index among those of its kind.
-pub(crate) fn item_of_kind<'i, 'a>(
-    kind: ItemKind,
-    items: &'i [Declaration<'a>],
-    index: usize,
-) -> Option<&'i Declaration<'a>>
-    ensures { option_map (λ i. bytes_of_item i.now) result
-        ≡ item_of_kind kind (bytes_of_items items.now) index }
-{
-    let mut before = 0;
-    for candidate in items {
-        if is_same_kind(candidate.kind, kind) {
-            if before == index {
-                return Some(candidate);
-            }
-            before += 1;
-        }
-    }
-    None
-}
-
-/// The index of the first declaration of a name.
-pub(crate) fn place_of_item(items: &[Declaration], name: &[u8]) -> Option<usize>
-    ensures { result ≡ first_declaration_of (names_of (bytes_of_items items.now)) name.now }
-{
-    for (index, item) in items.iter().enumerate() {
-        if are_same(item.name, name) {
-            return Some(index);
-        }
-    }
-    None
 }

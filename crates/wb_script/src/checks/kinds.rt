@@ -15,13 +15,13 @@ ghost use Rattle.wb_script.specs.Checks.{known_in};
 ghost use Rattle.wb_lines.specs.BytesOf.{bytes_of_form, bytes_of_operands, bytes_of_text};
 ghost use Rattle.wb_script.specs.BytesOf.{bytes_of_items};
 
-use crate::checks::items::{Declaration, item_of_kind};
+use crate::checks::declarations::Declarations;
 use crate::checks::names_so_far::NamesSoFar;
 use wb_lines::operand_kinds::{is_pointer_kind, operand_kind_of, takes};
 use wb_lines::operand_places::OperandPlaces;
 use wb_lines::same::are_same;
 use wb_model::script_lines::{
-    BodyKind, Form, ItemKind, LineKind, Operand, OperandPlace, ParameterType, Referent,
+    BodyKind, Form, LineKind, Operand, OperandPlace, ParameterType, Referent,
 };
 
 #[inline(always)]
@@ -96,12 +96,12 @@ fn are_given(parameters: &[ParameterType<&[u8]>], operands: &[Operand<Referent>]
 }
 
 /// Whether a procedure is there with what it takes.
-fn call_agrees(items: &[Declaration], operands: &[Operand<Referent>]) -> bool
+fn call_agrees(items: &Declarations, operands: &[Operand<Referent>]) -> bool
     ensures { result ≡ call_agrees (bytes_of_items items.now) operands.now }
 {
     match operands {
         [Operand::Name(Referent::Procedure(index)), arguments @ ..] => {
-            match item_of_kind(ItemKind::Procedure, items, *index) {
+            match items.procedure(*index) {
                 Some(procedure) => are_given(procedure.parameters.as_slice(), arguments),
                 None => false,
             }
@@ -112,7 +112,7 @@ fn call_agrees(items: &[Declaration], operands: &[Operand<Referent>]) -> bool
 
 /// Whether a call gives what the procedure takes.
 fn arguments_agree(
-    items: &[Declaration],
+    items: &Declarations,
     line_kind: LineKind,
     operands: &[Operand<Referent>],
 ) -> bool
@@ -129,7 +129,7 @@ fn arguments_agree(
 }
 
 /// Whether all operands of a line are of the kinds that it takes.
-pub(crate) fn is_right_line(items: &[Declaration], line: &Form<Referent>) -> bool
+pub(crate) fn is_right_line(items: &Declarations, line: &Form<Referent>) -> bool
     ensures { result ≡ is_right_line (bytes_of_items items.now) line.now }
 {
     match line {
@@ -229,7 +229,7 @@ fn returns_outside(known: &NamesSoFar, form: &Form<&[u8]>) -> bool
 
 /// Whether a line has an operand of another kind than it takes, or has no place where it is.
 pub(crate) fn has_wrong_kind(
-    items: &[Declaration],
+    items: &Declarations,
     known: &NamesSoFar,
     form: &Form<&[u8]>,
     line: &Form<Referent>,

@@ -10,7 +10,7 @@ ghost use Rattle.wb_script.specs.Checks.{known_in, IsFew};
 ghost use Rattle.wb_lines.specs.BytesOf.{bytes_of_texts, bytes_of_operands, bytes_of_form};
 ghost use Rattle.wb_script.specs.BytesOf.{bytes_of_items};
 
-use crate::checks::items::{Declaration, place_of_item};
+use crate::checks::declarations::Declarations;
 use crate::checks::names_so_far::NamesSoFar;
 use wb_lines::declares::first_name;
 use wb_lines::forms::role;
@@ -30,17 +30,17 @@ pub(crate) fn place_of(names: &[&[u8]], name: &[u8]) -> Option<usize>
 }
 
 /// Whether a name is that of one of the first items of the script's own space.
-fn is_item_before(items: &[Declaration], before: usize, name: &[u8]) -> bool
+fn is_item_before(items: &Declarations, before: usize, name: &[u8]) -> bool
     ensures { result ≡ is_item_before (names_of (bytes_of_items items.now)) before name.now }
 {
-    match place_of_item(items, name) {
+    match items.place_of(name) {
         Some(index) => index < before,
         None => false,
     }
 }
 
 /// Whether a name is declared in the space of a line of this role.
-fn is_declared_there(items: &[Declaration], known: &NamesSoFar, role: Role, name: &[u8]) -> bool
+fn is_declared_there(items: &Declarations, known: &NamesSoFar, role: Role, name: &[u8]) -> bool
     requires { IsFew known.now }
     ensures { result ≡ is_declared_there (names_of (bytes_of_items items.now)) (known_in known.now)
         role name.now }
@@ -98,7 +98,7 @@ fn has_double_parameter(form: &Form<&[u8]>) -> bool
 }
 
 /// Whether a line declares a name that is declared in its space, or two parameters with one name.
-pub(crate) fn declares_again(items: &[Declaration], known: &NamesSoFar, form: &Form<&[u8]>) -> bool
+pub(crate) fn declares_again(items: &Declarations, known: &NamesSoFar, form: &Form<&[u8]>) -> bool
     requires { IsFew known.now }
     ensures { result ≡ declares_again (names_of (bytes_of_items items.now)) (known_in known.now)
         (bytes_of_form form.now) }

@@ -1,13 +1,13 @@
 //! A line of a script with what its names and literals stand for.
 
-ghost use Rattle.std.specs.Prelude.{◌≡◌, length, map, slice_get, IfOk, Some};
+ghost use Rattle.std.specs.Prelude.{◌≡◌, length, map, slice_get, IfOk};
 ghost use Rattle.std.specs.Option.{option_map};
 ghost use Rattle.wb_model.specs.language.Forms.{renamed_parameter_type};
 ghost use Rattle.wb_model.specs.language.LineKinds.{operand_places_for};
 ghost use Rattle.wb_model.specs.language.Names.{first_declaration_of, names_before};
 ghost use Rattle.wb_model.specs.language.Resolved.{class_in, class_named, class_of_base, class_of_kind, class_of_local};
-ghost use Rattle.wb_model.specs.language.Resolved.{class_of_this, field_at, field_referent, has_this, is_this, item_at};
-ghost use Rattle.wb_model.specs.language.Resolved.{item_referent, referent_of_kind, local_referent, referent_at};
+ghost use Rattle.wb_model.specs.language.Resolved.{class_of_this, field_at, field_referent, has_this, is_this};
+ghost use Rattle.wb_model.specs.language.Resolved.{item_referent, local_referent, referent_at};
 ghost use Rattle.wb_model.specs.language.Resolved.{name_referent, own_referent, resolved_line, resolved_operand};
 ghost use Rattle.wb_model.specs.language.Resolved.{resolved_operands, resolved_parameter_type, this_referent};
 ghost use Rattle.wb_lines.specs.BytesOf.{bytes_of_form, bytes_of_kind, bytes_of_operand, bytes_of_operands};
@@ -15,7 +15,7 @@ ghost use Rattle.wb_lines.specs.BytesOf.{bytes_of_text};
 ghost use Rattle.wb_script.specs.BytesOf.{bytes_of_items};
 ghost use Rattle.wb_script.specs.Checks.{known_in};
 
-use crate::checks::items::{Declaration, count_among, item_of_kind, place_of_item};
+use crate::checks::declarations::Declarations;
 use crate::checks::names::place_of;
 use crate::checks::names_so_far::NamesSoFar;
 use std::alloc::{AllocError, Global};
@@ -24,7 +24,7 @@ use wb_lines::operand_places::OperandPlaces;
 use wb_lines::same::are_same;
 use wb_model::items::Items;
 use wb_model::script_lines::{
-    BodyKind, Form, ItemKind, LineKind, LocalKind, Operand, OperandPlace, ParameterType, Referent,
+    BodyKind, Form, LineKind, LocalKind, Operand, OperandPlace, ParameterType, Referent,
 };
 
 /// What the local with an index holds.
@@ -94,33 +94,12 @@ fn own_referent(known: &NamesSoFar, name: &[u8]) -> Referent
     }
 }
 
-/// One of a kind, by its index among these.
-fn referent_of_kind(kind: ItemKind, index: usize) -> Referent
-    ensures { result ≡ referent_of_kind kind index }
-{
-    match kind {
-        ItemKind::Class => Referent::Class(index),
-        ItemKind::Procedure => Referent::Procedure(index),
-        ItemKind::Operation => Referent::Operation(index),
-    }
-}
-
-/// The item with an index, by its index among those of its kind.
-fn item_at(items: &[Declaration], index: usize) -> Referent
-    ensures { result ≡ item_at (bytes_of_items items.now) (Some index) }
-{
-    match items.get(index) {
-        Some(item) => referent_of_kind(item.kind, count_among(item.kind, &items[..index])),
-        None => Referent::Nothing,
-    }
-}
-
 /// What a name stands for in the script's own space.
-pub(crate) fn item_referent(items: &[Declaration], name: &[u8]) -> Referent
+pub(crate) fn item_referent(items: &Declarations, name: &[u8]) -> Referent
     ensures { result ≡ item_referent (bytes_of_items items.now) name.now }
 {
-    match place_of_item(items, name) {
-        Some(index) => item_at(items, index),
+    match items.place_of(name) {
+        Some(index) => items.referent_at(index),
         None => Referent::Nothing,
     }
 }
@@ -135,14 +114,14 @@ fn class_in(referent: Referent) -> Option<usize>
 }
 
 /// The class with a name, where it is one's.
-fn class_named(items: &[Declaration], name: &[u8]) -> Option<usize>
+fn class_named(items: &Declarations, name: &[u8]) -> Option<usize>
     ensures { result ≡ class_named (bytes_of_items items.now) name.now }
 {
     class_in(item_referent(items, name))
 }
 
 /// The class that a local of a kind is declared with.
-fn class_of_kind(items: &[Declaration], kind: Option<LocalKind<&[u8]>>) -> Option<usize>
+fn class_of_kind(items: &Declarations, kind: Option<LocalKind<&[u8]>>) -> Option<usize>
     ensures { result
         ≡ class_of_kind (bytes_of_items items.now) (option_map bytes_of_kind kind.entry) }
 {
@@ -153,7 +132,7 @@ fn class_of_kind(items: &[Declaration], kind: Option<LocalKind<&[u8]>>) -> Optio
 }
 
 /// The class that a local with a name is declared with.
-fn class_of_local(items: &[Declaration], known: &NamesSoFar, name: &[u8]) -> Option<usize>
+fn class_of_local(items: &Declarations, known: &NamesSoFar, name: &[u8]) -> Option<usize>
     ensures { result ≡ class_of_local (bytes_of_items items.now) (known_in known.now).kinds
         (first_declaration_of (known_in known.now).locals name.now) }
 {
@@ -175,7 +154,7 @@ fn class_of_this(known: &NamesSoFar) -> Option<usize>
 }
 
 /// The class that what holds a pointer is declared with.
-fn class_of_base(items: &[Declaration], known: &NamesSoFar, name: &[u8]) -> Option<usize>
+fn class_of_base(items: &Declarations, known: &NamesSoFar, name: &[u8]) -> Option<usize>
     ensures { result ≡ class_of_base (bytes_of_items items.now) (known_in known.now) name.now }
 {
     if is_this(name) {
@@ -195,11 +174,11 @@ fn field_at(class: usize, index: Option<usize>) -> Referent
 }
 
 /// What a field stands for, by the class of what is before its dot.
-fn field_referent(items: &[Declaration], class: Option<usize>, name: &[u8]) -> Referent
+fn field_referent(items: &Declarations, class: Option<usize>, name: &[u8]) -> Referent
     ensures { result ≡ field_referent (bytes_of_items items.now) class name.now }
 {
     match class {
-        Some(class) => match item_of_kind(ItemKind::Class, items, class) {
+        Some(class) => match items.class(class) {
             Some(item) => field_at(class, place_of(item.fields.as_slice(), name)),
             None => Referent::Nothing,
         },
@@ -221,7 +200,7 @@ fn names_before(line_kind: LineKind, known: &NamesSoFar) -> usize
 }
 
 fn name_referent(
-    items: &[Declaration],
+    items: &Declarations,
     known: &NamesSoFar,
     line_kind: LineKind,
     operand_place: OperandPlace,
@@ -240,7 +219,7 @@ fn name_referent(
 }
 
 fn resolved_parameter_type(
-    items: &[Declaration],
+    items: &Declarations,
     parameter_type: ParameterType<&[u8]>,
 ) -> ParameterType<Referent>
     ensures { result ≡ resolved_parameter_type (bytes_of_items items.now)
@@ -254,7 +233,7 @@ fn resolved_parameter_type(
 }
 
 fn resolved_operand(
-    items: &[Declaration],
+    items: &Declarations,
     known: &NamesSoFar,
     line_kind: LineKind,
     operand_place: OperandPlace,
@@ -293,7 +272,7 @@ fn resolved_operand(
 
 fn resolved_operands(
     alloc: Global,
-    items: &[Declaration],
+    items: &Declarations,
     known: &NamesSoFar,
     line_kind: LineKind,
     operands: &[Operand<&[u8]>],
@@ -319,7 +298,7 @@ fn resolved_operands(
 /// A line, by the script's own space and what is before it.
 pub(crate) fn resolved_line(
     alloc: Global,
-    items: &[Declaration],
+    items: &Declarations,
     known: &NamesSoFar,
     form: &Form<&[u8]>,
 ) -> Result<Form<Referent>, AllocError>

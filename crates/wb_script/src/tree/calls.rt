@@ -11,12 +11,12 @@ ghost use Rattle.wb_script.specs.Fitting.{argument_fits};
 ghost use Rattle.wb_script.specs.BytesOf.{declared_by, bytes_of_items, signatures_among};
 ghost use Rattle.wb_script.specs.Stated.{ArePassed, IsCalled, IsNestedOf, bytes_of_parameter, scope_in};
 
-use crate::checks::items::{Declaration, item_of_kind};
+use crate::checks::declarations::Declarations;
 use crate::tree::scope::Scope;
 use std::alloc::{AllocError, Global};
 use wb_model::items::Items;
 use wb_model::script::{Argument, Statement};
-use wb_model::script_lines::{ItemKind, Operand, ParameterType, Referent};
+use wb_model::script_lines::{Operand, ParameterType, Referent};
 
 /// The argument that an operand is for a parameter; `None` if it doesn't fit.
 fn argument(
@@ -68,14 +68,14 @@ fn arguments(
 
 /// What the procedure with an index takes.
 fn signature_at<'i, 'a>(
-    items: &'i [Declaration<'a>],
+    items: &'i Declarations<'a>,
     index: usize,
 ) -> Option<&'i [ParameterType<&'a [u8]>]>
     ensures { option_map (λ parameter_type.
         map (bytes_of_parameter (bytes_of_items items.now)) parameter_type.now) result
         ≡ slice_get (signatures_among (bytes_of_items items.now)) index }
 {
-    match item_of_kind(ItemKind::Procedure, items, index) {
+    match items.procedure(index) {
         Some(item) => Some(item.parameters.as_slice()),
         None => None,
     }
@@ -91,7 +91,7 @@ pub(crate) struct Called {
 /// What operands call: a procedure by its name, and its arguments after it; `None` if they don't fit.
 fn call_in(
     alloc: Global,
-    items: &[Declaration],
+    items: &Declarations,
     here: &Scope,
     operands: &[Operand<Referent>],
 ) -> Result<Option<Called>, AllocError>
@@ -119,7 +119,7 @@ fn call_in(
 #[inline(never)]
 pub(crate) fn call(
     alloc: Global,
-    items: &[Declaration],
+    items: &Declarations,
     here: &Scope,
     operands: &[Operand<Referent>],
 ) -> Result<Option<Statement>, AllocError>
@@ -136,7 +136,7 @@ pub(crate) fn call(
 #[inline(never)]
 pub(crate) fn call_to(
     alloc: Global,
-    items: &[Declaration],
+    items: &Declarations,
     here: &Scope,
     operands: &[Operand<Referent>],
 ) -> Result<Option<Statement>, AllocError>

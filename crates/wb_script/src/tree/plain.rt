@@ -10,23 +10,23 @@ ghost use Rattle.wb_script.specs.Building.{line_kinds_of_blocks};
 ghost use Rattle.wb_script.specs.BytesOf.{declared_by};
 ghost use Rattle.wb_script.specs.Stated.{IsNestedOf, IsOperationOf, IsStatedWhereFit, scope_in};
 
-use crate::checks::items::{Declaration, count_among};
+use crate::checks::declarations::Declarations;
 use crate::tree::blocks::OpenBlock;
 use crate::tree::calls::{call, call_to};
 use crate::tree::scope::Scope;
 use crate::tree::statements::{one_pointer, return_nothing, return_pointer, statement_of};
 use std::alloc::{AllocError, Global};
 use wb_model::script::Statement;
-use wb_model::script_lines::{ItemKind, LineKind, Operand, Referent};
+use wb_model::script_lines::{LineKind, Operand, Referent};
 
 /// The operation that an operand names.
-fn operation(items: &[Declaration], operand: &Operand<Referent>) -> Option<u16>
+fn operation(items: &Declarations, operand: &Operand<Referent>) -> Option<u16>
     requires { length items.now ≤ LONGEST_SCRIPT }
     ensures { (literals : ℕ) → IsOperationOf (declared_by literals items.now) operand.now result }
 {
     match operand {
         Operand::Name(Referent::Operation(index)) => {
-            if *index < count_among(ItemKind::Operation, items) {
+            if *index < items.operation_count() {
                 Some(*index as u16)
             } else {
                 None
@@ -39,7 +39,7 @@ fn operation(items: &[Declaration], operand: &Operand<Referent>) -> Option<u16>
 /// A `pushop` of a pointer, with an operation by its name; `None` if the operands don't fit.
 #[inline(never)]
 fn push_operation(
-    items: &[Declaration],
+    items: &Declarations,
     here: &Scope,
     operands: &[Operand<Referent>],
 ) -> Option<Statement>
@@ -78,7 +78,7 @@ fn delete(here: &Scope, operands: &[Operand<Referent>]) -> Option<Statement>
 /// The statement of a line that begins no block; `None` if its operands don't fit.
 pub(crate) fn plain_statement(
     alloc: Global,
-    items: &[Declaration],
+    items: &Declarations,
     here: &Scope,
     blocks: &[OpenBlock],
     line_kind: LineKind,

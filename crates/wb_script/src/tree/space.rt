@@ -6,6 +6,7 @@ ghost use Rattle.wb_model.specs.declared.limits.TheConstants.{LONGEST_SCRIPT, MO
 ghost use Rattle.wb_model.specs.declared.script_lines.ItemKind.TheVariants as kind;
 ghost use Rattle.wb_script.specs.BytesOf.{fields_among, bytes_of_items};
 
+use crate::checks::declarations::Declarations;
 use crate::checks::items::Declaration;
 use std::alloc::{AllocError, Global};
 use wb_model::script_lines::ItemKind;
@@ -14,7 +15,7 @@ use wb_model::script_lines::ItemKind;
 #[derive(Clone, Copy)]
 pub(crate) struct Space<'a> {
     pub literals: u32,
-    pub items: &'a [Declaration<'a>],
+    pub items: &'a Declarations<'a>,
     pub fields: &'a [u8],
     ghost few: { length items.now ≤ LONGEST_SCRIPT },
     ghost classes: { length fields.now ≤ MOST_CLASSES },

@@ -8,4 +8,4 @@ use Rattle.wb_script.proofs.tree.calls.signature_at.Goals as goal
 pub returns-in-Some : goal.returns-in-Some
 returns-in-Some c =
     ap (λ taken. Some (map (bytes_of_parameter (bytes_of_items c.args.items.now)) taken)) c.as_slice.ensures
-    ∙ signature_there c.args.items.now c.args.index (Some c.in-Some.item) (ap (option_map (λ i. bytes_of_item i.now)) (sym c.in-Some.is) ∙ c.item_of_kind.ensures)
+    ∙ signature_there c.args.items.now c.args.index (Some c.in-Some.item) (ap (option_map (λ i. bytes_of_item i.now)) (sym c.in-Some.is) ∙ c.procedure.ensures)
