@@ -16,7 +16,8 @@ pub trait Progress {
     /// The run under this failure begins. Called once for each.
     fn begin_failure(&mut self, at: Failing);
 
-    /// No lesser set shows anything, and runs under sets of so many attempts follow. Called for 2, 3 and so on.
+    /// No set of fewer attempts shows anything, and runs under sets of so many follow. Called for 2, 3 and so on, and once more for
+    /// the number at which a search over states is given up and each set is tried.
     fn begin_sets(&mut self, many: u32);
 
     /// The run in which these attempts fail begins. Called once for each set that is tried.

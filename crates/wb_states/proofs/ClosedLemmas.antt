@@ -1,8 +1,7 @@
 -- Where the states that a search keeps are closed, the runs of all sets that an answer is about are neither bad nor cut.
-use Rattle.std.proofs.Common.{◌≡◌, ℕ, zero, suc, ◌+◌, ◌<◌, ◌≤◌, inl, inr, arith, Bool, true, false, List, [], ◌∷◌, ◌++◌, length, append_assoc, refl, sym, ◌∙◌, ap, subst, Option, Some, None}
-use Rattle.std.specs.Prelude.{if◌then◌else◌, slice_get, IfSome}
+use Rattle.std.proofs.Common.{◌≡◌, ℕ, zero, suc, ◌+◌, ◌<◌, ◌≤◌, inl, inr, arith, true, List, [], ◌∷◌, ◌++◌, length, append_assoc, refl, sym, ◌∙◌, ap, subst, Option, Some, None}
+use Rattle.std.specs.Prelude.{slice_get, IfSome}
 use Rattle.std.proofs.lemmas.Option.{slice_get_within}
-use Rattle.wb_machine.specs.Seen.{Seen}
 use Rattle.wb_model.specs.runs.Sets.{IsSet}
 use Rattle.wb_model.specs.runs.Sweeps.{is_fine}
 use Rattle.wb_model.proofs.SetLemmas.{past-last}
@@ -10,20 +9,17 @@ use Rattle.wb_model.proofs.SweepLemmas.{fine_uncut}
 use Rattle.wb_states.specs.declared.closed.Bound.{Bound}
 use Rattle.wb_states.specs.declared.search.Search.{Search}
 use Rattle.wb_states.specs.declared.state.Edge.{Edge}
-use Rattle.wb_states.specs.declared.state.Edge.TheVariants.{Joins, Ends, Shows, Untried}
+use Rattle.wb_states.specs.declared.state.Edge.TheVariants.{Joins, Ends, Shows, Untried, Unknown}
 use Rattle.wb_states.specs.declared.state.State.{State}
 use Rattle.wb_states.specs.Closed.{IsClosed, IsFollowed, IsStateClosed, IsWithin}
 use Rattle.wb_states.specs.Ground.{past, run_of, turns_of, Ground, IsTriedSet}
-use Rattle.wb_states.specs.States.{failing_next, next_attempt, BeginsAtTheStart, GoesOn, IsEnded, IsJoined, IsSearch}
+use Rattle.wb_states.specs.States.{failing_next, next_attempt, turns_at, BeginsAtTheStart, GoesOn, IsEnded, IsJoined, IsSearch}
 use Rattle.wb_states.proofs.NoLater.{no-later, within-too}
 use Rattle.wb_states.proofs.PastNumbers.{parted, past-ascends, past-past, past-zero, IsParted}
 
-turns-most : (m : Seen) → turns_of m ≤ m.steps + 1
-turns-most m = by m.begun
-  where
-    by : (b : Bool) → (if b then m.steps + 1 else 0) ≤ m.steps + 1
-    by true = omega arith
-    by false = omega arith
+turns-most : (attempts steps : ℕ) → turns_of attempts steps ≤ steps + 1
+turns-most zero steps = omega arith
+turns-most (suc attempts) steps = omega arith
 
 -- the run of a set that came to a state with at most so many turns is fine, and takes no more steps from there on than the budget leaves
 pub record EndsInTime (g : Ground) (turns greatest : ℕ) (set : List ℕ) : Type 0 where
@@ -44,7 +40,7 @@ module _ (g : Ground) (search : Search) (most : List ℕ) (bound : Bound) (is : 
   abbrev AllEndFrom : ℕ → Type 0
   AllEndFrom left =
       (i : ℕ) (state : State) → slice_get search.states i ≡ Some state → (c : IsClosedAt i state) → g.budget + 1 < c.greatest + left →
-      AllEnd (turns_of state.machine) c.greatest state.numbers state.machine.attempts
+      AllEnd (turns_at state) c.greatest state.numbers state.attempts
 
   module _ (turns greatest : ℕ) (set : List ℕ) (attempts : ℕ) (met : turns ≤ greatest) where
     ended : (steps : ℕ) → IsEnded g set attempts steps → steps + greatest ≤ g.budget + turns → AllEnd turns greatest set attempts
@@ -60,11 +56,11 @@ module _ (g : Ground) (search : Search) (most : List ℕ) (bound : Bound) (is : 
     joined left at steps rest enough j follows more up tried within =
         let c : IsClosedAt at j.state = closed.each at j.state (slice_get_within search.states at j.state j.is_at) j.is_at in
         let raised : greatest + (steps + 1) ≤ c.greatest + turns = subst (λ o. IfSome o (λ next. greatest + (steps + 1) ≤ next + turns)) c.is_at follows in
-        let before = no-later j.state.numbers j.state.machine.attempts set attempts j.order more in
-        let ends : EndsInTime g (turns_of j.state.machine) c.greatest (j.state.numbers ++ past j.state.machine.attempts more) =
+        let before = no-later j.state.numbers j.state.attempts set attempts j.order more in
+        let ends : EndsInTime g (turns_at j.state) c.greatest (j.state.numbers ++ past j.state.attempts more) =
         rest at j.state j.is_at c (omega (arith, enough, raised, j.later)) more up (j.tried more up tried)
-        (within-too bound (j.state.numbers ++ past j.state.machine.attempts more) (set ++ past attempts more) before within) in
-        let turned = turns-most j.state.machine in
+        (within-too bound (j.state.numbers ++ past j.state.attempts more) (set ++ past attempts more) before within) in
+        let turned = turns-most j.state.attempts j.state.steps in
         let meets = j.meets more up ends.fine (omega (arith, ends.few, raised, turned, met)) in
         record {
           fine = meets.0;
@@ -78,22 +74,23 @@ module _ (g : Ground) (search : Search) (most : List ℕ) (bound : Bound) (is : 
     followed left rest enough (Some (Joins at steps)) goes follows = joined left at steps rest enough (goes (Joins at steps) refl) follows
     followed left rest enough (Some (Ends steps)) goes few = ended steps (goes (Ends steps) refl) few
     followed left rest enough (Some Shows) goes outside = λ more up tried within. absurd (outside more up within)
+    followed left rest enough (Some Unknown) goes outside = λ more up tried within. absurd (outside more up within)
     followed left rest enough (Some Untried) goes none = λ more up tried within. absurd (goes Untried refl more up tried)
 
   module _ (state : State) (turns greatest : ℕ) where
     abbrev whole : List ℕ → List ℕ
-    whole more = state.numbers ++ past state.machine.attempts more
+    whole more = state.numbers ++ past state.attempts more
 
     abbrev EndsWith : List ℕ → Type 0
     EndsWith more = IsTriedSet g (whole more) → IsWithin bound (whole more) → EndsInTime g turns greatest (whole more)
 
     granted-whole : (rest : List ℕ) → state.numbers ++ past (next_attempt state) rest ≡ whole (past 1 rest)
-    granted-whole rest = ap (λ ks. state.numbers ++ ks) (sym (past-past state.machine.attempts 1 rest))
+    granted-whole rest = ap (λ ks. state.numbers ++ ks) (sym (past-past state.attempts 1 rest))
 
     failed-whole : (rest : List ℕ) → failing_next state ++ past (next_attempt state) rest ≡ whole (1 ∷ past 1 rest)
     failed-whole rest =
         append_assoc state.numbers (next_attempt state ∷ []) (past (next_attempt state) rest)
-        ∙ ap (λ ks. state.numbers ++ next_attempt state ∷ ks) (sym (past-past state.machine.attempts 1 rest))
+        ∙ ap (λ ks. state.numbers ++ next_attempt state ∷ ks) (sym (past-past state.attempts 1 rest))
 
     moved : (these others : List ℕ) → these ≡ others → (IsTriedSet g these → IsWithin bound these → EndsInTime g turns greatest these) →
         IsTriedSet g others → IsWithin bound others → EndsInTime g turns greatest others
@@ -110,7 +107,7 @@ module _ (g : Ground) (search : Search) (most : List ℕ) (bound : Bound) (is : 
   all-end : (left : ℕ) → AllEndFrom left
   all-end zero i state at c enough more up = absurd (omega (arith, enough, c.within))
   all-end (suc left) i state at c enough more up =
-      let turns = turns_of state.machine in
+      let turns = turns_at state in
       let nearly : g.budget + 1 < c.greatest + (left + 1) = omega (arith, enough) in
       by-next state turns c.greatest
       (followed turns c.greatest state.numbers (next_attempt state) c.met left (all-end left) nearly (slice_get search.granted i) (λ e there. is.granted i state e at there) c.granted)
@@ -122,8 +119,8 @@ module _ (g : Ground) (search : Search) (most : List ℕ) (bound : Bound) (is : 
   from-first first others are numbers tried within =
       let at : slice_get search.states 0 ≡ Some first = ap (λ s. slice_get s 0) are in
       let begins = subst BeginsAtTheStart are is.first in
-      let same : first.numbers ++ past first.machine.attempts numbers ≡ numbers =
-      ap (λ s. s ++ past first.machine.attempts numbers) begins.0 ∙ ap (λ n. past n numbers) begins.1 ∙ past-zero numbers in
+      let same : first.numbers ++ past first.attempts numbers ≡ numbers =
+      ap (λ s. s ++ past first.attempts numbers) begins.0 ∙ ap (λ n. past n numbers) begins.1 ∙ past-zero numbers in
       let c = closed.each 0 first closed.some at in
       let ends = all-end (g.budget + 2) 0 first at c (omega arith) numbers tried.set (subst (IsTriedSet g) (sym same) tried) (subst (IsWithin bound) (sym same) within) in
       ap (λ s. is_fine (run_of g s)) (sym same) ∙ ends.fine

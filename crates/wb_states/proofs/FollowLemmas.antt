@@ -1,5 +1,5 @@
 -- What a run has come to that was about to make an attempt, and made it.
-use Rattle.std.proofs.Common.{◌≡◌, ℕ, ◌+◌, ◌<◌, ◌≤◌, arith, Bool, true, false, List, length, refl, sym, ◌∙◌, ap, subst, cond}
+use Rattle.std.proofs.Common.{◌≡◌, ℕ, zero, suc, ◌+◌, ◌<◌, ◌≤◌, arith, true, false, List, length, sym, ◌∙◌, ap, subst}
 use Rattle.wb_machine.specs.Seen.{Seen}
 use Rattle.wb_machine.specs.Turns.{IsSameRun}
 use Rattle.wb_model.specs.declared.heap.Rule.{Rule}
@@ -46,9 +46,9 @@ module _ (g : Ground) (numbers : List ℕ) (m new : Seen) (about : IsAboutTo g n
       ∙ ap (λ (s : Shape). length (run g.script (Set numbers) g.budget s).trace) (same.shape ∙ about.shape)
 
 -- more turns were taken
-pub turns-later : (m new : Seen) → (m.begun ≡ true → m.steps + 1 ≤ new.steps) → turns_of m < new.steps + 1
-turns-later m new later = by m.begun refl
+pub turns-later : (m new : Seen) → (1 ≤ m.attempts → m.begun ≡ true) → (m.begun ≡ true → m.steps + 1 ≤ new.steps) → turns_of m.attempts m.steps < new.steps + 1
+turns-later m new begun later = by m.attempts begun
   where
-    by : (b : Bool) → m.begun ≡ b → turns_of m < new.steps + 1
-    by true is = let more = later is in let turns : turns_of m ≡ m.steps + 1 = ap (λ b. cond b (m.steps + 1) 0) is in omega (arith, more, turns)
-    by false is = let turns : turns_of m ≡ 0 = ap (λ b. cond b (m.steps + 1) 0) is in omega (arith, turns)
+    by : (attempts : ℕ) → (1 ≤ attempts → m.begun ≡ true) → turns_of attempts m.steps < new.steps + 1
+    by zero begun = omega arith
+    by (suc n) begun = let more = later (begun (omega arith)) in omega (arith, more)

@@ -4,15 +4,19 @@ use Rattle.std.proofs.lemmas.List.{length-append}
 use Rattle.std.proofs.lemmas.Option.{slice_get_within}
 use Rattle.std.specs.Prelude.{slice_get, IfSome}
 use Rattle.wb_machine.specs.Seen.{seen_at_start, Seen}
+use Rattle.wb_model.specs.declared.heap.Rule.{Rule}
 use Rattle.wb_model.specs.declared.heap.Rule.TheVariants.{Set}
+use Rattle.wb_model.specs.runs.Rest.{SameSoFar}
 use Rattle.wb_model.specs.runs.Sets.{AscendsPast, IsSet}
 use Rattle.wb_model.proofs.SetLemmas.{ascends-first}
+use Rattle.wb_states.specs.declared.runs.Runs.{Runs}
 use Rattle.wb_states.specs.declared.search.Search.{Search}
 use Rattle.wb_states.specs.declared.state.Edge.{Edge}
 use Rattle.wb_states.specs.declared.state.Edge.TheVariants.{Untried}
 use Rattle.wb_states.specs.declared.state.State.{State}
 use Rattle.wb_states.specs.Ground.{past, run_of, turns_of, Ground, IsTriedSet}
-use Rattle.wb_states.specs.States.{failing_next, ground_of, next_attempt, AreStates, AreWithin, BeginsAtTheStart, GoesOn, HasGrown, IsAboutTo, IsShown, IsSound, IsState}
+use Rattle.wb_states.specs.States.{failing_next, ground_of, next_attempt, turns_at, AreOfOr, AreRunsOf, AreStates, AreWithin, BeginsAtTheStart, GoesOn, HasGrown, IsAboutTo, IsKept, IsRunOf, IsShown, IsSound, IsState}
+use Rattle.wb_states.proofs.MeetingLemmas.{same-before}
 use Rattle.wb_states.proofs.StateLemmas.{failed-next, granted-next}
 
 -- ---- numbers within an attempt
@@ -38,44 +42,55 @@ found-at states i n state found is = ap (slice_get states) (sym is) ∙ sym foun
 pub same-state : (states : List State) (n : ℕ) (state other : State) → slice_get states n ≡ Some state → slice_get states n ≡ Some other → state ≡ other
 same-state states n state other at there = cc
 
-pub set-next : (g : Ground) (state : State) (numbers : List ℕ) → IsState g state → numbers ≡ failing_next state → IsSet numbers
-set-next g state numbers is same =
-    subst IsSet (sym same) (ascends-more 0 state.machine.attempts state.numbers (omega arith) is.under_way.set is.under_way.made)
+pub set-next : (g : Ground) (state : State) (m : Seen) (numbers : List ℕ) → IsState g state → IsRunOf g state m → numbers ≡ state.numbers ++ (m.attempts + 1) ∷ [] →
+    IsSet numbers
+set-next g state m numbers is run same =
+    subst IsSet (sym same) (ascends-more 0 m.attempts state.numbers (omega arith) is.set run.under_way.made)
+
+-- the rule under which the next attempt fails too refuses the same of those that were made
+pub fits-next : (g : Ground) (state : State) (m : Seen) (numbers : List ℕ) → IsRunOf g state m → numbers ≡ state.numbers ++ (m.attempts + 1) ∷ [] →
+    SameSoFar (Set numbers) m.rule m.attempts
+fits-next g state m numbers run same =
+    subst (λ (ns : List ℕ). SameSoFar (Set ns) m.rule m.attempts) (sym same)
+    (subst (λ (own : Rule). SameSoFar (Set (state.numbers ++ (m.attempts + 1) ∷ [])) own m.attempts) (sym run.under_way.rule)
+    (same-before m.attempts state.numbers ((m.attempts + 1) ∷ []) (omega arith, tt)))
 
 -- that in which its next attempt is granted
-pub about-granted : (g : Ground) (state : State) (numbers : List ℕ) (fork : Seen) → IsState g state → numbers ≡ state.numbers → fork ≡ state.machine →
+pub about-granted : (g : Ground) (state : State) (numbers : List ℕ) (fork : Seen) → IsState g state → IsRunOf g state fork → numbers ≡ state.numbers →
     IsAboutTo g numbers fork
-about-granted g state numbers fork is same copied =
-    subst (λ ns. IsAboutTo g ns fork) (sym same) (subst (IsAboutTo g state.numbers) (sym copied) (record {
-      rule = is.under_way.rule;
-      script = is.under_way.script;
-      budget = is.under_way.budget;
-      shape = is.under_way.shape;
-      lines = is.under_way.lines;
-      well = is.under_way.well;
-      going = is.going;
-      asks = is.asks;
-      set = is.under_way.set;
-      made = within-later state.machine.attempts state.numbers is.under_way.made;
-      steps = is.under_way.steps;
+about-granted g state numbers fork is run same =
+    subst (λ ns. IsAboutTo g ns fork) (sym same) (record {
+      rule = run.under_way.rule;
+      script = run.under_way.script;
+      budget = run.under_way.budget;
+      shape = run.under_way.shape;
+      lines = run.under_way.lines;
+      well = run.under_way.well;
+      begun = run.begun;
+      going = run.going;
+      asks = run.asks;
+      set = is.set;
+      made = within-later fork.attempts state.numbers run.under_way.made;
+      steps = run.under_way.steps;
       tried = is.tried;
-    }))
+    })
 
 -- and that in which it fails
-pub about-failed : (g : Ground) (state : State) (numbers : List ℕ) (fork : Seen) → IsState g state → numbers ≡ failing_next state →
-    fork ≡ record state.machine { rule = Set numbers } → IsTriedSet g numbers → IsAboutTo g numbers fork
-about-failed g state numbers fork is same copied tried = subst (IsAboutTo g numbers) (sym copied) (record {
+pub about-failed : (g : Ground) (state : State) (numbers : List ℕ) (m fork : Seen) → IsRunOf g state m → numbers ≡ state.numbers ++ (m.attempts + 1) ∷ [] →
+    fork ≡ record m { rule = Set numbers } → IsTriedSet g numbers → IsAboutTo g numbers fork
+about-failed g state numbers m fork run same copied tried = subst (IsAboutTo g numbers) (sym copied) (record {
   rule = refl;
-  script = is.under_way.script;
-  budget = is.under_way.budget;
-  shape = is.under_way.shape;
-  lines = is.under_way.lines;
-  well = is.under_way.well;
-  going = is.going;
-  asks = is.asks;
+  script = run.under_way.script;
+  budget = run.under_way.budget;
+  shape = run.under_way.shape;
+  lines = run.under_way.lines;
+  well = run.under_way.well;
+  begun = run.begun;
+  going = run.going;
+  asks = run.asks;
   set = tried.set;
-  made = subst (AreWithin (state.machine.attempts + 1)) (sym same) (within-more state.machine.attempts state.numbers is.under_way.made);
-  steps = is.under_way.steps;
+  made = subst (AreWithin (m.attempts + 1)) (sym same) (within-more m.attempts state.numbers run.under_way.made);
+  steps = run.under_way.steps;
   tried = inr tried;
 })
 
@@ -84,10 +99,64 @@ tried-before : (g : Ground) (numbers : List ℕ) (n : ℕ) (more : List ℕ) →
 tried-before g [] n more is = record { set = ascends-first 0 (n ∷ []) more is.set; least = is.least }
 tried-before g (x ∷ xs) n more is = record { set = ascends-first 0 (x ∷ xs ++ n ∷ []) more is.set; least = is.least }
 
-pub untried-failed : (g : Ground) (states : List State) (turns : ℕ) (state : State) (numbers : List ℕ) → numbers ≡ failing_next state →
-    (IsTriedSet g numbers → ⊥) → GoesOn g states turns (failing_next state) (next_attempt state) Untried
-untried-failed g states turns state numbers same untried more up tried =
-    untried (subst (IsTriedSet g) (sym same) (tried-before g state.numbers (next_attempt state) (past (next_attempt state) more) tried))
+pub untried-failed : (g : Ground) (states : List State) (turns : ℕ) (set : List ℕ) (next : ℕ) (numbers : List ℕ) → numbers ≡ set ++ next ∷ [] →
+    (IsTriedSet g numbers → ⊥) → GoesOn g states turns (set ++ next ∷ []) next Untried
+untried-failed g states turns set next numbers same untried more up tried =
+    untried (subst (IsTriedSet g) (sym same) (tried-before g set next (past next more) tried))
+
+module _ (g : Ground) (states : List State) (state other : State) (one : state ≡ other) (m : Seen) (attempts : m.attempts ≡ state.attempts) (steps : m.steps ≡ state.steps)
+    (numbers : List ℕ) (same : numbers ≡ state.numbers) (edge : Edge) where
+  -- the run under the set that has a state's next attempt, too, goes on from there
+  pub goes-failed : GoesOn g states (turns_of m.attempts m.steps) (numbers ++ (m.attempts + 1) ∷ []) (m.attempts + 1) edge →
+      GoesOn g states (turns_at other) (failing_next other) (next_attempt other) edge
+  goes-failed goes =
+      subst (λ (x : State). GoesOn g states (turns_at x) (failing_next x) (next_attempt x) edge) one
+      (subst (λ n. GoesOn g states (turns_of state.attempts n) (failing_next state) (next_attempt state) edge) steps
+      (subst (λ n. GoesOn g states (turns_of n m.steps) (state.numbers ++ (n + 1) ∷ []) (n + 1) edge) attempts
+      (subst (λ ns. GoesOn g states (turns_of m.attempts m.steps) (ns ++ (m.attempts + 1) ∷ []) (m.attempts + 1) edge) same goes)))
+
+  -- and that in which it is granted
+  pub goes-granted : GoesOn g states (turns_of m.attempts m.steps) numbers (m.attempts + 1) edge →
+      GoesOn g states (turns_at other) other.numbers (next_attempt other) edge
+  goes-granted goes =
+      subst (λ (x : State). GoesOn g states (turns_at x) x.numbers (next_attempt x) edge) one
+      (subst (λ n. GoesOn g states (turns_of state.attempts n) state.numbers (next_attempt state) edge) steps
+      (subst (λ n. GoesOn g states (turns_of n m.steps) state.numbers (n + 1) edge) attempts
+      (subst (λ ns. GoesOn g states (turns_of m.attempts m.steps) ns (m.attempts + 1) edge) same goes)))
+
+-- that of a run which goes on under another rule
+pub goes-refused : (g : Ground) (states : List State) (m fork : Seen) (rule : Rule) (set numbers : List ℕ) (edge : Edge) → fork ≡ record m { rule = rule } →
+    numbers ≡ set ++ (m.attempts + 1) ∷ [] → GoesOn g states (turns_of fork.attempts fork.steps) numbers (fork.attempts + 1) edge →
+    GoesOn g states (turns_of m.attempts m.steps) (set ++ (m.attempts + 1) ∷ []) (m.attempts + 1) edge
+goes-refused g states m fork rule set numbers edge copied same goes =
+    subst (λ ns. GoesOn g states (turns_of m.attempts m.steps) ns (m.attempts + 1) edge) same
+    (subst (λ (x : Seen). GoesOn g states (turns_of x.attempts x.steps) numbers (x.attempts + 1) edge) copied goes)
+
+-- ---- a search in which other runs are kept
+
+pub same-sound : (s t : Search) → t ≡ record s { runs = t.runs } → AreRunsOf (ground_of s) s.states t.runs → IsSound s → IsSound t
+same-sound s t same runs is = subst IsSound (sym same) (record {
+  whole = is.whole;
+  part = is.part;
+  last = is.last;
+  last_made = is.last_made;
+  fewer_granted = is.fewer_granted;
+  fewer_failed = is.fewer_failed;
+  states = is.states;
+  runs = runs;
+  first = is.first;
+  granted = is.granted;
+  failed = is.failed;
+  shown = is.shown;
+})
+
+pub same-grown : (s t u : Search) → t ≡ record s { runs = t.runs } → HasGrown t u → HasGrown s u
+same-grown s t u same grown = record {
+  ground = grown.ground ∙ ap ground_of same;
+  granted = grown.granted ∙ ap (λ (x : Search). x.granted) same;
+  failed = grown.failed ∙ ap (λ (x : Search). x.failed) same;
+  states = λ i state at. grown.states i state (subst (λ (x : Search). slice_get x.states i ≡ Some state) (sym same) at);
+}
 
 -- ---- a search with one more edge
 
@@ -96,7 +165,7 @@ one-longer : (edges : List Edge) (states : List State) (state : State) (edge : E
 one-longer edges states state edge at = omega (arith, length-append edges (edge ∷ []), slice_get_within states (length edges) state at)
 
 sound-granted : (s : Search) (state : State) (edge : Edge) → IsSound s → slice_get s.states (length s.granted) ≡ Some state →
-    GoesOn (ground_of s) s.states (turns_of state.machine) state.numbers (next_attempt state) edge →
+    GoesOn (ground_of s) s.states (turns_at state) state.numbers (next_attempt state) edge →
     IsSound (record s { granted = s.granted ++ edge ∷ [] })
 sound-granted s state edge is at goes = record {
   whole = is.whole;
@@ -106,6 +175,7 @@ sound-granted s state edge is at goes = record {
   fewer_granted = one-longer s.granted s.states state edge at;
   fewer_failed = is.fewer_failed;
   states = is.states;
+  runs = is.runs;
   first = is.first;
   granted = granted-next (ground_of s) s.states s.granted state edge at is.granted goes;
   failed = is.failed;
@@ -113,7 +183,7 @@ sound-granted s state edge is at goes = record {
 }
 
 sound-failed : (s : Search) (state : State) (edge : Edge) → IsSound s → slice_get s.states (length s.failed) ≡ Some state →
-    GoesOn (ground_of s) s.states (turns_of state.machine) (failing_next state) (next_attempt state) edge →
+    GoesOn (ground_of s) s.states (turns_at state) (failing_next state) (next_attempt state) edge →
     IsSound (record s { failed = s.failed ++ edge ∷ [] })
 sound-failed s state edge is at goes = record {
   whole = is.whole;
@@ -123,34 +193,24 @@ sound-failed s state edge is at goes = record {
   fewer_granted = is.fewer_granted;
   fewer_failed = one-longer s.failed s.states state edge at;
   states = is.states;
+  runs = is.runs;
   first = is.first;
   granted = is.granted;
   failed = failed-next (ground_of s) s.states s.failed state edge at is.failed goes;
   shown = is.shown;
 }
 
--- the run of a state in which its next attempt is granted was followed
-pub grown-granted : (s t : Search) (state : State) (numbers : List ℕ) (fork : Seen) (edge : Edge) (granted : List Edge) →
-    slice_get s.states (length s.granted) ≡ Some state → numbers ≡ state.numbers → fork ≡ state.machine → HasGrown s t → IsSound t →
-    GoesOn (ground_of t) t.states (turns_of fork) numbers (fork.attempts + 1) edge → granted ≡ t.granted ++ edge ∷ [] →
+-- the run of a state was followed in which its next attempt is granted
+pub grown-granted : (s t : Search) (state : State) (edge : Edge) (granted : List Edge) → slice_get s.states (length s.granted) ≡ Some state → HasGrown s t →
+    IsSound t → GoesOn (ground_of t) t.states (turns_at state) state.numbers (next_attempt state) edge → granted ≡ t.granted ++ edge ∷ [] →
     IsSound (record t { granted = granted })
-grown-granted s t state numbers fork edge granted at same copied grown is goes pushed =
+grown-granted s t state edge granted at grown is goes pushed =
     subst (λ es. IsSound (record t { granted = es })) (sym pushed)
-    (sound-granted t state edge is (ap (λ (es : List Edge). slice_get t.states (length es)) grown.granted ∙ grown.states (length s.granted) state at)
-    (subst (λ ns. GoesOn (ground_of t) t.states (turns_of state.machine) ns (next_attempt state) edge) same
-    (subst (λ (m : Seen). GoesOn (ground_of t) t.states (turns_of m) numbers (m.attempts + 1) edge) copied goes)))
+    (sound-granted t state edge is (ap (λ (es : List Edge). slice_get t.states (length es)) grown.granted ∙ grown.states (length s.granted) state at) goes)
 
--- that in which it fails
-pub goes-failed : (g : Ground) (states : List State) (state other : State) (numbers : List ℕ) (fork : Seen) (edge : Edge) → state ≡ other →
-    numbers ≡ failing_next other → fork ≡ record state.machine { rule = Set numbers } → GoesOn g states (turns_of fork) numbers (fork.attempts + 1) edge →
-    GoesOn g states (turns_of other.machine) (failing_next other) (next_attempt other) edge
-goes-failed g states state other numbers fork edge one same copied goes =
-    subst (λ ns. GoesOn g states (turns_of other.machine) ns (next_attempt other) edge) same
-    (subst (λ (x : State). GoesOn g states (turns_of x.machine) numbers (next_attempt x) edge) one
-    (subst (λ (m : Seen). GoesOn g states (turns_of m) numbers (m.attempts + 1) edge) copied goes))
-
+-- and that in which it fails
 pub grown-failed : (s t : Search) (state : State) (edge : Edge) (failed : List Edge) → slice_get s.states (length s.failed) ≡ Some state → HasGrown s t →
-    IsSound t → GoesOn (ground_of t) t.states (turns_of state.machine) (failing_next state) (next_attempt state) edge → failed ≡ t.failed ++ edge ∷ [] →
+    IsSound t → GoesOn (ground_of t) t.states (turns_at state) (failing_next state) (next_attempt state) edge → failed ≡ t.failed ++ edge ∷ [] →
     IsSound (record t { failed = failed })
 grown-failed s t state edge failed at grown is goes pushed =
     subst (λ es. IsSound (record t { failed = es })) (sym pushed)
@@ -158,11 +218,14 @@ grown-failed s t state edge failed at grown is goes pushed =
 
 -- ---- a search that begins
 
-abbrev start : Ground → State
-start g = record { numbers = []; machine = seen_at_start false g.script (Set []) g.budget g.shape }
+abbrev start : State
+start = record { numbers = []; attempts = 0; steps = 0; before = 0 }
 
-start-is : (g : Ground) → IsState g (start g)
-start-is g = record {
+abbrev start-run : Ground → Seen
+start-run g = seen_at_start false g.script (Set []) g.budget g.shape
+
+start-runs : (g : Ground) → IsRunOf g start (start-run g)
+start-runs g = record {
   under_way = record {
     rule = refl;
     script = refl;
@@ -174,37 +237,47 @@ start-is g = record {
     made = tt;
     steps = omega arith;
   };
-  tried = inl refl;
-  begun = ((λ is. cc), (λ is. absurd (omega (arith, is))));
+  attempts = refl;
+  steps = refl;
+  begun = λ is. absurd (omega (arith, is));
   going = refl;
   asks = refl;
 }
 
-only-start : (g : Ground) → AreStates g (start g ∷ [])
-only-start g zero state e = let same : start g ≡ state = cc in subst (IsState g) same (start-is g)
+only-start : (g : Ground) → AreStates g (start ∷ [])
+only-start g zero state e = let same : start ≡ state = cc in subst (IsState g) same (record { set = tt; made = tt; tried = inl refl })
 only-start g (suc i) state e = cc
+
+only-run : (g : Ground) (runs : Runs) (m : Seen) → m ≡ start-run g → ((i : ℕ) (one : Seen) → IsKept runs i one → (i ≡ 0) × (one ≡ m)) → AreRunsOf g (start ∷ []) runs
+only-run g runs m begins only i state one at kept =
+    let is = only i one kept in
+    let same : start ≡ state = (let first = ap (slice_get (start ∷ [])) (sym is.0) ∙ at in cc) in
+    subst (λ (s : State). IsRunOf g s one) same (subst (IsRunOf g start) (sym (is.1 ∙ begins)) (start-runs g))
 
 -- what holds of a result that is no error
 pub on-ok : {T E : Type 0} (r : Result T E) (P : Type 0) → is_err r ≡ false → OnOk r P → P
 on-ok (Ok x) P none is = is
 on-ok (Err e) P none is = cc
 
-pub sound-first : (s : Search) (first : State) → s.states ≡ first ∷ [] → first.numbers ≡ [] →
-    first.machine ≡ seen_at_start false s.script.now (Set []) s.budget s.shape → s.granted ≡ [] → s.failed ≡ [] → s.shown ≡ None →
-    s.last ≡ length (run_of (ground_of s) []).trace → IsSound s
-sound-first s first listed empty begins none_granted none_failed none_shown last = record {
+pub sound-first : (s : Search) (none : Runs) (m : Seen) → s.states ≡ start ∷ [] → ((i : ℕ) (one : Seen) → IsKept none i one → ⊥) → AreOfOr none 0 m s.runs →
+    m ≡ start-run (ground_of s) → s.granted ≡ [] → s.failed ≡ [] → s.shown ≡ None → s.last ≡ length (run_of (ground_of s) []).trace → IsSound s
+sound-first s none m listed empty added begins none_granted none_failed none_shown last = record {
   whole = refl;
   part = refl;
   last = refl;
   last_made = last;
   fewer_granted = omega (arith, ap length none_granted);
   fewer_failed = omega (arith, ap length none_failed);
-  states = subst (AreStates (ground_of s)) (sym one) (only-start (ground_of s));
-  first = subst BeginsAtTheStart (sym one) (refl, refl, refl);
+  states = subst (AreStates (ground_of s)) (sym listed) (only-start (ground_of s));
+  runs = subst (λ xs. AreRunsOf (ground_of s) xs s.runs) (sym listed) (only-run (ground_of s) s.runs m begins only);
+  first = subst BeginsAtTheStart (sym listed) (refl, refl);
   granted = λ i state edge at is. absurd (omega (arith, slice_get_within s.granted i edge is, ap length none_granted));
   failed = λ i state edge at is. absurd (omega (arith, slice_get_within s.failed i edge is, ap length none_failed));
   shown = subst (λ found. IfSome found (IsShown (ground_of s))) (sym none_shown) tt;
 }
   where
-    one : s.states ≡ start (ground_of s) ∷ []
-    one = listed ∙ ap (λ (x : State). x ∷ []) (ap (λ ns. record first { numbers = ns }) empty ∙ ap (λ m. record first { numbers = []; machine = m }) begins)
+    only : (i : ℕ) (one : Seen) → IsKept s.runs i one → (i ≡ 0) × (one ≡ m)
+    only i one kept = elim (added i one kept) [
+      | inl is ↦ is
+      | inr was ↦ absurd (empty i one was.1)
+    ]

@@ -1,3 +1,4 @@
+mod AgainLemmas
 mod AnswerLemmas
 pub mod ClosedLemmas
 mod EndLemmas
@@ -8,5 +9,6 @@ mod MeetingLemmas
 pub mod NoLater
 pub mod PastNumbers
 mod Results
+mod RunLemmas
 mod StateLemmas
 mod GrowLemmas

@@ -1,6 +1,7 @@
 -- Elements of a list with one more at its end.
-use Rattle.std.proofs.Common.{◌≡◌, ℕ, zero, suc, List, [], ◌∷◌, ◌++◌, length, Some, refl, ap, ◌⊎◌, inl, inr}
+use Rattle.std.proofs.Common.{◌≡◌, ℕ, zero, suc, ◌<◌, arith, List, [], ◌∷◌, ◌++◌, length, Some, refl, ap, ◌⊎◌, inl, inr}
 use Rattle.std.specs.Prelude.{slice_get}
+use Rattle.std.proofs.lemmas.Option.{slice_get_cases}
 
 -- those of the list stay where they are
 pub get-appended : {A : Type 0} (xs ys : List A) (i : ℕ) (x : A) → slice_get xs i ≡ Some x → slice_get (xs ++ ys) i ≡ Some x
@@ -21,4 +22,11 @@ get-either (z ∷ xs) x y zero e = inl e
 get-either (z ∷ xs) x y (suc i) e = elim (get-either xs x y i e) [
   | inl is ↦ inl is
   | inr is ↦ inr (ap suc is.0, is.1)
+]
+
+-- there is an element before the end
+pub get-some : {A : Type 0} (xs : List A) (i : ℕ) → i < length xs → (x : A) × (slice_get xs i ≡ Some x)
+get-some xs i lt = elim (slice_get_cases xs i).1 [
+  | inl is ↦ (is.0, is.2)
+  | inr past ↦ absurd (omega (arith, lt, past.0))
 ]

@@ -19,9 +19,10 @@ use Rattle.wb_model.specs.runs.Sets.{AscendsPast, IsSet}
 use Rattle.wb_model.specs.runs.Sweeps.{is_cut_outcome, is_fine}
 use Rattle.wb_model.proofs.PartAnswers.{fine_is_uncut}
 use Rattle.wb_model.proofs.SameTurned.{judged-same}
-use Rattle.wb_model.proofs.SetLemmas.{is_in, not-before}
+use Rattle.wb_model.proofs.SetLemmas.{ascends-weaker, is_in, not-before}
+use Rattle.wb_states.specs.declared.state.State.{State}
 use Rattle.wb_states.specs.Ground.{past, run_of, Ground, Meets}
-use Rattle.wb_states.specs.States.{AreWithin, IsUnderWay}
+use Rattle.wb_states.specs.States.{AreWithin, IsRunOf, IsUnderWay}
 
 -- ---- which attempts are in a set
 
@@ -43,9 +44,6 @@ past-ascends : (attempts before : ℕ) (ns : List ℕ) → AscendsPast before ns
 past-ascends attempts before [] up = tt
 past-ascends attempts before (n ∷ ns) up = (omega (arith, up.0), past-ascends attempts n ns up.1)
 
-not-past : (attempts number : ℕ) (more : List ℕ) → IsSet more → number ≤ attempts → is_in number (past attempts more) ≡ false
-not-past attempts number more up le = not-before (attempts + 0) number (past attempts more) (past-ascends attempts 0 more up) (omega (arith, le))
-
 same-difference : (attempts m n : ℕ) → nat_eq (attempts + m) (attempts + n) ≡ nat_eq m n
 same-difference attempts m n = by (nat_eq m n) refl
   where
@@ -64,12 +62,7 @@ none-past attempts n [] within from = refl
 none-past attempts n (m ∷ ms) within from =
     ap (λ b. b || is_in (attempts + n) ms) (ne_eqb m (attempts + n) (λ z. omega (arith, z, within.0, from))) ∙ none-past attempts n ms within.1 from
 
--- a set with further numbers past an attempt has those of the attempts so far that the set has
-so-far : (attempts number : ℕ) (set more : List ℕ) → IsSet more → number ≤ attempts → is_in number (set ++ past attempts more) ≡ is_in number set
-so-far attempts number set more up le =
-    any-append number set (past attempts more) ∙ ap (λ b. is_in number set || b) (not-past attempts number more up le) ∙ or-false (is_in number set)
-
--- and of those past it the further ones
+-- of the attempts past one, within which a set is, a set with further numbers counted on from it has the further ones
 from-there : (attempts n : ℕ) (set more : List ℕ) → AreWithin attempts set → 1 ≤ n → is_in (attempts + n) (set ++ past attempts more) ≡ is_in n more
 from-there attempts n set more within from =
     any-append (attempts + n) set (past attempts more) ∙ ap (λ b. b || is_in (attempts + n) (past attempts more)) (none-past attempts n set within from)
@@ -77,12 +70,28 @@ from-there attempts n set more within from =
 
 -- ---- what the rules say
 
-same-so-far : (attempts : ℕ) (set more : List ℕ) → IsSet more → SameSoFar (Set (set ++ past attempts more)) (Set set) attempts
-same-so-far attempts set more up = record {
+-- a set with further numbers past an attempt refuses the same of the attempts so far
+pub same-before : (attempts : ℕ) (set rest : List ℕ) → AscendsPast attempts rest → SameSoFar (Set (set ++ rest)) (Set set) attempts
+same-before attempts set rest up = record {
   no_limit = refl;
   own_no_limit = refl;
-  same = λ number end first made. ap (λ b. cond b (Some Simulated) None) (so-far attempts number set more up made);
+  same = λ number end first made.
+      ap (λ b. cond b (Some Simulated) None)
+      (any-append number set rest ∙ ap (λ b. is_in number set || b) (not-before attempts number rest up made) ∙ or-false (is_in number set));
 }
+
+same-so-far : (attempts : ℕ) (set more : List ℕ) → IsSet more → SameSoFar (Set (set ++ past attempts more)) (Set set) attempts
+same-so-far attempts set more up =
+    same-before attempts set (past attempts more) (ascends-weaker attempts (attempts + 0) (past attempts more) (omega arith) (past-ascends attempts 0 more up))
+
+-- the rule of a set that goes on from a state refuses the same of the attempts of a run that has come to the state
+pub fits-further : (m copy : Seen) (state : State) (numbers further : List ℕ) → copy ≡ m → m.rule ≡ Set state.numbers → m.attempts ≡ state.attempts →
+    further ≡ numbers → (rest : List ℕ) → numbers ≡ state.numbers ++ rest → AscendsPast state.attempts rest → SameSoFar (Set further) copy.rule copy.attempts
+fits-further m copy state numbers further copied rule attempts further_is rest same up =
+    subst (λ (x : Seen). SameSoFar (Set further) x.rule x.attempts) (sym copied)
+    (subst (λ (ns : List ℕ). SameSoFar (Set ns) m.rule m.attempts) (sym (further_is ∙ same))
+    (subst (λ (own : Rule). SameSoFar (Set (state.numbers ++ rest)) own m.attempts) (sym rule)
+    (subst (λ (n : ℕ). SameSoFar (Set (state.numbers ++ rest)) (Set state.numbers) n) (sym attempts) (same-before state.attempts state.numbers rest up))))
 
 -- the rule of a set with further numbers fits a run under the set that goes on
 fits-on : (m : Seen) (set more : List ℕ) → m.rule ≡ Set set → m.over ≡ false → IsSet more → Fits (Set (set ++ past m.attempts more)) m.rule m.over m.attempts
@@ -144,7 +153,15 @@ module _ (g : Ground) (set other : List ℕ) (fork m : Seen) (goes : GoesOnLike 
       )
 
 -- where a run goes on like another, both under way, they have met
-pub met : (g : Ground) (set other : List ℕ) (fork m : Seen) → GoesOnLike fork m → fork.over ≡ false → m.over ≡ false → IsUnderWay g set fork → IsUnderWay g other m →
+met : (g : Ground) (set other : List ℕ) (fork m : Seen) → GoesOnLike fork m → fork.over ≡ false → m.over ≡ false → IsUnderWay g set fork → IsUnderWay g other m →
     Meets g set fork.attempts fork.steps other m.attempts m.steps
 met g set other fork m goes fork_going m_going fork_is m_is more up fine within =
     meets-with g set other fork m goes fork_going m_going fork_is m_is more up fine within
+
+-- and of a run that has come to a state
+pub met-state : (g : Ground) (set : List ℕ) (state : State) (fork m : Seen) → GoesOnLike fork m → fork.over ≡ false → IsUnderWay g set fork → IsRunOf g state m →
+    Meets g set fork.attempts fork.steps state.numbers state.attempts state.steps
+met-state g set state fork m goes going fork_is run =
+    subst (λ n. Meets g set fork.attempts fork.steps state.numbers state.attempts n) run.steps
+    (subst (λ n. Meets g set fork.attempts fork.steps state.numbers n m.steps) run.attempts
+    (met g set state.numbers fork m goes going run.going fork_is run.under_way))

@@ -1,8 +1,9 @@
 -- Numbers that are counted on from an attempt: that they ascend, and that a set's numbers are those past the next attempt, with that attempt or without.
-use Rattle.std.proofs.Common.{◌≡◌, ℕ, ◌+◌, ◌-◌, ◌<◌, ◌≤◌, ◌⊎◌, inl, inr, arith, List, [], ◌∷◌, map, refl, sym, ◌∙◌, ap, subst, zero-add, add_assoc}
+use Rattle.std.proofs.Common.{◌≡◌, ℕ, ◌+◌, ◌-◌, ◌<◌, ◌≤◌, ◌⊎◌, inl, inr, arith, List, [], ◌∷◌, ◌++◌, length, map, refl, sym, ◌∙◌, ap, subst, zero-add, add_assoc}
 use Rattle.std.proofs.lemmas.Bool.{cases_lt}
+use Rattle.std.specs.Prelude.{slice_index_or}
 use Rattle.wb_model.specs.runs.Sets.{AscendsPast, IsSet}
-use Rattle.wb_model.proofs.SetLemmas.{ascends-weaker}
+use Rattle.wb_model.proofs.SetLemmas.{ascends-last, ascends-weaker}
 use Rattle.wb_states.specs.Ground.{past}
 
 pub past-zero : (numbers : List ℕ) → past 0 numbers ≡ numbers
@@ -21,6 +22,12 @@ past-from attempts from (n ∷ ns) up = (omega (arith, up.0), past-from attempts
 -- they are past the attempt, and past each before it
 pub past-ascends : (before attempts : ℕ) (numbers : List ℕ) → before ≤ attempts → IsSet numbers → AscendsPast before (past attempts numbers)
 past-ascends before attempts numbers le up = ascends-weaker before (attempts + 0) (past attempts numbers) (omega (arith, le)) (past-from attempts 0 numbers up)
+
+-- what is left of a set once its first numbers are taken off is past an attempt if its first number is
+pub left-past : (attempts : ℕ) (set other rest : List ℕ) → IsSet set → set ≡ other ++ rest → (1 ≤ length rest → attempts < slice_index_or rest 0 0) →
+    (more : List ℕ) × (set ≡ other ++ more) × AscendsPast attempts more
+left-past attempts set other [] up same later = ([], same, tt)
+left-past attempts set other (n ∷ ns) up same later = (n ∷ ns, same, (later (omega arith), (ascends-last 0 other (n ∷ ns) (subst IsSet same up)).1))
 
 -- ---- whether the next attempt is among the numbers
 

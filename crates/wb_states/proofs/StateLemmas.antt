@@ -3,10 +3,10 @@ use Rattle.std.proofs.Common.{◌≡◌, ℕ, ◌≤◌, arith, List, [], ◌∷
 use Rattle.std.specs.Prelude.{slice_get}
 use Rattle.std.proofs.lemmas.Option.{slice_get_within}
 use Rattle.wb_states.specs.declared.state.Edge.{Edge}
-use Rattle.wb_states.specs.declared.state.Edge.TheVariants.{Joins, Ends, Shows, Untried}
+use Rattle.wb_states.specs.declared.state.Edge.TheVariants.{Joins, Ends, Shows, Untried, Unknown}
 use Rattle.wb_states.specs.declared.state.State.{State}
-use Rattle.wb_states.specs.Ground.{turns_of, Ground}
-use Rattle.wb_states.specs.States.{failing_next, next_attempt, AreFailed, AreGranted, AreStates, GoesOn, IsState}
+use Rattle.wb_states.specs.Ground.{Ground}
+use Rattle.wb_states.specs.States.{failing_next, next_attempt, turns_at, AreFailed, AreGranted, AreStates, GoesOn, IsState}
 use Rattle.wb_states.proofs.Lists.{get-appended, get-either}
 
 -- how a run goes on is true of more states, too
@@ -24,6 +24,7 @@ goes-on-later g states more turns set attempts (Joins at steps) kept is = record
 goes-on-later g states more turns set attempts (Ends steps) kept is = is
 goes-on-later g states more turns set attempts Shows kept is = is
 goes-on-later g states more turns set attempts Untried kept is = is
+goes-on-later g states more turns set attempts Unknown kept is = is
 
 -- a state more
 module _ (g : Ground) (states : List State) (state : State) where
@@ -46,30 +47,30 @@ module _ (g : Ground) (states : List State) (state : State) where
 
   pub granted-more : (edges : List Edge) → length edges ≤ length states → AreGranted g states edges → AreGranted g (states ++ state ∷ []) edges
   granted-more edges fewer are i one edge e at =
-      goes-on-later g states (states ++ state ∷ []) (turns_of one.machine) one.numbers (next_attempt one) edge kept
+      goes-on-later g states (states ++ state ∷ []) (turns_at one) one.numbers (next_attempt one) edge kept
       (are i one edge (one-of edges i one edge fewer at e) at)
 
   pub failed-more : (edges : List Edge) → length edges ≤ length states → AreFailed g states edges → AreFailed g (states ++ state ∷ []) edges
   failed-more edges fewer are i one edge e at =
-      goes-on-later g states (states ++ state ∷ []) (turns_of one.machine) (failing_next one) (next_attempt one) edge kept
+      goes-on-later g states (states ++ state ∷ []) (turns_at one) (failing_next one) (next_attempt one) edge kept
       (are i one edge (one-of edges i one edge fewer at e) at)
 
 -- how one more run goes on
 module _ (g : Ground) (states : List State) (edges : List Edge) (state : State) (edge : Edge) (is_at : slice_get states (length edges) ≡ Some state) where
-  pub granted-next : AreGranted g states edges → GoesOn g states (turns_of state.machine) state.numbers (next_attempt state) edge →
+  pub granted-next : AreGranted g states edges → GoesOn g states (turns_at state) state.numbers (next_attempt state) edge →
       AreGranted g states (edges ++ edge ∷ [])
   granted-next are goes i one other e at = elim (get-either edges edge other i at) [
     | inl was ↦ are i one other e was
     | inr last ↦ let same : one ≡ state = (let there = ap (slice_get states) (sym last.0) ∙ e in let both = sym is_at ∙ there in cc) in
-        subst (λ (x : Edge). GoesOn g states (turns_of one.machine) one.numbers (next_attempt one) x) (sym last.1)
-        (subst (λ (s : State). GoesOn g states (turns_of s.machine) s.numbers (next_attempt s) edge) (sym same) goes)
+        subst (λ (x : Edge). GoesOn g states (turns_at one) one.numbers (next_attempt one) x) (sym last.1)
+        (subst (λ (s : State). GoesOn g states (turns_at s) s.numbers (next_attempt s) edge) (sym same) goes)
   ]
 
-  pub failed-next : AreFailed g states edges → GoesOn g states (turns_of state.machine) (failing_next state) (next_attempt state) edge →
+  pub failed-next : AreFailed g states edges → GoesOn g states (turns_at state) (failing_next state) (next_attempt state) edge →
       AreFailed g states (edges ++ edge ∷ [])
   failed-next are goes i one other e at = elim (get-either edges edge other i at) [
     | inl was ↦ are i one other e was
     | inr last ↦ let same : one ≡ state = (let there = ap (slice_get states) (sym last.0) ∙ e in let both = sym is_at ∙ there in cc) in
-        subst (λ (x : Edge). GoesOn g states (turns_of one.machine) (failing_next one) (next_attempt one) x) (sym last.1)
-        (subst (λ (s : State). GoesOn g states (turns_of s.machine) (failing_next s) (next_attempt s) edge) (sym same) goes)
+        subst (λ (x : Edge). GoesOn g states (turns_at one) (failing_next one) (next_attempt one) x) (sym last.1)
+        (subst (λ (s : State). GoesOn g states (turns_at s) (failing_next s) (next_attempt s) edge) (sym same) goes)
   ]

@@ -6,10 +6,10 @@ use Rattle.wb_states.specs.declared.closed.Bound.{Bound}
 use Rattle.wb_states.specs.declared.closed.Bound.TheVariants.{All, AtMost, Before}
 use Rattle.wb_states.specs.declared.search.Search.{Search}
 use Rattle.wb_states.specs.declared.state.Edge.{Edge}
-use Rattle.wb_states.specs.declared.state.Edge.TheVariants.{Joins, Ends, Shows, Untried}
+use Rattle.wb_states.specs.declared.state.Edge.TheVariants.{Joins, Ends, Shows, Untried, Unknown}
 use Rattle.wb_states.specs.declared.state.State.{State}
-use Rattle.wb_states.specs.Ground.{past, turns_of, Ground}
-use Rattle.wb_states.specs.States.{failing_next, next_attempt}
+use Rattle.wb_states.specs.Ground.{past, Ground}
+use Rattle.wb_states.specs.States.{failing_next, next_attempt, turns_at}
 
 -- the sets that an answer is about
 abbrev pub IsWithin : Bound → List ℕ → Type 0
@@ -27,15 +27,16 @@ IsFollowed g most bound turns greatest set attempts None = AreOutside bound set 
 IsFollowed g most bound turns greatest set attempts (Some (Joins at steps)) = IfSome (slice_get most at) (λ next. greatest + (steps + 1) ≤ next + turns)
 IsFollowed g most bound turns greatest set attempts (Some (Ends steps)) = steps + greatest ≤ g.budget + turns
 IsFollowed g most bound turns greatest set attempts (Some Shows) = AreOutside bound set attempts
+IsFollowed g most bound turns greatest set attempts (Some Unknown) = AreOutside bound set attempts
 IsFollowed g most bound turns greatest set attempts (Some Untried) = Unit {0}
 
 pub record IsStateClosed (g : Ground) (search : Search) (most : List ℕ) (bound : Bound) (i : ℕ) (state : State) : Type 0 where
   pub greatest : ℕ
   pub is_at : slice_get most i ≡ Some greatest
-  pub met : turns_of state.machine ≤ greatest
+  pub met : turns_at state ≤ greatest
   pub within : greatest ≤ g.budget + 1
-  pub granted : IsFollowed g most bound (turns_of state.machine) greatest state.numbers (next_attempt state) (slice_get search.granted i)
-  pub failed : IsFollowed g most bound (turns_of state.machine) greatest (failing_next state) (next_attempt state) (slice_get search.failed i)
+  pub granted : IsFollowed g most bound (turns_at state) greatest state.numbers (next_attempt state) (slice_get search.granted i)
+  pub failed : IsFollowed g most bound (turns_at state) greatest (failing_next state) (next_attempt state) (slice_get search.failed i)
 
 -- so are the states that are listed before an index
 abbrev pub AreClosedBefore : Ground → Search → List ℕ → Bound → ℕ → Type 0

@@ -1,6 +1,5 @@
 -- What a search goes over: the sets of a part, in the runs of a script.
-use Rattle.std.specs.Prelude.{◌≡◌, ℕ, ◌+◌, ◌<◌, ◌≤◌, ◌⊎◌, List, ◌++◌, length, map, true, Bool, false, if◌then◌else◌}
-use Rattle.wb_machine.specs.Seen.{Seen}
+use Rattle.std.specs.Prelude.{◌≡◌, ℕ, zero, suc, ◌+◌, ◌<◌, ◌≤◌, ◌⊎◌, List, ◌++◌, length, map, true, Bool, false}
 use Rattle.wb_model.specs.declared.heap.Shape.{Shape}
 use Rattle.wb_model.specs.declared.part.Part.{Part}
 use Rattle.wb_model.specs.declared.run.RunResult.{RunResult}
@@ -48,6 +47,7 @@ Meets g set attempts steps other other_attempts other_steps =
     (is_fine (run_of g (set ++ past attempts more)) ≡ true)
     × ((run_of g (set ++ past attempts more)).steps + other_steps ≡ (run_of g (other ++ past other_attempts more)).steps + steps)
 
--- how many turns were taken: the first counts no step
-abbrev pub turns_of : Seen → ℕ
-turns_of m = if m.begun then m.steps + 1 else 0
+-- how many turns a run has taken that is about to make an attempt: the first makes one and counts no step
+abbrev pub turns_of : ℕ → ℕ → ℕ
+turns_of zero steps = 0
+turns_of (suc attempts) steps = steps + 1

@@ -4,8 +4,8 @@
 ghost use Rattle.std.specs.Prelude.{◌≡◌, ℕ, ◌≤◌, ◌^◌, List, true, slice_get, IfOk, Some};
 ghost use Rattle.wb_model.specs.runs.Sweeps.{is_fine};
 ghost use Rattle.wb_states.specs.Closed.{AreOutside, IsClosed, IsFollowed, IsStateClosed, IsWithin};
-ghost use Rattle.wb_states.specs.Ground.{run_of, turns_of, Ground, IsTriedSet};
-ghost use Rattle.wb_states.specs.States.{failing_next, ground_of, next_attempt, IsSound, IsState};
+ghost use Rattle.wb_states.specs.Ground.{run_of, Ground, IsTriedSet};
+ghost use Rattle.wb_states.specs.States.{failing_next, ground_of, next_attempt, turns_at, IsSound};
 ghost use Rattle.wb_states.specs.declared.closed.Bound.{Bound};
 ghost use Rattle.wb_states.specs.declared.state.State.{State};
 
@@ -44,7 +44,7 @@ impl Bound {
         ensures { IfOk result (λ excluded. excluded ≡ true → (attempts : ℕ) →
             AreOutside self.now (failing_next state.now) attempts) }
     {
-        let Some(next) = state.machine.attempts().checked_add(1) else {
+        let Some(next) = state.attempts.checked_add(1) else {
             return Ok(false);
         };
         let mut set = state.numbers.try_copy()?;
@@ -53,15 +53,15 @@ impl Bound {
     }
 }
 
-/// How many turns a state's run has taken. The first counts no step.
+/// How many turns a state's run has taken. The first makes an attempt and counts no step.
 pub(crate) fn turns_taken(state: &State) -> u64
-    ensures turns { (g : Ground) → IsState g state.now → result ≡ turns_of state.now.machine }
+    ensures turns { result ≡ turns_at state.now }
     ensures few { result ≤ 2 ^ 32 }
 {
-    if state.machine.attempts() == 0 {
+    if state.attempts == 0 {
         return 0;
     }
-    u64::from(state.machine.steps()) + 1
+    u64::from(state.steps) + 1
 }
 
 /// Whether an edge is allowed, whatever comes to its state: that state's own run has taken `turns` turns, and any that comes to it `greatest` at most. What
@@ -79,7 +79,7 @@ fn allows(edge: Edge, turns: u64, greatest: u32, most: &Items<u32>, budget: u32)
             None => false,
         },
         Edge::Ends { steps } => u64::from(steps) + greatest <= u64::from(budget) + turns,
-        Edge::Shows => false,
+        Edge::Shows | Edge::Unknown => false,
         Edge::Untried => true,
     }
 }
@@ -93,12 +93,12 @@ fn is_grant_followed(
     bound: &Bound,
     budget: u32,
 ) -> bool
-    ensures { result ≡ true → (g : Ground) → g.budget ≡ budget → IsState g state.now →
-        IsFollowed g most.now bound.now (turns_of state.now.machine) greatest state.now.numbers
+    ensures { result ≡ true → (g : Ground) → g.budget ≡ budget →
+        IsFollowed g most.now bound.now (turns_at state.now) greatest state.now.numbers
         (next_attempt state.now) edge }
 {
     match edge {
-        None | Some(Edge::Shows) => bound.excludes(&state.numbers),
+        None | Some(Edge::Shows | Edge::Unknown) => bound.excludes(&state.numbers),
         Some(edge) => allows(edge, turns_taken(state), greatest, most, budget),
     }
 }
@@ -113,12 +113,11 @@ fn is_failure_followed(
     budget: u32,
 ) -> Result<bool, NoMemory>
     ensures { IfOk result (λ followed. followed ≡ true → (g : Ground) → g.budget ≡ budget →
-        IsState g state.now →
-        IsFollowed g most.now bound.now (turns_of state.now.machine) greatest
+        IsFollowed g most.now bound.now (turns_at state.now) greatest
         (failing_next state.now) (next_attempt state.now) edge) }
 {
     match edge {
-        None | Some(Edge::Shows) => bound.excludes_failure(state),
+        None | Some(Edge::Shows | Edge::Unknown) => bound.excludes_failure(state),
         Some(edge) => Ok(allows(edge, turns_taken(state), greatest, most, budget)),
     }
 }

@@ -52,7 +52,7 @@ impl<'a> Search<'a> {
             GoesOn (ground_of self.new) self.new.states turns numbers attempts edge) }
     {
         let Finished { result, heap } = fork.finish()?;
-        self.spare = Some(heap);
+        self.runs.spare = Some(heap);
         if is_fine(&result) {
             return Ok(Edge::Ends {
                 steps: result.steps,
@@ -67,11 +67,12 @@ impl<'a> Search<'a> {
         Ok(Edge::Shows)
     }
 
-    /// How a run goes on that makes its next attempt.
+    /// How a run goes on that makes its next attempt. It is at the state with the index `before`.
     pub fn follow<P: Progress>(
         &mut self,
         mut fork: Machine<'a>,
         numbers: Numbers,
+        before: usize,
         progress: &mut P,
     ) -> Result<Edge, NoMemory>
         requires sound { IsSound self.old }
@@ -79,10 +80,10 @@ impl<'a> Search<'a> {
         ensures grown { OnOk result (HasGrown self.old self.new) }
         ensures sound { OnOk result (IsSound self.new) }
         ensures goes { IfOk result (λ edge. GoesOn (ground_of self.new) self.new.states
-            (turns_of fork.entry) numbers (fork.entry.attempts + 1) edge) }
+            (turns_of fork.entry.attempts fork.entry.steps) numbers (fork.entry.attempts + 1) edge) }
     {
         match go_past_attempt(&mut fork)? {
-            None => self.join(fork, numbers, progress),
+            None => self.join(fork, numbers, before, progress),
             Some(_) => self.end(fork, numbers),
         }
     }

@@ -1,20 +1,21 @@
 //! How a search grows: which runs it follows next. What an answer is, is not decided here.
 
-ghost use Rattle.std.specs.Prelude.{◌≡◌, ◌≤◌, ◌++◌, ◌∷◌, [], false, true, length, slice_get, Some, Err, IfOk, OnOk, IsTrue};
+ghost use Rattle.std.specs.Prelude.{◌≡◌, ◌+◌, ◌≤◌, ◌++◌, ◌∷◌, [], false, true, length, slice_get, Some, Err, IfOk, OnOk, IsTrue};
 ghost use Rattle.wb_machine.specs.declared.fault.RunFault.TheVariants as RunFault;
 ghost use Rattle.wb_model.specs.language.Sound.{is_script};
 ghost use Rattle.wb_model.specs.heap.Space.{is_shape};
 ghost use Rattle.wb_model.specs.runs.Sets.{set_run};
-ghost use Rattle.wb_model.specs.declared.heap.Rule.TheVariants as rules;
 ghost use Rattle.wb_states.specs.Ground.{turns_of};
-ghost use Rattle.wb_states.specs.States.{failing_next, ground_of, next_attempt, GoesOn, HasGrown, IsSound};
+ghost use Rattle.wb_states.specs.States.{failing_next, ground_of, next_attempt, turns_at, GoesOn, HasGrown};
+ghost use Rattle.wb_states.specs.States.{IsRunOf, IsSound, IsState};
 ghost use Rattle.wb_states.specs.declared.state.State.{State};
 
+use crate::runs::Runs;
 use crate::search::Search;
 use crate::state::{Edge, State};
 use std::alloc::Global;
 use std::collections::HashMap;
-use wb_machine::{Heap, Machine, RunFault};
+use wb_machine::{Machine, RunFault};
 use wb_model::heap::{Numbers, Rule, Shape};
 use wb_model::items::Items;
 use wb_model::limits::LARGEST_BUDGET;
@@ -34,40 +35,6 @@ pub(crate) struct Plan {
     pub last: u32,
     /// Whether a run only joins a state that was met with as many steps or more.
     pub exact: bool,
-}
-
-/// The set in which a state's next attempt fails too.
-fn failing_next(state: &State) -> Result<Numbers, NoMemory>
-    requires asks { state.now.machine.asks ≡ true }
-    ensures { IfOk result (λ numbers. numbers ≡ failing_next state.now) }
-{
-    let mut numbers = state.numbers.try_copy()?;
-    match state.machine.next_attempt() {
-        Some(number) => numbers.push(number)?,
-        // Each state is before an attempt.
-        None => unreachable!(),
-    }
-    Ok(numbers)
-}
-
-/// The run of a state under a set that has its next attempt, too. The copy takes the memory of `spare`, where there is one.
-fn fork_under<'a>(
-    state: &State<'a>,
-    numbers: &Numbers,
-    spare: Option<Heap>,
-) -> Result<Machine<'a>, NoMemory>
-    requires lines { state.now.machine.keeps_rises ≡ false }
-    requires rule { state.now.machine.rule ≡ rules.Set state.now.numbers }
-    requires going { state.now.machine.over ≡ false }
-    requires well { state.now.machine.failed ≡ false }
-    requires numbers { numbers.now ≡ failing_next state.now }
-    ensures { IfOk result (λ fork. fork
-        ≡ record state.now.machine { rule = rules.Set numbers.now }) }
-{
-    let rule = Rule::Set(numbers.try_copy()?);
-    let mut fork = state.machine.try_copy_over(spare)?;
-    fork.set_rule(rule);
-    Ok(fork)
 }
 
 impl<'a> Search<'a> {
@@ -97,18 +64,23 @@ impl<'a> Search<'a> {
         let rule = Rule::Set(Numbers::new(alloc));
         let machine = Machine::new(alloc, script, rule, budget, shape)?;
         let mut states = Items::new(alloc);
+        let mut runs = Runs::new(alloc);
         let first = State {
             numbers: Numbers::new(alloc),
-            machine,
+            attempts: 0,
+            steps: 0,
+            before: 0,
         };
         if states.push(first).is_err() {
             return Err(RunFault::NoMemory);
         }
+        runs.push(0, machine)?;
         Ok(Search {
             script,
             budget,
             shape,
             states,
+            runs,
             granted: Items::new(alloc),
             failed: Items::new(alloc),
             shown: None,
@@ -119,56 +91,96 @@ impl<'a> Search<'a> {
             met: 1,
             latest: HashMap::new(alloc),
             earlier: Items::new(alloc),
-            spare: None,
         })
     }
 
-    /// Follows the runs of the first state whose next attempt wasn't granted yet; `false` where there is none.
+    /// How the run of the state at an index goes on whose next attempt is granted.
+    fn follow_grant<P: Progress>(&mut self, at: usize, progress: &mut P) -> Result<Edge, NoMemory>
+        requires sound { IsSound self.old }
+        ensures grown { OnOk result (HasGrown self.old self.new) }
+        ensures sound { OnOk result (IsSound self.new) }
+        ensures goes { IfOk result (λ edge. (state : State) →
+            slice_get self.old.states at ≡ Some state →
+            GoesOn (ground_of self.new) self.new.states (turns_at state)
+            state.numbers (next_attempt state) edge) }
+    {
+        let Some(state) = self.states.get(at) else {
+            return Ok(Edge::Unknown);
+        };
+        let numbers = state.numbers.try_copy()?;
+        match self.run_at(at)? {
+            Some(fork) => self.follow(fork, numbers, at, progress),
+            None => Ok(Edge::Unknown),
+        }
+    }
+
+    /// How a run goes on in which the next attempt fails too, that was at the state with this index. It is followed if its set is tried.
+    fn refuse_next<P: Progress>(
+        &mut self,
+        mut fork: Machine<'a>,
+        mut numbers: Numbers,
+        at: usize,
+        progress: &mut P,
+    ) -> Result<Edge, NoMemory>
+        requires sound { IsSound self.old }
+        requires run { (state : State) × (numbers ≡ state.numbers)
+            × IsState (ground_of self.old) state × IsRunOf (ground_of self.old) state fork }
+        ensures grown { OnOk result (HasGrown self.old self.new) }
+        ensures sound { OnOk result (IsSound self.new) }
+        ensures goes { IfOk result (λ edge. GoesOn (ground_of self.new) self.new.states
+            (turns_of fork.entry.attempts fork.entry.steps)
+            (numbers ++ (fork.entry.attempts + 1) ∷ []) (fork.entry.attempts + 1) edge) }
+    {
+        let Some(next) = fork.next_attempt() else {
+            return Ok(Edge::Unknown);
+        };
+        numbers.push(next)?;
+        if !self.tries(&numbers) {
+            self.runs.spare = Some(fork.into_heap());
+            return Ok(Edge::Untried);
+        }
+        let refused = numbers.try_copy()?;
+        fork.set_rule(Rule::Set(refused));
+        self.follow(fork, numbers, at, progress)
+    }
+
+    /// How the run of the state at an index goes on whose next attempt fails too.
+    fn follow_failure<P: Progress>(&mut self, at: usize, progress: &mut P) -> Result<Edge, NoMemory>
+        requires sound { IsSound self.old }
+        ensures grown { OnOk result (HasGrown self.old self.new) }
+        ensures sound { OnOk result (IsSound self.new) }
+        ensures goes { IfOk result (λ edge. (state : State) →
+            slice_get self.old.states at ≡ Some state →
+            GoesOn (ground_of self.new) self.new.states (turns_at state)
+            (failing_next state) (next_attempt state) edge) }
+    {
+        let Some(state) = self.states.get(at) else {
+            return Ok(Edge::Unknown);
+        };
+        let numbers = state.numbers.try_copy()?;
+        match self.run_at(at)? {
+            Some(fork) => self.refuse_next(fork, numbers, at, progress),
+            None => Ok(Edge::Unknown),
+        }
+    }
+
+    /// Follows the run of the first state whose next attempt wasn't granted yet; `false` where there is none.
     fn follow_granted<P: Progress>(&mut self, progress: &mut P) -> Result<bool, NoMemory>
         requires sound { IsSound self.old }
         ensures sound { OnOk result (IsSound self.new) }
         ensures ground { OnOk result (ground_of self.new ≡ ground_of self.old) }
     {
-        let Some(state) = self.states.get(self.granted.len()) else {
+        let at = self.granted.len();
+        if self.states.len() <= at {
             return Ok(false);
-        };
-        let numbers = state.numbers.try_copy()?;
-        let fork = state.machine.try_copy_over(self.spare.take())?;
-        let edge = self.follow(fork, numbers, progress)?;
+        }
+        let edge = self.follow_grant(at, progress)?;
         self.granted.push(edge)?;
         Ok(true)
     }
 
-    /// How the run goes on in which the next attempt of a state fails too: of the first one whose next attempt didn't fail yet. It is followed
-    /// if its set is tried.
-    fn follow_failure<P: Progress>(
-        &mut self,
-        numbers: Numbers,
-        progress: &mut P,
-    ) -> Result<Edge, NoMemory>
-        requires sound { IsSound self.old }
-        requires failing { (state : State)
-            × (slice_get self.old.states (length self.old.failed) ≡ Some state)
-            × (numbers ≡ failing_next state) }
-        ensures grown { OnOk result (HasGrown self.old self.new) }
-        ensures sound { OnOk result (IsSound self.new) }
-        ensures goes { IfOk result (λ edge. (state : State) →
-            slice_get self.old.states (length self.old.failed) ≡ Some state →
-            GoesOn (ground_of self.new) self.new.states (turns_of state.machine)
-            (failing_next state) (next_attempt state) edge) }
-    {
-        if !self.tries(&numbers) {
-            return Ok(Edge::Untried);
-        }
-        let Some(state) = self.states.get(self.failed.len()) else {
-            unreachable!()
-        };
-        let fork = fork_under(state, &numbers, self.spare.take())?;
-        self.follow(fork, numbers, progress)
-    }
-
-    /// Follows the runs of the first state whose next attempt didn't fail yet, if its set has fewer attempts than so many; `false` where
-    /// there is none.
+    /// Follows the run of the first state whose next attempt didn't fail yet, if its set has fewer attempts than so many; `false` where there is
+    /// none.
     fn follow_failed<P: Progress>(
         &mut self,
         failures: u32,
@@ -178,14 +190,14 @@ impl<'a> Search<'a> {
         ensures sound { OnOk result (IsSound self.new) }
         ensures ground { OnOk result (ground_of self.new ≡ ground_of self.old) }
     {
-        let Some(state) = self.states.get(self.failed.len()) else {
+        let at = self.failed.len();
+        let Some(state) = self.states.get(at) else {
             return Ok(false);
         };
         if state.numbers.len() >= failures as usize {
             return Ok(false);
         }
-        let numbers = failing_next(state)?;
-        let edge = self.follow_failure(numbers, progress)?;
+        let edge = self.follow_failure(at, progress)?;
         self.failed.push(edge)?;
         Ok(true)
     }

@@ -1,9 +1,9 @@
 //! Which state a run joins that is about to make an attempt, or that it is a new one. Which runs are followed is not decided here.
 
-ghost use Rattle.std.specs.Prelude.{◌≡◌, ℕ, ◌+◌, ◌<◌, ◌≤◌, [], ◌∷◌, ◌++◌, false, true, List, slice_get, Some, IfOk, IfSome, OnOk};
+ghost use Rattle.std.specs.Prelude.{◌≡◌, ℕ, ◌+◌, ◌<◌, ◌≤◌, [], ◌∷◌, ◌++◌, false, true, length, List, slice_get, Some, IfOk, IfSome, OnOk};
 ghost use Rattle.wb_model.specs.runs.Sets.{IsSet};
-ghost use Rattle.wb_states.specs.Ground.{past, IsTriedSet};
-ghost use Rattle.wb_states.specs.States.{ground_of, Continues, GoesOn, HasGrown};
+ghost use Rattle.wb_states.specs.Ground.{past, IsNoLater, IsTriedSet, Meets};
+ghost use Rattle.wb_states.specs.States.{ground_of, AreOfOr, Continues, GoesOn, HasGrown};
 ghost use Rattle.wb_states.specs.States.{IsNoneOrTried, IsSound, IsState, IsUnderWay};
 ghost use Rattle.wb_states.specs.declared.state.State.{State};
 
@@ -22,43 +22,77 @@ impl<'a> Search<'a> {
         ensures { result ≡ true → IsState (ground_of self.now) state.now →
             (more : List ℕ) → IsSet more →
             IsTriedSet (ground_of self.now)
-            (state.now.numbers ++ past state.now.machine.attempts more) }
+            (state.now.numbers ++ past state.now.attempts more) }
     {
         self.whole || state.numbers.len() > 0
     }
 
-    /// Whether a run may join a state: it is the same but for numbers, and the sets that go on from the state are all tried, and come no later than
-    /// those that go on from the run. In an exact search the state was met with as many steps or more.
-    fn is_joined(&self, state: &State, fork: &Machine, numbers: &Numbers, exact: bool) -> bool
-        requires script { state.now.machine.script ≡ fork.now.script }
-        ensures joined { result ≡ true → IsState (ground_of self.now) state.now →
-            IsUnderWay (ground_of self.now) numbers.now fork.now →
-            Continues (ground_of self.now) numbers.now fork.now state.now }
+    /// Whether a run may join a state if it is the same but for numbers: the sets that go on from the state are all tried, and come no later than those
+    /// that go on from the run. In an exact search the state was met with as many steps or more.
+    fn may_join(&self, state: &State, fork: &Machine, numbers: &Numbers, exact: bool) -> bool
+        ensures order { result ≡ true →
+            IsNoLater state.now.numbers state.now.attempts numbers.now fork.now.attempts }
+        ensures tried { result ≡ true → IsState (ground_of self.now) state.now →
+            (more : List ℕ) → IsSet more →
+            IsTriedSet (ground_of self.now)
+            (state.now.numbers ++ past state.now.attempts more) }
     {
-        if exact && state.machine.steps() < fork.steps() {
+        if exact && state.steps < fork.steps() {
             return false;
         }
-        let made = state.machine.attempts();
         self.tries_all_past(state)
-            && is_no_later(&state.numbers, made, numbers, fork.attempts())
-            && is_met(fork, numbers, state)
+            && is_no_later(&state.numbers, state.attempts, numbers, fork.attempts())
+    }
+
+    /// Whether it is the same but for numbers as the state at an index.
+    fn is_met_at(
+        &self,
+        at: usize,
+        state: &State,
+        fork: &Machine,
+        numbers: &Numbers,
+    ) -> Result<bool, NoMemory>
+        requires sound { IsSound self.now }
+        requires is_at { slice_get self.now.states at ≡ Some state.now }
+        requires run { IsUnderWay (ground_of self.now) numbers.now fork.now }
+        ensures { IfOk result (λ met. met ≡ true → Meets (ground_of self.now)
+            numbers.now fork.now.attempts fork.now.steps
+            state.now.numbers state.now.attempts state.now.steps) }
+    {
+        if let Some(machine) = self.runs.get(at) {
+            return Ok(is_met(fork, numbers, state, machine));
+        }
+        match self.follow_again(state, None)? {
+            Some(machine) => Ok(is_met(fork, numbers, state, &machine)),
+            None => Ok(false),
+        }
     }
 
     /// Whether it may join the state at an index; `false` where there is none.
-    fn is_joined_at(&self, at: usize, fork: &Machine, numbers: &Numbers, exact: bool) -> bool
+    fn is_joined_at(
+        &self,
+        at: usize,
+        fork: &Machine,
+        numbers: &Numbers,
+        exact: bool,
+    ) -> Result<bool, NoMemory>
         requires sound { IsSound self.now }
         requires run { IsUnderWay (ground_of self.now) numbers.now fork.now }
-        ensures { result ≡ true → (state : State) × (slice_get self.now.states at ≡ Some state)
-            × Continues (ground_of self.now) numbers.now fork.now state }
+        ensures { IfOk result (λ joined. joined ≡ true →
+            (state : State) × (slice_get self.now.states at ≡ Some state)
+            × Continues (ground_of self.now) numbers.now fork.now state) }
     {
-        match self.states.get(at) {
-            Some(state) => self.is_joined(state, fork, numbers, exact),
-            None => false,
+        let Some(state) = self.states.get(at) else {
+            return Ok(false);
+        };
+        if !self.may_join(state, fork, numbers, exact) {
+            return Ok(false);
         }
+        self.is_met_at(at, state, fork, numbers)
     }
 
     /// The state before one with the same fingerprint, if there is one. The first state is listed with none.
-    fn before(&self, at: usize) -> Option<usize> {
+    fn alike_before(&self, at: usize) -> Option<usize> {
         match self.earlier.get(at.checked_sub(1)?) {
             Some(earlier) if *earlier != at => Some(*earlier),
             _ => None,
@@ -66,33 +100,47 @@ impl<'a> Search<'a> {
     }
 
     /// The latest state that a run may join.
-    fn find(&self, fork: &Machine, numbers: &Numbers, print: u64, exact: bool) -> Option<usize>
+    fn find(
+        &self,
+        fork: &Machine,
+        numbers: &Numbers,
+        print: u64,
+        exact: bool,
+    ) -> Result<Option<usize>, NoMemory>
         requires sound { IsSound self.now }
         requires run { IsUnderWay (ground_of self.now) numbers.now fork.now }
-        ensures { IfSome result (λ at. (state : State) × (slice_get self.now.states at ≡ Some state)
-            × Continues (ground_of self.now) numbers.now fork.now state) }
+        ensures { IfOk result (λ found. IfSome found (λ at. (state : State)
+            × (slice_get self.now.states at ≡ Some state)
+            × Continues (ground_of self.now) numbers.now fork.now state)) }
     {
-        let mut at = *self.latest.get(&print)?;
+        let mut next = self.latest.get(&print).copied();
         for _ in 0..self.states.len() {
-            if self.is_joined_at(at, fork, numbers, exact) {
-                return Some(at);
+            let Some(at) = next else {
+                return Ok(None);
+            };
+            if self.is_joined_at(at, fork, numbers, exact)? {
+                return Ok(Some(at));
             }
-            at = self.before(at)?;
+            next = self.alike_before(at);
         }
-        None
+        Ok(None)
     }
 
-    /// Keeps a state as the latest one of its fingerprint. It counts as met if it is a new one.
+    /// Keeps a state and its run, as the latest one of its fingerprint. It counts as met if it is a new one.
     fn keep<P: Progress>(
         &mut self,
-        state: State<'a>,
+        state: State,
+        machine: Machine<'a>,
         print: u64,
         is_new: bool,
         progress: &mut P,
     ) -> Result<(), NoMemory>
-        ensures states { OnOk result (self.new.states ≡ self.old.states ++ state.entry ∷ []) }
+        ensures states { OnOk result (self.new.states ≡ self.old.states ++ state ∷ []) }
+        ensures runs { OnOk result
+            (AreOfOr self.old.runs (length self.old.states) machine.entry self.new.runs) }
         ensures same { OnOk result (self.new ≡ record self.old {
           states = self.new.states;
+          runs = self.new.runs;
           met = self.new.met;
           latest = self.new.latest;
           earlier = self.new.earlier;
@@ -108,6 +156,7 @@ impl<'a> Search<'a> {
         }
         self.earlier.push(earlier)?;
         self.states.push(state)?;
+        self.runs.push(at, machine)?;
         if is_new {
             self.met = self.met.saturating_add(1);
             progress.meet_state();
@@ -116,18 +165,22 @@ impl<'a> Search<'a> {
     }
 
     /// Whether a run that joins no state would join none either if steps didn't count.
-    fn is_new(&self, fork: &Machine, numbers: &Numbers, print: u64) -> bool
+    fn is_new(&self, fork: &Machine, numbers: &Numbers, print: u64) -> Result<bool, NoMemory>
         requires sound { IsSound self.now }
         requires run { IsUnderWay (ground_of self.now) numbers.now fork.now }
     {
-        !self.exact || self.find(fork, numbers, print, false).is_none()
+        if !self.exact {
+            return Ok(true);
+        }
+        Ok(self.find(fork, numbers, print, false)?.is_none())
     }
 
-    /// The state that a run joins which is about to make an attempt; it is kept if there is none.
+    /// The state that a run joins which is about to make an attempt; it is kept if there is none. It came from the state at the index `before`.
     pub fn join<P: Progress>(
         &mut self,
         fork: Machine<'a>,
         numbers: Numbers,
+        before: usize,
         progress: &mut P,
     ) -> Result<Edge, NoMemory>
         requires sound { IsSound self.old }
@@ -144,17 +197,20 @@ impl<'a> Search<'a> {
     {
         let steps = fork.steps();
         let print = fork.fingerprint();
-        if let Some(state) = self.find(&fork, &numbers, print, self.exact) {
-            self.spare = Some(fork.into_heap());
+        if let Some(state) = self.find(&fork, &numbers, print, self.exact)? {
+            self.runs.spare = Some(fork.into_heap());
             return Ok(Edge::Joins { state, steps });
         }
-        let is_new = self.is_new(&fork, &numbers, print);
+        let is_new = self.is_new(&fork, &numbers, print)?;
         let state = self.states.len();
+        let attempts = fork.attempts();
         let kept = State {
             numbers,
-            machine: fork,
+            attempts,
+            steps,
+            before,
         };
-        self.keep(kept, print, is_new, progress)?;
+        self.keep(kept, fork, print, is_new, progress)?;
         Ok(Edge::Joins { state, steps })
     }
 }

@@ -2,6 +2,7 @@
 //! set that shows anything, or that none does, however many attempts fail.
 #![tactic(auto)]
 
+mod again;
 mod closed;
 mod follow;
 mod grow;
@@ -9,6 +10,7 @@ mod join;
 mod labels;
 mod meeting;
 mod order;
+mod runs;
 mod search;
 mod searching;
 mod state;

@@ -3,7 +3,7 @@
 ghost use Rattle.std.specs.Prelude.{◌≡◌, false, true};
 ghost use Rattle.wb_machine.specs.Alike.{GoesOnLike};
 ghost use Rattle.wb_states.specs.Ground.{Ground, Meets};
-ghost use Rattle.wb_states.specs.States.{IsState, IsUnderWay};
+ghost use Rattle.wb_states.specs.States.{IsRunOf, IsUnderWay};
 
 use crate::state::State;
 use wb_machine::Machine;
@@ -27,32 +27,33 @@ fn first_apart(set: &[u32], other: &[u32]) -> Option<u32> {
 
 /// The last attempt up to which a run under a set and that of a state were one run.
 fn one_run_until(fork: &Machine, set: &Numbers, state: &State) -> u32 {
-    let both_made = fork.attempts().min(state.machine.attempts());
+    let both_made = fork.attempts().min(state.attempts);
     match first_apart(set.as_slice(), state.numbers.as_slice()) {
         Some(number) => both_made.min(number.saturating_sub(1)),
         None => both_made,
     }
 }
 
-/// Whether a run goes on like that of a state, and asks for an attempt next. At first each allocation number may stand for any other, for
+/// Whether a run goes on like one that has come to a state, and asks for an attempt next. At first each allocation number may stand for any other, for
 /// no more than 64 of them. Then those of attempts that both made while they were one run stand for themselves, however many there are.
-fn goes_on_alike(fork: &Machine, set: &Numbers, state: &State) -> bool
-    requires script { state.now.machine.script ≡ fork.now.script }
-    ensures alike { result ≡ true → GoesOnLike fork.now state.now.machine }
+fn goes_on_alike(fork: &Machine, set: &Numbers, state: &State, machine: &Machine) -> bool
+    requires script { machine.now.script ≡ fork.now.script }
+    ensures alike { result ≡ true → GoesOnLike fork.now machine.now }
     ensures going { result ≡ true → fork.now.over ≡ false }
 {
     fork.will_attempt()
-        && (fork.goes_on_like(&state.machine, 0)
-            || fork.goes_on_like(&state.machine, one_run_until(fork, set, state)))
+        && (fork.goes_on_like(machine, 0)
+            || fork.goes_on_like(machine, one_run_until(fork, set, state)))
 }
 
-/// Whether a run under a set is the same from here on as a state, but for allocation numbers. `false` may come where it is, and comes of a
-/// run that asks for no attempt next.
-pub(crate) fn is_met(fork: &Machine, set: &Numbers, state: &State) -> bool
-    requires script { state.now.machine.script ≡ fork.now.script }
-    ensures { result ≡ true → (g : Ground) → IsUnderWay g set.now fork.now → IsState g state.now →
+/// Whether a run under a set is the same from here on as a state, but for allocation numbers. `machine` has come to the state. `false` may come
+/// where it is, and comes of a run that asks for no attempt next.
+pub(crate) fn is_met(fork: &Machine, set: &Numbers, state: &State, machine: &Machine) -> bool
+    requires script { machine.now.script ≡ fork.now.script }
+    ensures { result ≡ true → (g : Ground) → IsUnderWay g set.now fork.now →
+        IsRunOf g state.now machine.now →
         Meets g set.now fork.now.attempts fork.now.steps
-        state.now.numbers state.now.machine.attempts state.now.machine.steps }
+        state.now.numbers state.now.attempts state.now.steps }
 {
-    goes_on_alike(fork, set, state)
+    goes_on_alike(fork, set, state, machine)
 }

@@ -1,8 +1,8 @@
 //! What a search over states has found so far, and which state is which. How runs go on from a state is not decided here.
 
+use crate::runs::Runs;
 use crate::state::{Edge, Shown, State};
 use std::collections::HashMap;
-use wb_machine::Heap;
 use wb_model::heap::Shape;
 use wb_model::items::Items;
 use wb_model::part::Part;
@@ -15,7 +15,9 @@ pub(crate) struct Search<'a> {
     /// The greatest number of steps that a run may take.
     pub budget: u32,
     pub shape: Shape,
-    pub states: Items<State<'a>>,
+    pub states: Items<State>,
+    /// Their runs, of which older ones may be dropped.
+    pub runs: Runs<'a>,
     /// How runs go on whose next attempt is granted, state by state. What isn't listed is still to be followed.
     pub granted: Items<Edge>,
     /// The same of those whose next attempt fails.
@@ -36,6 +38,4 @@ pub(crate) struct Search<'a> {
     pub latest: HashMap<u64, usize>,
     /// Of each state but the first, the one before it with its fingerprint; its own index if there is none.
     pub earlier: Items<usize>,
-    /// The memory of a run that is over.
-    pub spare: Option<Heap>,
 }

@@ -1,16 +1,19 @@
 //! The states that a search keeps, and how runs go on from them. How they are found is not decided here.
 
-use wb_machine::Machine;
 use wb_model::heap::Numbers;
 use wb_model::run::RunResult;
 
-/// A run under a set of failures, before an attempt past all of them.
+/// What a run comes to under a set of failures, before an attempt past all of them.
 #[derive(Drop)]
-pub(crate) struct State<'a> {
+pub(crate) struct State {
     /// The attempts that failed, in ascending order.
     pub numbers: Numbers,
-    /// The run, in which no other attempt fails.
-    pub machine: Machine<'a>,
+    /// How many attempts were made. No other than these failed.
+    pub attempts: u32,
+    /// How many steps were counted.
+    pub steps: u32,
+    /// The state from which the run came here by one attempt; of the first state itself.
+    pub before: usize,
 }
 
 /// How a run goes on that was in a state, once its next attempt was granted or refused.
@@ -24,6 +27,8 @@ pub(crate) enum Edge {
     Shows,
     /// None of the sets that begin so is tried.
     Untried,
+    /// It wasn't followed, since its state was not come to again.
+    Unknown,
 }
 
 /// A set of failures whose run is bad or cut, and that run.

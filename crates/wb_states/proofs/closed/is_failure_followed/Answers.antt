@@ -5,8 +5,8 @@ use Rattle.wb_states.specs.States.{failing_next, next_attempt}
 use Rattle.wb_states.proofs.closed.is_failure_followed.Goals as goal
 
 pub returns-in-Some : goal.returns-in-Some
-returns-in-Some c = λ yes g same is.
+returns-in-Some c = λ yes g same.
     let next = next_attempt c.args.state.now in
     let follows = c.allows.ensures yes g same c.args.bound.now (failing_next c.args.state.now) next in
     rw c.in-Some.is
-    (subst (λ t. IsFollowed g c.args.most.now c.args.bound.now t c.args.greatest (failing_next c.args.state.now) next (Some c.in-Some.edge)) (c.turns_taken.ensures.turns g is) follows)
+    (subst (λ t. IsFollowed g c.args.most.now c.args.bound.now t c.args.greatest (failing_next c.args.state.now) next (Some c.in-Some.edge)) c.turns_taken.ensures.turns follows)

@@ -5,8 +5,8 @@ use Rattle.wb_states.specs.States.{next_attempt}
 use Rattle.wb_states.proofs.closed.is_grant_followed.Goals as goal
 
 pub returns-in-Some : goal.returns-in-Some
-returns-in-Some c = λ yes g same is.
+returns-in-Some c = λ yes g same.
     let next = next_attempt c.args.state.now in
     let follows = c.allows.ensures yes g same c.args.bound.now c.args.state.now.numbers next in
     rw c.in-Some.is
-    (subst (λ t. IsFollowed g c.args.most.now c.args.bound.now t c.args.greatest c.args.state.now.numbers next (Some c.in-Some.edge)) (c.turns_taken.ensures.turns g is) follows)
+    (subst (λ t. IsFollowed g c.args.most.now c.args.bound.now t c.args.greatest c.args.state.now.numbers next (Some c.in-Some.edge)) c.turns_taken.ensures.turns follows)

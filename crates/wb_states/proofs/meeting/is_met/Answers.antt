@@ -1,7 +1,6 @@
-use Rattle.wb_states.proofs.MeetingLemmas.{met}
+use Rattle.wb_states.proofs.MeetingLemmas.{met-state}
 use Rattle.wb_states.proofs.meeting.is_met.Goals as goal
 
 pub returns : goal.returns
 returns c e g run state =
-    met g c.args.set.now c.args.state.now.numbers c.args.fork.now c.args.state.now.machine (c.goes_on_alike.ensures.alike e) (c.goes_on_alike.ensures.going e) state.going run
-    state.under_way
+    met-state g c.args.set.now c.args.state.now c.args.fork.now c.args.machine.now (c.goes_on_alike.ensures.alike e) (c.goes_on_alike.ensures.going e) run state

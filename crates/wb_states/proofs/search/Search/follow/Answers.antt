@@ -32,12 +32,12 @@ returns-in-None-clause-goes g c =
     let is = c.in_ok-go_past_attempt.ensures in
     let fork = c.args.fork in
     let made : c.go_past_attempt.new.machine.attempts ≡ fork.attempts + 1 = search rules in
-    let later = turns-later fork c.go_past_attempt.new.machine (is.later (ap Ok c.in-None.is)) in
+    let later = turns-later fork c.go_past_attempt.new.machine c.requires.about.begun (is.later (ap Ok c.in-None.is)) in
     map_ok c.join.result (λ edge goes.
-    subst (λ n. GoesOn (ground_of c.join.new.self) c.join.new.self.states (turns_of fork) c.args.numbers n edge) made (goes (turns_of fork) later)) c.join.ensures.goes
+    subst (λ n. GoesOn (ground_of c.join.new.self) c.join.new.self.states (turns_of fork.attempts fork.steps) c.args.numbers n edge) made (goes (turns_of fork.attempts fork.steps) later)) c.join.ensures.goes
 
 pub returns-in-Some-clause-goes : goal.returns-in-Some-clause-goes
 returns-in-Some-clause-goes g c =
     let is = c.in_ok-go_past_attempt.ensures in
     let few = is.few in
-    map_ok c.end.result (λ edge goes. goes (turns_of c.args.fork) (c.args.fork.attempts + 1) few) c.end.ensures.goes
+    map_ok c.end.result (λ edge goes. goes (turns_of c.args.fork.attempts c.args.fork.steps) (c.args.fork.attempts + 1) few) c.end.ensures.goes

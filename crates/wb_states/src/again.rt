@@ -1,0 +1,186 @@
+//! Runs that come to a state once more: copies of those that are kept, and otherwise of the nearest one on the way to it, which goes
+//! on to it under its set.
+
+ghost use Rattle.std.specs.Prelude.{◌≡◌, ℕ, ◌≤◌, ◌++◌, List, true, false, slice_get, Some, IfOk, IfSome, OnOk};
+ghost use Rattle.wb_machine.specs.Turns.{IsSameRun};
+ghost use Rattle.wb_model.specs.declared.heap.Rule.TheVariants as rules;
+ghost use Rattle.wb_model.specs.runs.Sets.{AscendsPast, IsSet};
+ghost use Rattle.wb_states.specs.States.{ground_of, IsOnTheWay, IsRunOf, IsSound, IsState};
+ghost use Rattle.wb_states.specs.declared.state.State.{State};
+
+use crate::search::Search;
+use crate::state::State;
+use crate::turns::go_past_attempt;
+use wb_machine::{Heap, Machine};
+use wb_model::heap::{Numbers, Rule};
+use wb_model::memory::NoMemory;
+
+/// Whether a set begins with all of another, and has its further numbers past an attempt.
+fn goes_on_from(set: &Numbers, other: &Numbers, attempts: u32) -> bool
+    requires set { IsSet set.now }
+    ensures { result ≡ true →
+        (rest : List ℕ) × (set.now ≡ other.now ++ rest) × AscendsPast attempts rest }
+{
+    match set.as_slice().strip_prefix(other.as_slice()) {
+        Some([next, ..]) => attempts < *next,
+        Some([]) => true,
+        None => false,
+    }
+}
+
+/// Lets a run make further attempts, up to so many; `false` where it ends before.
+fn go_to(machine: &mut Machine, attempts: u32) -> Result<bool, NoMemory>
+    requires begun { 1 ≤ machine.old.attempts → machine.old.begun ≡ true }
+    requires asks { machine.old.asks ≡ true }
+    requires going { machine.old.over ≡ false }
+    requires well { machine.old.failed ≡ false }
+    requires within { machine.old.steps ≤ machine.old.budget }
+    ensures same { IsSameRun machine.old machine.new }
+    ensures begun { IfOk result (λ there. there ≡ true →
+        1 ≤ machine.new.attempts → machine.new.begun ≡ true) }
+    ensures asks { IfOk result (λ there. there ≡ true → machine.new.asks ≡ true) }
+    ensures going { IfOk result (λ there. there ≡ true → machine.new.over ≡ false) }
+    ensures well { OnOk result (machine.new.failed ≡ false) }
+    ensures within { OnOk result (machine.new.steps ≤ machine.new.budget) }
+{
+    for _ in machine.attempts()..attempts {
+        if go_past_attempt(machine)?.is_some() {
+            return Ok(false);
+        }
+    }
+    Ok(true)
+}
+
+/// A copy of a run that has come to a state, which goes on under a set, over spare memory; `None` where the set doesn't begin with the state's own
+/// numbers, or has others of attempts that were made.
+fn copy_under<'a>(
+    machine: &Machine<'a>,
+    state: &State,
+    numbers: &Numbers,
+    spare: Option<Heap>,
+) -> Result<Option<Machine<'a>>, NoMemory>
+    requires set { IsSet numbers.now }
+    requires rule { machine.now.rule ≡ rules.Set state.now.numbers }
+    requires attempts { machine.now.attempts ≡ state.now.attempts }
+    requires lines { machine.now.keeps_rises ≡ false }
+    requires going { machine.now.over ≡ false }
+    requires well { machine.now.failed ≡ false }
+    ensures { IfOk result (λ copy. IfSome copy (λ m. m
+        ≡ record machine.now { rule = rules.Set numbers.now })) }
+{
+    if !goes_on_from(numbers, &state.numbers, state.attempts) {
+        return Ok(None);
+    }
+    let further = numbers.try_copy()?;
+    let mut copy = machine.try_copy_over(spare)?;
+    copy.set_rule(Rule::Set(further));
+    Ok(Some(copy))
+}
+
+impl<'a> Search<'a> {
+    /// The nearest state whose run is kept, on the way back from the one at an index.
+    fn nearest_kept(&self, at: usize) -> usize {
+        let mut from = at;
+        for _ in 0..self.states.len() {
+            match self.states.get(from) {
+                Some(state) if self.runs.get(from).is_none() => from = state.before,
+                _ => return from,
+            }
+        }
+        from
+    }
+
+    /// A copy of the run of the state at an index, which goes on under a set; `None` where it wasn't kept, and where the set doesn't go on from the
+    /// state.
+    fn copy_at(
+        &self,
+        at: usize,
+        numbers: &Numbers,
+        spare: Option<Heap>,
+    ) -> Result<Option<Machine<'a>>, NoMemory>
+        requires sound { IsSound self.now }
+        requires set { IsSet numbers.now }
+        ensures { IfOk result (λ run. IfSome run (IsOnTheWay (ground_of self.now) numbers.now)) }
+    {
+        let Some(state) = self.states.get(at) else {
+            return Ok(None);
+        };
+        let Some(machine) = self.runs.get(at) else {
+            return Ok(None);
+        };
+        copy_under(machine, state, numbers, spare)
+    }
+
+    /// A run that comes to a state once more, over spare memory; `None` where it doesn't.
+    pub fn follow_again(
+        &self,
+        state: &State,
+        spare: Option<Heap>,
+    ) -> Result<Option<Machine<'a>>, NoMemory>
+        requires sound { IsSound self.now }
+        requires state { IsState (ground_of self.now) state.now }
+        ensures { IfOk result (λ run. IfSome run (IsRunOf (ground_of self.now) state.now)) }
+    {
+        let from = self.nearest_kept(state.before);
+        let Some(mut machine) = self.copy_at(from, &state.numbers, spare)? else {
+            return Ok(None);
+        };
+        if !go_to(&mut machine, state.attempts)? {
+            return Ok(None);
+        }
+        if machine.attempts() != state.attempts || machine.steps() != state.steps {
+            return Ok(None);
+        }
+        Ok(Some(machine))
+    }
+
+    /// Keeps the run of an older state once more, if it comes to it again: from there the way to the next states is short.
+    fn put_back(&mut self, at: usize) -> Result<(), NoMemory>
+        requires sound { IsSound self.old }
+        ensures same { self.new ≡ record self.old { runs = self.new.runs } }
+        ensures sound { OnOk result (IsSound self.new) }
+    {
+        let spare = self.runs.spare.take();
+        let Some(state) = self.states.get(at) else {
+            return Ok(());
+        };
+        match self.follow_again(state, spare)? {
+            Some(machine) => self.runs.put_back(at, machine),
+            None => Ok(()),
+        }
+    }
+
+    /// A copy of the run of the state at an index over spare memory, if it is kept.
+    fn copy_kept(&mut self, at: usize) -> Result<Option<Machine<'a>>, NoMemory>
+        requires sound { IsSound self.old }
+        ensures same { self.new ≡ record self.old { runs = self.new.runs } }
+        ensures sound { OnOk result (IsSound self.new) }
+        ensures run { IfOk result (λ run. IfSome run (λ m. (state : State) →
+            slice_get self.old.states at ≡ Some state →
+            IsRunOf (ground_of self.old) state m)) }
+    {
+        let spare = self.runs.spare.take();
+        match self.runs.get(at) {
+            Some(machine) => {
+                let copy = machine.try_copy_over(spare)?;
+                Ok(Some(copy))
+            }
+            None => Ok(None),
+        }
+    }
+
+    /// A run of its own that has come to the state at an index; `None` where there is no such state, and where the run doesn't come to it again.
+    pub fn run_at(&mut self, at: usize) -> Result<Option<Machine<'a>>, NoMemory>
+        requires sound { IsSound self.old }
+        ensures same { self.new ≡ record self.old { runs = self.new.runs } }
+        ensures sound { OnOk result (IsSound self.new) }
+        ensures run { IfOk result (λ run. IfSome run (λ m. (state : State) →
+            slice_get self.old.states at ≡ Some state →
+            IsRunOf (ground_of self.old) state m)) }
+    {
+        if self.runs.get(at).is_none() {
+            self.put_back(at)?;
+        }
+        self.copy_kept(at)
+    }
+}

@@ -1,0 +1,158 @@
+//! The runs of states, by the index of the state. Those of the newest states are kept, and one of many older ones: how a run is come
+//! by that was dropped is decided in `again`.
+
+ghost use Rattle.std.specs.Prelude.{ℕ, IfSome, OnOk};
+ghost use Rattle.wb_machine.specs.Seen.{Seen};
+ghost use Rattle.wb_states.specs.States.{AreOf, AreOfOr, IsKept};
+
+use std::alloc::Global;
+use std::collections::HashMap;
+use wb_machine::{Heap, Machine};
+use wb_model::memory::NoMemory;
+
+/// About how many bytes the runs of the newest states may take.
+const ROOM: u64 = 4 << 20;
+
+/// About how many bytes a run takes beside its heap and its trace.
+const OWN_BYTES: u64 = 8192;
+
+/// About how many bytes an attempt takes in a trace.
+const LINE_BYTES: u64 = 24;
+
+/// Of so many older states, and one more for each `BYTES_A_STATE` that its run takes, one has its run: so the way from it to the others
+/// takes no more time than a copy does.
+const INTERVAL: u64 = 32;
+
+const BYTES_A_STATE: u64 = 2048;
+
+/// The runs of states.
+#[derive(Drop)]
+pub(crate) struct Runs<'a> {
+    /// Those that are kept.
+    pub machines: HashMap<usize, Machine<'a>>,
+    /// How many states there are.
+    pub states: usize,
+    /// The states before this one are older.
+    pub newest: usize,
+    /// About how many bytes the runs of the others take.
+    pub bytes: u64,
+    /// The older state to which a run was followed again last.
+    pub revisited: usize,
+    /// The memory of a run that was dropped, or is over.
+    pub spare: Option<Heap>,
+}
+
+/// About how many bytes a run takes.
+fn bytes_of(machine: &Machine) -> u64 {
+    let own = OWN_BYTES + u64::from(machine.committed());
+    own + LINE_BYTES * u64::from(machine.attempts())
+}
+
+/// Whether the state at an index has its run however many newer ones there are. The first state has.
+fn stays(at: usize, bytes: u64) -> bool {
+    at as u64 % (INTERVAL + bytes / BYTES_A_STATE) == 0
+}
+
+impl<'a> Runs<'a> {
+    /// Of no states.
+    pub fn new(alloc: Global) -> Runs<'a>
+        ensures { (i : ℕ) (m : Seen) → IsKept result i m → ⊥ }
+    {
+        Runs {
+            machines: HashMap::new(alloc),
+            states: 0,
+            newest: 0,
+            bytes: 0,
+            revisited: 0,
+            spare: None,
+        }
+    }
+
+    /// The run of the state at an index; `None` if it was dropped.
+    pub fn get(&self, at: usize) -> Option<&Machine<'a>>
+        ensures { IfSome result (λ machine. IsKept self.now at machine.now) }
+    {
+        self.machines.get(&at)
+    }
+
+    /// Drops the run of the state at an index. Its memory is spare then.
+    fn forget(&mut self, at: usize)
+        ensures { AreOf self.old self.new }
+    {
+        if let Some(machine) = self.machines.remove(&at) {
+            self.spare = Some(machine.into_heap());
+        }
+    }
+
+    /// Counts the oldest of the newest states among the older ones, and drops its run unless it stays.
+    fn age(&mut self)
+        ensures { AreOf self.old self.new }
+    {
+        let at = self.newest;
+        self.newest = at.saturating_add(1);
+        let Some(machine) = self.machines.get(&at) else {
+            return;
+        };
+        let bytes = bytes_of(machine);
+        self.bytes = self.bytes.saturating_sub(bytes);
+        if !stays(at, bytes) {
+            self.forget(at);
+        }
+    }
+
+    /// Makes room, but keeps the run of the newest state of all.
+    fn make_room(&mut self)
+        ensures { AreOf self.old self.new }
+    {
+        for _ in self.newest..self.states.saturating_sub(1) {
+            if self.bytes <= ROOM {
+                return;
+            }
+            self.age();
+        }
+    }
+
+    /// Adds a run of the state at an index.
+    fn insert(&mut self, at: usize, machine: Machine<'a>) -> Result<(), NoMemory>
+        ensures { OnOk result (AreOfOr self.old at machine.entry self.new) }
+    {
+        if self.machines.insert(at, machine).is_err() {
+            return Err(NoMemory);
+        }
+        Ok(())
+    }
+
+    /// Adds the run of a new state, whose index is greater than those before. Runs of others may be dropped then.
+    pub fn push(&mut self, at: usize, machine: Machine<'a>) -> Result<(), NoMemory>
+        ensures { OnOk result (AreOfOr self.old at machine.entry self.new) }
+    {
+        let bytes = bytes_of(&machine);
+        self.insert(at, machine)?;
+        self.states = at.saturating_add(1);
+        self.bytes = self.bytes.saturating_add(bytes);
+        self.make_room();
+        Ok(())
+    }
+
+    /// Drops the run that was followed again last, unless it stays.
+    fn forget_revisited(&mut self)
+        ensures { AreOf self.old self.new }
+    {
+        let at = self.revisited;
+        let Some(machine) = self.machines.get(&at) else {
+            return;
+        };
+        if at < self.newest && !stays(at, bytes_of(machine)) {
+            self.forget(at);
+        }
+    }
+
+    /// Adds a run that was followed again to an older state, in the place of the last one that was.
+    pub fn put_back(&mut self, at: usize, machine: Machine<'a>) -> Result<(), NoMemory>
+        ensures { OnOk result (AreOfOr self.old at machine.entry self.new) }
+    {
+        self.forget_revisited();
+        self.revisited = at;
+        self.insert(at, machine)
+    }
+}
