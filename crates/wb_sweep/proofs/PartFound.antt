@@ -1,27 +1,22 @@
 -- What is found, or cut, among the numbers of a part is the least of all failures of the part; and what is fine of it.
-use Rattle.std.proofs.Common.{◌≡◌, ◌≢◌, ℕ, ◌+◌, ◌≤◌, inl, inr, arith, true, min, refl, sym, subst, Option, None, Some, IfSome}
+use Rattle.std.proofs.Common.{◌≡◌, ℕ, ◌+◌, ◌≤◌, inl, inr, arith, true, min, refl, sym, subst}
 use Rattle.std.proofs.Math.Nat.{min-eq_left, min-eq_right, min-le_left, min-le_right}
 use Rattle.std.proofs.lemmas.Bool.{cases_lt}
 use Rattle.wb_model.specs.declared.failures.Failing.{Failing}
 use Rattle.wb_model.specs.declared.failures.Failing.TheVariants.{Number, Pair}
 use Rattle.wb_model.specs.declared.failures.Failing.TheVariants as failings
 use Rattle.wb_model.specs.declared.failures.Failures.{Failures}
-use Rattle.wb_model.specs.declared.failures.Failures.TheVariants.{Single, Every, Pairs}
+use Rattle.wb_model.specs.declared.failures.Failures.TheVariants.{Single, Every}
 use Rattle.wb_model.specs.declared.heap.Shape.{Shape}
 use Rattle.wb_model.specs.declared.part.Part.{Part}
 use Rattle.wb_model.specs.declared.run.RunResult.{RunResult}
 use Rattle.wb_model.specs.declared.run.Why.{Why}
 use Rattle.wb_model.specs.declared.script.Script.{Script}
-use Rattle.wb_model.specs.runs.Pairs.{pair_run}
 use Rattle.wb_model.specs.runs.Parts.{last_attempt, run_at, IsFoundIn, IsLeastCutIn, IsNoneIn, IsNumberOf, IsTried, IsUncut}
 use Rattle.wb_model.specs.runs.Sweeps.{failing_at, is_fine, runs_of}
 use Rattle.wb_model.specs.runs.Run.{is_bad}
 use Rattle.wb_model.proofs.PartAnswers.{bad_is_uncut, before-number, tried-at}
-use Rattle.wb_sweep.specs.declared.family.Family.TheVariants.{Of}
-use Rattle.wb_sweep.specs.declared.scout.Known.{Known}
-use Rattle.wb_sweep.specs.declared.scout.Scout.{Scout}
-use Rattle.wb_sweep.specs.Meetings.{IsKnown, IsScout, KnowsSteps}
-use Rattle.wb_sweep.specs.Stretches.{AreFineFrom, AreNumbersFine, ArePairsFineOf, IsCutFrom, IsFoundFrom}
+use Rattle.wb_sweep.specs.Stretches.{AreFineFrom, AreNumbersFine, IsCutFrom, IsFoundFrom}
 
 -- a number of a part is no greater than the last that is tried
 pub number-within : (part : Part) (last n : ℕ) → IsNumberOf part last n → n ≤ min part.to last
@@ -71,16 +66,6 @@ module _ (failures : Failures) (part : Part) (script : Script) (budget : ℕ) (s
       } in
       subst (λ f. IsLeastCutIn failures part script budget shape f why) (sym failing) cut
 
-  -- what a scout knows of the numbers up to the last that is tried, it knows of the part
-  pub known-of-part : end ≡ min part.to last → (scout : Option Scout) (known : Option Known) →
-      IfSome known (λ k. IfSome scout (λ s. s.known ≡ k) × (scout ≢ None)) → IfSome scout (IsScout (Of failures) script budget shape) →
-      KnowsSteps (runs_of failures script budget shape) part.from (end + 1) scout → IfSome known (IsKnown (runs_of failures script budget shape) part last)
-  known-of-part e scout None same is steps = _
-  known-of-part e None (Some known) same is steps = absurd (same.1 refl)
-  known-of-part e (Some scout) (Some known) same is steps =
-      subst (IsKnown (runs_of failures script budget shape) part last) same.0
-      (record { first = is.known; within = λ n number. let le = number-within part last n number in steps n number.from (omega (arith, le, e)) })
-
 -- the run without failure is the least failure of a part with number 0
 pub first-found : (failures : Failures) (part : Part) (script : Script) (budget : ℕ) (shape : Shape) → part.from ≡ 0 →
     is_bad (runs_of failures script budget shape 0) ≡ true → IsFoundIn failures part script budget shape (failing_at failures 0) (runs_of failures script budget shape 0)
@@ -94,7 +79,7 @@ first-found failures part script budget shape start bad =
       run_is = refl;
     }
 
--- nothing is found where no number shows anything, and of pairs no pair
+-- nothing is found where no number shows anything
 module _ (part : Part) (script : Script) (budget : ℕ) (shape : Shape) where
   single_fine : AreNumbersFine (runs_of Single script budget shape) part (last_attempt Single script budget shape) →
       (at : Failing) → IsTried Single part (last_attempt Single script budget shape) at → is_fine (run_at script budget shape at) ≡ true
@@ -108,13 +93,6 @@ module _ (part : Part) (script : Script) (budget : ℕ) (shape : Shape) where
   rates_fine fine (Number n) tried = absurd tried
   rates_fine fine (Pair i j) tried = absurd tried
 
-  pairs_fine : AreNumbersFine (runs_of Pairs script budget shape) part (last_attempt Pairs script budget shape) →
-      ArePairsFineOf (pair_run script budget shape) part (last_attempt Pairs script budget shape) →
-      (at : Failing) → IsTried Pairs part (last_attempt Pairs script budget shape) at → is_fine (run_at script budget shape at) ≡ true
-  pairs_fine fine pairs (Number n) tried = fine n tried
-  pairs_fine fine pairs (failings.Every n) tried = absurd tried
-  pairs_fine fine pairs (Pair i j) tried = pairs i tried.0 tried.1 j tried.2
-
   pub none-single : IsUncut Single script budget shape → AreNumbersFine (runs_of Single script budget shape) part (last_attempt Single script budget shape) →
       IsNoneIn Single part script budget shape
   none-single uncut fine = record { uncut = uncut; fine = single_fine fine }
@@ -122,7 +100,3 @@ module _ (part : Part) (script : Script) (budget : ℕ) (shape : Shape) where
   pub none-rates : IsUncut Every script budget shape → AreNumbersFine (runs_of Every script budget shape) part (last_attempt Every script budget shape) →
       IsNoneIn Every part script budget shape
   none-rates uncut fine = record { uncut = uncut; fine = rates_fine fine }
-
-  pub none-pairs : IsUncut Pairs script budget shape → AreNumbersFine (runs_of Pairs script budget shape) part (last_attempt Pairs script budget shape) →
-      ArePairsFineOf (pair_run script budget shape) part (last_attempt Pairs script budget shape) → IsNoneIn Pairs part script budget shape
-  none-pairs uncut fine pairs = record { uncut = uncut; fine = pairs_fine fine pairs }

@@ -9,13 +9,13 @@ use Rattle.wb_model.specs.declared.run.RunResult.{RunResult}
 use Rattle.wb_model.specs.declared.run.Why.{Why}
 use Rattle.wb_model.specs.declared.script.Script.{Script}
 use Rattle.wb_model.specs.runs.Parts.{last_attempt, IsNumberOf, IsUncut}
-use Rattle.wb_model.specs.runs.SetParts.{AreSetsFineIn, AreSetsFineInBefore, IsLeastCutSetIn, IsSetFoundIn, IsSetOf}
+use Rattle.wb_model.specs.runs.SetParts.{AreSetsFineIn, AreSetsFineInBefore, IsLeastCutSetIn, IsSetCutIn, IsSetFoundIn, IsSetOf}
 use Rattle.wb_model.specs.runs.Sets.{AscendsPast, has_lesser_number, set_run}
 use Rattle.wb_model.specs.runs.Sweeps.{is_fine}
 use Rattle.wb_sweep.specs.declared.set_answer.FoundSet.{FoundSet}
 use Rattle.wb_sweep.specs.SetSearch.{AreFewerFineWith, IsCutWith, IsFoundWith, IsRest}
 use Rattle.wb_sweep.proofs.PartFound.{number-within, within-number}
-use Rattle.wb_sweep.proofs.SetOrder.{before-by}
+use Rattle.wb_model.proofs.SetOrder.{before-by}
 use Rattle.wb_sweep.proofs.SetSearchLemmas.{AreFineUpTo, lesser-fine}
 
 -- a run that has made fewer attempts than all isn't over
@@ -118,3 +118,8 @@ module _ (part : Part) (script : Script) (budget : ℕ) (shape : Shape) where
     cut = is.cut;
     least = is.least;
   }
+
+  pub any-cut-weaker : (few most : ℕ) → few ≤ most → (numbers : List ℕ) (why : Why) → IsSetCutIn part few script budget shape numbers why →
+      IsSetCutIn part most script budget shape numbers why
+  any-cut-weaker few most le numbers why (inl is) = inl is
+  any-cut-weaker few most le numbers why (inr is) = inr (cut-weaker few most le numbers why is)

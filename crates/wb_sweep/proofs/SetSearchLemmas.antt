@@ -20,7 +20,7 @@ use Rattle.wb_model.proofs.SetLemmas.{past-last}
 use Rattle.wb_model.proofs.SweepLemmas.{fine_uncut}
 use Rattle.wb_sweep.specs.declared.set_answer.FoundSet.{FoundSet}
 use Rattle.wb_sweep.specs.SetSearch.{AreFewerFine, AreFewerFineWith, AreFine, AreFineWith, IsBadSet, IsCutAfter, IsCutWith, IsFoundAfter, IsFoundWith, IsRest, IsRestWith}
-use Rattle.wb_sweep.proofs.SetOrder.{lesser-first, none-is-lesser}
+use Rattle.wb_model.proofs.SetOrder.{lesser-first, none-is-lesser}
 
 or_false : (b : Bool) → (b || false) ≡ b
 or_false true = refl

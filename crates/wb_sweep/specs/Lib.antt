@@ -1,9 +1,10 @@
 pub mod AllOfAPart
+pub mod Beside
 pub mod EverySetFaults
 pub mod EverySetSweeping
-pub mod Families
 pub mod Fault
 pub mod Meetings
+pub mod PairSets
 pub mod SetFaults
 pub mod SetSearch
 pub mod SetSweeping

@@ -1,5 +1,5 @@
 -- What a sweep over sets says of those of a part: the least whose run is bad, or that none is.
-use Rattle.std.specs.Prelude.{◌≡◌, ℕ, zero, suc, List, [], ◌∷◌, None, IfSome}
+use Rattle.std.specs.Prelude.{◌≡◌, ℕ, None, IfSome}
 use Rattle.wb_model.specs.declared.failures.Failures.TheVariants.{Single}
 use Rattle.wb_model.specs.declared.heap.Shape.{Shape}
 use Rattle.wb_model.specs.declared.part.Part.{Part}
@@ -7,11 +7,6 @@ use Rattle.wb_model.specs.declared.script.Script.{Script}
 use Rattle.wb_model.specs.runs.Parts.{last_attempt}
 use Rattle.wb_model.specs.runs.SetParts.{IsNoSetIn, IsSetFoundIn}
 use Rattle.wb_sweep.specs.declared.set_answer.SetSweep.{SetSweep}
-
--- the set in which one attempt fails; number 0 is the empty set
-abbrev pub set_of_number : ℕ → List ℕ
-set_of_number zero = []
-set_of_number (suc n) = suc n ∷ []
 
 -- The sets of a part are spoken of, of at most so many attempts.
 pub record IsSetSweepIn (part : Part) (most : ℕ) (script : Script) (budget : ℕ) (shape : Shape) (sweep : SetSweep) : Type 0 where

@@ -7,7 +7,6 @@ use Rattle.wb_model.specs.declared.run.Outcome.TheVariants.{Cut}
 use Rattle.wb_model.specs.declared.run.RunResult.{RunResult}
 use Rattle.wb_model.specs.declared.run.Why.{Why}
 use Rattle.wb_model.specs.declared.script.Script.{Script}
-use Rattle.wb_model.specs.runs.Pairs.{ArePairsFineWith}
 use Rattle.wb_model.specs.runs.Parts.{IsNumberOf}
 use Rattle.wb_model.specs.runs.Run.{is_bad}
 use Rattle.wb_model.specs.runs.Sweeps.{is_fine, runs_under}
@@ -42,7 +41,3 @@ IsCutFrom tried from last script budget shape at why =
 -- the runs of the numbers of a part, up to the last attempt, are neither bad nor cut
 abbrev pub AreNumbersFine : (ℕ → RunResult) → Part → ℕ → Type 0
 AreNumbersFine runs part last = (number : ℕ) → IsNumberOf part last number → is_fine (runs number) ≡ true
-
--- likewise those of the pairs whose first number is one of these
-abbrev pub ArePairsFineOf : (ℕ → ℕ → RunResult) → Part → ℕ → Type 0
-ArePairsFineOf runs part last = (i : ℕ) → IsNumberOf part last i → 1 ≤ i → ArePairsFineWith runs i

@@ -11,14 +11,12 @@ ghost use Rattle.wb_model.specs.declared.run.Outcome.TheVariants as outcomes;
 ghost use Rattle.wb_model.specs.declared.run.RunResult.{RunResult};
 ghost use Rattle.wb_model.specs.declared.run.Why.{Why};
 ghost use Rattle.wb_sweep.specs.Meetings.{ForkedSays, IsAhead};
-ghost use Rattle.wb_sweep.specs.declared.family.Family.TheVariants.{Of};
 ghost use Rattle.wb_sweep.specs.AllOfAPart.{line_if_told, line_of, AreAllNumbers, IsFoundAsFirst};
 
-use crate::family::Family;
 use crate::fault::SweepFault;
 use crate::followed::{Forked, follow_next};
 use crate::found::{AllNumbers, Found};
-use crate::scout::{Known, Meeting, Scout, scout_beside};
+use crate::scout::{Meeting, Scout, scout_beside};
 use crate::walk::attempts_in;
 use std::alloc::Global;
 use wb_machine::{Heap, Machine, RunFault, run};
@@ -59,7 +57,7 @@ fn end_of_fork(forked: &Forked, first: RunEnd) -> RunEnd
         result ≡ end_of run_result.outcome }
 {
     match forked {
-        Forked::Met(Meeting::Alike(_)) => first,
+        Forked::Met(Meeting::Alike) => first,
         Forked::Met(Meeting::PastBudget) => RunEnd::Cut(Why::Budget),
         Forked::Ran(run_result) => RunEnd::of(&run_result.outcome),
     }
@@ -109,9 +107,9 @@ fn tell_next<P: Progress>(
     requires end { first ≡ end_of
         (runs_of failures lead.now.script lead.now.budget lead.now.shape 0).outcome }
     requires scout { IfSome scout.old
-        (IsAhead (Of failures) lead.now.script lead.now.budget lead.now.shape) }
+        (IsAhead failures lead.now.script lead.now.budget lead.now.shape) }
     ensures scout { OnOk result (IfSome scout.new
-        (IsAhead (Of failures) lead.now.script lead.now.budget lead.now.shape)) }
+        (IsAhead failures lead.now.script lead.now.budget lead.now.shape)) }
     ensures told { OnOk result (lead.now.asks ≡ true → from ≤ number → ends.new ≡ ends.old
         ++ line_of number
         (runs_of failures lead.now.script lead.now.budget lead.now.shape number)) }
@@ -126,7 +124,7 @@ fn tell_next<P: Progress>(
     }
     let failing = failures.at(number);
     progress.begin_failure(failing);
-    let forked = follow_next(lead, Family::Of(failures), number, scout, spare)?;
+    let forked = follow_next(lead, failures, number, scout, spare)?;
     tell(ends, number, end_of_fork(&forked, first))
 }
 
@@ -151,7 +149,7 @@ fn tell_along<P: Progress>(
     requires end { first ≡ end_of
         (runs_of failures lead.old.script lead.old.budget lead.old.shape 0).outcome }
     requires scout { IfSome scout.old
-        (IsAhead (Of failures) lead.old.script lead.old.budget lead.old.shape) }
+        (IsAhead failures lead.old.script lead.old.budget lead.old.shape) }
     requires told { ends.old ≡ unfine_numbers
         (runs_of failures lead.old.script lead.old.budget lead.old.shape) from (1 - from) }
     ensures { OnOk result (ends.new ≡ unfine_numbers
@@ -225,8 +223,8 @@ fn find_first(
     Ok(Some(Found { at, result }))
 }
 
-/// Adds what is told of the later numbers of a part. The run without failure isn't cut, ends as is given, and makes `last` attempts, and
-/// this is known of its steps. What is told of number 0 is there, where it is the part's.
+/// Adds what is told of the later numbers of a part. The run without failure isn't cut, ends as is given, and makes `last` attempts
+/// and takes so many steps. What is told of number 0 is there, where it is the part's.
 fn tell_later<P: Progress>(
     ends: &mut NumberEnds,
     alloc: Global,
@@ -237,7 +235,7 @@ fn tell_later<P: Progress>(
     shape: Shape,
     last: u32,
     first: RunEnd,
-    known: Known,
+    steps: u32,
     progress: &mut P,
 ) -> Result<(), RunFault>
     requires script { IsTrue (is_script script.now) }
@@ -246,8 +244,7 @@ fn tell_later<P: Progress>(
     requires last { last ≡ last_attempt failures script.now budget shape }
     requires uncut { is_cut_outcome (runs_of failures script.now budget shape 0).outcome ≡ false }
     requires end { first ≡ end_of (runs_of failures script.now budget shape 0).outcome }
-    requires steps { known.steps ≡ (runs_of failures script.now budget shape 0).steps }
-    requires most { known.steps ≤ known.most }
+    requires steps { steps ≡ (runs_of failures script.now budget shape 0).steps }
     requires told { ends.old ≡
         unfine_numbers (runs_of failures script.now budget shape) part.from (1 - part.from) }
     ensures told { OnOk result
@@ -255,7 +252,7 @@ fn tell_later<P: Progress>(
     ensures shape { result ≡ Err RunFault.BadShape → is_shape shape ≡ false }
 {
     let mut lead = Machine::new(alloc, script, failures.at(0).rule(), budget, shape)?;
-    let mut scout = scout_beside(&lead, Family::Of(failures), Some(known), budget)?;
+    let mut scout = scout_beside(&lead, failures, Some(steps), budget)?;
     let end = part.to.min(last);
     tell_along(
         ends, &mut lead, first, failures, part.from, end, &mut scout, progress,
@@ -285,15 +282,12 @@ fn tell_all<P: Progress>(
     let first = run(alloc, script, none.rule(), budget, shape)?;
     let attempts = attempts_in(first.trace.as_slice());
     let end = RunEnd::of(&first.outcome);
-    let known = Known {
-        steps: first.steps,
-        most: first.steps,
-    };
+    let steps = first.steps;
     let mut ends = Items::new(alloc);
     tell_first(&mut ends, part, none, &first)?;
     progress.begin_failures(part.to.min(attempts));
     tell_later(
-        &mut ends, alloc, script, failures, part, budget, shape, attempts, end, known, progress,
+        &mut ends, alloc, script, failures, part, budget, shape, attempts, end, steps, progress,
     )?;
     let found = find_first(alloc, script, failures, budget, shape, &ends)?;
     Ok(AllNumbers {

@@ -3,21 +3,21 @@
 #![tactic(auto)]
 
 mod all_numbers;
-mod alone;
 pub mod every_set;
 pub mod every_set_answer;
-mod family;
 pub mod fault;
 mod followed;
 pub mod fork;
 pub mod found;
+mod larger_sets;
 mod pace;
 mod pairs;
-mod past;
 mod scout;
 pub mod set_answer;
 pub mod set_sweep;
+mod set_walk;
 mod sets;
+mod states_worth;
 pub mod sweeping;
 mod walk;
 

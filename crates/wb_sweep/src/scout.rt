@@ -3,12 +3,13 @@
 
 ghost use Rattle.std.specs.Prelude.{◌≡◌, ◌≤◌, true, false, Some, IfOk, IfSome, OnOk};
 ghost use Rattle.wb_machine.specs.Turns.{IsSameRun};
-ghost use Rattle.wb_sweep.specs.Families.{rule_in, runs_beside};
-ghost use Rattle.wb_sweep.specs.Meetings.{IsAhead, IsPastFailure, HasMet, MeetingSays};
+ghost use Rattle.wb_model.specs.runs.Sweeps.{rule_of};
+ghost use Rattle.wb_sweep.specs.Beside.{runs_beside};
+ghost use Rattle.wb_sweep.specs.Meetings.{last_failing, IsAhead, IsPastFailure, HasMet, MeetingSays};
 
-use crate::family::Family;
 use crate::pace::Pace;
 use wb_machine::{Machine, Turn};
+use wb_model::failures::Failures;
 use wb_model::memory::NoMemory;
 
 /// How often a scout goes further ahead of one fork, at most.
@@ -28,49 +29,35 @@ pub enum Place {
 /// What follows for a fork that has met the scout.
 #[derive(Clone, Copy, Debug, PartialEq, Eq)]
 pub enum Meeting {
-    /// Its run ends as the scout's does, and takes so many steps.
-    Alike(u32),
+    /// Its run ends as the scout's does.
+    Alike,
     /// The budget cuts its run: it doesn't allow as many steps as the scout's run takes from there on.
     PastBudget,
-}
-
-/// What is known of a run that isn't cut, in steps.
-#[derive(Clone, Copy, Debug, PartialEq, Eq)]
-pub struct Known {
-    /// How many it takes.
-    pub steps: u32,
-    /// The most that it takes, or one of those that were tried beside it.
-    pub most: u32,
 }
 
 /// A run ahead of a lead, under the same rule. It isn't cut.
 #[derive(Drop)]
 pub struct Scout<'a> {
     pub(crate) machine: Machine<'a>,
-    /// What is known of its whole run, and of those that were tried beside it.
-    pub(crate) known: Known,
+    /// How many steps its whole run takes.
+    pub(crate) steps: u32,
     /// The greatest number of steps that a run may take.
     pub(crate) budget: u32,
     pub(crate) pace: Pace,
 }
 
 impl<'a> Scout<'a> {
-    /// A scout where the lead is, of whose whole run this is known, at this pace.
-    pub fn beside(
-        lead: &Machine<'a>,
-        known: Known,
-        pace: Pace,
-        budget: u32,
-    ) -> Result<Scout<'a>, NoMemory>
+    /// A scout where the lead is, whose whole run takes so many steps.
+    pub fn beside(lead: &Machine<'a>, steps: u32, budget: u32) -> Result<Scout<'a>, NoMemory>
         ensures machine { IfOk result (λ scout. scout.machine ≡ lead.now) }
-        ensures known { IfOk result (λ scout. scout.known ≡ known) }
+        ensures steps { IfOk result (λ scout. scout.steps ≡ steps) }
         ensures budget { IfOk result (λ scout. scout.budget ≡ budget) }
     {
         Ok(Scout {
             machine: lead.try_copy()?,
-            known,
+            steps,
             budget,
-            pace,
+            pace: Pace::new(),
         })
     }
 
@@ -78,7 +65,7 @@ impl<'a> Scout<'a> {
     /// than its budget has steps, and one that cuts it.
     pub fn go_ahead(&mut self, attempts: u32) -> Result<(), NoMemory>
         ensures same { IsSameRun self.old.machine self.new.machine }
-        ensures known { self.new.known ≡ self.old.known }
+        ensures steps { self.new.steps ≡ self.old.steps }
         ensures budget { self.new.budget ≡ self.old.budget }
     {
         for _ in 0..self.budget.saturating_add(2) {
@@ -94,9 +81,9 @@ impl<'a> Scout<'a> {
 
     /// Whether a fork, under the failure that is tried as `number`, is where the scout is, but for allocation numbers, and nothing
     /// fails any more in either. Both must be about to make an attempt.
-    pub fn is_met_by(&self, fork: &Machine, family: Family, number: u32) -> bool
+    pub fn is_met_by(&self, fork: &Machine, failures: Failures, number: u32) -> bool
         requires script { self.now.machine.script ≡ fork.now.script }
-        ensures { result ≡ true → HasMet family number fork.now self.now.machine }
+        ensures { result ≡ true → HasMet failures number fork.now self.now.machine }
     {
         if !fork.is_at_line_of(&self.machine) {
             return false;
@@ -104,57 +91,46 @@ impl<'a> Scout<'a> {
         if !fork.will_attempt() || !self.machine.will_attempt() {
             return false;
         }
-        has_passed(family, number, fork)
-            && has_passed(family, 0, &self.machine)
+        has_passed(failures, number, fork)
+            && has_passed(failures, 0, &self.machine)
             && fork.goes_on_like(&self.machine, number.saturating_sub(1))
     }
 
     /// What follows for a fork that has met the scout; `None` where the numbers of steps don't fit.
-    pub fn meeting(&self, fork: &Machine, family: Family, number: u32) -> Option<Meeting>
-        requires met { HasMet family number fork.now self.now.machine }
-        requires scout { IsAhead family fork.now.script fork.now.budget fork.now.shape self.now }
-        requires rule { fork.now.rule ≡ rule_in family number }
+    pub fn meeting(&self, fork: &Machine, failures: Failures, number: u32) -> Option<Meeting>
+        requires met { HasMet failures number fork.now self.now.machine }
+        requires scout { IsAhead failures fork.now.script fork.now.budget fork.now.shape self.now }
+        requires rule { fork.now.rule ≡ rule_of failures number }
         requires lines { fork.now.keeps_rises ≡ false }
         ensures { IfSome result (λ meeting. MeetingSays meeting
-            (runs_beside family fork.now 0) (runs_beside family fork.now number)) }
+            (runs_beside failures fork.now 0) (runs_beside failures fork.now number)) }
     {
-        let needed = self.known.steps.checked_add(fork.steps())?;
+        let needed = self.steps.checked_add(fork.steps())?;
         let allowed = self.budget.checked_add(self.machine.steps())?;
         if needed > allowed {
             return Some(Meeting::PastBudget);
         }
-        Some(Meeting::Alike(needed.checked_sub(self.machine.steps())?))
-    }
-
-    /// Takes note of a run that takes so many steps.
-    pub fn learn(&mut self, steps: u32)
-        ensures machine { self.new.machine ≡ self.old.machine }
-        ensures steps { self.new.known.steps ≡ self.old.known.steps }
-        ensures budget { self.new.budget ≡ self.old.budget }
-        ensures kept { self.old.known.most ≤ self.new.known.most }
-        ensures learned { steps ≤ self.new.known.most }
-    {
-        self.known.most = self.known.most.max(steps);
+        Some(Meeting::Alike)
     }
 
     /// Goes ahead by as much as the pace says, and takes a fork's turns until it meets the scout, has passed it, or is over.
     fn go_and_follow(
         &mut self,
         fork: &mut Machine,
-        family: Family,
+        failures: Failures,
         number: u32,
     ) -> Result<Place, NoMemory>
         requires script { self.old.machine.script ≡ fork.old.script }
         ensures met { OnOk result (result ≡ Ok Place.AtTheScout →
-            HasMet family number fork.new self.new.machine) }
+            HasMet failures number fork.new self.new.machine) }
         ensures same { IsSameRun fork.old fork.new }
         ensures machine { IsSameRun self.old.machine self.new.machine }
-        ensures known { self.new.known ≡ self.old.known }
+        ensures steps { self.new.steps ≡ self.old.steps }
         ensures budget { self.new.budget ≡ self.old.budget }
     {
         let attempts = number.saturating_add(self.pace.ahead());
         self.go_ahead(attempts)?;
-        follow(fork, self, family, number)
+        follow(fork, self, failures, number)
     }
 
     /// Takes a fork's turns until it meets the scout, which goes ahead first, and further ahead as often as the fork passes it;
@@ -162,20 +138,20 @@ impl<'a> Scout<'a> {
     fn go_to_meet(
         &mut self,
         fork: &mut Machine,
-        family: Family,
+        failures: Failures,
         number: u32,
     ) -> Result<bool, NoMemory>
         requires script { self.old.machine.script ≡ fork.old.script }
         ensures met { OnOk result (result ≡ Ok true →
-            HasMet family number fork.new self.new.machine) }
+            HasMet failures number fork.new self.new.machine) }
         ensures same { IsSameRun fork.old fork.new }
         ensures machine { IsSameRun self.old.machine self.new.machine }
-        ensures known { self.new.known ≡ self.old.known }
+        ensures steps { self.new.steps ≡ self.old.steps }
         ensures budget { self.new.budget ≡ self.old.budget }
     {
         let at_first = self.pace.ahead();
         for _ in 0..MOST_TIMES {
-            match self.go_and_follow(fork, family, number)? {
+            match self.go_and_follow(fork, failures, number)? {
                 Place::AtTheScout => return Ok(true),
                 Place::AtTheEnd => return Ok(false),
                 Place::PastTheScout => {}
@@ -191,41 +167,56 @@ impl<'a> Scout<'a> {
     pub fn meet(
         &mut self,
         fork: &mut Machine,
-        family: Family,
+        failures: Failures,
         number: u32,
     ) -> Result<bool, NoMemory>
         requires script { self.old.machine.script ≡ fork.old.script }
         ensures met { OnOk result (result ≡ Ok true →
-            HasMet family number fork.new self.new.machine) }
+            HasMet failures number fork.new self.new.machine) }
         ensures same { IsSameRun fork.old fork.new }
         ensures machine { IsSameRun self.old.machine self.new.machine }
-        ensures known { self.new.known ≡ self.old.known }
+        ensures steps { self.new.steps ≡ self.old.steps }
         ensures budget { self.new.budget ≡ self.old.budget }
     {
         if self.pace.passes_next() {
             return Ok(false);
         }
-        let met = self.go_to_meet(fork, family, number)?;
+        let met = self.go_to_meet(fork, failures, number)?;
         self.pace.add(met);
         Ok(met)
     }
 }
 
-/// Whether a run is past the last attempt that fails under the failure that is tried as `number`.
-fn has_passed(family: Family, number: u32, machine: &Machine) -> bool
-    ensures { result ≡ true → IsPastFailure family number machine.now.attempts }
+/// The last attempt that fails under the failure that is tried as `n`; `None` for rates, under which there is always a later one.
+fn last_failing(failures: Failures, n: u32) -> Option<u32>
+    ensures { result ≡ last_failing failures n }
 {
-    match family.last_failing(number) {
+    match failures {
+        Failures::Single | Failures::Pairs => Some(n),
+        Failures::Every => None,
+    }
+}
+
+/// Whether a run is past the last attempt that fails under the failure that is tried as `number`.
+fn has_passed(failures: Failures, number: u32, machine: &Machine) -> bool
+    ensures { result ≡ true → IsPastFailure failures number machine.now.attempts }
+{
+    match last_failing(failures, number) {
         Some(last) => last <= machine.attempts(),
         None => false,
     }
 }
 
 /// Takes a fork's turns until it meets the scout, has passed it, or is over.
-fn follow(fork: &mut Machine, scout: &Scout, family: Family, number: u32) -> Result<Place, NoMemory>
+fn follow(
+    fork: &mut Machine,
+    scout: &Scout,
+    failures: Failures,
+    number: u32,
+) -> Result<Place, NoMemory>
     requires script { scout.now.machine.script ≡ fork.old.script }
     ensures met { OnOk result (result ≡ Ok Place.AtTheScout →
-        HasMet family number fork.new scout.now.machine) }
+        HasMet failures number fork.new scout.now.machine) }
     ensures same { IsSameRun fork.old fork.new }
 {
     let most = scout.machine.attempts().saturating_add(scout.pace.past());
@@ -233,7 +224,7 @@ fn follow(fork: &mut Machine, scout: &Scout, family: Family, number: u32) -> Res
         if fork.attempts() > most {
             return Ok(Place::PastTheScout);
         }
-        if scout.is_met_by(fork, family, number) {
+        if scout.is_met_by(fork, failures, number) {
             return Ok(Place::AtTheScout);
         }
         if fork.step()? == Turn::Ended {
@@ -243,32 +234,22 @@ fn follow(fork: &mut Machine, scout: &Scout, family: Family, number: u32) -> Res
     Ok(Place::AtTheEnd)
 }
 
-/// A scout of the lead along the run under the family's failure 0, of which this is known; none without that, and none of rates, under
+/// A scout of the lead along the run without failure, which takes so many steps; none where they aren't known, and none of rates, under
 /// which there is always a later failure.
 pub fn scout_beside<'a>(
     lead: &Machine<'a>,
-    family: Family,
-    known: Option<Known>,
+    failures: Failures,
+    steps: Option<u32>,
     budget: u32,
 ) -> Result<Option<Scout<'a>>, NoMemory>
-    ensures { IfOk result (λ scout. IfSome scout (λ s. (known ≡ Some s.known)
+    ensures { IfOk result (λ scout. IfSome scout (λ s. (steps ≡ Some s.steps)
         × (s.machine ≡ lead.now) × (s.budget ≡ budget))) }
 {
-    if family.last_failing(0).is_none() {
+    if last_failing(failures, 0).is_none() {
         return Ok(None);
     }
-    match known {
-        Some(known) => Ok(Some(Scout::beside(lead, known, Pace::new(), budget)?)),
+    match steps {
+        Some(steps) => Ok(Some(Scout::beside(lead, steps, budget)?)),
         None => Ok(None),
-    }
-}
-
-/// The pace of the scout, where there is one, with which a further scout begins.
-pub fn pace_of(scout: &Option<Scout>) -> Pace
-    ensures { IfSome scout.now (λ s. result ≡ s.pace) }
-{
-    match scout {
-        Some(scout) => scout.pace,
-        None => Pace::new(),
     }
 }

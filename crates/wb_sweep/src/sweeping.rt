@@ -9,16 +9,14 @@ ghost use Rattle.wb_model.specs.runs.SweepAnswers.{IsCutShort};
 ghost use Rattle.wb_model.specs.runs.Sweeps.{is_cut_outcome, is_fine, rule_of, runs_of};
 ghost use Rattle.wb_model.specs.declared.run.Outcome.TheVariants as outcomes;
 ghost use Rattle.wb_model.specs.declared.run.Why.{Why};
-ghost use Rattle.wb_sweep.specs.declared.family.Family.TheVariants.{Of};
-ghost use Rattle.wb_sweep.specs.Meetings.{IsKnown, IsKnownRun, IsScout};
+ghost use Rattle.wb_sweep.specs.Meetings.{IsFineRun, IsScout};
 ghost use Rattle.wb_sweep.specs.Stretches.{AreNumbersFine};
 ghost use Rattle.wb_sweep.specs.Sweeping.{IsBadAt, IsSweep, IsSweepIn};
 
-use crate::family::Family;
 use crate::fault::SweepFault;
 use crate::found::{Found, Sweep};
 use crate::pairs::find_pair;
-use crate::scout::{Known, Scout, scout_beside};
+use crate::scout::{Scout, scout_beside};
 use crate::walk::{attempts_in, find_among, judge_run};
 use std::alloc::Global;
 use wb_machine::{Machine, run};
@@ -46,37 +44,16 @@ fn judge_first(part: Part, at: Failing, first: RunResult) -> Result<Option<Found
     Ok(found)
 }
 
-/// What is known of a run that is fine; `None` where it is bad or cut.
-fn known_if_fine(run_result: &RunResult) -> Option<Known>
-    ensures { IfSome result (IsKnownRun run_result.now) }
+/// How many steps a run takes that is fine; `None` where it is bad or cut.
+fn steps_if_fine(run_result: &RunResult) -> Option<u32>
+    ensures { IfSome result (IsFineRun run_result.now) }
 {
     let is_fine = match &run_result.outcome {
         Outcome::Ended { leaks, .. } => leaks.len() == 0,
         Outcome::Panicked(_) | Outcome::Cut(_) => false,
         Outcome::NoCleanup => true,
     };
-    is_fine.then_some(Known {
-        steps: run_result.steps,
-        most: run_result.steps,
-    })
-}
-
-/// What was found among the numbers of a part, and what is known of their runs' steps, where the run without failure is fine.
-#[derive(Drop)]
-pub(crate) struct Tried {
-    pub found: Option<Found>,
-    pub known: Option<Known>,
-}
-
-/// What is known by a scout, where there is one.
-fn known_by(scout: &Option<Scout>) -> Option<Known>
-    ensures { IfSome result (λ known.
-        IfSome scout.now (λ s. s.known ≡ known) × (scout.now ≢ None)) }
-{
-    match scout {
-        Some(scout) => Some(scout.known),
-        None => None,
-    }
+    is_fine.then_some(run_result.steps)
 }
 
 /// Tries the failures of a part as its numbers, of pairs the single ones. Found is the least whose run is bad; `None` if they are all
@@ -89,7 +66,7 @@ fn try_in_order<P: Progress>(
     last: u32,
     scout: &mut Option<Scout>,
     progress: &mut P,
-) -> Result<Tried, SweepFault>
+) -> Result<Option<Found>, SweepFault>
     requires rule { lead.old.rule ≡ rule_of failures 0 }
     requires start { (lead.old.begun ≡ false) × (lead.old.attempts ≡ 0) × (lead.old.steps ≡ 0) }
     requires well { lead.old.failed ≡ false }
@@ -99,36 +76,28 @@ fn try_in_order<P: Progress>(
         is_fine (runs_of failures lead.old.script lead.old.budget lead.old.shape 0) ≡ true }
     requires last { last ≡ last_attempt failures lead.old.script lead.old.budget lead.old.shape }
     requires scout { IfSome scout.old
-        (IsScout (Of failures) lead.old.script lead.old.budget lead.old.shape) }
-    ensures fine { IfOk result (λ tried. tried.found ≡ None →
+        (IsScout failures lead.old.script lead.old.budget lead.old.shape) }
+    ensures fine { IfOk result (λ found. found ≡ None →
         AreNumbersFine (runs_of failures lead.old.script lead.old.budget lead.old.shape) part
         (last_attempt failures lead.old.script lead.old.budget lead.old.shape)) }
-    ensures known { IfOk result (λ tried. tried.found ≡ None → IfSome tried.known
-        (IsKnown (runs_of failures lead.old.script lead.old.budget lead.old.shape) part
-        (last_attempt failures lead.old.script lead.old.budget lead.old.shape))) }
-    ensures found { IfOk result (λ tried. IfSome tried.found (λ bad.
+    ensures found { IfOk result (λ found. IfSome found (λ bad.
         IsFoundIn failures part lead.old.script lead.old.budget lead.old.shape bad.at bad.result)) }
     ensures cut { (at : Failing) (why : Why) → result ≡ Err (SweepFault.Cut at why) →
         IsLeastCutIn failures part lead.old.script lead.old.budget lead.old.shape at why }
     ensures shape { result ≢ Err SweepFault.BadShape }
 {
-    let found = find_among(
+    find_among(
         lead,
-        Family::Of(failures),
+        failures,
         part.from,
         part.to.min(last),
         scout,
-        &mut None,
         progress,
-    )?;
-    Ok(Tried {
-        found,
-        known: known_by(scout),
-    })
+    )
 }
 
-/// The same from the start of the run without failure, of which this is known if it is fine.
-pub(crate) fn try_numbers<P: Progress>(
+/// The same from the start of the run without failure, which takes so many steps if it is fine.
+fn try_numbers<P: Progress>(
     alloc: Global,
     script: &Script,
     failures: Failures,
@@ -136,45 +105,7 @@ pub(crate) fn try_numbers<P: Progress>(
     budget: u32,
     shape: Shape,
     last: u32,
-    known: Option<Known>,
-    progress: &mut P,
-) -> Result<Tried, SweepFault>
-    requires script { IsTrue (is_script script.now) }
-    requires least { 1 ≤ budget }
-    requires greatest { budget ≤ LARGEST_BUDGET }
-    requires uncut { IsUncut failures script.now budget shape }
-    requires fine { part.from ≡ 0 →
-        is_fine (runs_of failures script.now budget shape 0) ≡ true }
-    requires last { last ≡ last_attempt failures script.now budget shape }
-    requires known { IfSome known (IsKnownRun (runs_of failures script.now budget shape 0)) }
-    ensures fine { IfOk result (λ tried. tried.found ≡ None →
-        AreNumbersFine (runs_of failures script.now budget shape) part
-        (last_attempt failures script.now budget shape)) }
-    ensures known { IfOk result (λ tried. tried.found ≡ None → IfSome tried.known
-        (IsKnown (runs_of failures script.now budget shape) part
-        (last_attempt failures script.now budget shape))) }
-    ensures found { IfOk result (λ tried. IfSome tried.found (λ bad.
-        IsFoundIn failures part script.now budget shape bad.at bad.result)) }
-    ensures cut { (at : Failing) (why : Why) → result ≡ Err (SweepFault.Cut at why) →
-        IsLeastCutIn failures part script.now budget shape at why }
-    ensures shape { result ≡ Err SweepFault.BadShape → is_shape shape ≡ false }
-{
-    let mut lead = Machine::new(alloc, script, failures.at(0).rule(), budget, shape)?;
-    let mut scout = scout_beside(&lead, Family::Of(failures), known, budget)?;
-    try_in_order(&mut lead, failures, part, last, &mut scout, progress)
-}
-
-/// The least failure of a part that makes a run bad; `None` if none does. The run without failure isn't cut, is fine where the part
-/// has number 0, and makes `last` attempts; this is known of it if it is fine.
-fn find_later<P: Progress>(
-    alloc: Global,
-    script: &Script,
-    failures: Failures,
-    part: Part,
-    budget: u32,
-    shape: Shape,
-    last: u32,
-    known: Option<Known>,
+    steps: Option<u32>,
     progress: &mut P,
 ) -> Result<Option<Found>, SweepFault>
     requires script { IsTrue (is_script script.now) }
@@ -184,7 +115,42 @@ fn find_later<P: Progress>(
     requires fine { part.from ≡ 0 →
         is_fine (runs_of failures script.now budget shape 0) ≡ true }
     requires last { last ≡ last_attempt failures script.now budget shape }
-    requires known { IfSome known (IsKnownRun (runs_of failures script.now budget shape 0)) }
+    requires steps { IfSome steps (IsFineRun (runs_of failures script.now budget shape 0)) }
+    ensures fine { IfOk result (λ found. found ≡ None →
+        AreNumbersFine (runs_of failures script.now budget shape) part
+        (last_attempt failures script.now budget shape)) }
+    ensures found { IfOk result (λ found. IfSome found (λ bad.
+        IsFoundIn failures part script.now budget shape bad.at bad.result)) }
+    ensures cut { (at : Failing) (why : Why) → result ≡ Err (SweepFault.Cut at why) →
+        IsLeastCutIn failures part script.now budget shape at why }
+    ensures shape { result ≡ Err SweepFault.BadShape → is_shape shape ≡ false }
+{
+    let mut lead = Machine::new(alloc, script, failures.at(0).rule(), budget, shape)?;
+    let mut scout = scout_beside(&lead, failures, steps, budget)?;
+    try_in_order(&mut lead, failures, part, last, &mut scout, progress)
+}
+
+/// The least failure of a part that makes a run bad; `None` if none does. The run without failure isn't cut, is fine where the part
+/// has number 0, makes `last` attempts, and takes so many steps if it is fine.
+fn find_later<P: Progress>(
+    alloc: Global,
+    script: &Script,
+    failures: Failures,
+    part: Part,
+    budget: u32,
+    shape: Shape,
+    last: u32,
+    steps: Option<u32>,
+    progress: &mut P,
+) -> Result<Option<Found>, SweepFault>
+    requires script { IsTrue (is_script script.now) }
+    requires least { 1 ≤ budget }
+    requires greatest { budget ≤ LARGEST_BUDGET }
+    requires uncut { IsUncut failures script.now budget shape }
+    requires fine { part.from ≡ 0 →
+        is_fine (runs_of failures script.now budget shape 0) ≡ true }
+    requires last { last ≡ last_attempt failures script.now budget shape }
+    requires steps { IfSome steps (IsFineRun (runs_of failures script.now budget shape 0)) }
     ensures none { IfOk result (λ found. found ≡ None →
         IsNoneIn failures part script.now budget shape) }
     ensures found { IfOk result (λ found. IfSome found (λ bad.
@@ -193,8 +159,8 @@ fn find_later<P: Progress>(
         IsLeastCutIn failures part script.now budget shape at why }
     ensures shape { result ≡ Err SweepFault.BadShape → is_shape shape ≡ false }
 {
-    let Tried { found, known } = try_numbers(
-        alloc, script, failures, part, budget, shape, last, known, progress,
+    let found = try_numbers(
+        alloc, script, failures, part, budget, shape, last, steps, progress,
     )?;
     if found.is_some() {
         return Ok(found);
@@ -202,7 +168,7 @@ fn find_later<P: Progress>(
     match failures {
         Failures::Single => Ok(None),
         Failures::Every => Ok(None),
-        Failures::Pairs => find_pair(alloc, script, part, budget, shape, last, known, progress),
+        Failures::Pairs => find_pair(alloc, script, part, budget, shape, last, progress),
     }
 }
 
@@ -230,7 +196,7 @@ pub(crate) fn find_least<P: Progress>(
     let none = failures.at(0);
     let first = run(alloc, script, none.rule(), budget, shape)?;
     let attempts = attempts_in(first.trace.as_slice());
-    let known = known_if_fine(&first);
+    let steps = steps_if_fine(&first);
     if let Some(found) = judge_first(part, none, first)? {
         return Ok(Sweep {
             attempts,
@@ -239,7 +205,7 @@ pub(crate) fn find_least<P: Progress>(
     }
     progress.begin_failures(part.to.min(attempts));
     match find_later(
-        alloc, script, failures, part, budget, shape, attempts, known, progress,
+        alloc, script, failures, part, budget, shape, attempts, steps, progress,
     ) {
         Ok(found) => Ok(Sweep { attempts, found }),
         Err(fault) => Err(fault),
@@ -251,13 +217,14 @@ pub(crate) fn find_least<P: Progress>(
 ///
 /// Runs the script without failure, and then, up to the first that is bad or cut, under the failures from 1 to the last
 /// attempt of that run; what it finds is of every failure. Each of these goes on from where that run makes the attempt that is
-/// the first to fail, until it has come to the same as that run, but for allocation numbers, or to its end. Pairs are tried once no
-/// single number's run is bad or cut: in the order of their first attempts, and those with the same one in the order of their second,
-/// which is any that the run with the first failure makes after it. Those that single numbers settle aren't tried. `Cut` names
-/// the least failure whose run is cut, where no lesser failure's run is bad. `BadShape` comes exactly where the shape is none
-/// that a heap may have. At most five runs are under way at once, of pairs; else three.
+/// the first to fail, until it has come to the same as that run, but for allocation numbers, or to its end. At most three runs are
+/// under way at once. Pairs are tried once no single number's run is bad or cut, as the sets of two attempts that `sweep_sets` tries:
+/// they are in the order of their first attempts, and those with the same one in the order of their second, which is any that the run
+/// with the first failure makes after it. `Cut` names the least failure whose run is cut, where no lesser failure's run is bad.
+/// `BadShape` comes exactly where the shape is none that a heap may have.
 ///
-/// `progress` is notified that the sweep begins, of each failure that is tried before its run, and that the sweep is over.
+/// `progress` is notified that the sweep begins, of each failure that is tried before its run, of pairs as by `sweep_sets`, and that the
+/// sweep is over.
 pub fn sweep<P: Progress>(
     alloc: Global,
     script: &Script,

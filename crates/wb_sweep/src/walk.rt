@@ -1,23 +1,21 @@
 //! A walk along a run, from which copies part under failures: each before the attempt that is the first to fail in it.
 
 ghost use Rattle.std.specs.Prelude.{◌≡◌, ◌≢◌, ◌⊎◌, ◌+◌, ◌≤◌, None, true, false, length, IfOk, IfErr, IfSome};
-ghost use Rattle.wb_model.specs.runs.Sweeps.{is_cut_outcome, is_fine};
+ghost use Rattle.wb_model.specs.runs.Sweeps.{failing_at, is_cut_outcome, is_fine, rule_of};
 ghost use Rattle.wb_model.specs.declared.run.Outcome.TheVariants as outcomes;
 ghost use Rattle.wb_model.specs.declared.run.RunResult.{RunResult};
 ghost use Rattle.wb_model.specs.declared.run.Why.{Why};
-ghost use Rattle.wb_sweep.specs.Families.{failing_in, next_failing, next_run, rule_in, runs_beside};
-ghost use Rattle.wb_sweep.specs.Meetings.{FineSays, HasLearned, IsScout, KnowsSteps};
-ghost use Rattle.wb_sweep.specs.Meetings.{steps_followed};
+ghost use Rattle.wb_sweep.specs.Beside.{next_failing, next_run, runs_beside};
+ghost use Rattle.wb_sweep.specs.Meetings.{FineSays, IsScout};
 ghost use Rattle.wb_sweep.specs.Stretches.{AreFineFrom, IsCutFrom, IsFoundFrom};
 ghost use Rattle.wb_sweep.specs.Sweeping.{IsBadAt, IsNumbered};
 
-use crate::family::Family;
 use crate::fault::SweepFault;
 use crate::followed::{Forked, follow_beside_fine};
 use crate::found::Found;
 use crate::scout::{Meeting, Scout};
 use wb_machine::{Heap, Machine};
-use wb_model::failures::Failing;
+use wb_model::failures::{Failing, Failures};
 use wb_model::heap::Attempt;
 use wb_model::progress::Progress;
 use wb_model::run::{Outcome, RunResult, Why};
@@ -48,8 +46,6 @@ pub(crate) fn judge_run(at: Failing, run_result: RunResult) -> Result<Option<Fou
 fn judge_fork(at: Failing, forked: Forked) -> Result<Option<Found>, SweepFault>
     ensures fine { IfOk result (λ found. found ≡ None → (run_result : RunResult) →
         FineSays forked run_result → is_fine run_result ≡ true) }
-    ensures steps { IfOk result (λ found. found ≡ None → (run_result : RunResult) →
-        FineSays forked run_result → steps_followed forked ≡ run_result.steps) }
     ensures bad { IfOk result (λ found. IfSome found (λ bad. (run_result : RunResult) →
         FineSays forked run_result → IsBadAt at run_result bad)) }
     ensures cut { IfErr result (λ fault. (why : Why) × (fault ≡ SweepFault.Cut at why)
@@ -57,7 +53,7 @@ fn judge_fork(at: Failing, forked: Forked) -> Result<Option<Found>, SweepFault>
         run_result.outcome ≡ outcomes.Cut why)) }
 {
     match forked {
-        Forked::Met(Meeting::Alike(_)) => Ok(None),
+        Forked::Met(Meeting::Alike) => Ok(None),
         Forked::Met(Meeting::PastBudget) => Err(SweepFault::Cut {
             at,
             why: Why::Budget,
@@ -82,7 +78,7 @@ pub(crate) fn attempts_in(trace: &[Attempt]) -> u32
 /// there is one. Its copy takes the spare memory, and leaves its own.
 fn try_next<P: Progress>(
     lead: &Machine,
-    family: Family,
+    failures: Failures,
     from: u32,
     number: u32,
     scout: &mut Option<Scout>,
@@ -90,22 +86,19 @@ fn try_next<P: Progress>(
     progress: &mut P,
 ) -> Result<Option<Found>, SweepFault>
     requires number { number ≡ lead.now.attempts + 1 }
-    requires rule { lead.now.rule ≡ rule_in family 0 }
+    requires rule { lead.now.rule ≡ rule_of failures 0 }
     requires lines { lead.now.keeps_rises ≡ false }
     requires scout { IfSome scout.old
-        (IsScout family lead.now.script lead.now.budget lead.now.shape) }
+        (IsScout failures lead.now.script lead.now.budget lead.now.shape) }
     ensures scout { IfOk result (λ found. found ≡ None → IfSome scout.new
-        (IsScout family lead.now.script lead.now.budget lead.now.shape)) }
+        (IsScout failures lead.now.script lead.now.budget lead.now.shape)) }
     ensures fine { IfOk result (λ found. found ≡ None → lead.now.asks ≡ true → from ≤ number →
-        is_fine (next_run family lead.now) ≡ true) }
-    ensures kept { IfOk result (λ found. found ≡ None → HasLearned scout.old scout.new 0) }
-    ensures learned { IfOk result (λ found. found ≡ None → lead.now.asks ≡ true → from ≤ number →
-        HasLearned scout.old scout.new (next_run family lead.now).steps) }
+        is_fine (next_run failures lead.now) ≡ true) }
     ensures bad { IfOk result (λ found. IfSome found (λ bad. (from ≤ number)
-        × IsBadAt (next_failing family lead.now) (next_run family lead.now) bad)) }
+        × IsBadAt (next_failing failures lead.now) (next_run failures lead.now) bad)) }
     ensures cut { IfErr result (λ fault. (fault ≡ SweepFault.NoMemory) ⊎ ((why : Why) ×
-        (from ≤ number) × (fault ≡ SweepFault.Cut (next_failing family lead.now) why)
-        × ((next_run family lead.now).outcome ≡ outcomes.Cut why))) }
+        (from ≤ number) × (fault ≡ SweepFault.Cut (next_failing failures lead.now) why)
+        × ((next_run failures lead.now).outcome ≡ outcomes.Cut why))) }
 {
     if number < from {
         return Ok(None);
@@ -113,59 +106,47 @@ fn try_next<P: Progress>(
     if !lead.will_attempt() {
         return Ok(None);
     }
-    let failing = family.at(number);
+    let failing = failures.at(number);
     progress.begin_failure(failing);
-    let forked = follow_beside_fine(lead, family, number, scout, spare)?;
+    let forked = follow_beside_fine(lead, failures, number, scout, spare)?;
     judge_fork(failing, forked)
 }
 
-/// The least failure of a family whose run is bad, among those from one number on up to a last one, which is no greater than the
-/// last attempt of the lead's own run, under the family's failure 0; `None` if they are all fine. Those up to the attempts that the
-/// lead has made are, and lesser numbers than the first aren't looked at. Each copy is followed until it meets the scout, if there is
-/// one, and takes the memory of the one before, the first the spare one.
+/// The least failure whose run is bad, among those that are tried as the numbers from one on up to a last one, which is no greater than the
+/// last attempt of the run without failure; `None` if they are all fine. The lead is that run; those up to the attempts that it has made
+/// are fine, and lesser numbers than the first aren't looked at. Each copy is followed until it meets the scout, if there is one, and
+/// takes the memory of the one before.
 pub(crate) fn find_among<P: Progress>(
     lead: &mut Machine,
-    family: Family,
+    failures: Failures,
     from: u32,
     last: u32,
     scout: &mut Option<Scout>,
-    spare: &mut Option<Heap>,
     progress: &mut P,
 ) -> Result<Option<Found>, SweepFault>
-    requires rule { lead.old.rule ≡ rule_in family 0 }
+    requires rule { lead.old.rule ≡ rule_of failures 0 }
     requires first { lead.old.begun ≡ false → lead.old.steps ≡ 0 }
     requires within { lead.old.steps ≤ lead.old.budget }
     requires well { lead.old.failed ≡ false }
     requires lines { lead.old.keeps_rises ≡ false }
-    requires last { last ≤ length (runs_beside family lead.old 0).trace }
+    requires last { last ≤ length (runs_beside failures lead.old 0).trace }
     requires scout { IfSome scout.old
-        (IsScout family lead.old.script lead.old.budget lead.old.shape) }
-    requires steps { KnowsSteps (runs_beside family lead.old) from (lead.old.attempts + 1)
-        scout.old }
-    requires fine { AreFineFrom (runs_beside family lead.old) from (lead.old.attempts + 1) }
+        (IsScout failures lead.old.script lead.old.budget lead.old.shape) }
+    requires fine { AreFineFrom (runs_beside failures lead.old) from (lead.old.attempts + 1) }
     ensures fine { IfOk result (λ found. found ≡ None →
-        AreFineFrom (runs_beside family lead.old) from (last + 1)) }
-    ensures scout { IfOk result (λ found. found ≡ None → IfSome scout.new
-        (IsScout family lead.old.script lead.old.budget lead.old.shape)) }
-    ensures steps { IfOk result (λ found. found ≡ None →
-        KnowsSteps (runs_beside family lead.old) from (last + 1) scout.new) }
-    ensures found { IfOk result (λ found. IfSome found (λ bad. IsFoundFrom (failing_in family) from
+        AreFineFrom (runs_beside failures lead.old) from (last + 1)) }
+    ensures found { IfOk result (λ found. IfSome found (λ bad.
+        IsFoundFrom (failing_at failures) from
         last lead.old.script lead.old.budget lead.old.shape bad.at bad.result)) }
     ensures cut { (at : Failing) (why : Why) → result ≡ Err (SweepFault.Cut at why) →
-        IsCutFrom (failing_in family) from last lead.old.script lead.old.budget lead.old.shape at
+        IsCutFrom (failing_at failures) from last lead.old.script lead.old.budget lead.old.shape at
         why }
     ensures shape { result ≢ Err SweepFault.BadShape }
 {
+    let mut spare = None;
     while lead.attempts() < last {
-        let found = try_next(
-            lead,
-            family,
-            from,
-            lead.attempts() + 1,
-            scout,
-            spare,
-            progress,
-        )?;
+        let number = lead.attempts() + 1;
+        let found = try_next(lead, failures, from, number, scout, &mut spare, progress)?;
         if found.is_some() {
             return Ok(found);
         }

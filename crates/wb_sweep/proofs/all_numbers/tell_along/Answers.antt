@@ -8,7 +8,6 @@ use Rattle.wb_model.specs.runs.AllNumbers.{unfine_numbers}
 use Rattle.wb_model.specs.runs.Run.{run}
 use Rattle.wb_model.specs.runs.RunEnds.{end_of}
 use Rattle.wb_model.specs.runs.Sweeps.{rule_of, runs_of}
-use Rattle.wb_sweep.specs.declared.family.Family.TheVariants.{Of}
 use Rattle.wb_sweep.specs.AllOfAPart.{line_of}
 use Rattle.wb_sweep.specs.Meetings.{IsAhead}
 use Rattle.wb_sweep.proofs.Further.{IsOfSameRun, of-same, same-runs, to-same}
@@ -42,7 +41,7 @@ loop-made-preserved g c =
     let more : next ≤ made + 1 = omega (arith, so_far, after.more, before.made) in
     let here : made + 1 ≡ lead.attempts + 1 = ap (λ n. n + 1) before.made in
     let line : line_of (made + 1) (runs_of failures lead.script lead.budget lead.shape (made + 1)) ≡ line_of (made + 1) (runs (made + 1)) =
-    ap (line_of (made + 1)) (same-runs (Of failures) old lead (made + 1) same) in
+    ap (line_of (made + 1)) (same-runs failures old lead (made + 1) same) in
     record {
       script = script;
       rule = rule;
@@ -60,14 +59,14 @@ loop-made-preserved g c =
           (λ e. made-further new.met_ceiling new.over made next last (λ met. so_far ∙ after.turned.made.asked e met ∙ sym here) after.turned.ceiling ended c.loop-made-test.true more)
           (λ e begun. c.in_ok-tell_next.ensures.told e begun ∙ ap (λ more. c.loop-made.ends ++ more) line)
           c.in_ok-tell_next.ensures.unasked c.in_ok-tell_next.ensures.before;
-      scout = of-same old lead same (λ (s : Script) (b : ℕ) (h : Shape). IfSome c.tell_next.new.scout (IsAhead (Of failures) s b h)) c.in_ok-tell_next.ensures.scout;
+      scout = of-same old lead same (λ (s : Script) (b : ℕ) (h : Shape). IfSome c.tell_next.new.scout (IsAhead failures s b h)) c.in_ok-tell_next.ensures.scout;
     }
 
 pub tell_next-requires-clause-scout : goal.tell_next-requires-clause-scout
 tell_next-requires-clause-scout g c =
     let before = c.loop-made.invariant in
     let same : IsOfSameRun c.args.lead.now c.loop-made.lead = record { script = before.script; budget = before.budget; shape = before.shape } in
-    to-same c.args.lead.now c.loop-made.lead same (λ (s : Script) (b : ℕ) (h : Shape). IfSome c.loop-made.scout (IsAhead (Of c.args.failures) s b h)) before.scout
+    to-same c.args.lead.now c.loop-made.lead same (λ (s : Script) (b : ℕ) (h : Shape). IfSome c.loop-made.scout (IsAhead c.args.failures s b h)) before.scout
 
 pub tell_next-requires-clause-end : goal.tell_next-requires-clause-end
 tell_next-requires-clause-end g c =

@@ -1,7 +1,6 @@
 use Rattle.std.proofs.Common.{◌≡◌, ◌+◌, ◌-◌, ◌≤◌, false, true, cond, IfSome}
 use Rattle.wb_model.specs.runs.AllNumbers.{unfine_numbers}
 use Rattle.wb_model.specs.runs.Sweeps.{rule_of, runs_of}
-use Rattle.wb_sweep.specs.declared.family.Family.TheVariants.{Of}
 use Rattle.wb_sweep.specs.Meetings.{IsAhead}
 use Rattle.wb_sweep.proofs.all_numbers.tell_along.Given as goal
 
@@ -21,7 +20,7 @@ invariant-loop-made g l =
       most : l.made ≤ l.fn.last;
       ended : l.lead.over ≡ true → l.fn.last ≤ l.made;
       told : l.ends ≡ unfine_numbers (runs_of l.fn.failures l.fn.lead.script l.fn.lead.budget l.fn.lead.shape) l.fn.from (l.made + 1 - l.fn.from);
-      scout : IfSome l.scout (IsAhead (Of l.fn.failures) l.fn.lead.script l.fn.lead.budget l.fn.lead.shape);
+      scout : IfSome l.scout (IsAhead l.fn.failures l.fn.lead.script l.fn.lead.budget l.fn.lead.shape);
     }
 
 -- the steps that are left, the first turn, and the end

@@ -2,15 +2,14 @@
 use Rattle.std.proofs.Common.{◌+◌, ap, ◌∙◌, sym, subst}
 use Rattle.wb_model.specs.declared.heap.Rule.{Rule}
 use Rattle.wb_model.specs.runs.Rest.{SameSoFar}
-use Rattle.wb_model.specs.runs.Sweeps.{rule_for}
-use Rattle.wb_sweep.specs.Families.{failing_in, rule_in}
-use Rattle.wb_sweep.proofs.FamilyLemmas.{family-fits}
+use Rattle.wb_model.specs.runs.Sweeps.{failing_at, rule_for, rule_of}
+use Rattle.wb_model.proofs.RuleLemmas.{failures-fit}
 use Rattle.wb_sweep.proofs.followed.follow_next.Goals as goal
 
 pub fork_under-requires-clause-same : goal.fork_under-requires-clause-same
 fork_under-requires-clause-same c =
-    let family = c.args.family in
+    let failures = c.args.failures in
     let lead = c.args.lead.now in
-    let e = c.rule.ensures ∙ ap rule_for (c.at.ensures ∙ ap (failing_in family) c.requires.number) in
+    let e = c.rule.ensures ∙ ap rule_for (c.at.ensures ∙ ap (failing_at failures) c.requires.number) in
     subst (λ (q : Rule). SameSoFar q lead.rule lead.attempts) (sym e)
-    (subst (λ (q : Rule). SameSoFar (rule_in family (lead.attempts + 1)) q lead.attempts) (sym c.requires.rule) (family-fits family lead.attempts))
+    (subst (λ (q : Rule). SameSoFar (rule_of failures (lead.attempts + 1)) q lead.attempts) (sym c.requires.rule) (failures-fit failures lead.attempts))

@@ -1,13 +1,12 @@
 -- Proof: find_later. Where no number of the part shows anything there is nothing, but for pairs, which come next.
-use Rattle.std.proofs.Common.{rules, ◌≡◌, Err, IfSome, subst, sym, ◌∙◌}
+use Rattle.std.proofs.Common.{rules, ◌≡◌, Err, None, IfOk, subst, sym, ◌∙◌}
 use Rattle.wb_model.specs.declared.failures.Failures.{Failures}
 use Rattle.wb_model.specs.runs.Parts.{last_attempt, IsLeastCutIn, IsNoneIn, IsUncut}
 use Rattle.wb_model.specs.runs.Sweeps.{runs_of}
 use Rattle.wb_sweep.specs.declared.fault.SweepFault.TheVariants.{Cut}
-use Rattle.wb_sweep.specs.Meetings.{IsKnown}
 use Rattle.wb_sweep.specs.Stretches.{AreNumbersFine}
-use Rattle.wb_sweep.proofs.AnswerLemmas.{map_ok, nothing}
-use Rattle.wb_sweep.proofs.PartFound.{none-pairs, none-rates, none-single}
+use Rattle.wb_sweep.proofs.AnswerLemmas.{nothing}
+use Rattle.wb_sweep.proofs.PartFound.{none-rates, none-single}
 use Rattle.wb_sweep.proofs.sweeping.find_later.Goals as goal
 
 pub returns-in_err-found-clause-cut : goal.returns-in_err-found-clause-cut
@@ -17,7 +16,7 @@ returns-in_err-found-clause-cut g c at why e =
 
 pub returns-in-Single-clause-none : goal.returns-in-Single-clause-none
 returns-in-Single-clause-none g c e =
-    let none = nothing c.in_ok-found.field-0.found (sym c.is_some.ensures ∙ c.if-is_some.false) in
+    let none = nothing c.in_ok-found.found (sym c.is_some.ensures ∙ c.if-is_some.false) in
     let uncut = subst (λ (f : Failures). IsUncut f c.args.script.now c.args.budget c.args.shape) c.in-Single.is c.requires.uncut in
     let fine = subst (λ (f : Failures). AreNumbersFine (runs_of f c.args.script.now c.args.budget c.args.shape) c.args.part (last_attempt f c.args.script.now c.args.budget c.args.shape))
     c.in-Single.is (c.in_ok-found.ensures.fine none) in
@@ -26,35 +25,25 @@ returns-in-Single-clause-none g c e =
 
 pub returns-in-Every-clause-none : goal.returns-in-Every-clause-none
 returns-in-Every-clause-none g c e =
-    let none = nothing c.in_ok-found.field-0.found (sym c.is_some.ensures ∙ c.if-is_some.false) in
+    let none = nothing c.in_ok-found.found (sym c.is_some.ensures ∙ c.if-is_some.false) in
     let uncut = subst (λ (f : Failures). IsUncut f c.args.script.now c.args.budget c.args.shape) c.in-Every.is c.requires.uncut in
     let fine = subst (λ (f : Failures). AreNumbersFine (runs_of f c.args.script.now c.args.budget c.args.shape) c.args.part (last_attempt f c.args.script.now c.args.budget c.args.shape))
     c.in-Every.is (c.in_ok-found.ensures.fine none) in
     subst (λ (f : Failures). IsNoneIn f c.args.part c.args.script.now c.args.budget c.args.shape) (sym c.in-Every.is)
     (none-rates c.args.part c.args.script.now c.args.budget c.args.shape uncut fine)
 
-pub find_pair-requires-clause-alone : goal.find_pair-requires-clause-alone
-find_pair-requires-clause-alone g c =
-    let none = nothing c.in_ok-found.field-0.found (sym c.is_some.ensures ∙ c.if-is_some.false) in
-    subst (λ (f : Failures). AreNumbersFine (runs_of f c.args.script.now c.args.budget c.args.shape) c.args.part (last_attempt f c.args.script.now c.args.budget c.args.shape))
-    c.in-Pairs.is (c.in_ok-found.ensures.fine none)
-
-pub find_pair-requires-clause-known : goal.find_pair-requires-clause-known
-find_pair-requires-clause-known g c =
-    let none = nothing c.in_ok-found.field-0.found (sym c.is_some.ensures ∙ c.if-is_some.false) in
-    subst (λ (f : Failures). IfSome c.in_ok-found.field-0.known
-    (IsKnown (runs_of f c.args.script.now c.args.budget c.args.shape) c.args.part (last_attempt f c.args.script.now c.args.budget c.args.shape)))
-    c.in-Pairs.is (c.in_ok-found.ensures.known none)
-
-pub returns-clause-none : goal.returns-clause-none
-returns-clause-none g c =
-    let none = nothing c.in_ok-found.field-0.found (sym c.is_some.ensures ∙ c.if-is_some.false) in
+pub find_pair-requires-clause-single : goal.find_pair-requires-clause-single
+find_pair-requires-clause-single g c =
+    let none = nothing c.in_ok-found.found (sym c.is_some.ensures ∙ c.if-is_some.false) in
     let uncut = subst (λ (f : Failures). IsUncut f c.args.script.now c.args.budget c.args.shape) c.in-Pairs.is c.requires.uncut in
     let fine = subst (λ (f : Failures). AreNumbersFine (runs_of f c.args.script.now c.args.budget c.args.shape) c.args.part (last_attempt f c.args.script.now c.args.budget c.args.shape))
     c.in-Pairs.is (c.in_ok-found.ensures.fine none) in
-    map_ok c.find_pair.result (λ found pairs nothing.
-    subst (λ (f : Failures). IsNoneIn f c.args.part c.args.script.now c.args.budget c.args.shape) (sym c.in-Pairs.is)
-    (none-pairs c.args.part c.args.script.now c.args.budget c.args.shape uncut fine (pairs nothing))) c.find_pair.ensures.none
+    none-single c.args.part c.args.script.now c.args.budget c.args.shape uncut fine
+
+pub returns-clause-none : goal.returns-clause-none
+returns-clause-none g c =
+    subst (λ (f : Failures). IfOk c.find_pair.result (λ found. found ≡ None → IsNoneIn f c.args.part c.args.script.now c.args.budget c.args.shape)) (sym c.in-Pairs.is)
+    c.find_pair.ensures.none
 
 pub returns-clause-cut : goal.returns-clause-cut
 returns-clause-cut g c at why e =

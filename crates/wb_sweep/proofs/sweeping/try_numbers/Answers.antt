@@ -5,9 +5,8 @@ use Rattle.wb_model.specs.declared.failures.Failing.{Failing}
 use Rattle.wb_model.specs.declared.run.Why.{Why}
 use Rattle.wb_model.specs.runs.Parts.{last_attempt, IsFoundIn, IsLeastCutIn}
 use Rattle.wb_model.specs.runs.Sweeps.{is_fine, rule_for, rule_of, runs_of}
-use Rattle.wb_sweep.specs.declared.family.Family.TheVariants.{Of}
 use Rattle.wb_sweep.specs.declared.fault.SweepFault.TheVariants.{Cut}
-use Rattle.wb_sweep.specs.Meetings.{IsKnown, IsKnownRun, IsScout}
+use Rattle.wb_sweep.specs.Meetings.{IsFineRun, IsScout}
 use Rattle.wb_sweep.specs.Stretches.{AreNumbersFine}
 use Rattle.wb_sweep.proofs.AnswerLemmas.{map_some}
 use Rattle.wb_sweep.proofs.sweeping.try_numbers.Goals as goal
@@ -16,10 +15,10 @@ pub try_in_order-requires-clause-scout : goal.try_in_order-requires-clause-scout
 try_in_order-requires-clause-scout g c =
     let failures = c.args.failures in
     let rule : c.rule.result ≡ rule_of failures 0 = c.rule.ensures ∙ ap rule_for c.at.ensures in
-    let is : IfSome c.in_ok-scout.scout (λ s. (c.args.known ≡ Some s.known) × (s.machine ≡ c.in_ok-lead.lead) × (s.budget ≡ c.args.budget)) = search rules in
+    let is : IfSome c.in_ok-scout.scout (λ s. (c.args.steps ≡ Some s.steps) × (s.machine ≡ c.in_ok-lead.lead) × (s.budget ≡ c.args.budget)) = search rules in
     map_some c.in_ok-scout.scout (λ s made.
     let start = made.1 ∙ c.in_ok-lead.ensures.seen in
-    subst (λ (m : Seen). IsScout (Of failures) m.script m.budget m.shape s) (sym c.in_ok-lead.ensures.seen)
+    subst (λ (m : Seen). IsScout failures m.script m.budget m.shape s) (sym c.in_ok-lead.ensures.seen)
     (record {
       rule = ap (λ (m : Seen). m.rule) start ∙ rule;
       same_script = ap (λ (m : Seen). m.script) start;
@@ -27,7 +26,7 @@ try_in_order-requires-clause-scout g c =
       same_shape = ap (λ (m : Seen). m.shape) start;
       lines = ap (λ (m : Seen). m.keeps_rises) start;
       allowed = made.2;
-      known = subst (λ k. IfSome k (IsKnownRun (runs_of failures c.args.script.now c.args.budget c.args.shape 0))) made.0 c.requires.known;
+      run_is = subst (λ k. IfSome k (IsFineRun (runs_of failures c.args.script.now c.args.budget c.args.shape 0))) made.0 c.requires.steps;
     })) is
 
 pub try_in_order-requires-clause-fine : goal.try_in_order-requires-clause-fine
@@ -36,19 +35,13 @@ try_in_order-requires-clause-fine g c first =
 
 pub returns-clause-fine : goal.returns-clause-fine
 returns-clause-fine g c =
-    subst (λ (s : Seen). IfOk c.try_in_order.result (λ tried. tried.found ≡ None →
+    subst (λ (s : Seen). IfOk c.try_in_order.result (λ found. found ≡ None →
     AreNumbersFine (runs_of c.args.failures s.script s.budget s.shape) c.args.part (last_attempt c.args.failures s.script s.budget s.shape)))
     c.in_ok-lead.ensures.seen c.try_in_order.ensures.fine
 
-pub returns-clause-known : goal.returns-clause-known
-returns-clause-known g c =
-    subst (λ (s : Seen). IfOk c.try_in_order.result (λ tried. tried.found ≡ None → IfSome tried.known
-    (IsKnown (runs_of c.args.failures s.script s.budget s.shape) c.args.part (last_attempt c.args.failures s.script s.budget s.shape))))
-    c.in_ok-lead.ensures.seen c.try_in_order.ensures.known
-
 pub returns-clause-found : goal.returns-clause-found
 returns-clause-found g c =
-    subst (λ (s : Seen). IfOk c.try_in_order.result (λ tried. IfSome tried.found (λ bad.
+    subst (λ (s : Seen). IfOk c.try_in_order.result (λ found. IfSome found (λ bad.
     IsFoundIn c.args.failures c.args.part s.script s.budget s.shape bad.at bad.result)))
     c.in_ok-lead.ensures.seen c.try_in_order.ensures.found
 

@@ -8,6 +8,6 @@ abbrev pub invariant-loop : goal.invariant-loop
 invariant-loop l =
     record {
       same : IsSameRun l.fn.self.machine l.self.machine;
-      known : l.self.known ≡ l.fn.self.known;
+      steps : l.self.steps ≡ l.fn.self.steps;
       budget : l.self.budget ≡ l.fn.self.budget;
     }

@@ -9,6 +9,6 @@ invariant-loop l =
     record {
       fork : IsSameRun l.fn.fork l.fork;
       machine : IsSameRun l.fn.self.machine l.self.machine;
-      known : l.self.known ≡ l.fn.self.known;
+      steps : l.self.steps ≡ l.fn.self.steps;
       budget : l.self.budget ≡ l.fn.self.budget;
     }

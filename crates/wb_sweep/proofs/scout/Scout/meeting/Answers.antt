@@ -1,25 +1,21 @@
 -- Proof: Scout::meeting. From the meeting on, the rest of the fork is the rest of the scout's run.
-use Rattle.std.proofs.Common.{rules, ◌≡◌, ◌+◌, ◌-◌, ◌≤◌, arith}
-use Rattle.wb_sweep.proofs.MeetingLemmas.{met-alike, met-cut, met-steps}
+use Rattle.std.proofs.Common.{rules, ◌≡◌, ◌+◌, arith}
+use Rattle.wb_sweep.proofs.MeetingLemmas.{met-alike, met-cut}
 use Rattle.wb_sweep.proofs.scout.Scout.meeting.Goals as goal
 
 pub returns-then-needed-allowed : goal.returns-then-needed-allowed
 returns-then-needed-allowed c =
     let fork = c.args.fork.now in
     let scout = c.args.self.now in
-    let needed : c.in_ok-needed.needed ≡ scout.known.steps + fork.steps = search rules in
+    let needed : c.in_ok-needed.needed ≡ scout.steps + fork.steps = search rules in
     let allowed : c.in_ok-allowed.allowed ≡ scout.budget + scout.machine.steps = search rules in
-    met-cut c.args.family fork scout c.args.number c.requires.scout c.requires.rule c.requires.lines c.requires.met (omega (arith, c.if-needed-allowed.true, needed, allowed))
+    met-cut c.args.failures fork scout c.args.number c.requires.scout c.requires.rule c.requires.lines c.requires.met (omega (arith, c.if-needed-allowed.true, needed, allowed))
 
 pub returns : goal.returns
 returns c =
     let fork = c.args.fork.now in
     let scout = c.args.self.now in
-    let needed : c.in_ok-needed.needed ≡ scout.known.steps + fork.steps = search rules in
+    let needed : c.in_ok-needed.needed ≡ scout.steps + fork.steps = search rules in
     let allowed : c.in_ok-allowed.allowed ≡ scout.budget + scout.machine.steps = search rules in
-    let within : scout.known.steps + fork.steps ≤ scout.budget + scout.machine.steps = omega (arith, c.if-needed-allowed.false, needed, allowed) in
-    let counted = met-steps c.args.family fork scout c.args.number c.requires.scout c.requires.rule c.requires.lines c.requires.met within in
-    let left : c.in_ok-checked_sub.field-0 ≡ c.in_ok-needed.needed - scout.machine.steps = search rules in (
-      met-alike c.args.family fork scout c.args.number c.requires.scout c.requires.rule c.requires.lines c.requires.met within,
-      omega (arith, left, needed, counted),
-    )
+    met-alike c.args.failures fork scout c.args.number c.requires.scout c.requires.rule c.requires.lines c.requires.met
+    (omega (arith, c.if-needed-allowed.false, needed, allowed))

@@ -17,7 +17,7 @@ use Rattle.wb_sweep.proofs.Further.{IsOfSameRun, of-same, to-same}
 use Rattle.wb_sweep.proofs.PartFound.{within-number}
 use Rattle.wb_sweep.proofs.SetPartLemmas.{fewer-of, not-over, set-cut, set-found, sets-fine}
 use Rattle.wb_sweep.proofs.SetSearchLemmas.{sets-further}
-use Rattle.wb_sweep.proofs.set_sweep.find_among_sets.Goals as goal
+use Rattle.wb_sweep.proofs.set_walk.find_among_sets.Goals as goal
 
 pub returns-in_err-found-clause-cut : goal.returns-in_err-found-clause-cut
 returns-in_err-found-clause-cut g c numbers why e =

@@ -2,7 +2,7 @@ use Rattle.std.proofs.Common.{◌≡◌, ◌+◌, ◌-◌, ◌≤◌, [], false,
 use Rattle.wb_model.specs.declared.heap.Rule.TheVariants as rules
 use Rattle.wb_model.specs.runs.Sets.{set_run}
 use Rattle.wb_sweep.proofs.SetSearchLemmas.{AreFineUpTo}
-use Rattle.wb_sweep.proofs.set_sweep.find_among_sets.Given as goal
+use Rattle.wb_sweep.proofs.set_walk.find_among_sets.Given as goal
 
 -- the run is the same, without failure, and the sets of the part are fine whose first attempt was made so far
 abbrev pub invariant-loop-lead : goal.invariant-loop-lead

@@ -4,7 +4,7 @@ use Rattle.wb_machine.specs.Seen.{Seen}
 use Rattle.wb_model.specs.declared.run.Why.{Why}
 use Rattle.wb_model.specs.runs.SetParts.{AreSetsFineIn, IsLeastCutSetIn, IsSetFoundIn}
 use Rattle.wb_sweep.specs.declared.set_answer.SetFault.TheVariants.{Cut}
-use Rattle.wb_sweep.proofs.set_sweep.find_of_many.Goals as goal
+use Rattle.wb_sweep.proofs.set_walk.find_of_many.Goals as goal
 
 pub find_among_sets-requires-clause-fine : goal.find_among_sets-requires-clause-fine
 find_among_sets-requires-clause-fine g c =

@@ -1,12 +1,12 @@
 use Rattle.std.proofs.Common.{◌≤◌}
 use Rattle.wb_model.specs.runs.SetParts.{AreSetsFineIn}
-use Rattle.wb_sweep.proofs.set_sweep.find_sets.Given as goal
+use Rattle.wb_sweep.proofs.set_walk.walk_sets.Given as goal
 
 -- the sets with so many numbers are fine
 abbrev pub invariant-loop-fewer : goal.invariant-loop-fewer
 invariant-loop-fewer g l =
     record {
-      some : 1 ≤ l.fewer;
+      some : l.fn.fine ≤ l.fewer;
       most : l.fewer ≤ l.fn.most;
       fine : AreSetsFineIn l.fn.part l.fewer l.fn.script l.fn.budget l.fn.shape;
     }

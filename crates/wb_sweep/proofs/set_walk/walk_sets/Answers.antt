@@ -1,8 +1,8 @@
--- Proof: find_sets. What is cut of so many numbers is so of at most as many as are asked for.
+-- Proof: walk_sets. What is cut of so many numbers is so of at most as many as are asked for.
 use Rattle.std.proofs.Common.{rules, ◌≡◌, ◌+◌, Err, arith}
 use Rattle.wb_sweep.specs.declared.set_answer.SetFault.TheVariants.{Cut}
 use Rattle.wb_sweep.proofs.SetPartLemmas.{cut-weaker}
-use Rattle.wb_sweep.proofs.set_sweep.find_sets.Goals as goal
+use Rattle.wb_sweep.proofs.set_walk.walk_sets.Goals as goal
 
 pub returns-in_err-found-clause-cut : goal.returns-in_err-found-clause-cut
 returns-in_err-found-clause-cut g c numbers why e =

@@ -1,0 +1,89 @@
+//! A sweep over sets of two attempts and more, once no single one shows anything: by states first, and by a walk where these become too
+//! many.
+
+ghost use Rattle.std.specs.Prelude.{◌≡◌, ◌≢◌, ◌⊎◌, ℕ, ◌<◌, ◌≤◌, List, None, false, length, true, IfOk, IfSome, IsTrue};
+ghost use Rattle.wb_model.specs.language.Sound.{is_script};
+ghost use Rattle.wb_model.specs.heap.Space.{is_shape};
+ghost use Rattle.wb_model.specs.runs.Parts.{last_attempt};
+ghost use Rattle.wb_model.specs.runs.SetParts.{AreSetsFineIn, IsLeastCutSetIn, IsNoSetIn, IsSetFoundIn};
+ghost use Rattle.wb_model.specs.runs.Sweeps.{is_fine};
+ghost use Rattle.wb_model.specs.declared.failures.Failures.TheVariants.{Single};
+ghost use Rattle.wb_model.specs.declared.run.Outcome.TheVariants as outcomes;
+ghost use Rattle.wb_model.specs.declared.run.Why.{Why};
+ghost use Rattle.wb_sweep.specs.SetSearch.{IsBadSet};
+
+use crate::set_answer::{FoundSet, SetFault};
+use crate::set_walk::walk_sets;
+use crate::sets::judge_set;
+use crate::states_worth::states_worth;
+use std::alloc::Global;
+use wb_model::heap::Shape;
+use wb_model::limits::LARGEST_BUDGET;
+use wb_model::part::Part;
+use wb_model::progress::Progress;
+use wb_model::script::Script;
+use wb_states::{Searched, Shown, search_states};
+
+/// What a set amounts to that shows something, where those of at most `most` numbers are asked for: found where its run is bad, `Cut` where it
+/// is cut, and `None` where it has more numbers.
+fn judge_shown(shown: Shown, most: u32) -> Result<Option<FoundSet>, SetFault>
+    ensures none { IfOk result (λ found. found ≡ None →
+        (is_fine shown.result ≡ true) ⊎ (most < length shown.numbers)) }
+    ensures bad { IfOk result (λ found. IfSome found (λ bad.
+        IsBadSet shown.numbers shown.result bad × (length shown.numbers ≤ most))) }
+    ensures cut { (numbers : List ℕ) (why : Why) → result ≡ Err (SetFault.Cut numbers why) →
+        (numbers ≡ shown.numbers) × (shown.result.outcome ≡ outcomes.Cut why)
+        × (length shown.numbers ≤ most) }
+    ensures shape { result ≢ Err SetFault.BadShape }
+{
+    let Shown { numbers, result } = shown;
+    if numbers.len() > most as usize {
+        return Ok(None);
+    }
+    judge_set(numbers, result)
+}
+
+/// The least set of at most `most` numbers whose run is bad, of those that are tried of a part; `None` if the run of each is fine. Those of at
+/// most one number are. The run without failure makes `last` attempts.
+///
+/// States before an attempt that are the same but for allocation numbers are followed once, as many as the sets are worth. Where they are more,
+/// the sets themselves are tried, from those of one number more than the states have answered.
+pub(crate) fn find_larger<P: Progress>(
+    alloc: Global,
+    script: &Script,
+    part: Part,
+    most: u32,
+    budget: u32,
+    shape: Shape,
+    last: u32,
+    progress: &mut P,
+) -> Result<Option<FoundSet>, SetFault>
+    requires script { IsTrue (is_script script.now) }
+    requires least { 1 ≤ budget }
+    requires greatest { budget ≤ LARGEST_BUDGET }
+    requires last { last ≡ last_attempt Single script.now budget shape }
+    requires single { IsNoSetIn part 1 script.now budget shape }
+    ensures none { IfOk result (λ found. found ≡ None →
+        AreSetsFineIn part most script.now budget shape) }
+    ensures found { IfOk result (λ found. IfSome found (λ bad.
+        IsSetFoundIn part most script.now budget shape bad.numbers bad.result)) }
+    ensures cut { (numbers : List ℕ) (why : Why) → result ≡ Err (SetFault.Cut numbers why) →
+        IsLeastCutSetIn part most script.now budget shape numbers why }
+    ensures shape { result ≡ Err SetFault.BadShape → is_shape shape ≡ false }
+{
+    if most <= 1 {
+        return Ok(None);
+    }
+    let states = states_worth(last, most);
+    match search_states(
+        alloc, script, part, last, most, states, budget, shape, progress,
+    )? {
+        Searched::Shown(shown) => judge_shown(shown, most),
+        Searched::Fine => Ok(None),
+        Searched::FineTo(fine) => {
+            walk_sets(
+                alloc, script, part, fine, most, budget, shape, last, progress,
+            )
+        }
+    }
+}
