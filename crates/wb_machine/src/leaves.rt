@@ -28,6 +28,7 @@ impl State {
     }
 
     /// A leave with a code.
+    #[inline(always)]
     pub fn leave(&mut self, code: &Number) -> Ending
         ensures { CarriesOut self.old (left_with self.old (number_read self.old code.now)) result
             self.new }
@@ -36,6 +37,7 @@ impl State {
     }
 
     /// A leave with a code that is negative.
+    #[inline(always)]
     pub fn leave_if_error(&mut self, code: &Number) -> Ending
         ensures { CarriesOut self.old (left_where self.old
             (int_lt (number_read self.old code.now) (pos 0)) (number_read self.old code.now)) result
@@ -63,6 +65,7 @@ impl State {
     }
 
     /// The end of a body, without a result.
+    #[inline(always)]
     pub fn end_body(&mut self) -> Ending
         ensures { CarriesOut self.old (returned self.old null) result self.new }
     {

@@ -33,13 +33,12 @@ pub const NULL: Ptr = Ptr {
     number: 0,
 };
 
-/// What a local holds that isn't a buffer of its own.
+/// What a local holds that isn't a buffer of its own; a buffer of maximum 0 takes no room.
 #[derive(Clone, Copy)]
 pub enum Slot {
     Pointer(Ptr),
     Number(i32),
     View(Window),
-    /// A buffer of maximum 0, which takes no room.
     NoBuffer,
 }
 
@@ -159,6 +158,7 @@ fn declare(
 }
 
 /// What is stored at a place; the number 0 where nothing is.
+#[inline(always)]
 fn stored_at(slots: &[Stored], at: usize) -> Stored
     ensures { result ≡ stored_at slots.now at }
 {
@@ -207,8 +207,8 @@ impl Locals {
         })
     }
 
-    /// A frame on top, for a body that is handed this and declares these locals. Answers where the caller's frame begins. No
-    /// memory is asked for where as many locals, and as many buffers, were there at once before.
+    /// A frame on top, for a body. Returns where the caller's begins. Asks for memory only where it is deeper than all before.
+    #[inline(always)]
     pub fn call(
         &mut self,
         context: ReadContext,
@@ -229,14 +229,14 @@ impl Locals {
         Ok(caller)
     }
 
-    /// Drops the innermost frame. The caller's, which begins at `base`, is the innermost again.
+    /// Drops the innermost frame. The caller's is the innermost again: it begins at `base`, no later than the dropped one.
+    #[inline(always)]
     pub fn end_call(&mut self, base: usize)
         ensures { self.new ≡ unframed self.old base }
     {
         let end = first_buffer(&self.slots[self.base..], self.buffers.len());
         self.buffers.truncate(end);
         self.slots.truncate(self.base);
-        // a frame begins no later than the one above it
         self.base = base.min(self.base);
     }
 

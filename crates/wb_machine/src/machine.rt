@@ -154,7 +154,7 @@ impl<'a> Machine<'a> {
         self.try_copy_over(None)
     }
 
-    /// The same, its cells over the memory of `spare`, whose own are lost, where there is one and it has room.
+    /// The same, its cells over the memory of `spare`, whose own are lost, where there is one.
     pub fn try_copy_over(&self, spare: Option<Heap>) -> Result<Machine<'a>, NoMemory>
         ensures { IfOk result (λ copy. copy ≡ self.now) }
     {

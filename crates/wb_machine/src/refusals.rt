@@ -109,7 +109,7 @@ impl State {
     }
 
     /// What refuses the arguments of a call, from left to right.
-    #[inline(never)]
+    #[inline(always)]
     fn arguments_refusal(&self, arguments: &[Argument]) -> Option<Panic>
         ensures { result ≡ first_refusal self.now (of_arguments arguments.now) }
     {

@@ -80,7 +80,7 @@ impl State {
     }
 
     /// The same state, in memory of its own, or that of its cells over the memory of `spare`, whose own are lost, where there is
-    /// one and it has room: what is done to one changes nothing in the other.
+    /// one: what is done to one changes nothing in the other.
     pub fn try_copy_over(&self, spare: Option<Heap>) -> Result<State, NoMemory>
         ensures { IfOk result (λ copy. copy ≡ self.now) }
     {

@@ -223,7 +223,7 @@ impl<'a> Control<'a> {
 
     /// A body begins in a frame of its own, of an object or of none, and then its caller's frame is current again. One frame too
     /// many is refused.
-    #[inline(never)]
+    #[inline(always)]
     pub fn begin_body(
         &mut self,
         script: &Script,

@@ -202,6 +202,7 @@ impl<'a> Control<'a> {
 
     /// A body has ended: the caller's frame, which begins at `base` and runs a body of `this`, is the innermost again. Then
     /// comes what follows; a body that ran out gives null. A leave goes on.
+    #[inline(always)]
     fn unwind_call(&mut self, base: usize, this: Ptr, after: After, state: &mut State)
         requires { is_stop self.old.ending ≡ false }
         ensures kept { (script : Script) (r : Rule) (budget : ℕ) →
