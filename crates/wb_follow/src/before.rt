@@ -7,7 +7,7 @@ use wb_model::script::{Condition, Number, Statement};
 
 /// What a statement's numbers, or its condition, come to.
 #[derive(Clone, Copy, Debug, PartialEq, Eq)]
-pub enum Value {
+pub(crate) enum Value {
     /// It has none that is worth saying.
     None,
     Number(i64),
@@ -16,22 +16,22 @@ pub enum Value {
 
 /// What a machine shows before a turn.
 #[derive(Clone, Copy)]
-pub struct Before<'a> {
+pub(crate) struct Before<'a> {
     /// The statement that the turn is to begin; `None` if it begins none.
-    pub ahead: Option<Ahead<'a>>,
+    pub(crate) ahead: Option<Ahead<'a>>,
     /// The live cell that the pointer names which that statement reads, or that of the newest item.
-    pub cell: Option<Header>,
-    pub value: Value,
-    pub steps: u32,
-    pub attempts: u32,
-    pub items: u32,
-    pub level: u32,
-    pub committed: u32,
+    pub(crate) cell: Option<Header>,
+    pub(crate) value: Value,
+    pub(crate) steps: u32,
+    pub(crate) attempts: u32,
+    pub(crate) items: u32,
+    pub(crate) level: u32,
+    pub(crate) committed: u32,
 }
 
 impl<'a> Before<'a> {
     /// Looks at a machine, of whose cleanup stack this is the newest item.
-    pub fn of(machine: &Machine<'a>, newest: Option<Item>) -> Before<'a> {
+    pub(crate) fn of(machine: &Machine<'a>, newest: Option<Item>) -> Before<'a> {
         let ahead = Ahead::of(machine);
         let (cell, value) = match ahead {
             Some(ahead) => (
@@ -53,7 +53,7 @@ impl<'a> Before<'a> {
     }
 
     /// Returns the attempt that the turn made, if it made one.
-    pub fn attempt(&self, machine: &Machine<'a>) -> Option<Attempt> {
+    pub(crate) fn attempt(&self, machine: &Machine<'a>) -> Option<Attempt> {
         if machine.attempts() > self.attempts {
             machine.last_attempt()
         } else {
@@ -63,7 +63,7 @@ impl<'a> Before<'a> {
 }
 
 /// Returns the live cell that a pointer names; `None` if it names none.
-pub fn live_cell(machine: &Machine<'_>, pointer: Ptr) -> Option<Header> {
+pub(crate) fn live_cell(machine: &Machine<'_>, pointer: Ptr) -> Option<Header> {
     let cell = live_at(machine, pointer.place)?;
     if cell.number == pointer.number {
         Some(cell)

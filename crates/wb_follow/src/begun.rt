@@ -5,7 +5,7 @@ use wb_history::Ahead;
 
 /// What a turn begins.
 #[derive(Clone, Copy)]
-pub enum What<'a> {
+pub(crate) enum What<'a> {
     /// The run: the cell of the cleanup stack is asked for.
     Run,
     Statement(Ahead<'a>),
@@ -21,10 +21,10 @@ pub enum What<'a> {
 
 /// What a turn begins, at which line, and how many bodies run there.
 #[derive(Clone, Copy)]
-pub struct Begun<'a> {
-    pub what: What<'a>,
-    pub line: u32,
-    pub depth: u32,
+pub(crate) struct Begun<'a> {
+    pub(crate) what: What<'a>,
+    pub(crate) line: u32,
+    pub(crate) depth: u32,
     /// The line that was begun before it while as many bodies ran; 0 if none was.
-    pub after: u32,
+    pub(crate) after: u32,
 }

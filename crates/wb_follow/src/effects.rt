@@ -12,7 +12,7 @@ use wb_model::heap::{Item, KERR_NO_MEMORY};
 use wb_model::script::Statement;
 
 /// Says what a turn did, and keeps what is open. Returns whether it left.
-pub fn put_effects<'a>(
+pub(crate) fn put_effects<'a>(
     rows: &mut Rows,
     machine: &Machine<'a>,
     before: &Before<'a>,

@@ -15,8 +15,8 @@ use wb_model::script::Script;
 
 /// How a run ends.
 #[derive(Clone, Copy)]
-pub struct Ending {
-    pub steps: u32,
+pub(crate) struct Ending {
+    pub(crate) steps: u32,
     end: RunEnd,
     /// The code with which `main` is left.
     left: Option<i32>,
@@ -24,13 +24,13 @@ pub struct Ending {
 
 impl Ending {
     /// Whether the last step asks for a cell that would end past the greatest length of a heap.
-    pub fn is_at_ceiling(self) -> bool {
+    pub(crate) fn is_at_ceiling(self) -> bool {
         self.end == RunEnd::Cut(Why::Ceiling)
     }
 }
 
 /// Runs a script to its end; `None` if the shape is none that a heap may have. The only error is that memory ran out.
-pub fn ending_of(
+pub(crate) fn ending_of(
     alloc: Global,
     script: &Script,
     parameters: &RunParameters,
@@ -58,9 +58,9 @@ fn code_of(outcome: &Outcome) -> Option<i32> {
 }
 
 /// Writes the last row: how the run ends.
-pub fn put_ending(rows: &mut Rows, ending: Ending) {
+pub(crate) fn put_ending(rows: &mut Rows, ending: Ending) {
     rows.begin(true);
-    rows.head_words("end", "");
+    rows.head("end", "");
     match ending.end {
         RunEnd::NoCleanup => rows.text("`main` doesn't begin"),
         RunEnd::Panicked(panic) => put_panic(rows, panic),
@@ -101,7 +101,7 @@ fn put_main(rows: &mut Rows, left: Option<i32>, leaks: usize) {
 }
 
 /// Writes the name of a panic.
-pub fn put_panic(rows: &mut Rows, panic: Panic) {
+pub(crate) fn put_panic(rows: &mut Rows, panic: Panic) {
     match panic {
         Panic::User(number) => {
             rows.text("panic USER ");

@@ -105,7 +105,7 @@ fn put_heading(rows: &mut Rows, name: &str) {
     rows.text(": the run, step by step");
     rows.end();
     rows.begin(true);
-    rows.head_words("step", "line");
+    rows.head("step", "line");
     rows.text("statement");
     rows.effect_text("what it does");
     rows.end();

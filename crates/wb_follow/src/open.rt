@@ -12,38 +12,38 @@ use wb_model::script::Statement;
 
 /// An item of the cleanup stack, and the line that pushed it.
 #[derive(Clone, Copy)]
-pub struct ItemAt {
-    pub item: Item,
-    pub line: u32,
+pub(crate) struct ItemAt {
+    pub(crate) item: Item,
+    pub(crate) line: u32,
 }
 
 /// A line, and how many bodies run there.
 #[derive(Clone, Copy)]
-pub struct At {
-    pub line: u32,
-    pub depth: u32,
+pub(crate) struct At {
+    pub(crate) line: u32,
+    depth: u32,
 }
 
 /// A TRAP of the script, and how many items were on the cleanup stack when it began.
 #[derive(Clone, Copy)]
-pub struct TrapAt {
-    pub at: At,
-    pub items: u32,
+pub(crate) struct TrapAt {
+    pub(crate) at: At,
+    pub(crate) items: u32,
 }
 
 /// A `repeat`, where it is, and how many of its turns were begun.
 #[derive(Clone, Copy)]
-pub struct RepeatAt {
-    pub line: u32,
+pub(crate) struct RepeatAt {
+    line: u32,
     depth: u32,
     traps: usize,
-    pub begun: i64,
-    pub turns: i64,
+    pub(crate) begun: i64,
+    pub(crate) turns: i64,
 }
 
 /// All that is open.
 #[derive(Drop)]
-pub struct Open {
+pub(crate) struct Open {
     items: Vec<ItemAt>,
     traps: Vec<TrapAt>,
     repeats: Vec<RepeatAt>,
@@ -63,16 +63,16 @@ pub struct Open {
 
 /// An object that is to be destroyed, with its cell; `None` if the pointer names none.
 #[derive(Clone, Copy)]
-pub struct Doomed {
-    pub pointer: Ptr,
-    pub cell: Option<Header>,
+pub(crate) struct Doomed {
+    pub(crate) pointer: Ptr,
+    pub(crate) cell: Option<Header>,
 }
 
 const NOWHERE: At = At { line: 0, depth: 1 };
 
 impl Open {
     /// Nothing is open yet. The only error is that memory ran out.
-    pub fn new(alloc: Global) -> Result<Open, AllocError> {
+    pub(crate) fn new(alloc: Global) -> Result<Open, AllocError> {
         let mut lines = Vec::new(alloc);
         lines.resize(MOST_FRAMES as usize + 2, 0)?;
         Ok(Open {
@@ -89,12 +89,12 @@ impl Open {
     }
 
     /// Returns the newest item on the cleanup stack; `None` if there is none.
-    pub fn newest(&self) -> Option<Item> {
+    pub(crate) fn newest(&self) -> Option<Item> {
         self.items.last().map(|it| it.item)
     }
 
     /// Returns how many objects have a destructor that runs, and how many TRAPs are open.
-    pub fn counts(&self) -> (usize, usize) {
+    pub(crate) fn counts(&self) -> (usize, usize) {
         (self.deleted.len(), self.traps.len())
     }
 
@@ -104,7 +104,7 @@ impl Open {
     }
 
     /// Sees what the last turn began. The only error is that memory ran out.
-    pub fn begin<'a>(
+    pub(crate) fn begin<'a>(
         &mut self,
         machine: &Machine<'a>,
         before: &Before<'a>,
@@ -264,7 +264,7 @@ impl Open {
 
     /// A leave ends all bodies and blocks inside the innermost TRAP, and what it destroys is destroyed because of its line. Returns
     /// that TRAP; `None` if `main` is left.
-    pub fn leave(&mut self) -> Option<TrapAt> {
+    pub(crate) fn leave(&mut self) -> Option<TrapAt> {
         let caught = self.traps.pop();
         let traps = self.traps.len();
         for _ in 0..self.repeats.len() {
@@ -286,7 +286,7 @@ impl Open {
     }
 
     /// Takes the next TRAP off that has ended; `None` if all are open that were.
-    pub fn next_ended(&mut self, machine: &Machine<'_>) -> Option<TrapAt> {
+    pub(crate) fn next_ended(&mut self, machine: &Machine<'_>) -> Option<TrapAt> {
         if self.traps.len() > machine.open_traps() {
             self.traps.pop()
         } else {
@@ -296,7 +296,7 @@ impl Open {
 
     /// Takes the next cell off whose object is destroyed; `None` if the newest destructor still runs, and if that freed its own
     /// cell.
-    pub fn next_released(&mut self, machine: &Machine<'_>) -> Option<Header> {
+    pub(crate) fn next_released(&mut self, machine: &Machine<'_>) -> Option<Header> {
         let newest = *self.deleted.last()?;
         if live_cell(machine, newest.pointer()).is_some() {
             return None;
@@ -319,7 +319,7 @@ impl Open {
     }
 
     /// Returns the place of the cleanup stack's cell, which is at another now.
-    pub fn move_stack(&mut self, place: u32) -> u32 {
+    pub(crate) fn move_stack(&mut self, place: u32) -> u32 {
         let before = self.stack;
         self.stack = place;
         before

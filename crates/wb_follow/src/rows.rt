@@ -1,7 +1,7 @@
 //! The rows of a run that is followed: their columns, and how they go out.
 
 use std::alloc::Global;
-use std::fmt::Write;
+use std::fmt::{Display, Write};
 use wb_model::memory::NoMemory;
 
 /// How many bytes of whole rows are kept before they go out.
@@ -24,15 +24,15 @@ pub trait RowSink {
 
 /// How wide the columns are.
 #[derive(Clone, Copy)]
-pub struct Widths {
-    pub step: usize,
-    pub line: usize,
-    pub statement: usize,
+pub(crate) struct Widths {
+    pub(crate) step: usize,
+    pub(crate) line: usize,
+    pub(crate) statement: usize,
 }
 
 /// Rows that are being written. If memory runs out the rest is left out, and `hand_to` says so.
 #[derive(Drop)]
-pub struct Rows {
+pub(crate) struct Rows {
     widths: Widths,
     /// Whole rows that haven't gone out.
     whole: String,
@@ -46,7 +46,7 @@ pub struct Rows {
 
 impl Rows {
     /// No row yet.
-    pub fn new(alloc: Global, widths: Widths) -> Rows {
+    pub(crate) fn new(alloc: Global, widths: Widths) -> Rows {
         Rows {
             widths,
             whole: String::new(alloc),
@@ -58,12 +58,12 @@ impl Rows {
     }
 
     /// Whether so much is written that it should go out.
-    pub fn is_long(&self) -> bool {
+    pub(crate) fn is_long(&self) -> bool {
         self.is_cut || self.whole.len() >= MOST_KEPT
     }
 
     /// Hands whole rows on. Returns `false` if no more are taken. The only error is that memory ran out.
-    pub fn hand_to<O: RowSink>(&mut self, sink: &mut O) -> Result<bool, NoMemory> {
+    pub(crate) fn hand_to<O: RowSink>(&mut self, sink: &mut O) -> Result<bool, NoMemory> {
         let takes = self.whole.is_empty() || sink.take_rows(self.whole.as_str());
         self.whole.clear();
         if self.is_cut {
@@ -74,14 +74,14 @@ impl Rows {
     }
 
     /// Begins a row, which is shown or not.
-    pub fn begin(&mut self, is_shown: bool) {
+    pub(crate) fn begin(&mut self, is_shown: bool) {
         self.row.clear();
         self.is_shown = is_shown;
         self.has_effect = false;
     }
 
     /// Ends the row.
-    pub fn end(&mut self) {
+    pub(crate) fn end(&mut self) {
         if !self.is_shown || self.is_cut {
             return;
         }
@@ -91,43 +91,31 @@ impl Rows {
     }
 
     /// Writes what a text says, with nothing around it.
-    pub fn text(&mut self, text: &str) {
+    pub(crate) fn text(&mut self, text: &str) {
         if self.is_shown && !self.is_cut {
             self.is_cut = self.row.push_str(text).is_err();
         }
     }
 
-    pub fn number(&mut self, number: u32) {
+    pub(crate) fn number(&mut self, number: u32) {
         self.value(i64::from(number));
     }
 
-    pub fn value(&mut self, value: i64) {
+    pub(crate) fn value(&mut self, value: i64) {
         if self.is_shown && !self.is_cut {
             self.is_cut = write!(self.row, "{value}").is_err();
         }
     }
 
     /// Writes a place as panics have it.
-    pub fn place(&mut self, place: u32) {
+    pub(crate) fn place(&mut self, place: u32) {
         if self.is_shown && !self.is_cut {
             self.is_cut = write!(self.row, "{place:08x}").is_err();
         }
     }
 
-    /// Writes the columns of a step and of a line.
-    pub fn head(&mut self, step: u32, line: u32) {
-        let Widths {
-            step: wide,
-            line: next,
-            ..
-        } = self.widths;
-        if self.is_shown && !self.is_cut {
-            self.is_cut = write!(self.row, "{step:>wide$}  {line:>next$}  ").is_err();
-        }
-    }
-
-    /// Writes the same columns with words in them.
-    pub fn head_words(&mut self, step: &str, line: &str) {
+    /// Writes the columns of a step and of a line: their numbers, or words in the place of these.
+    pub(crate) fn head<T: Display + Drop>(&mut self, step: T, line: T) {
         let Widths {
             step: wide,
             line: next,
@@ -139,13 +127,13 @@ impl Rows {
     }
 
     /// Moves what is written next to the right, by how many bodies run.
-    pub fn indent(&mut self, depth: u32) {
+    pub(crate) fn indent(&mut self, depth: u32) {
         let levels = depth.saturating_sub(1).min(MOST_INDENTS) as usize;
         self.blanks(levels.saturating_mul(INDENT));
     }
 
     /// Writes a line of the script without the blanks around it, or its beginning.
-    pub fn statement(&mut self, line: &str) {
+    pub(crate) fn statement(&mut self, line: &str) {
         let mut count: usize = 0;
         for byte in line.trim().as_bytes() {
             if count == MOST_COLUMNS {
@@ -158,7 +146,7 @@ impl Rows {
     }
 
     /// Begins what a row says of its step: in its own column, or after what it already says.
-    pub fn effect(&mut self) {
+    pub(crate) fn effect(&mut self) {
         if self.has_effect {
             self.text("; ");
             return;
@@ -176,7 +164,7 @@ impl Rows {
     }
 
     /// Writes a text as one thing that the step does.
-    pub fn effect_text(&mut self, text: &str) {
+    pub(crate) fn effect_text(&mut self, text: &str) {
         self.effect();
         self.text(text);
     }

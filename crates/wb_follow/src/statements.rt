@@ -9,7 +9,7 @@ use wb_model::heap::{Answer, Attempt, Header, Kind, Ptr};
 use wb_model::script::Statement;
 
 /// Says what became of an attempt, for a cell that was at a place before; `None` for a new cell.
-pub fn put_attempt(
+pub(crate) fn put_attempt(
     rows: &mut Rows,
     machine: &Machine<'_>,
     attempt: Attempt,
@@ -68,13 +68,13 @@ fn put_bytes(rows: &mut Rows, length: u32, place: u32) {
 }
 
 /// Says that a cell is freed.
-pub fn put_freed(rows: &mut Rows, cell: Header) {
+pub(crate) fn put_freed(rows: &mut Rows, cell: Header) {
     rows.effect_text("frees ");
     put_bytes(rows, cell.length, cell.place);
 }
 
 /// Says what becomes of the cell that is freed by a pointer, which may be null.
-pub fn put_free(rows: &mut Rows, pointer: Ptr, cell: Option<Header>) {
+pub(crate) fn put_free(rows: &mut Rows, pointer: Ptr, cell: Option<Header>) {
     match cell {
         Some(cell) => put_freed(rows, cell),
         None if pointer.number == 0 => rows.effect_text("null: nothing to free"),
@@ -83,7 +83,7 @@ pub fn put_free(rows: &mut Rows, pointer: Ptr, cell: Option<Header>) {
 }
 
 /// Says which cell a pointer names.
-pub fn put_pointer(rows: &mut Rows, pointer: Ptr) {
+pub(crate) fn put_pointer(rows: &mut Rows, pointer: Ptr) {
     if pointer.number == 0 {
         rows.text("null");
     } else {
@@ -93,7 +93,7 @@ pub fn put_pointer(rows: &mut Rows, pointer: Ptr) {
 }
 
 /// Says what a statement did that hasn't panicked. What a leave does, and what it destroys, is said elsewhere.
-pub fn put_statement<'a>(
+pub(crate) fn put_statement<'a>(
     rows: &mut Rows,
     machine: &Machine<'a>,
     before: &Before<'a>,
@@ -178,7 +178,7 @@ fn put_value(rows: &mut Rows, statement: &Statement, value: Value) {
 }
 
 /// Writes a count of things.
-pub fn put_count(rows: &mut Rows, count: i64, thing: &str) {
+pub(crate) fn put_count(rows: &mut Rows, count: i64, thing: &str) {
     rows.value(count);
     rows.text(" ");
     rows.text(thing);

@@ -14,12 +14,12 @@ use wb_model::script::Script;
 
 /// What is followed: a script's run that ends so, and how many of its first steps and of its last are shown.
 #[derive(Clone, Copy)]
-pub struct Plan<'s> {
-    pub lines: &'s ScriptLines<'s>,
-    pub script: &'s Script,
-    pub ending: Ending,
-    pub most: u32,
-    pub budget: u32,
+pub(crate) struct Plan<'s> {
+    pub(crate) lines: &'s ScriptLines<'s>,
+    pub(crate) script: &'s Script,
+    pub(crate) ending: Ending,
+    pub(crate) most: u32,
+    pub(crate) budget: u32,
 }
 
 impl<'s> Plan<'s> {
@@ -44,7 +44,7 @@ struct Last {
 
 /// Lets the machine take its turns, at most one for each step of the budget, the first, and the one that ends the run, and writes a
 /// row of each. Returns `false` if the sink takes no more rows. The only error is that memory ran out.
-pub fn follow_turns<'a, O: RowSink>(
+pub(crate) fn follow_turns<'a, O: RowSink>(
     machine: &mut Machine<'a>,
     open: &mut Open,
     plan: Plan<'_>,
@@ -119,7 +119,7 @@ fn put_left_out(rows: &mut Rows, steps: u32) {
         return;
     }
     rows.begin(true);
-    rows.head_words("..", "..");
+    rows.head("..", "..");
     rows.number(steps);
     rows.text(" steps are left out");
     rows.end();
@@ -128,7 +128,7 @@ fn put_left_out(rows: &mut Rows, steps: u32) {
 /// Writes which step it is, and what it begins.
 fn put_begun(rows: &mut Rows, begun: Begun<'_>, step: u32, plan: Plan<'_>) {
     if let What::Run = begun.what {
-        rows.head_words("0", "");
+        rows.head("0", "");
         rows.text("(the run begins)");
         return;
     }

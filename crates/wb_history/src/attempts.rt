@@ -62,8 +62,8 @@ pub struct Attempts<'a> {
     failed: FailedCounts,
     /// The index of the first attempt that the limit refused.
     refused_at: Option<usize>,
-    /// Whether the newest attempt is kept.
-    has_newest: bool,
+    /// Whether the newest attempt is kept, and no other line came after it.
+    is_newest_open: bool,
 }
 
 impl<'a> Attempts<'a> {
@@ -80,7 +80,7 @@ impl<'a> Attempts<'a> {
                 by_script: 0,
             },
             refused_at: None,
-            has_newest: false,
+            is_newest_open: false,
         }
     }
 
@@ -128,6 +128,12 @@ impl<'a> Attempts<'a> {
         if self.count >= machine.attempts() {
             return Ok(None);
         }
+        self.see_last(machine)
+    }
+
+    /// Sees the attempt that was made last.
+    #[inline(never)]
+    fn see_last(&mut self, machine: &Machine<'a>) -> Result<Option<Attempt>, AllocError> {
         let newest = machine.last_attempt();
         if let Some(attempt) = newest {
             let maker = Maker::of(machine.line(), machine.statement());
@@ -150,11 +156,11 @@ impl<'a> Attempts<'a> {
                 Keep::Rises => is_rise,
                 Keep::Drawn => true,
             };
-        self.has_newest = is_kept || self.is_named(attempt);
+        self.is_newest_open = is_kept || self.is_named(attempt);
         if attempt.answer == Answer::Refused && self.refused_at.is_none() {
             self.refused_at = Some(self.kept.len());
         }
-        if self.has_newest {
+        if self.is_newest_open {
             self.kept.push(AttemptMade {
                 attempt,
                 maker,
@@ -167,11 +173,12 @@ impl<'a> Attempts<'a> {
 
     /// Sees a turn after the newest attempt: the line that was begun last, and whether that is in a body that undoes.
     pub fn see_turn(&mut self, line: u32, undoes: bool) {
-        if !self.has_newest {
+        if !self.is_newest_open {
             return;
         }
         if let Some(newest) = self.kept.last_mut() {
             newest.maker.see(line, undoes);
+            self.is_newest_open = newest.maker.after == 0;
         }
     }
 

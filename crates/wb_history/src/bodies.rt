@@ -4,7 +4,7 @@ use std::alloc::{AllocError, Global};
 use wb_model::script::{Class, Script};
 
 /// What a body is.
-#[derive(Clone, Copy, Debug, PartialEq, Eq)]
+#[derive(Clone, Copy, Debug, PartialEq, Eq, PartialOrd, Ord)]
 pub enum BodyKind {
     /// No body: lines before the first.
     Nothing,
@@ -15,8 +15,18 @@ pub enum BodyKind {
     Operation,
 }
 
+impl BodyKind {
+    /// Whether a leave runs such bodies on its way.
+    fn undoes(self) -> bool {
+        match self {
+            BodyKind::Operation | BodyKind::Destructor => true,
+            BodyKind::Nothing | BodyKind::Procedure | BodyKind::Construct => false,
+        }
+    }
+}
+
 /// A body of a script.
-#[derive(Clone, Copy, Debug, PartialEq, Eq)]
+#[derive(Clone, Copy, Debug, PartialEq, Eq, PartialOrd, Ord)]
 pub struct BodyOfScript {
     pub kind: BodyKind,
     /// The line that begins the procedure, the operation, or the class of the body. Its second word is the name.
@@ -24,7 +34,7 @@ pub struct BodyOfScript {
 }
 
 /// A body as it is found: by the first line that is surely in it.
-#[derive(Clone, Copy)]
+#[derive(Clone, Copy, PartialEq, Eq, PartialOrd, Ord)]
 struct Part {
     from: u32,
     body: BodyOfScript,
@@ -33,8 +43,12 @@ struct Part {
 /// The bodies of a script.
 #[derive(Drop)]
 pub struct Bodies {
-    /// In no order.
+    /// In order of their lines.
     parts: Vec<Part>,
+    /// For each line before the last body, whether it is in one that undoes.
+    undoing: Vec<bool>,
+    /// Whether the last body undoes.
+    undoes_at_end: bool,
 }
 
 impl Bodies {
@@ -42,6 +56,8 @@ impl Bodies {
     pub fn of(alloc: Global, script: &Script) -> Result<Bodies, AllocError> {
         let mut bodies = Bodies {
             parts: Vec::new(alloc),
+            undoing: Vec::new(alloc),
+            undoes_at_end: false,
         };
         for procedure in script.procedures.as_slice() {
             bodies.add(procedure.line, BodyKind::Procedure, procedure.line)?;
@@ -52,32 +68,41 @@ impl Bodies {
         for operation in script.operations.as_slice() {
             bodies.add(operation.line, BodyKind::Operation, operation.line)?;
         }
+        bodies.parts.sort_unstable();
+        bodies.find_undoing()?;
         Ok(bodies)
     }
 
     /// Returns the body of a line: the last one that begins up to it.
     pub fn body_of(&self, line: u32) -> BodyOfScript {
-        let mut nearest = Part {
-            from: 0,
-            body: BodyOfScript {
-                kind: BodyKind::Nothing,
-                line: 0,
-            },
+        let mut body = BodyOfScript {
+            kind: BodyKind::Nothing,
+            line: 0,
         };
         for part in self.parts.as_slice() {
-            if nearest.from <= part.from && part.from <= line {
-                nearest = *part;
+            if part.from > line {
+                break;
             }
+            body = part.body;
         }
-        nearest.body
+        body
     }
 
     /// Whether a line is in an operation or a destructor, which a leave runs on its way.
     pub fn undoes(&self, line: u32) -> bool {
-        match self.body_of(line).kind {
-            BodyKind::Operation | BodyKind::Destructor => true,
-            BodyKind::Nothing | BodyKind::Procedure | BodyKind::Construct => false,
+        match self.undoing.get(line as usize) {
+            Some(undoes) => *undoes,
+            None => self.undoes_at_end,
         }
+    }
+
+    /// Finds which lines are in a body that undoes.
+    fn find_undoing(&mut self) -> Result<(), AllocError> {
+        for part in self.parts.as_slice() {
+            self.undoing.resize(part.from as usize, self.undoes_at_end)?;
+            self.undoes_at_end = part.body.kind.undoes();
+        }
+        Ok(())
     }
 
     fn add(&mut self, from: u32, kind: BodyKind, line: u32) -> Result<(), AllocError> {

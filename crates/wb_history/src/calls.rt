@@ -44,18 +44,10 @@ pub struct Calls<'a> {
 impl<'a> Calls<'a> {
     /// No body runs yet. The only error is that memory ran out.
     pub fn new(alloc: Global) -> Result<Calls<'a>, AllocError> {
-        let mut frames = Vec::new(alloc);
-        let nothing = Frame {
-            line: 0,
-            statement: None,
-            replaced: NULL,
-            since: 0,
-        };
-        frames.resize(MOST_FRAMES as usize + 1, nothing)?;
         let mut calls = Vec::new(alloc);
         calls.push(Call { before: 0, line: 0 })?;
         Ok(Calls {
-            frames,
+            frames: Vec::new(alloc),
             depth: 0,
             calls,
             newest: Vec::new(alloc),
@@ -63,7 +55,23 @@ impl<'a> Calls<'a> {
     }
 
     /// A statement begins while this many bodies run, in this step.
-    pub fn begin(&mut self, depth: u32, line: u32, statement: Option<&'a Statement>, step: u32) {
+    pub fn begin(
+        &mut self,
+        depth: u32,
+        line: u32,
+        statement: Option<&'a Statement>,
+        step: u32,
+    ) -> Result<(), AllocError> {
+        if self.frames.len() <= depth as usize {
+            let nothing = Frame {
+                line: 0,
+                statement: None,
+                replaced: NULL,
+                since: 0,
+            };
+            self.frames
+                .resize((depth as usize).saturating_add(1), nothing)?;
+        }
         if let Some(frame) = self.frames.get_mut(depth as usize) {
             frame.line = line;
             frame.statement = statement;
@@ -72,6 +80,12 @@ impl<'a> Calls<'a> {
             }
         }
         self.depth = depth;
+        Ok(())
+    }
+
+    /// Returns how many bodies ran when the last statement began.
+    pub fn depth(&self) -> u32 {
+        self.depth
     }
 
     /// A `callto` begins, whose target names this.

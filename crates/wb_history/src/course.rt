@@ -34,11 +34,9 @@ pub struct Part {
     pub attempt: u32,
     /// The line that the part begins with; 0 for the cleanup stack's first cell.
     pub line: u32,
-    /// The step that the part begins with, and the one after which it was gone; `NEVER` if it never was.
+    /// The step that the part begins with, and the one that ends it; `NEVER` if none does.
     pub from: u32,
     pub gone: u32,
-    /// The step before `gone`; where the cell got another length, the last one in which some cell was released or became shorter.
-    pub last: u32,
     pub end: PartEnd,
     /// The index of the part that it follows, in the same cell or in one that moved.
     pub before: Option<usize>,
@@ -52,9 +50,8 @@ impl Part {
         self.place.saturating_add(self.length)
     }
 
-    fn finish(&mut self, gone: u32, last: u32, end: PartEnd) {
+    fn finish(&mut self, gone: u32, end: PartEnd) {
         self.gone = gone;
-        self.last = last.max(self.from);
         self.end = end;
     }
 }
@@ -74,8 +71,6 @@ pub struct Course {
     parts: Vec<Part>,
     /// For each cell, by its number, its last part: the index from 1; 0 if there is none.
     latest: Vec<u32>,
-    /// The last step in which a cell was released or became shorter.
-    released: u32,
     pub committed: Series,
     pub levels: Series,
     pub traps: Series,
@@ -89,7 +84,6 @@ impl Course {
             is_wanted,
             parts: Vec::new(alloc),
             latest: Vec::new(alloc),
-            released: 0,
             committed: Series::new(alloc),
             levels: Series::new(alloc),
             traps: Series::new(alloc),
@@ -102,15 +96,21 @@ impl Course {
         self.parts.as_slice()
     }
 
-    /// Sees the numbers that a turn left.
-    pub fn see_numbers(&mut self, machine: &Machine<'_>) -> Result<(), AllocError> {
-        if !self.is_wanted {
-            return Ok(());
-        }
+    /// Whether something is kept.
+    pub(crate) fn is_wanted(&self) -> bool {
+        self.is_wanted
+    }
+
+    /// Sees the numbers that a turn left, with how many TRAPs are open.
+    pub(crate) fn see_numbers(
+        &mut self,
+        machine: &Machine<'_>,
+        traps: usize,
+    ) -> Result<(), AllocError> {
         let step = machine.steps();
         self.committed.note(step, machine.committed())?;
         self.levels.note(step, machine.level())?;
-        let traps = u32::try_from(machine.open_traps()).unwrap_or(u32::MAX);
+        let traps = u32::try_from(traps).unwrap_or(u32::MAX);
         self.traps.note(step, traps)?;
         self.items.note(step, machine.cleanup_depth())
     }
@@ -130,10 +130,7 @@ impl Course {
             if start.attempt == 0 && part.length == cell.length {
                 return Ok(());
             }
-            part.finish(start.step, self.released, PartEnd::Resized);
-        }
-        if start.attempt == 0 {
-            self.released = start.step;
+            part.finish(start.step, PartEnd::Resized);
         }
         self.add(cell, start, index)
     }
@@ -148,8 +145,7 @@ impl Course {
                 End::Freed | End::Deleted => PartEnd::Freed,
                 End::Moved => PartEnd::Moved,
             };
-            part.finish(step, step.saturating_sub(1), end);
-            self.released = step;
+            part.finish(step, end);
         }
     }
 
@@ -186,7 +182,6 @@ impl Course {
             line: start.line,
             from: start.step,
             gone: NEVER,
-            last: start.step,
             end: PartEnd::Live,
             before,
             leaks: false,

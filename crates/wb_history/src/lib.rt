@@ -6,7 +6,8 @@
 //! - `Attempts`: each attempt, and the line and the statement that made it;
 //! - `Lives`: each cell: where it was made, grown, moved, shortened, pushed and popped, what pointed to it last, and how it ended;
 //! - `Items`: the items on the cleanup stack, each with where it was pushed;
-//! - `Traps`: the TRAPs that are open, with their lines; and the leave that came last, with where it was caught;
+//! - `Traps`: the TRAPs that are open, with their lines; and each leave, with where it was caught;
+//! - `Views`: which cell's text each view shows;
 //! - `Calls`: which bodies run, and the call path of items, leaves and the end;
 //! - `Course`: where a picture is wanted, each part of each cell's life, and numbers over time.
 //!
@@ -15,9 +16,9 @@
 //! When the run is over, `WatchedRun` adds its result, what raised its panic, and the pointer and the values that this was about.
 //!
 //! Before a turn the machine says which statement it begins, and what its pointers name; after it, what became of these. So a turn
-//! costs a few looks at single cells, and never one at all of them. Memory is bounded: a life takes a few words, and past 100,000
-//! attempts, cells or calls only what can still be named is kept, which is the last life of each place, and the attempts that the rule
-//! names.
+//! costs a few looks at single cells, and never one at all of them; of most statements, as of one that adds, the line alone is kept
+//! (`quiet`). Memory is bounded: a life takes a few words, and past 100,000 attempts, cells or calls only what can still be named is
+//! kept, which is the last life of each place, and the attempts that the rule names.
 #![tactic(auto)]
 
 mod attempts;
@@ -34,11 +35,13 @@ mod moments;
 mod operands;
 mod parameters;
 mod pointer_faults;
+mod quiet;
 mod series;
 mod statements;
 mod traps;
 mod turns;
 mod values;
+mod views;
 mod watch;
 
 pub use attempts::{AttemptMade, Attempts, FailedCounts, Keep};
@@ -59,4 +62,5 @@ pub use statements::{Ahead, target_of};
 pub use traps::{Leave, OpenTrap, Traps};
 pub use turns::History;
 pub use values::{Meant, Values};
+pub use views::Views;
 pub use watch::{EndOfRun, Until, WatchedRun, machine_of, watch_attempts, watch_run};

@@ -3,6 +3,7 @@
 use crate::lives::{Life, Lives};
 use crate::looks::is_live;
 use crate::operands::{CellName, MOST_OPERANDS, Operand, operand_at};
+use crate::turns::History;
 use wb_machine::{Machine, Raised, Raiser};
 use wb_model::heap::{Panic, Ptr};
 use wb_model::script::{Holder, Pointer, Readable};
@@ -13,8 +14,6 @@ pub enum PointerState {
     Null,
     /// Its cell's life has ended; `None` if that life isn't kept.
     Gone(Option<Life>),
-    /// It is a view, whose text's cell is gone, or was reallocated.
-    ViewOfNothing,
 }
 
 /// The pointer that a panic is about.
@@ -23,14 +22,14 @@ pub struct PointerFault {
     /// The index of its word in the line.
     pub word: usize,
     pub state: PointerState,
-    /// The operand; `None` if it is a view.
-    pub operand: Option<Pointer>,
+    /// The pointer; `None` if it is a view, and then the cell is that of its text.
+    pub pointer: Option<Pointer>,
     /// Whether it is what holds the field that the word names.
     pub is_owner: bool,
 }
 
 /// Returns the pointer that the panic is about that ended a run; `None` if it is about none.
-pub fn pointer_fault(machine: &Machine<'_>, lives: &Lives) -> Option<PointerFault> {
+pub fn pointer_fault(machine: &Machine<'_>, history: &History<'_>) -> Option<PointerFault> {
     let raised = machine.raised_panic()?;
     let is_about_pointer = raised.panic == Panic::NULL_OR_STALE || raised.panic == Panic::BAD_CELL;
     if !is_about_pointer {
@@ -39,7 +38,7 @@ pub fn pointer_fault(machine: &Machine<'_>, lives: &Lives) -> Option<PointerFaul
     let statement = machine.statement()?;
     for word in 1..=MOST_OPERANDS {
         if let Some(operand) = operand_at(statement, word)
-            && let Some(fault) = fault_of(machine, lives, raised, operand)
+            && let Some(fault) = fault_of(machine, history, raised, operand)
         {
             return Some(fault);
         }
@@ -49,43 +48,28 @@ pub fn pointer_fault(machine: &Machine<'_>, lives: &Lives) -> Option<PointerFaul
 
 fn fault_of(
     machine: &Machine<'_>,
-    lives: &Lives,
+    history: &History<'_>,
     raised: Raised,
     operand: Operand,
 ) -> Option<PointerFault> {
-    let word = operand.word;
-    match (raised.raiser, operand.name) {
-        (Raiser::Holder, CellName::Read(pointer) | CellName::Target(pointer)) => {
-            let state = state_of(machine, lives, machine.pointer(owner_of(pointer)?))?;
-            Some(PointerFault {
-                word,
-                state,
-                operand: Some(pointer),
-                is_owner: true,
-            })
+    let (pointer, names) = match (raised.raiser, operand.name) {
+        (Raiser::Holder, CellName::Read(field) | CellName::Target(field)) => {
+            let owner = owner_of(field)?;
+            (Some(owner), machine.pointer(owner))
         }
-        (Raiser::Statement, CellName::Read(pointer)) => {
-            let state = state_of(machine, lives, machine.pointer(pointer))?;
-            Some(PointerFault {
-                word,
-                state,
-                operand: Some(pointer),
-                is_owner: false,
-            })
+        (Raiser::Statement, CellName::Read(pointer)) => (Some(pointer), machine.pointer(pointer)),
+        (Raiser::Statement, CellName::View(index))
+            if machine.length(Readable::ViewOf(index)).is_none() => {
+            (None, history.views.cell_of(machine.depth(), index))
         }
-        (Raiser::Statement, CellName::View(index)) => {
-            if machine.length(Readable::ViewOf(index)).is_some() {
-                return None;
-            }
-            Some(PointerFault {
-                word,
-                state: PointerState::ViewOfNothing,
-                operand: None,
-                is_owner: false,
-            })
-        }
-        _ => None,
-    }
+        _ => return None,
+    };
+    Some(PointerFault {
+        word: operand.word,
+        state: state_of(machine, &history.lives, names)?,
+        pointer,
+        is_owner: raised.raiser == Raiser::Holder,
+    })
 }
 
 /// What holds the object of a field.

@@ -10,15 +10,23 @@ pub const NULL: Ptr = Ptr {
     number: 0,
 };
 
+/// The pointer that a statement writes, as it is before the statement.
+#[derive(Clone, Copy)]
+pub struct Variable {
+    /// The object whose field it is; null if it is a local.
+    pub owner: Ptr,
+    /// The index of the field or the local.
+    pub index: u8,
+    /// What it names.
+    pub names: Ptr,
+}
+
 /// A statement that a turn is to begin, and what it names before it.
 #[derive(Clone, Copy)]
 pub struct Ahead<'a> {
     pub statement: &'a Statement,
-    /// The pointer that it writes, and what that names.
-    pub target: Option<Pointer>,
-    pub target_names: Ptr,
-    /// The object whose field the target is; null if it is a local.
-    pub owner: Ptr,
+    /// The pointer that it writes.
+    pub written: Option<Variable>,
     /// What the pointer that it reads names; null if it reads none.
     pub source: Ptr,
     /// Whether it leaves by its own operand.
@@ -28,17 +36,24 @@ pub struct Ahead<'a> {
 impl<'a> Ahead<'a> {
     /// Looks at the statement that the machine's next turn begins; `None` if it begins none.
     pub fn of(machine: &Machine<'a>) -> Option<Ahead<'a>> {
-        let statement = machine.next_statement()?;
-        let target = target_of(statement);
-        let source = names_of(machine, source_of(statement));
-        Some(Ahead {
+        Some(Ahead::with(machine, machine.next_statement()?))
+    }
+
+    /// Looks at a statement that the machine is to begin.
+    pub(crate) fn with(machine: &Machine<'a>, statement: &'a Statement) -> Ahead<'a> {
+        let source = read_by(machine, statement);
+        Ahead {
             statement,
-            target,
-            target_names: names_of(machine, target),
-            owner: owner_of(machine, target),
+            written: written_by(machine, statement),
             source,
             leaves: leaves_by_operand(machine, statement, source),
-        })
+        }
+    }
+
+    /// Whether it matters to the statement which TRAPs are open.
+    pub(crate) fn is_about_traps(&self) -> bool {
+        let is_trap = matches!(self.statement, Statement::Trap(..));
+        is_trap || self.leaves || leaves_if_refused(self.statement)
     }
 
     /// Whether the statement leaves, with the attempt that it made.
@@ -67,16 +82,21 @@ impl<'a> Ahead<'a> {
             Statement::Realloc(..) | Statement::ReallocText(..)
         )
     }
+}
 
-    /// The object whose field the target is, null if it is a local, and the index of the field or the local; `None` if there is no target.
-    pub fn variable(&self) -> Option<(Ptr, u8)> {
-        match self.target? {
-            Pointer::Held(Holder::Local(index)) | Pointer::Field(_, _, index) => {
-                Some((self.owner, index))
-            }
-            Pointer::Held(Holder::This) => None,
-        }
-    }
+/// The pointer that a statement writes, and what it names; `None` if it writes none.
+fn written_by(machine: &Machine<'_>, statement: &Statement) -> Option<Variable> {
+    let target = target_of(statement)?;
+    let (owner, index) = match target {
+        Pointer::Held(Holder::Local(index)) => (NULL, index),
+        Pointer::Field(holder, _, index) => (machine.pointer(Pointer::Held(holder)), index),
+        Pointer::Held(Holder::This) => return None,
+    };
+    Some(Variable {
+        owner,
+        index,
+        names: machine.pointer(target),
+    })
 }
 
 /// Returns the pointer that a statement writes; `None` if it writes none. That of a `callto` is written when the call ends.
@@ -95,7 +115,7 @@ pub fn target_of(statement: &Statement) -> Option<Pointer> {
 }
 
 /// The pointer that a statement reads, as far as lives of cells or items depend on it.
-fn source_of(statement: &Statement) -> Option<Pointer> {
+fn source_of(statement: &Statement) -> Option<&Pointer> {
     match statement {
         Statement::Realloc(_, source, ..)
         | Statement::ReallocText(_, source, _)
@@ -107,32 +127,24 @@ fn source_of(statement: &Statement) -> Option<Pointer> {
         | Statement::PushOperation(source, _)
         | Statement::PopCheck(source)
         | Statement::ReturnPointer(source)
-        | Statement::LeaveIfNull(source) => Some(*source),
+        | Statement::LeaveIfNull(source) => Some(source),
         _ => None,
     }
 }
 
-/// Returns what that pointer of the statement that was begun last names; null if there is none.
+/// What that pointer names; null if there is none.
+fn read_by(machine: &Machine<'_>, statement: &Statement) -> Ptr {
+    match source_of(statement) {
+        Some(pointer) => machine.pointer(*pointer),
+        None => NULL,
+    }
+}
+
+/// Returns the same of the statement that was begun last.
 pub fn last_read(machine: &Machine<'_>) -> Ptr {
     match machine.statement() {
-        Some(statement) => names_of(machine, source_of(statement)),
+        Some(statement) => read_by(machine, statement),
         None => NULL,
-    }
-}
-
-/// What an operand names; null if there is none.
-fn names_of(machine: &Machine<'_>, operand: Option<Pointer>) -> Ptr {
-    match operand {
-        Some(pointer) => machine.pointer(pointer),
-        None => NULL,
-    }
-}
-
-/// The object whose field a target is; null if it is a local.
-fn owner_of(machine: &Machine<'_>, target: Option<Pointer>) -> Ptr {
-    match target {
-        Some(Pointer::Field(holder, ..)) => machine.pointer(Pointer::Held(holder)),
-        Some(Pointer::Held(_)) | None => NULL,
     }
 }
 

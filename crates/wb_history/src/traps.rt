@@ -1,12 +1,17 @@
-//! The TRAPs that are open, and the leave that came last.
+//! The TRAPs that are open, and the leaves.
 
-use crate::moments::Moment;
+use crate::moments::{Held, Moment};
 use std::alloc::{AllocError, Global};
+
+/// The most leaves that are kept. Past them each takes the place of the last.
+const MOST_LEAVES: usize = 100_000;
 
 /// A TRAP of the script that is open, or was.
 #[derive(Clone, Copy, Debug, PartialEq, Eq)]
 pub struct OpenTrap {
     pub line: u32,
+    /// The step in which it began.
+    pub since: u32,
     /// How many items were on the cleanup stack at its entry.
     pub items: usize,
 }
@@ -15,16 +20,30 @@ pub struct OpenTrap {
 #[derive(Clone, Copy, Debug, PartialEq, Eq)]
 pub struct Leave {
     pub at: Moment,
+    /// How many bodies ran.
+    depth: u32,
     /// The TRAP that caught it; `None` if `main` was left.
     pub caught: Option<OpenTrap>,
 }
 
-/// The TRAPs that are open, and the leave that came last.
+impl Leave {
+    /// Whether it ends what got a cell: that came before it, in a body that ran still, and since its TRAP began.
+    fn ends(&self, held: Held) -> bool {
+        let since = match self.caught {
+            Some(trap) => trap.since,
+            None => 0,
+        };
+        since <= held.since && held.since <= self.at.step && u32::from(held.depth) <= self.depth
+    }
+}
+
+/// The TRAPs that are open, and the leaves.
 #[derive(Drop)]
 pub struct Traps {
     open: Vec<OpenTrap>,
     last_ended: Option<OpenTrap>,
-    last_leave: Option<Leave>,
+    /// The oldest first, and the last.
+    leaves: Vec<Leave>,
 }
 
 impl Traps {
@@ -33,13 +52,18 @@ impl Traps {
         Traps {
             open: Vec::new(alloc),
             last_ended: None,
-            last_leave: None,
+            leaves: Vec::new(alloc),
         }
     }
 
     /// Returns the TRAPs that are open, the innermost last.
     pub fn open_traps(&self) -> &[OpenTrap] {
         self.open.as_slice()
+    }
+
+    /// Returns whether one is open.
+    pub fn has_open(&self) -> bool {
+        !self.open.is_empty()
     }
 
     /// Returns the TRAP that ended last; `None` if none did.
@@ -49,7 +73,17 @@ impl Traps {
 
     /// Returns the leave that came last; `None` if none did.
     pub fn last_leave(&self) -> Option<Leave> {
-        self.last_leave
+        self.leaves.last().copied()
+    }
+
+    /// Returns the first leave that ended what got a cell; `None` if none did.
+    pub fn leave_that_ended(&self, held: Held) -> Option<Leave> {
+        for leave in self.leaves.as_slice() {
+            if leave.ends(held) {
+                return Some(*leave);
+            }
+        }
+        None
     }
 
     /// A TRAP begins.
@@ -58,10 +92,14 @@ impl Traps {
         Ok(())
     }
 
-    /// A leave begins, which the innermost TRAP catches.
-    pub fn leave(&mut self, at: Moment) {
+    /// A leave begins while this many bodies run, and the innermost TRAP catches it.
+    pub fn leave(&mut self, at: Moment, depth: u32) -> Result<(), AllocError> {
         let caught = self.open.last().copied();
-        self.last_leave = Some(Leave { at, caught });
+        if self.leaves.len() >= MOST_LEAVES {
+            self.leaves.pop();
+        }
+        self.leaves.push(Leave { at, depth, caught })?;
+        Ok(())
     }
 
     /// So many TRAPs are open now.

@@ -7,7 +7,8 @@ use crate::attempts::{Attempts, Keep};
 use crate::checks::{Counted, counted_by};
 use crate::parameters::RunParameters;
 use crate::pointer_faults::{PointerFault, pointer_fault};
-use crate::statements::{Ahead, last_read};
+use crate::quiet::is_quiet;
+use crate::statements::last_read;
 use crate::turns::History;
 use crate::values::{Meant, values_of};
 use std::alloc::{AllocError, Global};
@@ -210,14 +211,34 @@ fn watch<'a>(
     budget: u32,
 ) -> Result<(), NoMemory> {
     for _ in 0..=budget.saturating_add(1) {
-        let ahead = Ahead::of(machine);
-        let turn = machine.step()?;
-        history.see_turn(machine, ahead)?;
-        if turn == Turn::Ended {
+        if watch_turn(machine, history)? == Turn::Ended {
             break;
         }
     }
+    history.see_end(machine)?;
     Ok(())
+}
+
+/// Lets the machine take its next turn, and keeps what happens.
+fn watch_turn<'a>(machine: &mut Machine<'a>, history: &mut History<'a>) -> Result<Turn, NoMemory> {
+    match machine.next_statement() {
+        Some(statement) if is_quiet(statement) => {
+            let turn = machine.step()?;
+            history.see_quiet(machine)?;
+            Ok(turn)
+        }
+        Some(statement) => {
+            let ahead = history.look_ahead(machine, statement);
+            let turn = machine.step()?;
+            history.see_begun(machine, &ahead)?;
+            Ok(turn)
+        }
+        None => {
+            let turn = machine.step()?;
+            history.see_other(machine)?;
+            Ok(turn)
+        }
+    }
 }
 
 /// Looks at the end of a run. The only error is that memory ran out.
@@ -235,7 +256,7 @@ fn end_of<'a>(
     Ok(EndOfRun {
         raised,
         statement: machine.statement(),
-        pointer: pointer_fault(machine, &history.lives),
+        pointer: pointer_fault(machine, history),
         values: values_of(machine),
         counted,
         names: last_read(machine),

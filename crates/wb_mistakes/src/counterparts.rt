@@ -26,6 +26,9 @@ impl Counterpart {
 pub const EXTRA_BYTES: &str =
     "a member that is no pointer adds to the extra bytes of its class: NUMBER in `class NAME NUMBER`";
 
+/// How a class declares its members that are pointers.
+pub const POINTER_MEMBER: &str = "`field NAME` is for a member";
+
 /// A procedure that gives back a number.
 pub const NUMBER_RETURNED: &str =
     "a procedure returns no number: `leave NUMBER` hands a code to the `trap INT` of its caller";
@@ -39,7 +42,7 @@ pub const WORDS_APART: &str = "words are separated by blanks, without brackets, 
 /// What is to be done with a new cell that is to be on the cleanup stack.
 const THEN_PUSHED: &str = "`push POINTER` is a line of its own, after it";
 
-static COUNTERPARTS: [Counterpart; 45] = [
+static COUNTERPARTS: [Counterpart; 46] = [
     Counterpart(
         &["CleanupStack::PushL"],
         &[LineKind::Push, LineKind::PushObj, LineKind::PushOp],
@@ -123,13 +126,18 @@ static COUNTERPARTS: [Counterpart; 45] = [
     Counterpart(&["="], &[LineKind::Set, LineKind::SetField], ""),
     Counterpart(&["+=", "-="], &[LineKind::Add], ""),
     Counterpart(&["("], &[LineKind::Call, LineKind::CallTo], WORDS_APART),
+    Counterpart(
+        &["void"],
+        &[LineKind::Proc],
+        "the second phase of a class is `construct`, inside the class",
+    ),
     Counterpart(&["TInt", "TUint", "TBool"], &[LineKind::Int], EXTRA_BYTES),
     Counterpart(&["TBuf"], &[LineKind::Buf], ""),
     Counterpart(&["TPtrC"], &[LineKind::View], ""),
     Counterpart(
         &["*"],
         &[LineKind::Ptr, LineKind::ClassPtr, LineKind::Field],
-        "`field NAME` is for a member",
+        POINTER_MEMBER,
     ),
     Counterpart(
         &["{"],

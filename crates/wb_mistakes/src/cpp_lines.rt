@@ -115,9 +115,13 @@ fn assigned_word<'a>(line: &Line<'a>) -> Option<CppWord<'a>> {
     first_after(line, place_of_assignment(line)?)
 }
 
-/// The sign by which a line assigns something; `None` if it doesn't.
+/// The sign by which a line assigns something, perhaps without blanks around it; `None` if it doesn't.
 fn assigning_word<'a>(line: &Line<'a>) -> Option<CppWord<'a>> {
-    cpp_word(line.text_at(place_of_assignment(line)?))
+    match place_of_assignment(line) {
+        Some(place) => cpp_word(line.text_at(place)),
+        None if has_byte(b'=', line.text_at(0)) => cpp_word(b"="),
+        None => None,
+    }
 }
 
 /// The word by which a line of no statement is C++: its first, but of one that declares or assigns what it is given. `None` if there

@@ -1,7 +1,7 @@
 //! A line that is not allowed where it is, and a file that ends too early.
 
 use crate::blocks::{Block, BlockState, Blocks, ClosedBlock, indent_at, role, role_at};
-use crate::counterparts::EXTRA_BYTES;
+use crate::counterparts::{EXTRA_BYTES, POINTER_MEMBER};
 use crate::further_lines::mark_line;
 use crate::lines::Line;
 use crate::spaces::is_statement;
@@ -93,8 +93,10 @@ fn explain_in_class(page: &mut Page, lines: &[Line], blocks: &Blocks, block: Blo
     if !matches!(block.state, BlockState::Fields) {
         mark_closed(page, lines, blocks);
     }
-    if let Some(LineKind::Int | LineKind::Buf) = line.line_kind() {
-        page.write_help_text(EXTRA_BYTES);
+    match line.line_kind() {
+        Some(LineKind::Int | LineKind::Buf) => page.write_help_text(EXTRA_BYTES),
+        Some(LineKind::Ptr | LineKind::ClassPtr) => page.write_help_text(POINTER_MEMBER),
+        _ => {}
     }
     page.write_help_text("a class has its fields, then `construct`, then `destroy`, then `end`");
 }

@@ -2,7 +2,9 @@
 //! line in it. What changes within a column is drawn as the greatest value of the column. A band is as high in each panel of a picture.
 
 use crate::drawing::{Drawing, Drawn};
-use crate::labels::{close_rect, open_rect, put_digits, put_number, put_text, width_of_number};
+use crate::labels::{
+    close_rect, open_path, open_rect, put_both, put_digits, put_number, put_text, width_of_number,
+};
 use crate::places::share_of;
 use crate::scale::{Area, Scale};
 use std::alloc::{AllocError, Global};
@@ -93,7 +95,10 @@ fn put_stretch(
         .first_step(until)
         .saturating_sub(1)
         .min(scale.last);
-    write!(drawing.text, "{name}: {value}, in steps {first} to {last}")?;
+    drawing.text.push_str(name)?;
+    put_both(drawing, ": ", value)?;
+    put_both(drawing, ", in steps ", first)?;
+    put_both(drawing, " to ", last)?;
     close_rect(drawing)?;
     if area.width() < width_of_number(value).saturating_add(6) {
         return Ok(());
@@ -112,7 +117,7 @@ pub fn put_length(drawing: &mut Drawing<'_>, class: &str, series: &Series) -> Dr
     if series.least() > scale.places.reach {
         return Ok(());
     }
-    write!(drawing.text, "<path class=\"{class}\" d=\"")?;
+    open_path(drawing, class)?;
     let mut letter = 'M';
     for stretch in stretches.as_slice() {
         let (x, end) = (scale.x(stretch.from), scale.x(stretch.until));

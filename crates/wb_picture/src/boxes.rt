@@ -7,7 +7,8 @@ use crate::drawing::{Drawing, Drawn};
 use crate::escape::{put_class, width_of};
 use crate::groups::{Group, area_of};
 use crate::labels::{
-    close_rect, close_text, open_cell, open_text, put_digits, put_path, width_of_number,
+    close_line, close_rect, close_text, open_cell, open_line, open_text, put_both, put_digits,
+    width_of_number,
 };
 use crate::leaks::{LeakLabel, is_free};
 use crate::panel::Panel;
@@ -29,7 +30,7 @@ pub fn put_cells(
     leaking: bool,
 ) -> Drawn {
     for group in groups {
-        if (group.paint == Paint::Leak) == leaking {
+        if (group.paint() == Paint::Leak) == leaking {
             put_group(drawing, panel, group)?;
         }
     }
@@ -42,7 +43,7 @@ pub fn put_group(drawing: &mut Drawing<'_>, panel: &Panel<'_>, group: &Group) ->
     let (Some(first), Some(last)) = (parts.get(group.first), parts.get(group.last)) else {
         return Ok(());
     };
-    open_cell(drawing, edge_of(group), group.paint.name(), group.area)?;
+    open_cell(drawing, edge_of(group), group.paint().name(), group.area())?;
     if group.count > 1 {
         put_group_title(drawing, group, first, last)?;
         return close_rect(drawing);
@@ -54,8 +55,8 @@ pub fn put_group(drawing: &mut Drawing<'_>, panel: &Panel<'_>, group: &Group) ->
 
 /// The style of a rectangle's edge. A small one has none; a leak has one unless that would cover its red.
 fn edge_of(group: &Group) -> &'static str {
-    let low = if group.paint == Paint::Leak { 3 } else { 8 };
-    if group.area.width() < 4 || group.area.height() < low {
+    let low = if group.paint() == Paint::Leak { 3 } else { 8 };
+    if group.area().width() < 4 || group.area().height() < low {
         "thin"
     } else {
         "cell"
@@ -80,13 +81,11 @@ fn put_join(drawing: &mut Drawing<'_>, panel: &Panel<'_>, parts: &[Part], part: 
         area_of(old, &scale).middle(),
         area_of(part, &scale).middle(),
     );
-    let (from, to, attempt) = (old.place, part.place, part.attempt);
-    put_path(
-        drawing,
-        "join strong",
-        line,
-        format_args!("attempt {attempt} moved the cell from place {from} to place {to}"),
-    )
+    open_line(drawing, "join strong", line)?;
+    put_both(drawing, "attempt ", part.attempt)?;
+    put_both(drawing, " moved the cell from place ", old.place)?;
+    put_both(drawing, " to place ", part.place)?;
+    close_line(drawing)
 }
 
 /// Writes into the rectangles of single cells which they are, if there is room and no label of a leak is over them. No line is over
@@ -100,7 +99,7 @@ pub fn put_names(
     let parts = panel.run.history.course.parts();
     for group in groups {
         if group.count == 1
-            && group.paint != Paint::Leak
+            && group.paint() != Paint::Leak
             && let Some(part) = parts.get(group.first)
         {
             put_inside(drawing, panel, group, part, labels)?;
@@ -118,7 +117,7 @@ fn put_inside(
     labels: &[LeakLabel],
 ) -> Drawn {
     let scale = drawing.scale;
-    let area = group.area;
+    let area = group.area();
     let number = part.number;
     let short = width_of_number(number).saturating_add(ROOM);
     if area.height() < LEAST_WITH_TEXT || area.width() < short {
@@ -132,7 +131,7 @@ fn put_inside(
     if !is_free(labels, &area_of_text(x, y, width)) {
         return Ok(());
     }
-    open_text(drawing, group.paint.label_name(), x, y)?;
+    open_text(drawing, group.paint().label_name(), x, y)?;
     put_digits(drawing, number)?;
     if is_whole {
         put_name(drawing, part.kind)?;

@@ -1,6 +1,7 @@
 //! Text of a user in a picture: the one way by which names, literals and lines of a script come into it.
 
 use crate::drawing::{Drawing, Drawn};
+use crate::labels::put_both;
 
 /// The most characters of a line that are shown.
 const MOST_SHOWN: usize = 60;
@@ -30,7 +31,8 @@ pub fn put_line(drawing: &mut Drawing<'_>, number: u32) -> Drawn {
     if number == 0 {
         return Ok(());
     }
-    write!(drawing.text, "; line {number}: ")?;
+    put_both(drawing, "; line ", number)?;
+    drawing.text.push_str(": ")?;
     let line = drawing.lines.line(number);
     put_escaped(drawing, line.trim())
 }

@@ -1,12 +1,16 @@
 //! Which parts of cells are drawn as one rectangle: each part alone, or, of a run with many cells, those that look the same.
 
 use crate::colours::Paint;
+use crate::drawing::Drawn;
 use crate::scale::{Area, Scale};
 use std::alloc::{AllocError, Global};
 use wb_history::{NEVER, Part};
 
 /// How wide a leak is at least, in pixels.
 const LEAST_LEAK: u32 = 6;
+
+/// With how many groups a part is compared that were added before it. The others are found when all are sorted.
+const NEAR: usize = 4;
 
 /// How often the marks of a picture get twice as coarse before all of it is one.
 const MOST_HALVINGS: u32 = 12;
@@ -21,29 +25,96 @@ struct Look {
     paint: Paint,
 }
 
-/// A part, by its index, and how it is drawn.
+/// Parts that are drawn as one rectangle, by how they look first.
 #[derive(Clone, Copy, PartialEq, Eq, PartialOrd, Ord)]
-struct PartLook {
-    look: Look,
-    index: usize,
-}
-
-/// Parts that are drawn as one rectangle.
-#[derive(Clone, Copy)]
 pub struct Group {
-    pub area: Area,
-    pub paint: Paint,
-    pub count: u32,
-    /// The index of the first of them.
+    look: Look,
+    /// The index of the first of them, and of the last.
     pub first: usize,
-    /// The index of the last of them.
     pub last: usize,
+    pub count: u32,
 }
 
-impl Look {
-    fn area(self) -> Area {
-        Area::between(self.left, self.top, self.right, self.bottom)
+impl Group {
+    /// A part alone, by its index.
+    fn of(part: &Part, index: usize, scale: &Scale) -> Group {
+        Group {
+            look: look_of(part, scale),
+            first: index,
+            last: index,
+            count: 1,
+        }
     }
+
+    pub fn area(&self) -> Area {
+        Area::between(
+            self.look.left,
+            self.look.top,
+            self.look.right,
+            self.look.bottom,
+        )
+    }
+
+    pub fn paint(&self) -> Paint {
+        self.look.paint
+    }
+
+    /// Takes in parts that look the same.
+    fn add(&mut self, other: &Group) {
+        self.first = self.first.min(other.first);
+        self.last = self.last.max(other.last);
+        self.count = self.count.saturating_add(other.count);
+    }
+}
+
+/// Groups that look different, made of parts or groups that are added in order of their left edges.
+#[derive(Drop)]
+struct Merged {
+    groups: Vec<Group>,
+    /// What was added with the last left edge.
+    open: Vec<Group>,
+}
+
+impl Merged {
+    fn add(&mut self, group: &Group) -> Drawn {
+        if let Some(last) = self.open.last()
+            && last.look.left != group.look.left
+        {
+            self.close()?;
+        }
+        for at in self.open.len().saturating_sub(NEAR)..self.open.len() {
+            if let Some(near) = self.open.get_mut(at)
+                && near.look == group.look
+            {
+                near.add(group);
+                return Ok(());
+            }
+        }
+        self.open.push(*group)?;
+        Ok(())
+    }
+
+    /// Merges what was added with the last left edge.
+    fn close(&mut self) -> Drawn {
+        self.open.sort_unstable();
+        for group in self.open.as_slice() {
+            add_sorted(&mut self.groups, group)?;
+        }
+        self.open.clear();
+        Ok(())
+    }
+}
+
+/// Adds a group to those before it, or to the last of them if that looks the same.
+fn add_sorted(groups: &mut Vec<Group>, group: &Group) -> Drawn {
+    if let Some(last) = groups.last_mut()
+        && last.look == group.look
+    {
+        last.add(group);
+        return Ok(());
+    }
+    groups.push(*group)?;
+    Ok(())
 }
 
 /// Which parts a panel shows.
@@ -87,8 +158,8 @@ pub fn groups_of(
     } else {
         Shown::Present
     };
-    let looks = looks_of(alloc, parts, scale, shown)?;
-    let groups = merge_up_to(alloc, parts, scale, looks, most)?;
+    let each = each_alone(alloc, parts, scale, shown)?;
+    let groups = merge_up_to(alloc, each, scale, most)?;
     Ok(Groups { groups, is_partial })
 }
 
@@ -103,76 +174,106 @@ fn count_present(parts: &[Part], scale: &Scale) -> usize {
     count
 }
 
-/// The groups of parts that look so: each alone, or, if they are too many, those that look the same if marks are coarser.
-fn merge_up_to(
-    alloc: Global,
-    parts: &[Part],
-    scale: &Scale,
-    mut looks: Vec<PartLook>,
-    most: usize,
-) -> Result<Vec<Group>, AllocError> {
-    if looks.len() <= most {
-        return each_alone(alloc, &looks);
-    }
-    let mut unit = 1u32;
-    for _ in 0..MOST_HALVINGS {
-        looks.sort_unstable();
-        let groups = merge(alloc, &looks)?;
-        if groups.len() <= most {
-            return Ok(groups);
-        }
-        unit = unit.saturating_mul(2);
-        for look in looks.as_mut_slice() {
-            look.make_coarser(parts, scale, unit);
-        }
-    }
-    looks.sort_unstable();
-    merge(alloc, &looks)
-}
-
-impl PartLook {
-    /// How the part is drawn in multiples of a unit of pixels.
-    fn make_coarser(&mut self, parts: &[Part], scale: &Scale, unit: u32) {
-        if let Some(part) = parts.get(self.index) {
-            self.look = look_of(part, scale, unit);
-        }
-    }
-}
-
-/// How each part is drawn, of those that are shown.
-fn looks_of(
+/// Each part alone, of those that are shown.
+fn each_alone(
     alloc: Global,
     parts: &[Part],
     scale: &Scale,
     shown: Shown,
-) -> Result<Vec<PartLook>, AllocError> {
-    let mut looks = Vec::new(alloc);
-    for index in 0..parts.len() {
-        if let Some(part) = parts.get(index)
-            && shown.has(part, scale)
-        {
-            let look = look_of(part, scale, 1);
-            looks.push(PartLook { look, index })?;
+) -> Result<Vec<Group>, AllocError> {
+    let mut groups = Vec::new(alloc);
+    for (index, part) in parts.iter().enumerate() {
+        if shown.has(part, scale) {
+            groups.push(Group::of(part, index, scale))?;
         }
     }
-    Ok(looks)
+    Ok(groups)
 }
 
-fn look_of(part: &Part, scale: &Scale, unit: u32) -> Look {
-    let (least, paint) = if part.leaks {
-        (LEAST_LEAK, Paint::Leak)
-    } else {
-        (1, Paint::of(part.kind))
+/// These parts, or, if they are too many, groups of those that look the same if marks are so coarse that the groups are few enough.
+fn merge_up_to(
+    alloc: Global,
+    each: Vec<Group>,
+    scale: &Scale,
+    most: usize,
+) -> Result<Vec<Group>, AllocError> {
+    if each.len() <= most {
+        return Ok(each);
+    }
+    let mut groups = merge(alloc, &each)?;
+    let mut unit = 1u32;
+    for _ in 0..MOST_HALVINGS {
+        if groups.len() <= most {
+            break;
+        }
+        unit = unit.saturating_mul(2);
+        for group in groups.as_mut_slice() {
+            group.look = group.look.coarser(scale, unit);
+        }
+        groups = merge(alloc, &groups)?;
+    }
+    Ok(groups)
+}
+
+/// The groups of what looks the same, of parts or groups that are in order of their left edges.
+fn merge(alloc: Global, groups: &Vec<Group>) -> Result<Vec<Group>, AllocError> {
+    let mut merged = Merged {
+        groups: Vec::new(alloc),
+        open: Vec::new(alloc),
     };
-    let area = area_of(part, scale).at_least(least, 2);
-    // a leak may go past the frame
-    let most = scale.frame.right().saturating_add(least).saturating_sub(1);
+    for group in groups.as_slice() {
+        merged.add(group)?;
+    }
+    merged.close()?;
+    Ok(merged.groups)
+}
+
+/// How a part is drawn.
+fn look_of(part: &Part, scale: &Scale) -> Look {
+    let paint = if part.leaks {
+        Paint::Leak
+    } else {
+        Paint::of(part.kind)
+    };
+    let area = area_of(part, scale).at_least(least_width(paint), 2);
     Look {
-        left: floor_to(area.left, unit),
-        right: ceil_to(area.right, unit).min(most),
-        top: floor_to(area.top, unit).max(scale.frame.top),
-        bottom: ceil_to(area.bottom, unit).min(scale.frame.bottom()),
+        left: area.left,
+        right: area.right,
+        top: area.top,
+        bottom: area.bottom,
         paint,
+    }
+    .within(scale)
+}
+
+/// How wide what is painted so is at least, in pixels.
+fn least_width(paint: Paint) -> u32 {
+    if paint == Paint::Leak { LEAST_LEAK } else { 1 }
+}
+
+impl Look {
+    /// The same look in multiples of a unit of pixels, each twice the one before it.
+    fn coarser(self, scale: &Scale, unit: u32) -> Look {
+        Look {
+            left: floor_to(self.left, unit),
+            right: ceil_to(self.right, unit),
+            top: floor_to(self.top, unit),
+            bottom: ceil_to(self.bottom, unit),
+            paint: self.paint,
+        }
+        .within(scale)
+    }
+
+    /// The same look in the frame. A leak may go past it.
+    fn within(self, scale: &Scale) -> Look {
+        let past = least_width(self.paint).saturating_sub(1);
+        let most = scale.frame.right().saturating_add(past);
+        Look {
+            right: self.right.min(most),
+            top: self.top.max(scale.frame.top),
+            bottom: self.bottom.min(scale.frame.bottom()),
+            ..self
+        }
     }
 }
 
@@ -192,42 +293,4 @@ fn floor_to(n: u32, unit: u32) -> u32 {
 
 fn ceil_to(n: u32, unit: u32) -> u32 {
     floor_to(n.saturating_add(unit).saturating_sub(1), unit)
-}
-
-fn each_alone(alloc: Global, looks: &Vec<PartLook>) -> Result<Vec<Group>, AllocError> {
-    let mut groups = Vec::new(alloc);
-    for it in looks.as_slice() {
-        groups.push(group_of(it))?;
-    }
-    Ok(groups)
-}
-
-/// The groups of parts that are sorted by how they look.
-fn merge(alloc: Global, looks: &Vec<PartLook>) -> Result<Vec<Group>, AllocError> {
-    let mut groups = Vec::new(alloc);
-    let mut look = None;
-    for it in looks.as_slice() {
-        if look != Some(it.look) {
-            look = Some(it.look);
-            groups.push(group_of(it))?;
-        } else if let Some(group) = groups.last_mut() {
-            add(group, it);
-        }
-    }
-    Ok(groups)
-}
-
-fn group_of(part: &PartLook) -> Group {
-    Group {
-        area: part.look.area(),
-        paint: part.look.paint,
-        count: 1,
-        first: part.index,
-        last: part.index,
-    }
-}
-
-fn add(group: &mut Group, part: &PartLook) {
-    group.count = group.count.saturating_add(1);
-    group.last = part.index;
 }

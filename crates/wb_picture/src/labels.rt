@@ -12,7 +12,7 @@ pub fn put_digits(drawing: &mut Drawing<'_>, number: u32) -> Drawn {
 }
 
 /// Writes what comes before a number, and the number.
-fn put_both(drawing: &mut Drawing<'_>, before: &str, number: u32) -> Drawn {
+pub fn put_both(drawing: &mut Drawing<'_>, before: &str, number: u32) -> Drawn {
     drawing.text.push_str(before)?;
     put_digits(drawing, number)
 }
@@ -47,11 +47,17 @@ pub fn close_rect(drawing: &mut Drawing<'_>) -> Drawn {
     drawing.text.push_str("</title></rect>\n")
 }
 
-/// Writes a path through these points, straight down or across, and opens its title.
-pub fn open_line(drawing: &mut Drawing<'_>, class: &str, area: Area) -> Drawn {
+/// Opens a path before its points.
+pub fn open_path(drawing: &mut Drawing<'_>, class: &str) -> Drawn {
     drawing.text.push_str("<path class=\"")?;
     drawing.text.push_str(class)?;
-    put_both(drawing, "\" d=\"M", area.left)?;
+    drawing.text.push_str("\" d=\"")
+}
+
+/// Writes a path through these points, straight down or across, and opens its title.
+pub fn open_line(drawing: &mut Drawing<'_>, class: &str, area: Area) -> Drawn {
+    open_path(drawing, class)?;
+    put_both(drawing, "M", area.left)?;
     put_both(drawing, " ", area.top)?;
     put_both(drawing, "L", area.right)?;
     put_both(drawing, " ", area.bottom)?;

@@ -104,9 +104,9 @@ fn leaks_of(alloc: Global, scale: &Scale, groups: &[Group]) -> Result<Vec<Leak>,
     let mut leaks = Vec::new(alloc);
     for at in 0..groups.len() {
         if let Some(group) = groups.get(at)
-            && group.paint == Paint::Leak
+            && group.paint() == Paint::Leak
         {
-            let y = base_line(scale, group.area.middle().saturating_add(RISE));
+            let y = base_line(scale, group.area().middle().saturating_add(RISE));
             leaks.push(Leak { y, group: at })?;
         }
     }
@@ -123,7 +123,7 @@ fn label_at(
     more: usize,
 ) -> LeakLabel {
     let width = width_of_label(drawing, panel, group);
-    let area = group.area;
+    let area = group.area();
     let after = area.right.saturating_add(BESIDE);
     let before = area.left.saturating_sub(BESIDE);
     let (class, left, x) = if area.height() >= LEAST_WITH_TEXT && area.width() >= width {

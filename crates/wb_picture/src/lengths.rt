@@ -4,7 +4,9 @@
 use crate::bands::put_length;
 use crate::drawing::{Drawing, Drawn};
 use crate::escape::put_line;
-use crate::labels::{close_line, open_line, put_number, put_path, put_text, width_of_number};
+use crate::labels::{
+    close_line, open_line, put_both, put_number, put_path, put_text, width_of_number,
+};
 use crate::leaks::{LeakLabel, is_free};
 use crate::marks::{ColumnAttempts, extend};
 use crate::scale::{Area, Scale};
@@ -208,16 +210,13 @@ fn put_rise_title(drawing: &mut Drawing<'_>, step: &ColumnAttempts<'_>) -> Drawn
     let (first, last) = (step.first.attempt.number, step.last.attempt.number);
     let top = step.last.top();
     if first == last {
-        write!(
-            drawing.text,
-            "rise: attempt {first} made the heap {top} bytes long"
-        )?;
+        put_both(drawing, "rise: attempt ", first)?;
     } else {
-        write!(
-            drawing.text,
-            "rises: attempts {first} to {last} made the heap {top} bytes long"
-        )?;
+        put_both(drawing, "rises: attempts ", first)?;
+        put_both(drawing, " to ", last)?;
     }
+    put_both(drawing, " made the heap ", top)?;
+    drawing.text.push_str(" bytes long")?;
     put_line(drawing, step.first.maker.line)
 }
 

@@ -2,7 +2,10 @@
 //! failed. Those that fall in one column are one tick or mark.
 
 use crate::drawing::{Drawing, Drawn};
-use crate::labels::{close_line, close_rect, open_line, open_rect, put_number, width_of_number};
+use crate::labels::{
+    close_line, close_rect, open_line, open_path, open_rect, put_both, put_digits, put_number,
+    width_of_number,
+};
 use crate::scale::{Area, Scale};
 use crate::titles::put_attempt_title;
 use std::alloc::AllocError;
@@ -148,19 +151,23 @@ fn put_cross(drawing: &mut Drawing<'_>, class: &str, area: Area) -> Drawn {
         right,
         bottom,
     } = area;
-    write!(
-        drawing.text,
-        "<path class=\"{class}\" d=\"M{left} {top}L{right} {bottom}M{right} {top}L{left} {bottom}\"/>\n"
-    )
+    open_path(drawing, class)?;
+    for (from, to) in [(left, right), (right, left)] {
+        put_both(drawing, "M", from)?;
+        put_both(drawing, " ", top)?;
+        put_both(drawing, "L", to)?;
+        put_both(drawing, " ", bottom)?;
+    }
+    drawing.text.push_str("\"/>\n")
 }
 
 fn put_run_title(drawing: &mut Drawing<'_>, run: &ColumnAttempts<'_>) -> Drawn {
     if run.count == 1 {
         return put_attempt_title(drawing, &run.first);
     }
-    let count = run.count;
-    let (first, last) = (run.first.attempt.number, run.last.attempt.number);
-    write!(drawing.text, "{count} attempts, from {first} to {last}")?;
-    let failed = run.failed;
-    write!(drawing.text, ", of which {failed} failed")
+    put_digits(drawing, run.count)?;
+    put_both(drawing, " attempts, from ", run.first.attempt.number)?;
+    put_both(drawing, " to ", run.last.attempt.number)?;
+    put_both(drawing, ", of which ", run.failed)?;
+    drawing.text.push_str(" failed")
 }

@@ -2,7 +2,7 @@
 
 use crate::drawing::{Drawing, Drawn};
 use crate::escape::put_line;
-use crate::labels::{close_rect, close_text, open_rect, open_text, put_text};
+use crate::labels::{close_rect, close_text, open_rect, open_text, put_both, put_text};
 use crate::scale::{Area, Scale};
 use wb_history::AttemptMade;
 
@@ -112,14 +112,11 @@ fn put_range(drawing: &mut Drawing<'_>, range: &Range<'_>, class: &str) -> Drawn
 }
 
 fn put_range_title(drawing: &mut Drawing<'_>, range: &Range<'_>) -> Drawn {
-    let (from, first, last) = (
-        range.from,
-        range.first.attempt.number,
-        range.last.attempt.number,
-    );
-    write!(drawing.text, "from {from} refuses {first}")?;
-    if first != last {
-        write!(drawing.text, " .. {last}")?;
+    let (first, last) = (range.first.attempt.number, range.last.attempt.number);
+    put_both(drawing, "from ", range.from)?;
+    put_both(drawing, " refuses ", first)?;
+    if first == last {
+        return Ok(());
     }
-    Ok(())
+    put_both(drawing, " .. ", last)
 }

@@ -3,6 +3,7 @@
 use crate::drawing::{Drawing, Drawn};
 use crate::escape::{put_class, put_line};
 use crate::groups::Group;
+use crate::labels::{put_both, put_digits};
 use wb_history::{AttemptMade, Part, PartEnd};
 use wb_model::heap::{Answer, Attempt, Kind};
 
@@ -12,9 +13,11 @@ pub fn put_part_title(drawing: &mut Drawing<'_>, part: &Part) -> Drawn {
         drawing.text.push_str("leak: ")?;
     }
     let (number, length, place) = (part.number, part.length, part.place);
-    write!(drawing.text, "cell {number}, ")?;
+    put_both(drawing, "cell ", number)?;
+    drawing.text.push_str(", ")?;
     put_kind(drawing, part.kind)?;
-    write!(drawing.text, ", {length} bytes at place {place}")?;
+    put_both(drawing, ", ", length)?;
+    put_both(drawing, " bytes at place ", place)?;
     put_beginning(drawing, part)?;
     put_end(drawing, part)?;
     put_line(drawing, part.line)
@@ -36,33 +39,27 @@ fn put_kind(drawing: &mut Drawing<'_>, kind: Kind) -> Drawn {
 fn put_beginning(drawing: &mut Drawing<'_>, part: &Part) -> Drawn {
     let (attempt, from) = (part.attempt, part.from);
     if attempt == 0 {
-        return write!(drawing.text, ", made shorter in step {from}");
+        return put_both(drawing, ", made shorter in step ", from);
     }
     let deed = if part.before.is_none() {
-        "granted by"
+        ", granted by attempt "
     } else if attempt == part.number {
-        "moved here by"
+        ", moved here by attempt "
     } else {
-        "grown by"
+        ", grown by attempt "
     };
-    write!(drawing.text, ", {deed} attempt {attempt} in step {from}")
+    put_both(drawing, deed, attempt)?;
+    put_both(drawing, " in step ", from)
 }
 
 fn put_end(drawing: &mut Drawing<'_>, part: &Part) -> Drawn {
     let deed = match part.end {
         PartEnd::Live => return drawing.text.push_str(", never freed"),
-        PartEnd::Freed => "freed",
-        PartEnd::Resized => "given another length",
-        PartEnd::Moved => "moved away",
+        PartEnd::Freed => ", freed in step ",
+        PartEnd::Resized => ", given another length in step ",
+        PartEnd::Moved => ", moved away in step ",
     };
-    let (after, gone) = (part.last.saturating_add(1), part.gone);
-    if after >= gone {
-        return write!(drawing.text, ", {deed} in step {gone}");
-    }
-    write!(
-        drawing.text,
-        ", {deed} in one of the steps {after} to {gone}"
-    )
+    put_both(drawing, deed, part.gone)
 }
 
 /// Says of several parts that are drawn as one how many they are.
@@ -72,14 +69,17 @@ pub fn put_group_title(
     first: &Part,
     last: &Part,
 ) -> Drawn {
-    let count = group.count;
-    let leaks = if first.leaks { " leaks" } else { "" };
-    write!(drawing.text, "{count}{leaks} cells, ")?;
+    put_digits(drawing, group.count)?;
+    drawing.text.push_str(if first.leaks {
+        " leaks cells, "
+    } else {
+        " cells, "
+    })?;
     put_kind(drawing, first.kind)?;
-    let (low, high) = (first.number, last.number);
-    write!(drawing.text, ", from cell {low} to cell {high}")?;
-    let (from, until) = (first.from, last.from);
-    write!(drawing.text, ", made in steps {from} to {until}")?;
+    put_both(drawing, ", from cell ", first.number)?;
+    put_both(drawing, " to cell ", last.number)?;
+    put_both(drawing, ", made in steps ", first.from)?;
+    put_both(drawing, " to ", last.from)?;
     put_line(drawing, first.line)
 }
 
@@ -91,13 +91,12 @@ pub fn put_attempt_title(drawing: &mut Drawing<'_>, attempt: &AttemptMade<'_>) -
         place,
         answer,
     } = attempt.attempt;
-    let answer = answer_word(answer);
-    write!(drawing.text, "attempt {number}, {answer}")?;
-    let step = attempt.step;
-    write!(
-        drawing.text,
-        ": {length} bytes at place {place}, in step {step}"
-    )?;
+    put_both(drawing, "attempt ", number)?;
+    drawing.text.push_str(", ")?;
+    drawing.text.push_str(answer_word(answer))?;
+    put_both(drawing, ": ", length)?;
+    put_both(drawing, " bytes at place ", place)?;
+    put_both(drawing, ", in step ", attempt.step)?;
     put_line(drawing, attempt.maker.line)
 }
 

@@ -24,7 +24,8 @@ pub fn of_item(panic: Panic, end: Option<End>) -> Meaning {
     }
 }
 
-fn of_item_without_cell(end: Option<End>) -> Meaning {
+/// What it means that an item's cell is no more, and what to look for, by how its life ended.
+pub fn of_item_without_cell(end: Option<End>) -> Meaning {
     match end {
         Some(End::Moved) => (
             "the cleanup stack destroyed an item whose cell had moved",

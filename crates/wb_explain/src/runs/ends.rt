@@ -7,7 +7,8 @@ use crate::runs::destroyed::{OF_OBJECT, of_item};
 use crate::runs::end_words::PanicName;
 use crate::runs::heap_checks::{meaning_of_check, put_counted, put_counts};
 use crate::runs::items_left::{
-    OF_MAIN, POP_FIRST, cure_of_another, put_another, put_items, put_items_left, put_too_many,
+    OF_MAIN, POP_FIRST, cure_of_another, items_below, put_another, put_items, put_items_left,
+    put_too_many,
 };
 use crate::runs::leaks::put_leaks;
 use crate::runs::panics::{Meaning, meaning_of, symbian_of};
@@ -158,7 +159,7 @@ fn life_of(raised: Raised, run: &WatchedRun<'_>) -> Option<Life> {
         Raiser::Release => run.history.lives.find(run.history.last_deleted),
         _ => match run.end.pointer?.state {
             PointerState::Gone(life) => life,
-            PointerState::Null | PointerState::ViewOfNothing => None,
+            PointerState::Null => None,
         },
     }
 }
@@ -167,9 +168,9 @@ fn life_of(raised: Raised, run: &WatchedRun<'_>) -> Option<Life> {
 fn help_of(line: u32, raised: Raised, run: &WatchedRun<'_>) -> &'static str {
     match run.end.pointer {
         Some(fault) => cure_of(run, line, fault),
-        None
-            if raised.panic == Panic::POP_BELOW_TRAP && run.history.traps.open_traps().is_empty() =>
-            { "each item that is popped was pushed before: pop as many as there are" }
+        None if raised.panic == Panic::POP_BELOW_TRAP && items_below(run) == 0 => {
+            "each item that is popped was pushed before: pop as many as there are"
+        }
         None if raised.panic == Panic::ANOTHER_ITEM_ON_TOP => cure_of_another(run),
         None => meaning(raised, run).1,
     }

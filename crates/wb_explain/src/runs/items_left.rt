@@ -36,12 +36,19 @@ pub fn put_items_left(page: &mut ScriptPage<'_>, raised: Raised, run: &WatchedRu
     page.page.write(format_args!(" ended after this line with {items} still on its cleanup stack"));
 }
 
+/// How many items are below those of the innermost TRAP.
+pub fn items_below(run: &WatchedRun<'_>) -> usize {
+    match run.history.traps.open_traps().last() {
+        Some(trap) => trap.items,
+        None => 0,
+    }
+}
+
 /// Says how many items were to be popped, and how many there are.
 pub fn put_too_many(page: &mut ScriptPage<'_>, wanted: i32, run: &WatchedRun<'_>) {
     let count = i64::from(wanted);
     let open = run.history.traps.open_traps().last();
-    let floor = open.map_or(0, |trap| trap.items);
-    let there = run.history.items.count().saturating_sub(floor);
+    let there = run.history.items.count().saturating_sub(items_below(run));
     let (items, were) = (Many(count, "item"), of_one_or_more(count, "was", "were"));
     page.page.write(format_args!("{items} {were} to be popped, but the cleanup stack has {there}"));
     if let Some(trap) = open {
@@ -166,7 +173,13 @@ pub fn cure_of_another(run: &WatchedRun<'_>) -> &'static str {
         (None, Some(life)) if life.popped.is_some() => {
             "each item is popped once: check the pointer whose item is the newest"
         }
-        (None, _) => "push the pointer before this line, or check the one whose item is the newest",
+        (None, Some(life)) if life.is_reallocated => {
+            "after the line that moves a cell, pop the item of its old place, and push the new pointer"
+        }
+        (None, Some(_)) => {
+            "push the pointer before this line, or check the one whose item is the newest"
+        }
+        (None, None) => "check the pointer whose item is the newest: this one has no item",
     }
 }
 

@@ -1,11 +1,12 @@
 //! What is said of each leak: which line made the cell, how it was lost, and what to do.
 
-use crate::runs::paths::{AfterLine, before_name};
+use crate::runs::paths::{AfterLine, before_name, put_path};
 use crate::runs::pointers::cure_of_failed;
 use crate::runs::script_page::{ScriptPage, Written};
-use wb_history::{By, End, Ended, Held, Leave, Life, ShortLine, WatchedRun};
+use wb_history::{BodyKind, By, End, Ended, Held, Leave, Life, ShortLine, WatchedRun};
 use wb_model::heap::{Kind, Ptr};
 use wb_model::run::Leak;
+use wb_model::script::{Holder, Pointer, Statement};
 
 /// The most leaks that are listed one by one.
 const MOST_LEAKS: usize = 20;
@@ -17,6 +18,8 @@ enum Loss {
     Overwritten(u32),
     /// The object whose field it was is gone.
     OwnerGone(Life, Ended),
+    /// The object whose field it is leaks too.
+    OwnerLeaks(Life),
     /// A leave ended the body whose pointer it was, and no item held the cell.
     Left(Leave),
     /// A body ended whose pointer it was.
@@ -81,6 +84,14 @@ fn put_loss(page: &mut ScriptPage<'_>, life: Life, run: &WatchedRun<'_>) -> Writ
         page.mark_new(line, 1, format_args!("`{name}` got it last, here"))?;
     }
     page.mark_new(life.popped.number(), 0, "its item was popped here")?;
+    if life.popped.is_none() {
+        let pushed = life.pushed.number();
+        page.mark_new(
+            pushed,
+            0,
+            "its item was pushed here, and the operation didn't free the cell",
+        )?;
+    }
     let loss = loss_of(life, run);
     if let Loss::OwnerGone(owner, ended) = loss
         && ended.end != End::Deleted
@@ -88,6 +99,12 @@ fn put_loss(page: &mut ScriptPage<'_>, life: Life, run: &WatchedRun<'_>) -> Writ
     {
         let pushed = owner.pushed.number();
         page.mark_new(pushed, 0, "the object that owned it was pushed here")?;
+    }
+    if let Loss::Left(leave) = loss
+        && leave.caught.is_some()
+    {
+        let lines = run.history.calls.lines_of(leave.at.path)?;
+        put_path(page, &run.history.bodies, lines.as_slice());
     }
     put_cure(page, loss, life, run);
     Ok(())
@@ -111,6 +128,12 @@ fn put_cure(page: &mut ScriptPage<'_>, loss: Loss, life: Life, run: &WatchedRun<
             let (line, class) = (ended.at.number(), class_name(page, owner));
             page.page.write_help(format_args!(
                 "line {line} deleted the object that owned it: let the `destroy` of `{class}` free the field"
+            ));
+        }
+        Loss::OwnerLeaks(owner) => {
+            let (line, class) = (owner.made.number(), class_name(page, owner));
+            page.page.write_help(format_args!(
+                "the object that line {line} made owns it and leaks too: delete that, and let the `destroy` of `{class}` free the field"
             ));
         }
         Loss::Left(leave) => put_left_cure(page, leave, life),
@@ -141,10 +164,34 @@ fn put_out_of_scope(page: &mut ScriptPage<'_>, held: Held, name: &str, run: &Wat
         .history
         .calls
         .last_line_of(u32::from(held.depth), held.since);
-    let end = AfterLine(last);
+    if last != 0 && returns(run, held) {
+        return page.page.write_help(format_args!(
+            "line {line} doesn't take the pointer that `{owner}` returns: take it with `callto`, and free the cell"
+        ));
+    }
+    let (end, otherwise) = (AfterLine(last), instead_of_freeing(body.kind));
     page.page.write_help(format_args!(
-        "`{name}` went out of scope when {what}{owner}`, which line {line} called, ended{end}: free the cell before that, or return the pointer"
+        "`{name}` went out of scope when {what}{owner}`, which line {line} called, ended{end}: free the cell before that{otherwise}"
     ));
+}
+
+/// What a body may do with a cell of its own that it doesn't free.
+fn instead_of_freeing(kind: BodyKind) -> &'static str {
+    match kind {
+        BodyKind::Procedure => ", or return the pointer",
+        BodyKind::Construct => ", or keep the pointer in a field",
+        BodyKind::Nothing | BodyKind::Destructor | BodyKind::Operation => "",
+    }
+}
+
+/// Whether the body whose pointer this is ended by returning it.
+fn returns(run: &WatchedRun<'_>, held: Held) -> bool {
+    match run.history.calls.statement_at(u32::from(held.depth)) {
+        Some(Statement::ReturnPointer(Pointer::Held(Holder::Local(index)))) => {
+            *index == held.index
+        }
+        _ => false,
+    }
 }
 
 /// Says which line left, and what to do before it.
@@ -155,11 +202,14 @@ fn put_left_cure(page: &mut ScriptPage<'_>, leave: Leave, life: Life) {
         page.page
             .write(format_args!(", to the TRAP of line {},", trap.line));
     }
-    page.page.write_text(if life.popped.is_some() {
-        " when its item was off the cleanup stack: pop that only when the cell has another owner"
-    } else {
-        " while no item held the cell: push it before that, and pop the item when it is freed or has another owner"
-    });
+    page.page
+        .write_text(match (life.popped.is_some(), life.pushed.is_some()) {
+            (true, _) =>
+                " when its item was off the cleanup stack: pop that only when the cell has another owner",
+            (false, true) => " and ran the operation of its item: let that free the cell",
+            (false, false) =>
+                " while no item held the cell: push it before that, and pop the item when it is freed or has another owner",
+        });
     page.page.end_line();
 }
 
@@ -181,10 +231,7 @@ fn loss_of(life: Life, run: &WatchedRun<'_>) -> Loss {
     if held.is_field() {
         return owner_of(held, run);
     }
-    let leave = run.history.traps.last_leave();
-    if let Some(leave) = leave
-        && leave.at.step >= held.since
-    {
+    if let Some(leave) = run.history.traps.leave_that_ended(held) {
         return Loss::Left(leave);
     }
     if held.depth > 1 {
@@ -199,6 +246,6 @@ fn owner_of(held: Held, run: &WatchedRun<'_>) -> Loss {
     };
     match owner.ended {
         Some(ended) => Loss::OwnerGone(owner, ended),
-        None => Loss::StillNamed,
+        None => Loss::OwnerLeaks(owner),
     }
 }

@@ -1,10 +1,11 @@
 //! What is said of the pointer that a panic is about: that it is null, or what became of its cell, and what to do.
 
+use crate::runs::destroyed::of_item_without_cell;
 use crate::runs::panics::CHECK_FIRST;
 use crate::runs::script_page::ScriptPage;
 use wb_history::{
-    AttemptMade, BodyKind, By, End, Ended, PointerFault, PointerState, WatchedRun, is_same_pointer,
-    target_of,
+    AttemptMade, BodyKind, By, End, Ended, Life, PointerFault, PointerState, WatchedRun,
+    is_same_pointer, target_of,
 };
 use wb_model::script::Statement;
 
@@ -23,11 +24,8 @@ pub fn put_fault(page: &mut ScriptPage<'_>, line: u32, fault: PointerFault) {
     let name = name_of(page, line, fault);
     match fault.state {
         PointerState::Null => page.page.write(format_args!("`{name}` is null")),
-        PointerState::ViewOfNothing => page.page.write(format_args!(
-            "the text that `{name}` shows is gone: its cell was freed or reallocated"
-        )),
         PointerState::Gone(life) => match life.and_then(|life| life.ended) {
-            Some(ended) => put_ended(page, line, name, ended),
+            Some(ended) => put_ended(page, line, fault, ended),
             None => page.page.write(format_args!(
                 "`{name}` names no live cell: it was freed or has moved"
             )),
@@ -35,17 +33,19 @@ pub fn put_fault(page: &mut ScriptPage<'_>, line: u32, fault: PointerFault) {
     }
 }
 
-fn put_ended(page: &mut ScriptPage<'_>, line: u32, name: &str, ended: Ended) {
-    let what = match ended.end {
-        End::Deleted => "the object of `",
-        End::Freed | End::Moved => "the cell of `",
+fn put_ended(page: &mut ScriptPage<'_>, line: u32, fault: PointerFault, ended: Ended) {
+    let name = name_of(page, line, fault);
+    let (what, shows) = match (fault.pointer, ended.end) {
+        (None, _) => ("the cell of the text that `", " shows"),
+        (Some(_), End::Deleted) => ("the object of `", ""),
+        (Some(_), End::Freed | End::Moved) => ("the cell of `", ""),
     };
     let deed = match ended.end {
-        End::Deleted => "` was already deleted",
-        End::Freed => "` was already freed",
-        End::Moved => "` moved",
+        End::Deleted => "was already deleted",
+        End::Freed => "was already freed",
+        End::Moved => "moved",
     };
-    page.page.write(format_args!("{what}{name}{deed}"));
+    page.page.write(format_args!("{what}{name}`{shows} {deed}"));
     if ended.at.number() == line {
         page.page.write_text(" by this line, an earlier time");
     } else {
@@ -61,24 +61,36 @@ pub fn cure_of(run: &WatchedRun<'_>, line: u32, fault: PointerFault) -> &'static
             Some(made) => cure_of_null(made),
             None => CHECK_FIRST,
         },
-        PointerState::ViewOfNothing =>
+        PointerState::Gone(_) if fault.pointer.is_none() =>
             "a view shows its text only while the text's cell is there and keeps its place",
         PointerState::Gone(life) => match life.and_then(|life| life.ended) {
+            Some(ended) if is_in_item(run, line, life) => of_item_without_cell(Some(ended.end)).1,
             Some(ended) => cure_of_ended(run, fault, ended),
             None => "set the pointer to null when its cell is freed",
         },
     }
 }
 
+/// Whether a line is one of an operation that the cleanup stack runs for the item of a cell.
+fn is_in_item(run: &WatchedRun<'_>, line: u32, life: Option<Life>) -> bool {
+    match (life, run.history.last_item) {
+        (Some(life), Some(item)) => {
+            item.pointer() == life.pointer
+                && run.history.bodies.body_of(line).kind == BodyKind::Operation
+        }
+        _ => false,
+    }
+}
+
 /// The attempt that failed last of those that were to give this pointer a cell, in the same body.
 fn failed_for<'a>(run: &WatchedRun<'a>, line: u32, fault: PointerFault) -> Option<AttemptMade<'a>> {
-    let operand = fault.operand?;
+    let pointer = fault.pointer?;
     let body = run.history.bodies.body_of(line);
     let mut last = None;
     for made in run.history.attempts.kept_attempts() {
         if let Some(statement) = made.maker.statement
             && let Some(target) = target_of(statement)
-            && is_same_pointer(target, operand)
+            && is_same_pointer(target, pointer)
             && run.history.bodies.body_of(made.maker.line) == body
         {
             last = if made.is_granted() { None } else { Some(*made) };

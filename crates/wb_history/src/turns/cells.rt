@@ -8,29 +8,42 @@ use crate::statements::{Ahead, NULL};
 use crate::turns::{Deletion, History};
 use std::alloc::AllocError;
 use wb_machine::Machine;
-use wb_model::heap::{Answer, Attempt, Kind, Ptr};
+use wb_model::heap::{Answer, Attempt, Header, Kind, Ptr};
 use wb_model::run::Outcome;
-use wb_model::script::Statement;
 
 impl<'a> History<'a> {
-    /// Sees the cell that an attempt was granted: a new one, one that moved, or one that has grown at its place.
+    /// Sees the cell that an attempt was granted: a new one, one that moved, or one that has grown at its place. Returns its pointer;
+    /// null if nothing was granted.
+    #[inline(never)]
     pub(crate) fn see_attempt(
         &mut self,
         machine: &Machine<'a>,
         attempt: Attempt,
-        ahead: Option<Ahead<'a>>,
-    ) -> Result<(), AllocError> {
+        ahead: Option<&Ahead<'a>>,
+    ) -> Result<Ptr, AllocError> {
         if attempt.answer != Answer::Granted {
-            return Ok(());
+            return Ok(NULL);
         }
         let Some(cell) = live_at(machine, attempt.place) else {
-            return Ok(());
+            return Ok(NULL);
         };
         let start = self.start_now(attempt.number);
-        if cell.number != attempt.number {
+        if cell.number == attempt.number {
+            self.see_new_cell(cell, start, ahead)?;
+        } else {
             self.lives.resize(cell, start.line);
-            return self.course.resize(cell, start);
+            self.course.resize(cell, start)?;
         }
+        Ok(cell.pointer())
+    }
+
+    /// Sees a cell that begins, which may be one that moved.
+    fn see_new_cell(
+        &mut self,
+        cell: Header,
+        start: PartStart,
+        ahead: Option<&Ahead<'a>>,
+    ) -> Result<(), AllocError> {
         let reallocates = ahead.is_some_and(|it| it.reallocates());
         let old = match ahead {
             _ if cell.kind == Kind::Cleanup => self.stack,
@@ -40,7 +53,7 @@ impl<'a> History<'a> {
         if cell.kind == Kind::Cleanup {
             self.stack = cell.pointer();
         }
-        self.end_life(machine, old, End::Moved, By::Line, start.line);
+        self.end_life(old, End::Moved, By::Line, start.line);
         self.course.begin(cell, start, old)?;
         self.lives.begin(cell, start.line, reallocates)
     }
@@ -54,37 +67,22 @@ impl<'a> History<'a> {
         }
     }
 
-    /// Sees what became of the cell that a statement frees, deletes or shortens.
-    pub(crate) fn see_cell(
+    /// Sees what a reallocation without an attempt made of a cell.
+    pub(crate) fn see_shortened(
         &mut self,
         machine: &Machine<'a>,
-        ahead: Ahead<'a>,
-        attempt: Option<Attempt>,
+        pointer: Ptr,
     ) -> Result<(), AllocError> {
-        match ahead.statement {
-            Statement::Free(_) => {
-                self.end_life(machine, ahead.source, End::Freed, By::Line, self.last);
-            }
-            Statement::Delete(_) if ahead.source.number != 0 => {
-                self.deletions.push(Deletion {
-                    object: ahead.source,
-                    by: By::Line,
-                    line: self.last,
-                })?;
-            }
-            Statement::Realloc(..) | Statement::ReallocText(..) if attempt.is_none() => {
-                if let Some(cell) = live_at(machine, ahead.source.place) {
-                    self.lives.resize(cell, self.last);
-                    let start = self.start_now(0);
-                    self.course.resize(cell, start)?;
-                }
-            }
-            _ => {}
-        }
-        Ok(())
+        let Some(cell) = live_at(machine, pointer.place) else {
+            return Ok(());
+        };
+        self.lives.resize(cell, self.last);
+        let start = self.start_now(0);
+        self.course.resize(cell, start)
     }
 
     /// Sees which objects were released whose deletion had begun.
+    #[inline(never)]
     pub(crate) fn see_deletions(&mut self, machine: &Machine<'a>) {
         for _ in 0..self.deletions.len() {
             let Some(deletion) = self.deletions.last().copied() else {
@@ -96,12 +94,12 @@ impl<'a> History<'a> {
             self.deletions.pop();
             let Deletion { object, by, line } = deletion;
             self.last_deleted = object;
-            self.end_life(machine, object, End::Deleted, by, line);
+            self.end_life(object, End::Deleted, by, line);
         }
     }
 
     /// Notes that a cell's life ended, if the cell is gone.
-    pub(crate) fn end_life(
+    pub(crate) fn end_if_gone(
         &mut self,
         machine: &Machine<'a>,
         pointer: Ptr,
@@ -109,7 +107,14 @@ impl<'a> History<'a> {
         by: By,
         line: u32,
     ) {
-        if pointer.number != 0 && !is_live(machine, pointer) {
+        if !is_live(machine, pointer) {
+            self.end_life(pointer, end, by, line);
+        }
+    }
+
+    /// Notes that the life of the cell that a pointer named ended.
+    pub(crate) fn end_life(&mut self, pointer: Ptr, end: End, by: By, line: u32) {
+        if pointer.number != 0 {
             let at = ShortLine::of(line);
             self.lives.end(pointer, Ended { end, by, at });
             self.course.end(pointer, self.steps, end);

@@ -1,0 +1,37 @@
+//! Which statements leave nothing of a run otherwise than it was but its line.
+
+use wb_model::script::Statement;
+
+/// Whether a statement makes no attempt, and changes no pointer, cell, item, view or mark. It doesn't leave, and begins no TRAP.
+pub fn is_quiet(statement: &Statement) -> bool {
+    matches!(
+        statement,
+        Statement::AllocLen(..)
+            | Statement::Store(..)
+            | Statement::Load(..)
+            | Statement::Construct(_)
+            | Statement::SetNumber(..)
+            | Statement::Add(..)
+            | Statement::Call(..)
+            | Statement::Return
+            | Statement::Check(_)
+            | Statement::CheckAll(_)
+            | Statement::FailNext(_)
+            | Statement::FailEvery(_)
+            | Statement::FailNone
+            | Statement::Copy(..)
+            | Statement::Append(..)
+            | Statement::Insert(..)
+            | Statement::DeleteText(..)
+            | Statement::SetLength(..)
+            | Statement::GetLength(..)
+            | Statement::GetMaximum(..)
+            | Statement::PrintText(_)
+            | Statement::PrintNumber(_)
+            | Statement::NoteHeap
+            | Statement::NoteAvailable
+            | Statement::If(..)
+            | Statement::IfElse(..)
+            | Statement::Repeat(..)
+    )
+}

@@ -1,0 +1,187 @@
+//! What statements do: which pointers they write, which items they push and pop, which objects they delete, and which TRAPs they begin
+//! or leave.
+
+use crate::lives::{By, End};
+use crate::moments::{Held, ShortLine};
+use crate::statements::{Ahead, NULL};
+use crate::traps::OpenTrap;
+use crate::turns::{Deletion, History};
+use std::alloc::AllocError;
+use wb_machine::Machine;
+use wb_model::heap::{Attempt, Ptr};
+use wb_model::script::Statement;
+
+impl<'a> History<'a> {
+    /// Sees a statement that was carried out.
+    pub(crate) fn see_statement(
+        &mut self,
+        machine: &Machine<'a>,
+        ahead: &Ahead<'a>,
+        attempt: Option<Attempt>,
+    ) -> Result<(), AllocError> {
+        match ahead.statement {
+            Statement::Set(..) => {
+                self.see_written(machine, ahead, ahead.source);
+                Ok(())
+            }
+            Statement::SetNull(_) => {
+                self.see_written(machine, ahead, NULL);
+                Ok(())
+            }
+            Statement::Free(_) => {
+                self.end_life(ahead.source, End::Freed, By::Line, self.last);
+                Ok(())
+            }
+            Statement::Delete(_) => self.see_delete(ahead.source),
+            Statement::Alloc(..)
+            | Statement::New(..)
+            | Statement::NewText(..)
+            | Statement::Realloc(..)
+            | Statement::ReallocText(..) => self.see_asked(machine, ahead, attempt),
+            Statement::Push(_) | Statement::PushObject(_) | Statement::PushOperation(..) => {
+                self.see_push(machine, ahead, attempt)
+            }
+            _ => self.see_other_statement(machine, ahead),
+        }
+    }
+
+    /// Sees that an object is to be deleted, unless it is null.
+    fn see_delete(&mut self, object: Ptr) -> Result<(), AllocError> {
+        if object.number != 0 {
+            self.deletions.push(Deletion {
+                object,
+                by: By::Line,
+                line: self.last,
+            })?;
+        }
+        Ok(())
+    }
+
+    /// Sees a statement that asked for a cell, or that reallocated one without an attempt.
+    fn see_asked(
+        &mut self,
+        machine: &Machine<'a>,
+        ahead: &Ahead<'a>,
+        attempt: Option<Attempt>,
+    ) -> Result<(), AllocError> {
+        let names = match attempt {
+            Some(attempt) => self.see_attempt(machine, attempt, Some(ahead))?,
+            None => ahead.source,
+        };
+        if ahead.leaves(attempt) {
+            return self.see_leave(machine);
+        }
+        if attempt.is_none() && ahead.reallocates() {
+            self.see_shortened(machine, names)?;
+        }
+        self.see_written(machine, ahead, names);
+        Ok(())
+    }
+
+    /// Sees a statement that was to push an item.
+    fn see_push(
+        &mut self,
+        machine: &Machine<'a>,
+        ahead: &Ahead<'a>,
+        attempt: Option<Attempt>,
+    ) -> Result<(), AllocError> {
+        if let Some(attempt) = attempt {
+            self.see_attempt(machine, attempt, Some(ahead))?;
+        }
+        if (machine.cleanup_depth() as usize) != self.items.count()
+            && let Some(item) = ahead.item()
+        {
+            self.lives.push(ahead.source, self.last);
+            let now = self.now(machine)?;
+            self.items.push(item, now)?;
+        }
+        if ahead.leaves(attempt) {
+            return self.see_leave(machine);
+        }
+        Ok(())
+    }
+
+    /// Sees a statement that neither asks for a cell nor frees one.
+    fn see_other_statement(
+        &mut self,
+        machine: &Machine<'a>,
+        ahead: &Ahead<'a>,
+    ) -> Result<(), AllocError> {
+        match ahead.statement {
+            Statement::Pop(_) | Statement::PopDestroy(_) | Statement::PopCheck(_) => {
+                self.see_popped(machine);
+                Ok(())
+            }
+            Statement::CallTo(..) => {
+                let names = ahead.written.map_or(NULL, |it| it.names);
+                self.calls.replace(machine.depth(), names);
+                Ok(())
+            }
+            Statement::Trap(..) => self.traps.begin(OpenTrap {
+                line: self.last,
+                since: self.steps,
+                items: self.items.count(),
+            }),
+            Statement::ReturnPointer(_) => {
+                self.see_return(machine, ahead.source);
+                Ok(())
+            }
+            _ if ahead.leaves(None) => self.see_leave(machine),
+            statement => self.views.see(machine, statement),
+        }
+    }
+
+    /// Sees a leave.
+    fn see_leave(&mut self, machine: &Machine<'a>) -> Result<(), AllocError> {
+        let now = self.now(machine)?;
+        self.traps.leave(now, machine.depth())
+    }
+
+    /// Sees the items that a statement popped.
+    fn see_popped(&mut self, machine: &Machine<'a>) {
+        for _ in machine.cleanup_depth() as usize..self.items.count() {
+            if let Some(popped) = self.items.pop() {
+                self.lives.pop(popped.pointer(), self.last);
+            }
+        }
+    }
+
+    /// Sees that the pointer that a statement wrote names this now.
+    fn see_written(&mut self, machine: &Machine<'a>, ahead: &Ahead<'a>, names: Ptr) {
+        if let Some(variable) = ahead.written {
+            let held = self.hold_at(machine.depth(), variable.owner, variable.index);
+            self.hold(variable.names, names, held);
+        }
+    }
+
+    /// What gets a cell now, by the line that was begun last at a depth.
+    fn hold_at(&self, depth: u32, owner: Ptr, index: u8) -> Held {
+        Held {
+            owner,
+            since: self.steps,
+            line: ShortLine::of(self.calls.line_at(depth)),
+            caller: ShortLine::of(self.calls.line_at(depth.saturating_sub(1))),
+            depth: u8::try_from(depth).unwrap_or(u8::MAX),
+            index,
+        }
+    }
+
+    /// Notes that a local or a field named one cell before, and names another now.
+    fn hold(&mut self, before: Ptr, now: Ptr, held: Held) {
+        if before != now {
+            self.lives.overwrite(before, held);
+        }
+        self.lives.hold(now, held);
+    }
+
+    /// Sees that the body that runs returns a pointer to its caller.
+    fn see_return(&mut self, machine: &Machine<'a>, pointer: Ptr) {
+        let depth = machine.depth().saturating_sub(1);
+        let Some(Statement::CallTo(index, ..)) = self.calls.statement_at(depth) else {
+            return;
+        };
+        let held = self.hold_at(depth, NULL, *index);
+        let before = self.calls.replaced_at(depth);
+        self.hold(before, pointer, held);
+    }
+}
