@@ -77,7 +77,7 @@ impl<'a> ProgressLine<'a> {
     /// What is left as a failure is tried; `None` if that isn't known.
     fn estimate(&self, at: Failing) -> Option<Estimate> {
         let elapsed = self.since?.elapsed(self.rt).ok()?;
-        self.work.estimate(at, elapsed)
+        self.work.estimate(number_of(at), elapsed)
     }
 
     /// The same as a set is tried.
@@ -131,7 +131,7 @@ impl<'a> Progress for ProgressLine<'a> {
         if self.due.is_none() {
             return;
         }
-        if self.work.begin(at) {
+        if self.work.begin() {
             self.since = Instant::now(self.rt).ok();
         }
         if self.is_due() {
@@ -194,15 +194,19 @@ fn line_of(at: Failing, last: u32, estimate: Option<Estimate>) -> Option<ArraySt
     Some(line)
 }
 
-fn put_failing(line: &mut ArrayString<WIDEST>, at: Failing, last: u32) -> fmt::Result {
+/// The number of a failure. Of two attempts, which are tried as a set, it is the first one's.
+fn number_of(at: Failing) -> u32 {
     match at {
-        Failing::Number(number) => write!(line, "trying attempt {number} of {last}"),
-        Failing::Every(rate) => write!(line, "trying rate {rate} of {last}"),
-        Failing::Pair(first, other) => {
-            write!(
-                line,
-                "trying attempt {first} of {last} with attempt {other}"
-            )
+        Failing::Number(number) | Failing::Every(number) | Failing::Pair(number, _) => number,
+    }
+}
+
+fn put_failing(line: &mut ArrayString<WIDEST>, at: Failing, last: u32) -> fmt::Result {
+    let number = number_of(at);
+    match at {
+        Failing::Every(_) => write!(line, "trying rate {number} of {last}"),
+        Failing::Number(_) | Failing::Pair(_, _) => {
+            write!(line, "trying attempt {number} of {last}")
         }
     }
 }
@@ -231,7 +235,17 @@ fn line_of_set(
 /// The line of a search over states: how many attempts fail, how many states were met, and since how many seconds so many fail, where that is known.
 fn line_of_states(many: u32, states: u32, seconds: Option<u64>) -> Option<ArrayString<WIDEST>> {
     let mut line = ArrayString::new();
-    write!(line, "trying sets of {many} attempts, {states} states met").ok()?;
+    // single failures are followed once more for their states
+    let (many, attempts) = if many < 2 {
+        (1, "attempt")
+    } else {
+        (many, "attempts")
+    };
+    write!(
+        line,
+        "trying sets of {many} {attempts}, {states} states met"
+    )
+    .ok()?;
     if let Some(seconds) = seconds {
         write!(line, ", {seconds} s").ok()?;
     }

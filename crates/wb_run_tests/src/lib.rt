@@ -27,6 +27,8 @@ mod rates;
 #[cfg(test)]
 mod rules;
 #[cfg(test)]
+mod set_progress;
+#[cfg(test)]
 mod sets;
 #[cfg(test)]
 mod shapes;

@@ -19,10 +19,8 @@ use workbench::program::program;
 struct Listener<'a> {
     /// The failures that are still to be reported.
     to_come: &'static [Failing],
-    /// The sets that are still to be reported, of three numbers at most.
-    sets_to_come: &'static [[u32; 3]],
-    /// How many attempts those have that follow.
-    many: u32,
+    /// Whether states were met.
+    has_met_states: bool,
     /// The lengths that are still to be reported, in bytes.
     lengths_to_come: &'static [u32],
     is_as_wanted: bool,
@@ -54,22 +52,17 @@ impl Progress for Listener<'_> {
     }
 
     fn begin_sets(&mut self, many: u32) {
-        self.is_as_wanted &= self.many < many;
-        self.many = many;
+        self.is_as_wanted &= self.to_come.is_empty() && many > 1;
     }
 
-    fn begin_set(&mut self, numbers: &Numbers) {
-        match self.sets_to_come.split_first() {
-            Some((next, rest)) => {
-                self.is_as_wanted &= are_same(numbers, *next);
-                self.is_as_wanted &= numbers.len() as u64 == u64::from(self.many);
-                self.sets_to_come = rest;
-            }
-            None => self.is_as_wanted = false,
-        }
+    fn begin_set(&mut self, _numbers: &Numbers) {
+        self.is_as_wanted = false;
     }
 
-    fn meet_state(&mut self) {}
+    fn meet_state(&mut self) {
+        self.is_as_wanted &= self.to_come.is_empty();
+        self.has_met_states = true;
+    }
 
     fn begin_lengths(&mut self) {
         self.begin();
@@ -88,23 +81,6 @@ impl Progress for Listener<'_> {
     fn end(&mut self) {
         self.ended = self.ended.wrapping_add(1);
         self.is_under_way.set(false);
-    }
-}
-
-/// Whether these are the numbers of a set, of which one of two numbers ends in 0.
-fn are_same(numbers: &Numbers, set: [u32; 3]) -> bool {
-    let [first, second, third] = set;
-    numbers.len() <= 3
-        && number_at(numbers, 0) == first
-        && number_at(numbers, 1) == second
-        && number_at(numbers, 2) == third
-}
-
-/// The number at an index; 0 past the end.
-fn number_at(numbers: &Numbers, at: usize) -> u32 {
-    match numbers.get(at) {
-        Some(number) => *number,
-        None => 0,
     }
 }
 
@@ -162,7 +138,8 @@ struct Wanted {
     /// How many attempts the run without failure makes, if nothing is found in it.
     last: Option<u32>,
     failures: &'static [Failing],
-    sets: &'static [[u32; 3]],
+    /// Whether sets are searched, by states.
+    are_sets_searched: bool,
 }
 
 /// A cell that nobody frees.
@@ -180,7 +157,7 @@ static TOLD: [Wanted; 15] = [
         lengths: &[],
         last: Some(3),
         failures: &[Failing::Number(1), Failing::Number(2), Failing::Number(3)],
-        sets: &[],
+        are_sets_searched: false,
     },
     Wanted {
         words: &["workbench", "check", "--json"],
@@ -189,7 +166,7 @@ static TOLD: [Wanted; 15] = [
         lengths: &[],
         last: Some(3),
         failures: &[Failing::Number(1), Failing::Number(2), Failing::Number(3)],
-        sets: &[],
+        are_sets_searched: false,
     },
     // Rate 2 shows a leak.
     Wanted {
@@ -199,25 +176,19 @@ static TOLD: [Wanted; 15] = [
         lengths: &[],
         last: Some(3),
         failures: &[Failing::Every(1), Failing::Every(2)],
-        sets: &[],
+        are_sets_searched: false,
     },
-    // The run in which attempt 1 fails makes no other, and that in which attempt 2 fails makes a fourth.
+    // The run in which attempt 1 fails makes no other, and that in which attempt 2 fails makes a fourth. Pairs are found by states.
     Wanted {
         words: &["workbench", "sweep", "--pairs"],
         script: FALLBACK,
         sweeps: 1,
         lengths: &[],
         last: Some(3),
-        failures: &[
-            Failing::Number(1),
-            Failing::Number(2),
-            Failing::Number(3),
-            Failing::Pair(2, 3),
-            Failing::Pair(2, 4),
-        ],
-        sets: &[],
+        failures: &[Failing::Number(1), Failing::Number(2), Failing::Number(3)],
+        are_sets_searched: true,
     },
-    // Sets of two attempts follow the single ones, and the second of them leaks.
+    // So are sets.
     Wanted {
         words: &["workbench", "sweep", "--failures", "3"],
         script: FALLBACK,
@@ -225,7 +196,7 @@ static TOLD: [Wanted; 15] = [
         lengths: &[],
         last: Some(3),
         failures: &[Failing::Number(1), Failing::Number(2), Failing::Number(3)],
-        sets: &[[2, 3, 0], [2, 4, 0]],
+        are_sets_searched: true,
     },
     // Three attempts fail, each made where those before it have failed.
     Wanted {
@@ -235,7 +206,7 @@ static TOLD: [Wanted; 15] = [
         lengths: &[],
         last: Some(2),
         failures: &[Failing::Number(1), Failing::Number(2)],
-        sets: &[[2, 3, 0], [2, 3, 4]],
+        are_sets_searched: true,
     },
     Wanted {
         words: &["workbench", "sweep", "--failures=1"],
@@ -244,7 +215,7 @@ static TOLD: [Wanted; 15] = [
         lengths: &[],
         last: Some(2),
         failures: &[Failing::Number(1), Failing::Number(2)],
-        sets: &[],
+        are_sets_searched: false,
     },
     // The run without failure leaks.
     Wanted {
@@ -254,7 +225,7 @@ static TOLD: [Wanted; 15] = [
         lengths: &[],
         last: None,
         failures: &[],
-        sets: &[],
+        are_sets_searched: false,
     },
     // It is cut.
     Wanted {
@@ -264,7 +235,7 @@ static TOLD: [Wanted; 15] = [
         lengths: &[],
         last: None,
         failures: &[],
-        sets: &[],
+        are_sets_searched: false,
     },
     // A heap of 175 bytes refuses the script's cell, and one of 143 the cleanup stack's.
     Wanted {
@@ -274,7 +245,7 @@ static TOLD: [Wanted; 15] = [
         lengths: &[16_777_216, 175, 143],
         last: None,
         failures: &[],
-        sets: &[],
+        are_sets_searched: false,
     },
     // The run in which attempt 2 fails takes a step more, and is cut.
     Wanted {
@@ -284,7 +255,7 @@ static TOLD: [Wanted; 15] = [
         lengths: &[],
         last: Some(3),
         failures: &[Failing::Number(1), Failing::Number(2)],
-        sets: &[],
+        are_sets_searched: false,
     },
     // There is nothing to sweep.
     Wanted {
@@ -294,7 +265,7 @@ static TOLD: [Wanted; 15] = [
         lengths: &[],
         last: None,
         failures: &[],
-        sets: &[],
+        are_sets_searched: false,
     },
     Wanted {
         words: &["workbench", "sweep", "a.oom"],
@@ -303,7 +274,7 @@ static TOLD: [Wanted; 15] = [
         lengths: &[],
         last: None,
         failures: &[],
-        sets: &[],
+        are_sets_searched: false,
     },
     Wanted {
         words: &["workbench", "run", "--fail", "2"],
@@ -312,7 +283,7 @@ static TOLD: [Wanted; 15] = [
         lengths: &[],
         last: None,
         failures: &[],
-        sets: &[],
+        are_sets_searched: false,
     },
     Wanted {
         words: &["workbench", "size"],
@@ -321,7 +292,7 @@ static TOLD: [Wanted; 15] = [
         lengths: &[],
         last: None,
         failures: &[],
-        sets: &[],
+        are_sets_searched: false,
     },
 ];
 
@@ -334,8 +305,7 @@ fn is_reported<'a>(
 ) -> bool {
     let mut listener: Listener<'a> = Listener {
         to_come: wanted.failures,
-        sets_to_come: wanted.sets,
-        many: 1,
+        has_met_states: false,
         lengths_to_come: wanted.lengths,
         is_as_wanted: true,
         begun: 0,
@@ -362,7 +332,7 @@ fn is_reported<'a>(
     );
     listener.is_as_wanted
         && listener.to_come.is_empty()
-        && listener.sets_to_come.is_empty()
+        && listener.has_met_states == wanted.are_sets_searched
         && listener.lengths_to_come.is_empty()
         && listener.begun == wanted.sweeps
         && listener.last == wanted.last
