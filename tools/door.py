@@ -42,6 +42,7 @@ COMMANDS = {
     "help-files": "help_files",
     "ci-examples": "ci_examples",
     "style": "style",
+    "layout": "layout",
     "build": "build",
     "workbench": "workbench",
 }

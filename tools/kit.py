@@ -21,6 +21,7 @@ WRITTEN_FOR = "rattle-kit-13f"
 CALLS: dict[str, tuple[tuple[Any, ...], dict[str, Any]]] = {
     "guarded": ((), {}),
     "lock": ((["crate"],), {}),
+    "fmt": (("folder", "--check", "out"), {}),
     "Crate": (("folder", "root", {}), {}),
     "Crate.below": (("self",), {}),
     "Crate.stamp": (("self",), {}),
@@ -66,6 +67,10 @@ class Kit:
         finally:
             for it in held:
                 os.close(it)
+
+    def is_laid_out(self, crate: Path, said: IO[str]) -> bool:
+        """Whether the files of the crate in that folder are laid out as `rt fmt` does it; what is said of others goes into the file."""
+        return bool(self.module.fmt(str(crate), "--check", said) == 0)
 
     def take_as_built(self, root: Path, crate: str) -> None:
         """Has `rt` take the libraries below a crate as they are: `rt ci`, which may have built them, leaves no stamp with them."""

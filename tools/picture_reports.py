@@ -178,7 +178,7 @@ def misplaced_cells(panel: Panel, report: list[str], first: int = 0) -> Iterator
         high, low = panel.y_of(place + length), panel.y_of(place)
         # one that is too low to be seen is drawn higher
         is_high = abs(top - high) <= NEAR or (low - high < LEAST and bottom - top == LEAST)
-        is_long = abs(right - panel.x_of(gone)) <= NEAR if gone else right >= end or "in one of the steps" in found.string
+        is_long = abs(right - panel.x_of(gone)) <= NEAR if gone else right >= end
         if not (is_high and is_long and abs(bottom - low) <= NEAR and abs(left - panel.x_of(max(step, first))) <= NEAR):
             yield f"a cell is from {left} to {right} and from {top} to {bottom}: {found.string}"
 

@@ -28,7 +28,7 @@ QUIET, PAUSE, LONGER = 2.0, 0.1, 0.4
 # how long a run may take
 LIMIT = 60
 
-LINE = re.compile(r"trying (attempt|rate) (\d+) of (\d+)(?: with attempt (\d+))?(?:, (\d+)% done, (\d+) (?:s|min|h) left)?")
+LINE = re.compile(r"trying (attempt|rate) (\d+) of (\d+)(?:, (\d+)% done, (\d+) (?:s|min|h) left)?")
 LENGTH_LINE = re.compile(r"trying a heap of (\d+) bytes")
 SET_LINE = re.compile(r"trying (\d+) attempts, attempt (\d+) of (\d+) first(?:, (\d+)% done, (\d+) (?:s|min|h) left)?")
 # the line of what is tried, where that is neither an attempt nor a rate
@@ -44,9 +44,8 @@ class Kind(NamedTuple):
     # how many attempts are begun with, and by which power of them the time grows
     attempts: int
     power: int
-    # what a line calls what is tried, and whether the last of them fail in pairs
+    # what a line calls what is tried
     calls: str
-    in_pairs: bool
 
 
 class Shown(NamedTuple):
@@ -62,18 +61,19 @@ class Shown(NamedTuple):
 
 
 def turns(attempts: int) -> str:
-    """So many attempts, of which those that fail are counted: so no run under a failure ends early."""
-    return f"repeat {attempts}\nalloc a 16\nif null a\nadd failed 1\nend\nfree a\nend\n"
+    """So many attempts, and the sum of the turns in which they fail: so no run under a failure ends early, and few are ever in the same
+    state, so that sets must be tried one by one."""
+    return f"repeat {attempts}\nadd turn 1\nalloc a 16\nif null a\nadd failed turn\nend\nfree a\nend\n"
 
 
 def fine(attempts: int) -> str:
     """A script in which no failure shows anything."""
-    return f"proc main\nptr a\nint failed\n{turns(attempts)}end\n"
+    return f"proc main\nptr a\nint turn\nint failed\n{turns(attempts)}end\n"
 
 
 def leaking(attempts: int) -> str:
     """A script that leaks where its last attempt fails: a cell grows, and its only pointer is overwritten."""
-    return f"proc main\nptr a\nptr b\nint failed\n{turns(attempts)}alloc b 16\nalloc a 16\nif some a\nfree b\nend\nfree a\nend\n"
+    return f"proc main\nptr a\nptr b\nint turn\nint failed\n{turns(attempts)}alloc b 16\nalloc a 16\nif some a\nfree b\nend\nfree a\nend\n"
 
 
 def growing(attempts: int) -> str:
@@ -82,11 +82,11 @@ def growing(attempts: int) -> str:
 
 
 KINDS = [
-    Kind(["sweep"], leaking, 100, 2, "attempt", False),
-    Kind(["check", "--every"], fine, 100, 2, "rate", False),
-    Kind(["sweep", "--pairs", "--json"], fine, 20, 3, "attempt", True),
-    Kind(["lengths"], growing, 200, 2, "heap", False),
-    Kind(["sweep", "--failures", "3"], fine, 10, 4, "set", False),
+    Kind(["sweep"], leaking, 100, 2, "attempt"),
+    Kind(["check", "--every"], fine, 100, 2, "rate"),
+    Kind(["sweep", "--pairs", "--json"], fine, 20, 3, "set"),
+    Kind(["lengths"], growing, 200, 2, "heap"),
+    Kind(["sweep", "--failures", "3"], fine, 10, 4, "set"),
 ]
 
 
@@ -175,19 +175,13 @@ def screen(written: bytes) -> list[str]:
     return ["".join(it).rstrip(" ") for it in lines]
 
 
-def tried(line: re.Match[str]) -> tuple[int, int, int]:
-    """The place of a failure among all: pairs come after the others."""
-    first, second = line[2], line[4]
-    return (1, int(first), int(second)) if second else (0, int(first), 0)
-
-
 def look_at_estimates(checks: Checks, name: str, lines: list[re.Match[str]]) -> None:
-    """What is said to be done and left: of each kind of failures more and more, and nothing of what can't be known."""
-    shown = [(it[4] is not None, int(it[5])) for it in lines if it[5]]
+    """What is said to be done and left: more and more, and nothing of what can't be known."""
+    shown = [int(it[4]) for it in lines if it[4]]
     checks.look(f"{name}: what is done", len(shown) > 0, [it[0] for it in lines])
     checks.look(f"{name}: more and more", shown == sorted(shown), shown)
-    checks.look(f"{name}: not yet all", all(percent < 100 for _, percent in shown), shown)
-    checks.look(f"{name}: what is left", all(int(it[6]) >= 1 for it in lines if it[5]), [it[0] for it in lines])
+    checks.look(f"{name}: not yet all", all(percent < 100 for percent in shown), shown)
+    checks.look(f"{name}: what is left", all(int(it[5]) >= 1 for it in lines if it[4]), [it[0] for it in lines])
 
 
 def look_at_sets(checks: Checks, name: str, attempts: int, lines: list[re.Match[str]]) -> None:
@@ -215,9 +209,9 @@ def look_at_lines(checks: Checks, kind: Kind, name: str, attempts: int, shown: S
         look_at_sets(checks, name, attempts, lines)
         return
     checks.look(f"{name}: of how many", all(int(it[3]) == attempts >= int(it[2]) >= 1 for it in lines), [it[0] for it in lines])
-    checks.look(f"{name}: one after another", all(tried(one) < tried(two) for one, two in zip(lines, lines[1:])), [it[0] for it in lines])
+    checks.look(f"{name}: one after another", all(int(one[2]) < int(two[2]) for one, two in zip(lines, lines[1:])), [it[0] for it in lines])
     look_at_estimates(checks, name, lines)
-    checks.look(f"{name}: its kind", all(it[1] == kind.calls for it in lines) and kind.in_pairs == any(it[4] for it in lines))
+    checks.look(f"{name}: its kind", all(it[1] == kind.calls for it in lines))
 
 
 def look_at(program: Path, kind: Kind) -> Checks:
@@ -256,7 +250,7 @@ def slow_failures(turns: int) -> str:
     return f"proc main\nptr a\nptr s\nptr t\n{makes}{falls_back}{falls_back}popdestroy 2\nend\n"
 
 
-SLOW = Kind(["sweep"], slow_failures, 20, 1, "attempt", False)
+SLOW = Kind(["sweep"], slow_failures, 20, 1, "attempt")
 
 
 def look_at_slow_failures(program: Path) -> Checks:

@@ -1,25 +1,41 @@
-"""Which files of the crates below it a crate leads to: those that its own files name, those that these name, and so on. What no
-such file names can't change what a check of the crate says: a definition that nothing there speaks of, or a law.
+"""What a crate leads to of the crates below it: the definitions and code that its own files name, those that these name, and so on. What is
+named nowhere there can't change what a check of the crate says: a definition that nothing there speaks of, or a law.
 
-A path in a file leads to the file of its module and to those of the modules that this one is in. Of code that is named nowhere a
-file counts all the same if it gives methods or traits to a type of another file."""
+A path in a file leads to the file of its module and to those of the modules that this one is in; of definitions and lemmas only to those
+that are named (`definitions`). Of lower crates' code only what is seen from above leads further (`seen_code`). Of code that is named
+nowhere a file counts all the same if it gives methods or traits to a type of another file, unless only the crate itself can name that
+type.
+
+What some files of a crate lead to is found in the same way, in the crate itself too: there each file of code counts, with what the given
+files call of it."""
 
 import re
-from collections import defaultdict
-from collections.abc import Iterator
+from collections.abc import Iterable, Iterator, Set
 from functools import cache
 from pathlib import Path
 
-from tools.crates import Crates
+from tools.crates import Crates, without_comments
+from tools.definitions import WORD, Definitions, Target, targets_of
+from tools.seen_code import IMPORT, called_code, seen_code
 
-# a path of definitions, lemmas or of what code declares, and a path of code
-MODULE_PATH = re.compile(r"\bRattle\.(\w+)((?:\.\w+)*)")
+# a path from code to a lemma or a definition of its own crate
+OWN_LEMMA = re.compile(r"\bcrate((?:::\w+)+)::([\w-]+)")
+# a path of code
 CODE_PATH = re.compile(r"\b(\w+)::([^;()]*?);|\b(\w+)::(\w+)")
+# what a crate gives out under its own name: the module that it is from, and its name or names
+EXPORT = re.compile(r"^pub use ([\w:]+)::(?:\{([^}]*)\}|(\w+));", re.MULTILINE)
 # the type that an `impl` is of, and the names of the types and traits that a file declares
 IMPL = re.compile(r"^impl\b(?:<[^{]*?>)? (?:[^{]*? for )?(?:\w+::)*(\w+)", re.MULTILINE)
 DECLARED = re.compile(r"\b(?:struct|enum|trait|type) (\w+)")
+# those types that no other crate can name, and those that one can
+HIDDEN = re.compile(r"^(?:pub\(crate\) )?(?:struct|enum|type) (\w+)", re.MULTILINE)
+NAMEABLE = re.compile(r"^pub (?:struct|enum|type) (\w+)", re.MULTILINE)
 # definitions of what code declares and promises are in no file of their own
 OF_CODE = ("declared", "contracts")
+# what a path of code begins with
+CODE = ("src",)
+# a comment of definitions
+COMMENT = re.compile(r"\s*--.*")
 
 
 class Reached:
@@ -30,15 +46,36 @@ class Reached:
 
     def below(self, crate: str) -> list[Path]:
         """The files of the crates below one that its own files lead to, in the order of their names."""
-        lower = self.crates.below(crate)
-        found = {it for name in lower for it in self.parts(name).always}
-        to_read = [*self.parts(crate).files.values(), *found]
+        return sorted(self.seen(crate))
+
+    def seen(self, crate: str) -> dict[Path, str]:
+        """The same files, with what is seen of each."""
+        return self.seen_from(self.parts(crate).files.values(), set(self.crates.below(crate)))
+
+    def seen_from(self, own: Iterable[Path], others: Set[str], always: Iterable[Path] = ()) -> dict[Path, str]:
+        """The files of other crates that some files lead to, with what is seen of each; and those that count whether they are named or
+        not."""
+        wanted: dict[Path, set[str] | None] = {}
+        to_read = [(it, None) for it in (*always, *(it for name in others for it in self.parts(name).always))]
+        for file in own:
+            to_read += self.files_of(self.crate_of(file), self.targets_of_own(file), others)
         while to_read:
-            for name, files in self.named(to_read.pop()).items():
-                if name in lower:
-                    to_read += files - found
-                    found |= files
-        return sorted(found)
+            file, names = to_read.pop()
+            if self.is_new(wanted, file, names):
+                to_read += self.files_of(self.crate_of(file), self.targets(file, wanted[file]), others)
+        return {file: self.text(file, names) for file, names in wanted.items()}
+
+    @staticmethod
+    def is_new(wanted: dict[Path, set[str] | None], file: Path, names: frozenset[str] | None) -> bool:
+        """Whether so much of a file wasn't wanted before. It is then."""
+        if file in wanted and (wanted[file] is None or (names is not None and names <= wanted[file])):
+            return False
+        wanted[file] = None if names is None else wanted.get(file, set()) | names
+        return True
+
+    def crate_of(self, file: Path) -> str:
+        """The crate that a file belongs to."""
+        return file.relative_to(self.crates.root / "crates").parts[0]
 
     @cache
     def parts(self, crate: str) -> "Parts":
@@ -46,19 +83,71 @@ class Reached:
         return Parts(self.crates, crate)
 
     @cache
-    def named(self, file: Path) -> dict[str, set[Path]]:
-        """The files that one names, by crate."""
-        text, found = file.read_text(encoding="utf-8"), defaultdict[str, set[Path]](set)
-        for crate, path in set(MODULE_PATH.findall(text)):
-            if crate in self.crates.lines:
-                found[crate] |= self.parts(crate).of_module(tuple(path.split(".")[1:]))
+    def definitions(self, file: Path) -> Definitions:
+        """What a file defines."""
+        return Definitions("\n".join(it for it in file.read_text(encoding="utf-8").splitlines() if not COMMENT.fullmatch(it)))
+
+    @cache
+    def code(self, file: Path) -> str:
+        """What is seen of code from above."""
+        return seen_code(without_comments(file.read_text(encoding="utf-8")))
+
+    def text(self, file: Path, names: set[str] | None) -> str:
+        """What is seen of a file where these names of it are wanted, or all of them."""
         if file.suffix == ".rt":
-            own = file.relative_to(self.crates.root / "crates").parts[0]
-            for crate, words in code_paths(text):
-                name = own if crate == "crate" else crate
-                if name in self.crates.lines:
-                    found[name] |= self.parts(name).of_code(words)
-        return found
+            return self.code(file)
+        return "\n".join(it.text for it in self.definitions(file).reached(names))
+
+    def targets_of_own(self, file: Path) -> list[Target]:
+        """What a file leads to as its own crate sees it."""
+        text = file.read_text(encoding="utf-8")
+        return [*targets_of(text), *(code_targets(text) if file.suffix == ".rt" else ())]
+
+    def targets(self, file: Path, names: set[str] | None) -> list[Target]:
+        """What it leads to as a crate above sees it, where these names of it are wanted, or all of them."""
+        if file.suffix == ".rt":
+            text = self.code(file)
+            words = frozenset(WORD.findall(IMPORT.sub("", text)))
+            return [*targets_of(text, words), *code_targets(text)]
+        definitions = self.definitions(file)
+        return list(definitions.targets(definitions.reached(names)))
+
+    def files_of(self, own: str, targets: Iterable[Target], lower: Set[str]) -> Iterator[tuple[Path, frozenset[str] | None]]:
+        """The files of the crates below that targets lead to, each with the names that are taken of it; `None` for all."""
+        for it in targets:
+            crate = own if it.crate == "crate" else it.crate
+            if crate in lower:
+                yield from self.parts(crate).files_of(it)
+
+
+class ReachedWithin(Reached):
+    """What some files of a crate lead to, in the crate itself too."""
+
+    def __init__(self, reached: Reached, crate: str, own: Set[Path]) -> None:
+        super().__init__(reached.crates)
+        self.reached, self.crate, self.own = reached, crate, own
+        self.words = frozenset(word for it in own for word in re.findall(r"\w+", it.read_text(encoding="utf-8")))
+
+    def seen_in_all(self) -> dict[Path, str]:
+        """The files that they lead to, with what is seen of each, but for themselves."""
+        code = [it for it in self.parts(self.crate).files.values() if it.suffix == ".rt"]
+        found = self.seen_from(self.own, {self.crate, *self.crates.below(self.crate)}, always=code)
+        return {file: seen for file, seen in found.items() if file not in self.own}
+
+    def parts(self, crate: str) -> "Parts":
+        """The files of a crate."""
+        return self.reached.parts(crate)
+
+    def definitions(self, file: Path) -> Definitions:
+        """What a file defines."""
+        return self.reached.definitions(file)
+
+    @cache
+    def code(self, file: Path) -> str:
+        """What is seen of code: of the crate itself, what the given files call."""
+        if self.crate_of(file) != self.crate:
+            return self.reached.code(file)
+        return called_code(without_comments(file.read_text(encoding="utf-8")), self.words)
 
 
 class Parts:
@@ -67,22 +156,32 @@ class Parts:
     def __init__(self, crates: Crates, crate: str) -> None:
         folder = crates.folder(crate)
         self.files = {it.relative_to(folder).with_suffix("").parts: it for it in crates.files(crate)}
+        code = {it: it.read_text(encoding="utf-8") for it in self.files.values() if it.suffix == ".rt"}
+        whole = "\n".join(code.values())
+        hidden = set(HIDDEN.findall(whole)) - set(NAMEABLE.findall(whole))
+        # the words of the module that each name is from which the crate gives out
+        self.exports = dict(exports_of(code.get(self.files.get(("src", "lib")), "")))
         # those that count whether they are named or not
-        self.always = {it for it in self.files.values() if it.suffix == ".rt" and gives_to_others(it.read_text(encoding="utf-8"))}
+        self.always = {it for it, text in code.items() if gives_to_others(text, hidden)}
 
-    def of_module(self, path: tuple[str, ...]) -> set[Path]:
-        """The files that a path of definitions or lemmas leads to; one to a module of modules leads to all of these."""
-        if path[1:2] and path[1] in OF_CODE:
-            return self.of_code(frozenset(path[2:]))
+    def files_of(self, target: Target) -> Iterator[tuple[Path, frozenset[str] | None]]:
+        """The files that a path leads to, each with the names that are taken of it. A path to a module of modules leads to all of these."""
+        path, names = target.path, target.names
+        if path[:1] == CODE or path[1:2] and path[1] in OF_CODE:
+            yield from ((it, None) for it in self.of_code(frozenset(path)))
+            return
         ends = [it for it in range(2, len(path) + 1) if path[:it] in self.files]
-        found = {self.files[path[:it]] for it in ends}
-        found |= {file for place, file in self.files.items() if place == (path[0], "Lib")} if path else set()
-        if ends[-1:] == [len(path)] or path == ("specs",):
-            found |= {file for place, file in self.files.items() if place[: len(path)] == path}
-        return found
+        last = ends[-1] if ends else 0
+        # what follows the module in a path is a name of it
+        taken = frozenset(path[last : last + 1]) or names
+        yield from ((self.files[path[:it]], taken if it == last else None) for it in ends)
+        yield from ((file, None) for place, file in self.files.items() if path and place == (path[0], "Lib"))
+        if last == len(path) or path == ("specs",):
+            yield from ((file, None) for place, file in self.files.items() if place[: len(path)] == path and place != path)
 
     def of_code(self, words: frozenset[str]) -> set[Path]:
         """The files of code that a path with these words may lead to."""
+        words = words.union(*(self.exports[it] for it in words if it in self.exports))
         return {
             file
             for place, file in self.files.items()
@@ -90,13 +189,23 @@ class Parts:
         }
 
 
-def code_paths(text: str) -> Iterator[tuple[str, frozenset[str]]]:
-    """The paths of code in a text: the crate that each begins with, and its words."""
+def code_targets(text: str) -> Iterator[Target]:
+    """What the paths of code in a text lead to: the crate that each begins with, and its words; and the lemmas that it names."""
+    for path, name in OWN_LEMMA.findall(text):
+        yield Target("crate", tuple(path.split("::")[1:]), frozenset([name]))
     for crate, statement, other, word in CODE_PATH.findall(text):
-        yield (crate, frozenset(re.findall(r"\w+", statement))) if crate else (other, frozenset({word}))
+        words = re.findall(r"\w+", statement) if crate else [word]
+        yield Target(crate or other, (*CODE, *words), None)
 
 
-def gives_to_others(code: str) -> bool:
-    """Whether code gives methods or traits to a type that it doesn't declare."""
-    declared = set(DECLARED.findall(code))
+def exports_of(code: str) -> Iterator[tuple[str, frozenset[str]]]:
+    """The names that a crate gives out of its modules by its root file, each with the words of the module that it is from."""
+    for module, names, name in EXPORT.findall(code):
+        for it in re.findall(r"\w+", names or name):
+            yield it, frozenset(module.split("::"))
+
+
+def gives_to_others(code: str, hidden: Set[str] = frozenset()) -> bool:
+    """Whether code gives methods or traits to a type that it doesn't declare, and that isn't among those hidden from other crates."""
+    declared = hidden | set(DECLARED.findall(code))
     return any(it not in declared for it in IMPL.findall(code))

@@ -10,9 +10,9 @@ the crate judges one wrong body each of many functions, and says of each functio
 waits for another's. A function with several wrong bodies is given a twin for each further one. An edit that changes more than
 a function's body has a check of its own.
 
-Without a crate's name, those crates are tried whose line in wrong-bodies.txt is missing or no longer stands, and besides two
-whose line stands, picked by the commit: so a line that isn't true comes to light. `--all` tries all. Where a crate's wrong
-bodies are all disproved, its line is written. `--only` tries the edits of that name alone, and writes no line.
+Without a crate's name, those sources are tried whose line in wrong-bodies.txt is missing or no longer stands, and besides twenty
+edits each of two crates all of whose lines stand, picked by the commit: so a line that isn't true comes to light. `--all` tries all.
+Where a source's wrong bodies are all disproved, its line is written. `--only` tries the edits of that name alone, and writes no line.
 
 It prints a line for each edit. The repository's other files stay as they are. `--must-fail` tries the edits of
 `crates/NAME/must-fail/` as well, and `--logs` keeps what the checks printed. `--after-ci` takes the libraries that
@@ -20,7 +20,6 @@ an `rt ci` of the same sources has just left in `out/`; else those that are miss
 """
 
 import argparse
-import hashlib
 import random
 import shutil
 import subprocess
@@ -29,6 +28,7 @@ from dataclasses import replace
 from functools import partial
 from pathlib import Path
 from threading import Lock
+from typing import NamedTuple
 
 from tools.build import Unproved, build_below
 from tools.crates import Crates, Step, processors, run_steps
@@ -36,20 +36,31 @@ from tools.paths import ROOT
 from tools.program import parser_of
 from tools.tally import Tally
 from tools.verdicts import Verdicts, logic_of_toolchain
-from tools.wrong_body_checks import Verdict, check, make_room
+from tools.wrong_body_checks import LIBRARY, Verdict, check, make_room
 from tools.wrong_body_edits import Edit, edited_files, read_edits
 from tools.wrong_body_files import MUST_FAIL, WRONG_BODIES, written_edits
 from tools.wrong_body_twins import Twins, add_proof_files
 
-# how many crates are tried whose line stands
-PICKED = 2
+# how many crates are tried whose line stands, and how many edits of each at most: the largest crates take an hour as a whole
+PICKED, PICKED_EDITS = 2, 20
+
+
+class Choice(NamedTuple):
+    """Which wrong bodies are tried."""
+
+    # the sources, of each crate, whose wrong bodies are all tried
+    sources: dict[str, list[str]]
+    # the crates of whose wrong bodies some are tried besides
+    picked: list[str]
+    # what picks, for the same commit the same
+    seed: str
 
 
 class Trial:
     """Tries the wrong bodies of some crates, each on a copy below a folder."""
 
-    def __init__(self, crates: Crates, folder: Path, kinds: list[str], only: list[str], verdicts: Verdicts) -> None:
-        self.crates, self.folder, self.kinds, self.verdicts = crates, folder, kinds, verdicts
+    def __init__(self, crates: Crates, folder: Path, kinds: list[str], only: list[str], verdicts: Verdicts, choice: Choice) -> None:
+        self.crates, self.folder, self.kinds, self.verdicts, self.choice = crates, folder, kinds, verdicts, choice
         # the names of the edits that are tried alone, if some are
         self.only = set(only)
         self.tally = Tally()
@@ -58,10 +69,15 @@ class Trial:
     def edits(self, crate: str) -> tuple[list[Edit], dict[str, str]]:
         """The edits of a crate that are tried, and why others are none."""
         good, bad = read_edits(self.crates.folder(crate), self.kinds)
-        return [it for it in good if self.is_tried(it.label)], {label: why for label, why in bad.items() if self.is_tried(label)}
+        if crate in self.choice.picked:
+            return random.Random(f"{self.choice.seed} {crate}").sample(good, min(PICKED_EDITS, len(good))), bad
+        standing = self.verdicts.sources(crate).keys() - set(self.choice.sources[crate])
+        left_out = {f"{crate}/{edit.name}" for it in standing for edit in self.verdicts.sources(crate)[it]}
+        tried = [it for it in good if it.label not in left_out and self.is_wanted(it.label)]
+        return tried, {label: why for label, why in bad.items() if label not in left_out and self.is_wanted(label)}
 
-    def is_tried(self, label: str) -> bool:
-        """Whether the edit with this label is one of those that are tried."""
+    def is_wanted(self, label: str) -> bool:
+        """Whether the edit with this label is one of those that are tried alone, or none is."""
         return not self.only or label.partition("/")[2] in self.only
 
     def step(self, crate: str) -> Step:
@@ -70,8 +86,8 @@ class Trial:
         return Step(crate, partial(self.judge, crate), size * len(self.edits(crate)[0]))
 
     def judge(self, crate: str, jobs: int) -> None:
-        """Judges a crate's edits, prints what came of each, and writes the crate's line where all of them were disproved."""
-        checksum = self.verdicts.checksum(crate)
+        """Judges a crate's edits, prints what came of each, and writes the line of each source all of whose edits were disproved."""
+        checksums = {it: self.verdicts.checksum(crate, it) for it in self.choice.sources.get(crate, ())}
         edits, bad = self.edits(crate)
         said = {label: f"BAD EDIT: {why}" for label, why in bad.items()}
         make_room(self.crates, crate, self.folder / crate)
@@ -94,9 +110,21 @@ class Trial:
         with self.lock:
             print("".join(f"{label}: {text}\n" for label, text in sorted(said.items())), end="", flush=True)
             self.tally.add(disproved, len(said) - disproved)
-            if disproved == len(said) and not self.only and checksum == self.verdicts.checksum(crate):
-                own = len(read_edits(self.crates.folder(crate), [WRONG_BODIES])[0])
-                self.verdicts.write(crate, own, checksum)
+            if settled := self.settled(crate, checksums, said):
+                self.verdicts.write(crate, settled)
+
+    def settled(self, crate: str, checksums: dict[str, str], said: dict[str, str]) -> dict[str, str]:
+        """Of these sources those all of whose edits were disproved, by what is said of each, and whose checksums are the same still: none
+        where a function without a wrong body was disproved, or where edits were tried alone."""
+        if self.only or any(it.startswith(f"{crate}: ") for it in said):
+            return {}
+        sources = self.verdicts.sources(crate)
+        return {
+            source: checksum
+            for source, checksum in checksums.items()
+            if all(is_disproof(said.get(f"{crate}/{it.name}", "")) for it in sources[source])
+            and checksum == self.verdicts.checksum(crate, source)
+        }
 
     def check(self, crate: str, edits: list[Edit], jobs: int) -> Verdict:
         """Checks the crate with these edits."""
@@ -146,17 +174,40 @@ def what_is_said(edit: Edit, verdict: Verdict) -> str:
     return f"disproved, by {said.proof_file}" if said.proof_file else ""
 
 
-def chosen(verdicts: Verdicts, crates: list[str]) -> list[str]:
-    """Of these crates, those whose line doesn't stand, and two besides, picked by the commit."""
-    standing = [it for it in crates if verdicts.stands(it) and not read_edits(verdicts.crates.folder(it), [WRONG_BODIES])[1]]
+def chosen(verdicts: Verdicts, crates: list[str]) -> Choice:
+    """The sources of these crates whose line doesn't stand, and two crates besides, picked by the commit."""
+    sources = {it: open_sources(verdicts, it) for it in crates}
+    standing = [it for it in crates if not sources[it]]
     ran = subprocess.run(["git", "rev-parse", "HEAD"], cwd=verdicts.crates.root, capture_output=True, text=True)
-    seed = ran.stdout.strip() or hashlib.sha256("".join(map(verdicts.checksum, crates)).encode()).hexdigest()
+    known = verdicts.read()
+    seed = ran.stdout.strip() or "".join(it.checksum for it in known.values())
     picked = random.Random(seed).sample(standing, min(PICKED, len(standing)))
-    for it in standing:
-        verdict = verdicts.read()[it]
-        again = ", and tried again now" if it in picked else ""
-        print(f"{it}: {verdict.count} wrong bodies were disproved on {verdict.day}{again}", flush=True)
-    return [it for it in crates if it not in standing or it in picked]
+    for crate in crates:
+        settled = [known[f"{crate}/{it}"] for it in verdicts.sources(crate) if it not in sources[crate]]
+        if settled:
+            count = sum(it.count for it in settled)
+            again = f", of which {min(PICKED_EDITS, count)} are tried again now" if crate in picked else ""
+            print(f"{crate}: {count} wrong bodies were disproved by {max(it.day for it in settled)}{again}", flush=True)
+    return Choice({crate: it for crate, it in sources.items() if it}, picked, seed)
+
+
+def open_sources(verdicts: Verdicts, crate: str) -> list[str]:
+    """The sources of a crate whose wrong bodies have to be tried: those without a line that stands, and those with an edit that is none."""
+    bad = read_edits(verdicts.crates.folder(crate), [WRONG_BODIES])[1]
+    unsettled = set(verdicts.open_sources(crate))
+    return [
+        source
+        for source, edits in verdicts.sources(crate).items()
+        if source in unsettled or any(f"{crate}/{it.name}" in bad for it in edits)
+    ]
+
+
+def stop_at_unbuilt(crates: Crates, names: list[str]) -> None:
+    """Raises `Unproved` for a library below these crates that `rt ci` left unbuilt."""
+    for crate in names:
+        for it in crates.below(crate):
+            if not (crates.folder(it) / LIBRARY).is_dir():
+                raise Unproved(f"{it}, below {crate}, is not built")
 
 
 def words_parser() -> argparse.ArgumentParser:
@@ -196,12 +247,15 @@ def main(words: list[str]) -> int:
         parser.error(fault)
     verdicts, kinds = Verdicts(ROOT, logic_of_toolchain()), kinds_of(given)
     names = [it for it in given.crates or crates.lines if any((crates.folder(it) / kind).is_dir() for kind in kinds)]
-    if not given.crates and not given.all:
-        names = chosen(verdicts, names)
+    whole = Choice({it: list(verdicts.sources(it)) for it in names}, [], "")
+    choice = whole if given.crates or given.all else chosen(verdicts, names)
+    names = [it for it in names if it in choice.sources or it in choice.picked]
     with tempfile.TemporaryDirectory(prefix="wrong-bodies-") as folder:
-        trial = Trial(crates, Path(folder), kinds, given.only, verdicts)
+        trial = Trial(crates, Path(folder), kinds, given.only, verdicts, choice)
         try:
-            if not given.after_ci:
+            if given.after_ci:
+                stop_at_unbuilt(crates, names)
+            else:
                 build_below(crates, names, given.jobs)
             run_steps([trial.step(it) for it in names], given.jobs)
         except Unproved as why:

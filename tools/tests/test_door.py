@@ -12,7 +12,8 @@ from tools.paths import TOOLS
 # modules that others are made of, and that are no command
 PARTS = {
     *("__init__", "case_file", "case_tables", "crates", "door", "kit", "language", "paths", "picture_file", "picture_reports"),
-    *("picture_scripts", "program", "report_terms", "script_terms", "sweep_checks", "tally", "terms", "reached", "theorem_files", "verdicts"),
+    *("picture_scripts", "program", "report_terms", "script_terms", "sweep_checks", "tally", "terms", "theorem_files"),
+    *("definitions", "reached", "seen_code", "verdicts"),
     *("wrong_body_checks", "wrong_body_edits", "wrong_body_files", "wrong_body_twins"),
     *("completions", "help_table", "install", "line_words", "made_files", "man_page", "page_references", "textmate_files", "vim_files"),
 }

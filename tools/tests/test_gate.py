@@ -64,10 +64,31 @@ class WhatCounts(unittest.TestCase):
         with patch.object(self.gate, "tally", return_value=Tally(1, 0)) as tallied, patch.object(
             self.gate, "check", return_value=Tally(1, 0)
         ) as checked:
-            counted = [self.gate.pages(), self.gate.runs()]
+            counted = [self.gate.tools(), self.gate.pages(), self.gate.runs()]
         words = [*(it.args[0] for it in tallied.call_args_list), *(it.args[1] for it in checked.call_args_list)]
         self.assertEqual(sum(it.passed for it in counted), len(words))
-        self.assertEqual([it[3] for it in words if it[2] != TOOLS / "dev" or it[3] not in COMMANDS], [])
+        self.assertEqual([it[3] for it in words if it[2] != TOOLS / "dev" or it[3] not in COMMANDS], ["discover"])
+
+    def test_what_is_tried_after_a_failure(self) -> None:
+        def ran(is_needed: bool, first: Tally) -> tuple[list[str], Tally]:
+            tried: list[str] = []
+
+            def run(name: str, counted: Tally) -> Tally:
+                tried.append(name)
+                return counted
+
+            parts = [
+                self.gate.Part("first", lambda: run("first", first), is_needed),
+                self.gate.Part("second", lambda: run("second", Tally(2, 0))),
+            ]
+            with contextlib.redirect_stdout(io.StringIO()) as said:
+                total = self.gate.run_parts(parts)
+            self.assertEqual("nothing else was tried" in said.getvalue(), len(tried) == 1)
+            return tried, total
+
+        self.assertEqual(ran(True, Tally(1, 0)), (["first", "second"], Tally(3, 0)))
+        self.assertEqual(ran(True, Tally(1, 1)), (["first"], Tally(1, 1)))
+        self.assertEqual(ran(False, Tally(1, 1)), (["first", "second"], Tally(3, 1)))
 
     def test_no_compiler(self) -> None:
         with tempfile.TemporaryDirectory() as empty, patch.dict(os.environ, PATH=empty), contextlib.redirect_stdout(io.StringIO()):

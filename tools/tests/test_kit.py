@@ -32,7 +32,8 @@ class Renamed(Crate):
 
 def module(crate: type[Crate] = Crate, **others: Any) -> SimpleNamespace:
     """A module with the calls that `kit.py` makes."""
-    return SimpleNamespace(**{"guarded": lambda: [], "lock": lambda crates: [], "Crate": crate} | others)
+    calls = {"guarded": lambda: [], "lock": lambda crates: [], "fmt": lambda folder, flag, out: 0}
+    return SimpleNamespace(**calls | {"Crate": crate} | others)
 
 
 class WhatHasChanged(unittest.TestCase):

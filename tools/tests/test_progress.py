@@ -29,11 +29,7 @@ class Lines(unittest.TestCase):
         lines = (2.0, f"\rtrying attempt 9 of 40{LEFT}"), (2.1, f"\rtrying attempt 12 of 40{LEFT}")
         self.assertEqual(self.failed(SINGLE, *lines), 0)
         self.assertEqual(self.failed(RATES, (2.5, f"\rtrying rate 40 of 40{LEFT}")), 0)
-        lines = (
-            (2.0, f"\rtrying attempt 40 of 40{LEFT}"),
-            (2.1, f"\rtrying attempt 2 of 40 with attempt 3{LEFT}"),
-            (2.2, f"\rtrying attempt 2 of 40 with attempt 41{LEFT}"),
-        )
+        lines = (2.0, "\rtrying sets of 2 attempts, 1200 states met, 1 s"), (2.1, f"\rtrying 2 attempts, attempt 2 of 40 first{LEFT}")
         self.assertEqual(self.failed(PAIRS, *lines), 0)
 
     def test_lengths_that_grow_shorter(self) -> None:
@@ -71,12 +67,12 @@ class Lines(unittest.TestCase):
     def test_lines_out_of_order(self) -> None:
         self.assertGreater(self.failed(SINGLE, (2.1, f"\rtrying attempt 9 of 40{LEFT}"), (2.3, f"\rtrying attempt 8 of 40{LEFT}")), 0)
         self.assertGreater(self.failed(SINGLE, (2.1, f"\rtrying attempt 9 of 40{LEFT}"), (2.3, f"\rtrying attempt 9 of 40{LEFT}")), 0)
-        lines = (2.1, f"\rtrying attempt 2 of 40 with attempt 3{LEFT}"), (2.3, f"\rtrying attempt 9 of 40{LEFT}")
+        lines = (2.1, f"\rtrying 2 attempts, attempt 9 of 40 first{LEFT}"), (2.3, f"\rtrying 2 attempts, attempt 8 of 40 first{LEFT}")
         self.assertGreater(self.failed(PAIRS, *lines), 0)
 
     def test_another_kind(self) -> None:
         self.assertGreater(self.failed(SINGLE, (2.5, f"\rtrying rate 9 of 40{LEFT}")), 0)
-        self.assertGreater(self.failed(SINGLE, (2.5, f"\rtrying attempt 9 of 40 with attempt 10{LEFT}")), 0)
+        self.assertGreater(self.failed(SINGLE, (2.5, f"\rtrying 2 attempts, attempt 9 of 40 first{LEFT}")), 0)
         self.assertGreater(self.failed(PAIRS, (2.5, f"\rtrying attempt 9 of 40{LEFT}")), 0)
 
 

@@ -9,7 +9,9 @@ from pathlib import Path
 
 from tools.crates import Crates
 from tools.paths import ROOT, TOOLS
-from tools.verdicts import FILE, Verdicts, logic_of_toolchain, without_bodies
+from tools.seen_code import without_bodies
+from tools.verdicts import FILE, Verdicts, logic_of_toolchain
+from tools.wrong_bodies import PICKED_EDITS, Choice, Trial
 from tools.wrong_body_files import MUST_FAIL, WRONG_BODIES, written_edits
 
 LOW = """\
@@ -40,6 +42,30 @@ pub fn after_next(n: u32) -> u32
     ensures { result ≡ n + 2 }
 {
     next(next(n))
+}
+"""
+TWICE = """\
+//! Numbers taken more than once.
+
+/// The most that is taken.
+pub struct Limit {
+    most: u32,
+}
+
+/// Twice the number.
+pub fn twice(n: u32) -> u32
+    requires { n < 100 }
+    ensures { result ≡ n + n }
+{
+    n + n
+}
+
+/// Thrice the number.
+pub fn thrice(n: u32) -> u32
+    requires { n < 100 }
+    ensures { result ≡ n + n + n }
+{
+    n + n + n
 }
 """
 LOW_EDIT = "[too-little]\nfunction: low::next\nold:     n + 1\nnew:     n\n"
@@ -122,9 +148,15 @@ class TinyRepository(unittest.TestCase):
         return Verdicts(self.root, logic)
 
     def standing(self, logic: str = "logic 0") -> list[str]:
-        """The crates whose line stands."""
+        """The crates whose lines stand."""
         verdicts = self.verdicts(logic)
-        return [it for it in ("low", "high") if verdicts.stands(it)]
+        return [it for it in ("low", "high") if not verdicts.open_sources(it)]
+
+    def write_lines(self, logic: str = "logic 0") -> None:
+        """Gives each source a line that is valid."""
+        verdicts = self.verdicts(logic)
+        for crate in ("low", "high"):
+            verdicts.write(crate, {it: verdicts.checksum(crate, it) for it in verdicts.sources(crate)})
 
 
 class WhatLinesStand(TinyRepository):
@@ -133,12 +165,6 @@ class WhatLinesStand(TinyRepository):
     def setUp(self) -> None:
         super().setUp()
         self.write_lines()
-
-    def write_lines(self) -> None:
-        """Gives both crates a line that is valid."""
-        verdicts = self.verdicts()
-        for crate in ("low", "high"):
-            verdicts.write(crate, 1, verdicts.checksum(crate))
 
     def test_nothing_changed(self) -> None:
         self.assertEqual(self.standing(), ["low", "high"])
@@ -185,8 +211,7 @@ class WhatLinesStand(TinyRepository):
 
     def test_edits_in_another_order(self) -> None:
         self.add(HIGH_EDITS, RIGHT_EDIT)
-        verdicts = self.verdicts()
-        verdicts.write("high", 2, verdicts.checksum("high"))
+        self.write_lines()
         self.write(HIGH_EDITS, f"{RIGHT_EDIT}\n\n{HIGH_EDIT}")
         self.assertEqual(self.standing(), ["low", "high"])
 
@@ -202,7 +227,8 @@ class WhatLinesStand(TinyRepository):
         self.write_definition("n + 1")
         self.assertEqual(self.standing(), ["low", "high"])
         self.write("crates/low/specs/Numbers.antt", "-- the number after one\nabbrev pub after : ℕ → ℕ\nafter n = n + 2\n")
-        self.assertEqual(self.standing(), [])
+        # no source of its own crate names it
+        self.assertEqual(self.standing(), ["low"])
 
     def test_a_comment_of_a_definition_below(self) -> None:
         self.write_definition("n + 1")
@@ -219,11 +245,68 @@ class WhatLinesStand(TinyRepository):
     def test_a_definition_below_that_nothing_names(self) -> None:
         self.write("crates/low/specs/Lib.antt", "pub mod Further\n")
         self.write("crates/low/specs/Further.antt", "abbrev pub two : ℕ\ntwo = 2\n")
-        self.assertEqual(self.standing(), ["high"])
+        self.assertEqual(self.standing(), ["low", "high"])
+
+    def write_other_source(self) -> None:
+        """Gives the lower crate another source, with wrong bodies of its own, whose first function the first source calls; and a line to
+        each."""
+        self.write("crates/low/src/twice.rt", TWICE)
+        self.replace("crates/low/src/lib.rt", "    n + 1\n", "    twice(n) - n + 1\n")
+        self.replace(LOW_EDITS, "    n + 1", "    twice(n) - n + 1")
+        self.write("crates/low/wrong-bodies/twice.edits", "[once]\nfunction: low::twice::twice\nold: n + n\nnew: n\n")
+        self.write_lines()
+
+    def open_sources(self) -> list[str]:
+        """The sources of the lower crate whose line doesn't stand."""
+        return self.verdicts().open_sources("low")
+
+    def test_a_body_of_another_source(self) -> None:
+        self.write_other_source()
+        self.replace("crates/low/src/twice.rt", "    n + n\n", "    2 * n\n")
+        self.assertEqual(self.open_sources(), ["twice"])
+
+    def test_a_contract_of_what_a_source_calls(self) -> None:
+        self.write_other_source()
+        self.replace("crates/low/src/twice.rt", "result ≡ n + n", "result ≡ 2 * n")
+        self.assertEqual(self.open_sources(), ["lib", "twice"])
+
+    def test_a_contract_of_what_a_source_does_not_call(self) -> None:
+        self.write_other_source()
+        self.replace("crates/low/src/twice.rt", "result ≡ n + n + n", "result ≡ 3 * n")
+        self.assertEqual(self.open_sources(), ["twice"])
+
+    def test_a_struct_of_another_source(self) -> None:
+        self.write_other_source()
+        self.replace("crates/low/src/twice.rt", "most: u32", "most: u16")
+        self.assertEqual(self.open_sources(), ["lib", "twice"])
+
+    def test_proofs_of_functions_of_one_source(self) -> None:
+        self.write_other_source()
+        self.write("crates/low/proofs/twice/thrice/Answers.antt", "\n")
+        self.assertEqual(self.open_sources(), ["twice"])
+
+    def test_a_lemma_that_one_source_names(self) -> None:
+        self.write_other_source()
+        self.replace("crates/low/src/twice.rt", "pub fn thrice", "#[tactic(auto, using(crate::proofs::Sums::sum))]\npub fn thrice")
+        self.write("crates/low/proofs/Sums.antt", "pub sum : ℕ\nsum = 1\n\npub other : ℕ\nother = 1\n")
+        self.write_lines()
+        self.replace("crates/low/proofs/Sums.antt", "other = 1", "other = 2")
+        self.assertEqual(self.open_sources(), [])
+        self.replace("crates/low/proofs/Sums.antt", "sum = 1", "sum = 2")
+        self.assertEqual(self.open_sources(), ["twice"])
+
+    def test_a_function_of_another_source_that_must_be_disproved(self) -> None:
+        self.write_other_source()
+        self.replace("crates/low/src/twice.rt", "\npub struct", "\npub const MOST: u32 = 9;\n\npub struct")
+        self.add(LOW_EDITS, "\n[most]\nfunction: low::next\nfile: src/twice.rt\nold: u32 = 9\nnew: u32 = 8\n")
+        self.write_lines()
+        self.replace("crates/low/src/lib.rt", "    twice(n) - n + 1\n", "    1 + twice(n) - n\n")
+        # the first source has an edit that is none any more, and the other one the wrong constant
+        self.assertEqual(self.open_sources(), ["lib", "twice"])
 
     def test_a_law_below(self) -> None:
         self.write("crates/low/src/laws.rt", "pub fn two_is()\n    ensures { 2 ≡ 2 }\n{}\n")
-        self.assertEqual(self.standing(), ["high"])
+        self.assertEqual(self.standing(), ["low", "high"])
 
     def test_a_proof_of_one_function_below(self) -> None:
         self.write("crates/low/proofs/next/Answers.antt", "\n")
@@ -233,12 +316,18 @@ class WhatLinesStand(TinyRepository):
         self.replace("crates/low/src/lib.rt", "/// The number after", "/// The number that follows")
         self.assertEqual(self.standing(), ["low", "high"])
 
+    def test_how_a_function_is_compiled(self) -> None:
+        self.replace("crates/low/src/lib.rt", "pub fn next", "#[inline(always)]\npub fn next")
+        self.assertEqual(self.standing(), ["low", "high"])
+        self.replace("crates/low/src/lib.rt", "#[inline(always)]\n", "#[tactic(auto)]\n")
+        self.assertEqual(self.standing(), ["high"])
+
     def test_another_library_below(self) -> None:
         self.write("crates.txt", "low: arrayvec\nhigh: low\n")
         self.assertEqual(self.standing(), ["high"])
 
     def test_a_line_in_another_form(self) -> None:
-        self.replace(FILE, "high 1 ", "high one ")
+        self.replace(FILE, "high/lib 1 ", "high/lib one ")
         self.assertEqual(self.standing(), ["low"])
 
     def test_the_bodies_that_nobody_above_sees(self) -> None:
@@ -272,6 +361,33 @@ class WhatCannotBeTried(TinyRepository):
         self.assertEqual((ran.stdout, ran.returncode), ("", 2))
 
 
+    def test_no_libraries_after_ci(self) -> None:
+        ran = self.run_tool("--after-ci", "high")
+        self.assertEqual(ran.stdout.splitlines(), ["not tried: low, below high, is not built", "0 passed, 1 failed"])
+        self.assertEqual(ran.returncode, 1)
+
+
+class WhatIsPicked(TinyRepository):
+    """Which edits are tried of a crate whose line stands. Nothing is checked for it."""
+
+    def tried(self, seed: str, picked: list[str]) -> list[str]:
+        """The edits of the lower crate that are tried, by what picks them."""
+        sources = {"high": ["lib"]} if picked else {"high": ["lib"], "low": ["lib"]}
+        trial = Trial(Crates(self.root), self.root, [WRONG_BODIES], [], self.verdicts(), Choice(sources, picked, seed))
+        return sorted(it.label for it in trial.edits("low")[0])
+
+    def test_some_of_many(self) -> None:
+        self.write(LOW_EDITS, "\n".join(LOW_EDIT.replace("too-little", f"too-little-{it}") for it in range(2 * PICKED_EDITS)))
+        self.assertEqual(len(self.tried("a commit", [])), 2 * PICKED_EDITS)
+        some = self.tried("a commit", ["low"])
+        self.assertEqual(len(some), PICKED_EDITS)
+        self.assertEqual(self.tried("a commit", ["low"]), some)
+        self.assertNotEqual(self.tried("another", ["low"]), some)
+
+    def test_all_of_few(self) -> None:
+        self.assertEqual(self.tried("a commit", ["low"]), ["low/too-little"])
+
+
 class WhatIsTried(TinyRepository):
     """What the tool tries, by checks of the two crates. It needs the toolchain, and fails without it."""
 
@@ -288,8 +404,7 @@ class WhatIsTried(TinyRepository):
         self.add(HIGH_EDITS, RIGHT_EDIT)
         logic = logic_of_toolchain()
         self.assertEqual(self.standing(logic), ["low"])
-        verdicts = self.verdicts(logic)
-        verdicts.write("high", 2, verdicts.checksum("high"))
+        self.write_lines(logic)
         self.assertEqual(self.standing(logic), ["low", "high"])
         lines, status = self.try_bodies()
         self.assertIn("high/right: PROVED", lines)
