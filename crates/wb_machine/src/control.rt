@@ -1,6 +1,6 @@
-//! What is still to do, as explicit pieces, and its steps. What the pieces act on is in `state`, what the head of a
-//! statement leaves in `heads` and `calls`, the steps that destroy in `destroying`, what becomes of pieces that are done in `unwinding`, and turns in
-//! `running`.
+//! What is still to do, as explicit pieces, and its steps. What the pieces act on is in `state`, how a statement begins in `frequent`, what
+//! its head leaves in `heads` and `calls`, the steps that destroy in `destroying`, what becomes of pieces that are done in `unwinding`, and
+//! turns in `running`.
 
 ghost use Rattle.std.specs.Prelude.{IfOk, List, take, vec_len, ◌-◌, ◌≡◌, ◌+◌, ◌^◌, ◌<◌, ◌≤◌, ◌⊎◌, ◌++◌, ◌∷◌, [], ℕ};
 ghost use Rattle.std.specs.Prelude.{true, false, if◌then◌else◌, length, unwrap_or, max, vec_capacity, IsOk, IsTrue, OnOk};
@@ -33,6 +33,7 @@ ghost use Rattle.wb_machine.specs.Steps.{MayBegin, MayStep};
 mod calls;
 mod depths;
 mod destroying;
+mod frequent;
 mod heads;
 mod running;
 mod same;
@@ -290,7 +291,7 @@ impl<'a> Control<'a> {
         self.statement = Some(&first.statement);
         self.depth = at.depth;
         self.raiser = Raiser::Statement;
-        self.begin_unless_refused(script, at, &first.statement, state)
+        self.begin_any(script, at, &first.statement, state)
     }
 
     /// A turn of a `repeat`, of whose turns on top one less is left.

@@ -9,6 +9,7 @@ ghost use Rattle.wb_machine.specs.PointerOperands.{of_readable, of_condition, of
 
 use crate::state::State;
 use wb_model::heap::{Kind, Panic, Ptr};
+use wb_model::items::Items;
 use wb_model::script::{Argument, Condition, Pointer, Readable, Statement, Writable};
 
 /// Single operands.
@@ -28,7 +29,7 @@ impl State {
 
     /// What refuses a pointer operand. Few are fields, so that one is asked for out of the way.
     #[inline(always)]
-    fn pointer_refusal(&self, operand: &Pointer) -> Option<Panic>
+    pub(crate) fn pointer_refusal(&self, operand: &Pointer) -> Option<Panic>
         ensures refused { result ≡ pointer_refusal self.now operand.now }
         ensures first { result ≡ first_refusal self.now (operand.now ∷ []) }
     {
@@ -87,7 +88,7 @@ impl State {
 
     /// What refuses a condition.
     #[inline(always)]
-    fn condition_refusal(&self, condition: &Condition) -> Option<Panic>
+    pub(crate) fn condition_refusal(&self, condition: &Condition) -> Option<Panic>
         ensures { result ≡ first_refusal self.now (of_condition condition.now) }
     {
         match condition {
@@ -121,6 +122,14 @@ impl State {
         }
         None
     }
+
+    /// What refuses the arguments of a call.
+    #[inline(always)]
+    pub(crate) fn call_refusal(&self, arguments: &Items<Argument>) -> Option<Panic>
+        ensures { result ≡ first_refusal self.now (of_arguments arguments.now) }
+    {
+        self.arguments_refusal(arguments.as_slice())
+    }
 }
 
 /// Whole statements.
@@ -148,8 +157,8 @@ impl State {
             Statement::PopCheck(pointer) => self.pointer_refusal(pointer),
             Statement::LeaveIfNull(pointer) => self.pointer_refusal(pointer),
             Statement::ReturnPointer(pointer) => self.pointer_refusal(pointer),
-            Statement::Call(_, arguments) => self.arguments_refusal(arguments.as_slice()),
-            Statement::CallTo(_, _, arguments) => self.arguments_refusal(arguments.as_slice()),
+            Statement::Call(_, arguments) => self.call_refusal(arguments),
+            Statement::CallTo(_, _, arguments) => self.call_refusal(arguments),
             Statement::NewText(target, ..) => self.pointer_refusal(target),
             Statement::ReallocText(target, source, _) => self.either_refusal(target, source),
             Statement::Copy(target, text) => self.edit_refusal(target, text),

@@ -40,10 +40,11 @@ impl<'a> Control<'a> {
             ⊎ IsReady self.now.ending self.now.pieces.items }
     {
         match (self.ending, self.pieces.last()) {
+            (_, None) => false,
+            // what most steps leave is asked for by itself
+            (Ending::GoesOn, Some(PendingPiece::Code(_, statements))) => statements.is_empty(),
             (Ending::GoesOn, Some(piece)) => !needs_step(piece),
-            (Ending::Returns(_), Some(_)) => true,
-            (Ending::Leaves(_), Some(_)) => true,
-            _ => false,
+            (ending, Some(_)) => !ending.is_stop(),
         }
     }
 

@@ -10,17 +10,17 @@ use Rattle.wb_machine.proofs.control.Control.step_code.Goals as goal
 
 pub returns-clause-kept : goal.returns-clause-kept
 returns-clause-kept c =
-    on_ok_then c.begin_unless_refused.result c.begin_unless_refused.ensures.kept (λ kept r budget f.
-    kept r budget (subst (λ (x : RunState). FitsStep r x c.begin_unless_refused.new.self.ending c.begin_unless_refused.new.state) (sym c.tick.ensures) f)
+    on_ok_then c.begin_any.result c.begin_any.ensures.kept (λ kept r budget f.
+    kept r budget (subst (λ (x : RunState). FitsStep r x c.begin_any.new.self.ending c.begin_any.new.state) (sym c.tick.ensures) f)
     ∙ ap (λ (x : RunState). rest_of_statement c.args.script.now budget r (context_of c.args.at) (out-Statement c.args.first.now.statement) c.args.self.now.pieces.items x) c.tick.ensures)
 
 pub returns-clause-whole : goal.returns-clause-whole
 returns-clause-whole c =
-    on_ok_then c.begin_unless_refused.result c.begin_unless_refused.ensures.whole (λ stays whole.
+    on_ok_then c.begin_any.result c.begin_any.ensures.whole (λ stays whole.
     stays (stepped_whole c.args.script.now c.args.state.now c.tick.new.self c.tick.ensures whole))
 
-pub begin_unless_refused-requires-clause-may : goal.begin_unless_refused-requires-clause-may
-begin_unless_refused-requires-clause-may c =
+pub begin_any-requires-clause-may : goal.begin_any-requires-clause-may
+begin_any-requires-clause-may c =
     let pieces = c.args.self.now.pieces.items in
     record {
       going = c.requires.may.going;
@@ -33,8 +33,8 @@ begin_unless_refused-requires-clause-may c =
 
 pub returns-clause-room : goal.returns-clause-room
 returns-clause-room c =
-    on_ok_then c.begin_unless_refused.result c.begin_unless_refused.ensures.room (λ room. room)
+    on_ok_then c.begin_any.result c.begin_any.ensures.room (λ room. room)
 
 pub returns-clause-quiet : goal.returns-clause-quiet
 returns-clause-quiet c asking =
-    c.begin_unless_refused.ensures.quiet (subst (λ (x : RunState). AsksForNoRise c.args.script.now x (out-Statement c.args.first.now.statement)) (sym c.tick.ensures) asking)
+    c.begin_any.ensures.quiet (subst (λ (x : RunState). AsksForNoRise c.args.script.now x (out-Statement c.args.first.now.statement)) (sym c.tick.ensures) asking)
