@@ -10,7 +10,7 @@ the crate judges one wrong body each of many functions, and says of each functio
 waits for another's. A function with several wrong bodies is given a twin for each further one. An edit that changes more than
 a function's body has a check of its own.
 
-Without a crate's name, those sources are tried whose line in wrong-bodies.txt is missing or no longer stands, and besides twenty
+Without a crate's name, those sources are tried whose line in wrong-bodies.txt is missing or no longer stands, and besides ten
 edits each of two crates all of whose lines stand, picked by the commit: so a line that isn't true comes to light. `--all` tries all.
 Where a source's wrong bodies are all disproved, its line is written. `--only` tries the edits of that name alone, and writes no line.
 
@@ -42,7 +42,7 @@ from tools.wrong_body_files import MUST_FAIL, WRONG_BODIES, written_edits
 from tools.wrong_body_twins import Twins, add_proof_files
 
 # how many crates are tried whose line stands, and how many edits of each at most: the largest crates take an hour as a whole
-PICKED, PICKED_EDITS = 2, 20
+PICKED, PICKED_EDITS = 2, 10
 
 
 class Choice(NamedTuple):
