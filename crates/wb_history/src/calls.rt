@@ -19,6 +19,8 @@ struct Frame<'a> {
     replaced: Ptr,
     /// The step in which it began.
     since: u32,
+    /// The call path to that line, if `known` says so.
+    path: u32,
 }
 
 /// The last line of a call path, and the path before it.
@@ -39,6 +41,9 @@ pub struct Calls<'a> {
     calls: Vec<Call>,
     /// For each line the newest path that ends with it.
     newest: Vec<u32>,
+    /// How many of the bodies, from `main` on, have their paths in their frames. They get them once no more calls are
+    /// kept: until then a path is looked for anew each time.
+    known: u32,
 }
 
 impl<'a> Calls<'a> {
@@ -51,6 +56,7 @@ impl<'a> Calls<'a> {
             depth: 0,
             calls,
             newest: Vec::new(alloc),
+            known: 0,
         })
     }
 
@@ -68,6 +74,7 @@ impl<'a> Calls<'a> {
                 statement: None,
                 replaced: NULL,
                 since: 0,
+                path: 0,
             };
             self.frames
                 .resize((depth as usize).saturating_add(1), nothing)?;
@@ -80,6 +87,7 @@ impl<'a> Calls<'a> {
             }
         }
         self.depth = depth;
+        self.known = self.known.min(depth.saturating_sub(1));
         Ok(())
     }
 
@@ -126,11 +134,33 @@ impl<'a> Calls<'a> {
 
     /// Returns the call path to the line that was begun last while this many bodies ran. The only error is that memory ran out.
     pub fn path(&mut self, depth: u32) -> Result<u32, AllocError> {
-        let mut path = 0;
-        for at in 1..=depth.min(MOST_FRAMES) {
+        let is_full = self.calls.len() >= MOST_CALLS;
+        let from = if is_full { self.known.min(depth) } else { 0 };
+        let mut path = self.known_path(from);
+        for at in from.saturating_add(1)..=depth.min(MOST_FRAMES) {
             path = self.longer(path, self.line_at(at))?;
+            if is_full {
+                self.know(at, path);
+            }
         }
         Ok(path)
+    }
+
+    /// The call path to the line that was begun last while this many bodies ran, as its frame has it; the empty one of
+    /// no body.
+    fn known_path(&self, depth: u32) -> u32 {
+        match self.frames.get(depth as usize) {
+            Some(frame) if depth > 0 => frame.path,
+            _ => 0,
+        }
+    }
+
+    /// Keeps the call path to that line, whose callers' paths are kept.
+    fn know(&mut self, depth: u32, path: u32) {
+        if let Some(frame) = self.frames.get_mut(depth as usize) {
+            frame.path = path;
+            self.known = depth;
+        }
     }
 
     /// Returns the lines of a call path, from `main` on. The only error is that memory ran out.

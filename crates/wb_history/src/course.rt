@@ -96,23 +96,26 @@ impl Course {
         self.parts.as_slice()
     }
 
-    /// Whether something is kept.
-    pub(crate) fn is_wanted(&self) -> bool {
-        self.is_wanted
-    }
-
-    /// Sees the numbers that a turn left, with how many TRAPs are open.
-    pub(crate) fn see_numbers(
-        &mut self,
-        machine: &Machine<'_>,
-        traps: usize,
-    ) -> Result<(), AllocError> {
+    /// Sees the numbers that a turn left, but for that of the TRAPs.
+    #[inline(always)]
+    pub(crate) fn see_numbers(&mut self, machine: &Machine<'_>) -> Result<(), AllocError> {
+        if !self.is_wanted {
+            return Ok(());
+        }
         let step = machine.steps();
         self.committed.note(step, machine.committed())?;
         self.levels.note(step, machine.level())?;
-        let traps = u32::try_from(traps).unwrap_or(u32::MAX);
-        self.traps.note(step, traps)?;
         self.items.note(step, machine.cleanup_depth())
+    }
+
+    /// Notes how many TRAPs were open after a step.
+    #[inline(always)]
+    pub(crate) fn note_traps(&mut self, step: u32, count: usize) -> Result<(), AllocError> {
+        if !self.is_wanted {
+            return Ok(());
+        }
+        self.traps
+            .note(step, u32::try_from(count).unwrap_or(u32::MAX))
     }
 
     /// Sees a cell that was just granted. `old` is the cell that it took the place of, which has moved; null if there is none.

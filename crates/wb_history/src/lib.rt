@@ -22,6 +22,7 @@
 #![tactic(auto)]
 
 mod attempts;
+mod blocks;
 mod bodies;
 mod calls;
 mod checks;

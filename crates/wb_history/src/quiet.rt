@@ -2,7 +2,8 @@
 
 use wb_model::script::Statement;
 
-/// Whether a statement makes no attempt, and changes no pointer, cell, item, view or mark. It doesn't leave, and begins no TRAP.
+/// Whether a statement makes no attempt, and changes no pointer, cell, item, view or mark. It doesn't leave or return,
+/// and begins no TRAP and no `repeat`.
 pub fn is_quiet(statement: &Statement) -> bool {
     matches!(
         statement,
@@ -13,7 +14,6 @@ pub fn is_quiet(statement: &Statement) -> bool {
             | Statement::SetNumber(..)
             | Statement::Add(..)
             | Statement::Call(..)
-            | Statement::Return
             | Statement::Check(_)
             | Statement::CheckAll(_)
             | Statement::FailNext(_)
@@ -32,6 +32,5 @@ pub fn is_quiet(statement: &Statement) -> bool {
             | Statement::NoteAvailable
             | Statement::If(..)
             | Statement::IfElse(..)
-            | Statement::Repeat(..)
     )
 }

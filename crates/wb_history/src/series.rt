@@ -13,12 +13,15 @@ pub struct Change {
 #[derive(Drop)]
 pub struct Series {
     changes: Vec<Change>,
+    /// The value of the last.
+    last: Option<u32>,
 }
 
 impl Series {
     pub fn new(alloc: Global) -> Series {
         Series {
             changes: Vec::new(alloc),
+            last: None,
         }
     }
 
@@ -27,13 +30,18 @@ impl Series {
     }
 
     /// Notes the value after a step, if it is another than before.
+    #[inline(always)]
     pub fn note(&mut self, step: u32, value: u32) -> Result<(), AllocError> {
-        if let Some(last) = self.changes.last()
-            && last.value == value
-        {
+        if self.last == Some(value) {
             return Ok(());
         }
-        self.changes.push(Change { step, value })?;
+        self.add(Change { step, value })
+    }
+
+    #[inline(never)]
+    fn add(&mut self, change: Change) -> Result<(), AllocError> {
+        self.changes.push(change)?;
+        self.last = Some(change.value);
         Ok(())
     }
 

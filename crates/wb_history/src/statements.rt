@@ -29,6 +29,8 @@ pub struct Ahead<'a> {
     pub written: Option<Variable>,
     /// What the pointer that it reads names; null if it reads none.
     pub source: Ptr,
+    /// How many turns or items it leaves to be done if it doesn't panic.
+    pub(crate) rest: u32,
     /// Whether it leaves by its own operand.
     leaves: bool,
 }
@@ -41,19 +43,15 @@ impl<'a> Ahead<'a> {
 
     /// Looks at a statement that the machine is to begin.
     pub(crate) fn with(machine: &Machine<'a>, statement: &'a Statement) -> Ahead<'a> {
-        let source = read_by(machine, statement);
+        let pointers = pointers_of(statement);
+        let source = names_of(machine, pointers.source);
         Ahead {
             statement,
-            written: written_by(machine, statement),
+            written: written_by(machine, pointers.target),
             source,
+            rest: rest_of(machine, statement),
             leaves: leaves_by_operand(machine, statement, source),
         }
-    }
-
-    /// Whether it matters to the statement which TRAPs are open.
-    pub(crate) fn is_about_traps(&self) -> bool {
-        let is_trap = matches!(self.statement, Statement::Trap(..));
-        is_trap || self.leaves || leaves_if_refused(self.statement)
     }
 
     /// Whether the statement leaves, with the attempt that it made.
@@ -84,9 +82,10 @@ impl<'a> Ahead<'a> {
     }
 }
 
-/// The pointer that a statement writes, and what it names; `None` if it writes none.
-fn written_by(machine: &Machine<'_>, statement: &Statement) -> Option<Variable> {
-    let target = target_of(statement)?;
+/// The pointer that a statement writes, if any, and what it names.
+#[inline(always)]
+fn written_by(machine: &Machine<'_>, target: Option<Pointer>) -> Option<Variable> {
+    let target = target?;
     let (owner, index) = match target {
         Pointer::Held(Holder::Local(index)) => (NULL, index),
         Pointer::Field(holder, _, index) => (machine.pointer(Pointer::Held(holder)), index),
@@ -101,50 +100,68 @@ fn written_by(machine: &Machine<'_>, statement: &Statement) -> Option<Variable> 
 
 /// Returns the pointer that a statement writes; `None` if it writes none. That of a `callto` is written when the call ends.
 pub fn target_of(statement: &Statement) -> Option<Pointer> {
-    match statement {
-        Statement::Alloc(target, ..)
-        | Statement::Realloc(target, ..)
-        | Statement::New(target, ..)
-        | Statement::NewText(target, ..)
-        | Statement::ReallocText(target, ..)
-        | Statement::Set(target, _)
-        | Statement::SetNull(target) => Some(*target),
-        Statement::CallTo(local, ..) => Some(Pointer::Held(Holder::Local(*local))),
-        _ => None,
-    }
+    pointers_of(statement).target
 }
 
-/// The pointer that a statement reads, as far as lives of cells or items depend on it.
-fn source_of(statement: &Statement) -> Option<&Pointer> {
+/// The pointers of a statement: which it writes, and which it reads, as far as lives of cells or items depend on that.
+#[derive(Clone, Copy)]
+struct Pointers {
+    target: Option<Pointer>,
+    source: Option<Pointer>,
+}
+
+#[inline(always)]
+fn pointers_of(statement: &Statement) -> Pointers {
     match statement {
-        Statement::Realloc(_, source, ..)
-        | Statement::ReallocText(_, source, _)
-        | Statement::Set(_, source)
-        | Statement::Free(source)
+        Statement::Alloc(target, ..)
+        | Statement::New(target, ..)
+        | Statement::NewText(target, ..)
+        | Statement::SetNull(target) => pair_of(Some(*target), None),
+        Statement::CallTo(local, ..) => pair_of(Some(Pointer::Held(Holder::Local(*local))), None),
+        Statement::Realloc(target, source, ..)
+        | Statement::ReallocText(target, source, _)
+        | Statement::Set(target, source) => pair_of(Some(*target), Some(*source)),
+        Statement::Free(source)
         | Statement::Delete(source)
         | Statement::Push(source)
         | Statement::PushObject(source)
         | Statement::PushOperation(source, _)
         | Statement::PopCheck(source)
         | Statement::ReturnPointer(source)
-        | Statement::LeaveIfNull(source) => Some(source),
-        _ => None,
+        | Statement::LeaveIfNull(source) => pair_of(None, Some(*source)),
+        _ => pair_of(None, None),
     }
 }
 
-/// What that pointer names; null if there is none.
-fn read_by(machine: &Machine<'_>, statement: &Statement) -> Ptr {
-    match source_of(statement) {
-        Some(pointer) => machine.pointer(*pointer),
+#[inline(always)]
+fn pair_of(target: Option<Pointer>, source: Option<Pointer>) -> Pointers {
+    Pointers { target, source }
+}
+
+/// What a pointer names; null if there is none.
+#[inline(always)]
+fn names_of(machine: &Machine<'_>, pointer: Option<Pointer>) -> Ptr {
+    match pointer {
+        Some(pointer) => machine.pointer(pointer),
         None => NULL,
     }
 }
 
-/// Returns the same of the statement that was begun last.
+/// Returns what the pointer names that the statement reads that was begun last; null if it reads none.
 pub fn last_read(machine: &Machine<'_>) -> Ptr {
     match machine.statement() {
-        Some(statement) => read_by(machine, statement),
+        Some(statement) => names_of(machine, pointers_of(statement).source),
         None => NULL,
+    }
+}
+
+/// How many turns or items a statement leaves to be done if it doesn't panic.
+fn rest_of(machine: &Machine<'_>, statement: &Statement) -> u32 {
+    match statement {
+        Statement::Repeat(number, _) | Statement::PopDestroy(number) => {
+            u32::try_from(machine.number(*number)).unwrap_or(0)
+        }
+        _ => 0,
     }
 }
 

@@ -61,11 +61,6 @@ impl Traps {
         self.open.as_slice()
     }
 
-    /// Returns whether one is open.
-    pub fn has_open(&self) -> bool {
-        !self.open.is_empty()
-    }
-
     /// Returns the TRAP that ended last; `None` if none did.
     pub fn last_ended(&self) -> Option<OpenTrap> {
         self.last_ended
@@ -92,14 +87,15 @@ impl Traps {
         Ok(())
     }
 
-    /// A leave begins while this many bodies run, and the innermost TRAP catches it.
-    pub fn leave(&mut self, at: Moment, depth: u32) -> Result<(), AllocError> {
+    /// A leave begins while this many bodies run, and the innermost TRAP catches it. Returns how many items were on the
+    /// cleanup stack at its entry; 0 if `main` was left.
+    pub fn leave(&mut self, at: Moment, depth: u32) -> Result<usize, AllocError> {
         let caught = self.open.last().copied();
         if self.leaves.len() >= MOST_LEAVES {
             self.leaves.pop();
         }
         self.leaves.push(Leave { at, depth, caught })?;
-        Ok(())
+        Ok(caught.map_or(0, |trap| trap.items))
     }
 
     /// So many TRAPs are open now.

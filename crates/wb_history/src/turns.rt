@@ -4,6 +4,7 @@ mod carried;
 mod cells;
 
 use crate::attempts::{Attempts, Keep};
+use crate::blocks::Blocks;
 use crate::bodies::Bodies;
 use crate::calls::Calls;
 use crate::course::Course;
@@ -52,6 +53,9 @@ pub struct History<'a> {
     pub last_item: Option<ItemOnStack>,
     pub last_deleted: Ptr,
     deletions: Vec<Deletion>,
+    /// How many cells were live when these were looked at; `None` if one was added since.
+    live: Option<u32>,
+    blocks: Blocks,
     /// The cleanup stack's own cell.
     stack: Ptr,
     steps: u32,
@@ -82,6 +86,8 @@ impl<'a> History<'a> {
             last_item: None,
             last_deleted: NULL,
             deletions: Vec::new(alloc),
+            live: None,
+            blocks: Blocks::of(alloc, script)?,
             stack: NULL,
             steps: 0,
             last: 0,
@@ -127,27 +133,16 @@ impl<'a> History<'a> {
         self.calls.path(depth)
     }
 
-    /// Looks at a statement that the machine is to begin, and sees which TRAPs have ended if that matters to it.
-    pub(crate) fn look_ahead(
-        &mut self,
-        machine: &Machine<'a>,
-        statement: &'a Statement,
-    ) -> Ahead<'a> {
-        let ahead = Ahead::with(machine, statement);
-        if self.traps.has_open() && ahead.is_about_traps() {
-            self.see_traps(machine);
-        }
-        ahead
-    }
-
     /// Sees what a turn left that began a statement of which the line alone is kept.
     pub(crate) fn see_quiet(&mut self, machine: &Machine<'a>) -> Result<(), AllocError> {
-        self.see_line(machine)?;
-        let is_drawn = self.course.is_wanted() && self.traps.has_open();
-        if is_drawn || !self.deletions.is_empty() {
-            return self.see_ends(machine);
+        if machine.steps() > self.steps {
+            self.see_block(machine)?;
         }
-        Ok(())
+        self.see_line(machine)?;
+        if self.deletions.is_empty() {
+            return Ok(());
+        }
+        self.see_ends(machine)
     }
 
     /// Sees what a turn left that was to begin any other statement.
@@ -157,6 +152,9 @@ impl<'a> History<'a> {
         ahead: &Ahead<'a>,
     ) -> Result<(), AllocError> {
         let has_stepped = machine.steps() > self.steps;
+        if has_stepped {
+            self.see_block(machine)?;
+        }
         self.see_line(machine)?;
         if has_stepped {
             let attempt = self.attempts.see_newest(machine)?;
@@ -167,7 +165,13 @@ impl<'a> History<'a> {
         self.see_ends(machine)
     }
 
-    /// Sees what a turn left that began no statement: the first, one of a `repeat`, or one that destroys.
+    /// Sees that a turn comes that begins no statement, and which TRAPs ended before it.
+    pub(crate) fn go_on(&mut self) -> Result<(), AllocError> {
+        self.blocks.go_on();
+        self.see_traps()
+    }
+
+    /// Sees what such a turn left: the first, one of a `repeat`, or one that destroys.
     pub(crate) fn see_other(&mut self, machine: &Machine<'a>) -> Result<(), AllocError> {
         self.see_line(machine)?;
         if let Some(attempt) = self.attempts.see_newest(machine)? {
@@ -183,15 +187,33 @@ impl<'a> History<'a> {
 
     /// Sees what the last turn of the run left.
     pub(crate) fn see_end(&mut self, machine: &Machine<'a>) -> Result<(), AllocError> {
-        self.see_traps(machine);
+        self.traps.keep(machine.open_traps());
+        self.note_traps()?;
         self.see_ends(machine)
     }
 
-    /// Sees which TRAPs have ended.
-    fn see_traps(&mut self, machine: &Machine<'a>) {
-        if self.traps.has_open() {
-            self.traps.keep(machine.open_traps());
+    /// Sees which TRAPs ended before the statement began that the last turn began.
+    #[inline(always)]
+    fn see_block(&mut self, machine: &Machine<'a>) -> Result<(), AllocError> {
+        self.blocks.begin_line(machine.depth(), machine.line());
+        self.see_traps()
+    }
+
+    /// Sees which TRAPs ended with the last step that was seen.
+    #[inline(always)]
+    fn see_traps(&mut self) -> Result<(), AllocError> {
+        let open = self.blocks.open_traps();
+        if open != self.traps.open_traps().len() {
+            self.traps.keep(open);
         }
+        self.note_traps()
+    }
+
+    /// Notes how many TRAPs are open after the last step that was seen, if that is drawn.
+    #[inline(always)]
+    fn note_traps(&mut self) -> Result<(), AllocError> {
+        let count = self.traps.open_traps().len();
+        self.course.note_traps(self.steps, count)
     }
 
     /// Sees which objects a turn released, and the numbers that it left if they are drawn.
@@ -199,18 +221,7 @@ impl<'a> History<'a> {
         if !self.deletions.is_empty() {
             self.see_deletions(machine);
         }
-        if self.course.is_wanted() {
-            self.see_numbers(machine)?;
-        }
-        Ok(())
-    }
-
-    /// Sees the numbers that a turn left.
-    #[inline(never)]
-    fn see_numbers(&mut self, machine: &Machine<'a>) -> Result<(), AllocError> {
-        self.see_traps(machine);
-        let traps = self.traps.open_traps().len();
-        self.course.see_numbers(machine, traps)
+        self.course.see_numbers(machine)
     }
 
     fn see_line(&mut self, machine: &Machine<'a>) -> Result<(), AllocError> {
@@ -261,9 +272,19 @@ impl<'a> History<'a> {
         let by = self.destroyer(machine);
         match newest.item {
             Item::Free(pointer) => self.end_if_gone(machine, pointer, End::Freed, by, line),
-            Item::Delete(object) => self.deletions.push(Deletion { object, by, line })?,
+            Item::Delete(object) => self.add_deletion(Deletion { object, by, line })?,
             Item::Call(..) => {}
         }
+        Ok(())
+    }
+
+    /// Adds an object that is to be deleted.
+    fn add_deletion(&mut self, deletion: Deletion) -> Result<(), AllocError> {
+        if deletion.object.number != 0 {
+            self.blocks.begin_object();
+        }
+        self.live = None;
+        self.deletions.push(deletion)?;
         Ok(())
     }
 

@@ -8,7 +8,7 @@ use crate::checks::{Counted, counted_by};
 use crate::parameters::RunParameters;
 use crate::pointer_faults::{PointerFault, pointer_fault};
 use crate::quiet::is_quiet;
-use crate::statements::last_read;
+use crate::statements::{Ahead, last_read};
 use crate::turns::History;
 use crate::values::{Meant, values_of};
 use std::alloc::{AllocError, Global};
@@ -228,12 +228,13 @@ fn watch_turn<'a>(machine: &mut Machine<'a>, history: &mut History<'a>) -> Resul
             Ok(turn)
         }
         Some(statement) => {
-            let ahead = history.look_ahead(machine, statement);
+            let ahead = Ahead::with(machine, statement);
             let turn = machine.step()?;
             history.see_begun(machine, &ahead)?;
             Ok(turn)
         }
         None => {
+            history.go_on()?;
             let turn = machine.step()?;
             history.see_other(machine)?;
             Ok(turn)

@@ -48,7 +48,7 @@ impl<'a> History<'a> {
     /// Sees that an object is to be deleted, unless it is null.
     fn see_delete(&mut self, object: Ptr) -> Result<(), AllocError> {
         if object.number != 0 {
-            self.deletions.push(Deletion {
+            self.add_deletion(Deletion {
                 object,
                 by: By::Line,
                 line: self.last,
@@ -108,7 +108,7 @@ impl<'a> History<'a> {
         ahead: &Ahead<'a>,
     ) -> Result<(), AllocError> {
         match ahead.statement {
-            Statement::Pop(_) | Statement::PopDestroy(_) | Statement::PopCheck(_) => {
+            Statement::Pop(_) | Statement::PopCheck(_) => {
                 self.see_popped(machine);
                 Ok(())
             }
@@ -117,12 +117,17 @@ impl<'a> History<'a> {
                 self.calls.replace(machine.depth(), names);
                 Ok(())
             }
-            Statement::Trap(..) => self.traps.begin(OpenTrap {
-                line: self.last,
-                since: self.steps,
-                items: self.items.count(),
-            }),
+            Statement::Trap(..) => self.see_trap(machine),
+            Statement::Repeat(..) | Statement::PopDestroy(_) => {
+                self.blocks
+                    .begin_rest(machine.depth(), self.last, ahead.rest)
+            }
+            Statement::Return => {
+                self.blocks.end_body(machine.depth());
+                Ok(())
+            }
             Statement::ReturnPointer(_) => {
+                self.blocks.end_body(machine.depth());
                 self.see_return(machine, ahead.source);
                 Ok(())
             }
@@ -131,10 +136,22 @@ impl<'a> History<'a> {
         }
     }
 
-    /// Sees a leave.
+    /// Sees a TRAP that begins.
+    fn see_trap(&mut self, machine: &Machine<'a>) -> Result<(), AllocError> {
+        self.blocks.begin_trap(machine.depth(), self.last)?;
+        self.traps.begin(OpenTrap {
+            line: self.last,
+            since: self.steps,
+            items: self.items.count(),
+        })
+    }
+
+    /// Sees a leave. The items are destroyed then that were pushed since its TRAP began.
     fn see_leave(&mut self, machine: &Machine<'a>) -> Result<(), AllocError> {
         let now = self.now(machine)?;
-        self.traps.leave(now, machine.depth())
+        let items = self.traps.leave(now, machine.depth())?;
+        let above = (machine.cleanup_depth() as usize).saturating_sub(items);
+        self.blocks.leave(u32::try_from(above).unwrap_or(0))
     }
 
     /// Sees the items that a statement popped.
@@ -167,6 +184,7 @@ impl<'a> History<'a> {
     }
 
     /// Notes that a local or a field named one cell before, and names another now.
+    #[inline(always)]
     fn hold(&mut self, before: Ptr, now: Ptr, held: Held) {
         if before != now {
             self.lives.overwrite(before, held);

@@ -81,9 +81,19 @@ impl<'a> History<'a> {
         self.course.resize(cell, start)
     }
 
-    /// Sees which objects were released whose deletion had begun.
-    #[inline(never)]
+    /// Sees which objects were released whose deletion had begun: none if as many cells are live as before.
+    #[inline(always)]
     pub(crate) fn see_deletions(&mut self, machine: &Machine<'a>) {
+        let (live, _) = machine.alloc_size();
+        if self.live != Some(live) {
+            self.live = Some(live);
+            self.end_deletions(machine);
+        }
+    }
+
+    /// Ends the deletions whose objects are gone.
+    #[inline(never)]
+    fn end_deletions(&mut self, machine: &Machine<'a>) {
         for _ in 0..self.deletions.len() {
             let Some(deletion) = self.deletions.last().copied() else {
                 return;

@@ -1,0 +1,273 @@
+//! The blocks of a run that are open: its TRAPs, the turns that its `repeat`s have left, and the items that are still
+//! to be destroyed.
+//!
+//! They are known from the lines that begin, so that nobody has to go over all that is pending. A line ends each block
+//! that it isn't in, unless that is in a body below the one that runs. A turn that begins no line is one of the
+//! innermost block that has something left, and ends those in it. So it is known before each turn which TRAPs the last
+//! one ended.
+
+use std::alloc::{AllocError, Global};
+use wb_model::script::{Body, Script, Statement, StatementAt};
+
+/// A block that is open.
+#[derive(Clone, Copy)]
+struct Block {
+    /// How many bodies run where it is, and in how many blocks of its body its line is.
+    depth: u32,
+    nesting: u32,
+    is_trap: bool,
+    /// How many turns or items are left; 0 of a TRAP.
+    left: u32,
+}
+
+/// Lines that are in so many blocks of their body.
+#[derive(Clone, Copy)]
+struct Lines<'s> {
+    nesting: u32,
+    statements: &'s [StatementAt],
+}
+
+/// The blocks of a run that are open.
+#[derive(Drop)]
+pub struct Blocks {
+    /// For each line, in how many blocks of its body it is: of TRAPs and `repeat`s. Lines past the last have 0.
+    nestings: Vec<u32>,
+    /// The innermost last.
+    open: Vec<Block>,
+    /// How many of these are TRAPs.
+    traps: usize,
+    /// Whether the next turn is that of an object that is to be destroyed.
+    is_object_next: bool,
+}
+
+impl Blocks {
+    /// No block is open yet. The only error is that memory ran out.
+    pub fn of(alloc: Global, script: &Script) -> Result<Blocks, AllocError> {
+        Ok(Blocks {
+            nestings: nestings_of(alloc, script)?,
+            open: Vec::new(alloc),
+            traps: 0,
+            is_object_next: false,
+        })
+    }
+
+    /// Returns how many TRAPs are open.
+    pub fn open_traps(&self) -> usize {
+        self.traps
+    }
+
+    /// A line begins while so many bodies run.
+    #[inline(always)]
+    pub fn begin_line(&mut self, depth: u32, line: u32) {
+        if let Some(last) = self.open.last()
+            && last.depth >= depth
+        {
+            self.end_before(depth, line);
+        }
+    }
+
+    /// A TRAP begins at a line, while so many bodies run.
+    pub fn begin_trap(&mut self, depth: u32, line: u32) -> Result<(), AllocError> {
+        let nesting = self.nesting_of(line);
+        self.open.push(Block {
+            depth,
+            nesting,
+            is_trap: true,
+            left: 0,
+        })?;
+        self.traps = self.traps.saturating_add(1);
+        Ok(())
+    }
+
+    /// A line leaves so many turns or items to be done, while so many bodies run.
+    pub fn begin_rest(&mut self, depth: u32, line: u32, left: u32) -> Result<(), AllocError> {
+        let nesting = self.nesting_of(line);
+        self.add_rest(depth, nesting, left)
+    }
+
+    /// An object is to be destroyed next.
+    pub fn begin_object(&mut self) {
+        self.is_object_next = true;
+    }
+
+    /// A turn comes that begins no line.
+    #[inline(never)]
+    pub fn go_on(&mut self) {
+        if self.is_object_next {
+            self.is_object_next = false;
+            return;
+        }
+        for _ in 0..self.open.len() {
+            if let Some(last) = self.open.last_mut()
+                && last.left > 0
+            {
+                last.left -= 1;
+                return;
+            }
+            self.end_last();
+        }
+    }
+
+    /// The innermost of so many bodies returns.
+    pub fn end_body(&mut self, depth: u32) {
+        for _ in 0..self.open.len() {
+            if let Some(last) = self.open.last()
+                && last.depth < depth
+            {
+                return;
+            }
+            self.end_last();
+        }
+    }
+
+    /// A leave ends all up to the innermost TRAP, and the TRAP, or all that is. So many items are to be destroyed then.
+    pub fn leave(&mut self, items: u32) -> Result<(), AllocError> {
+        let mut at = Block {
+            depth: 1,
+            nesting: 0,
+            is_trap: false,
+            left: 0,
+        };
+        for _ in 0..self.open.len() {
+            let Some(last) = self.end_last() else {
+                break;
+            };
+            if last.is_trap {
+                at = last;
+                break;
+            }
+        }
+        self.add_rest(at.depth, at.nesting, items)
+    }
+
+    fn add_rest(&mut self, depth: u32, nesting: u32, left: u32) -> Result<(), AllocError> {
+        if left > 0 {
+            self.open.push(Block {
+                depth,
+                nesting,
+                is_trap: false,
+                left,
+            })?;
+        }
+        Ok(())
+    }
+
+    /// Ends the blocks that a line isn't in that begins while so many bodies run.
+    fn end_before(&mut self, depth: u32, line: u32) {
+        let nesting = self.nesting_of(line);
+        for _ in 0..self.open.len() {
+            if let Some(last) = self.open.last()
+                && (last.depth < depth || last.depth == depth && last.nesting < nesting)
+            {
+                return;
+            }
+            self.end_last();
+        }
+    }
+
+    fn end_last(&mut self) -> Option<Block> {
+        let last = self.open.pop()?;
+        if last.is_trap {
+            self.traps = self.traps.saturating_sub(1);
+        }
+        Some(last)
+    }
+
+    /// In how many blocks of its body a line is.
+    fn nesting_of(&self, line: u32) -> u32 {
+        self.nestings.get(line as usize).copied().unwrap_or(0)
+    }
+}
+
+/// In how many blocks each line of a script is, up to the last that is in one.
+fn nestings_of(alloc: Global, script: &Script) -> Result<Vec<u32>, AllocError> {
+    let mut rest = bodies_of(alloc, script)?;
+    let mut nestings = Vec::new(alloc);
+    for _ in 0..u32::MAX {
+        let Some(lines) = rest.pop() else {
+            break;
+        };
+        add_lines(&mut nestings, &mut rest, lines)?;
+    }
+    Ok(nestings)
+}
+
+/// The lines of all bodies.
+fn bodies_of<'s>(alloc: Global, script: &'s Script) -> Result<Vec<Lines<'s>>, AllocError> {
+    let mut bodies = Vec::new(alloc);
+    for procedure in script.procedures.as_slice() {
+        add_body(&mut bodies, &procedure.body)?;
+    }
+    for operation in script.operations.as_slice() {
+        add_body(&mut bodies, &operation.body)?;
+    }
+    for class in script.classes.as_slice() {
+        if let Some(body) = &class.construct {
+            add_body(&mut bodies, body)?;
+        }
+        if let Some(body) = &class.destroy {
+            add_body(&mut bodies, body)?;
+        }
+    }
+    Ok(bodies)
+}
+
+fn add_body<'s>(bodies: &mut Vec<Lines<'s>>, body: &'s Body) -> Result<(), AllocError> {
+    add_block(bodies, 0, body.statements.as_slice())
+}
+
+fn add_block<'s>(
+    blocks: &mut Vec<Lines<'s>>,
+    nesting: u32,
+    statements: &'s [StatementAt],
+) -> Result<(), AllocError> {
+    blocks.push(Lines {
+        nesting,
+        statements,
+    })?;
+    Ok(())
+}
+
+/// Notes how deep these lines are, and adds the lines of the blocks that they begin.
+fn add_lines<'s>(
+    nestings: &mut Vec<u32>,
+    rest: &mut Vec<Lines<'s>>,
+    lines: Lines<'s>,
+) -> Result<(), AllocError> {
+    for statement in lines.statements {
+        if lines.nesting > 0 {
+            set(nestings, statement.line as usize, lines.nesting)?;
+        }
+        add_inner(rest, &statement.statement, lines.nesting)?;
+    }
+    Ok(())
+}
+
+/// Adds the lines of the blocks that a statement begins. Those of an `if` are as deep as itself.
+fn add_inner<'s>(
+    rest: &mut Vec<Lines<'s>>,
+    statement: &'s Statement,
+    nesting: u32,
+) -> Result<(), AllocError> {
+    let inside = nesting.saturating_add(1);
+    match statement {
+        Statement::If(_, first) => add_block(rest, nesting, first.as_slice()),
+        Statement::IfElse(_, first, other) => {
+            add_block(rest, nesting, first.as_slice())?;
+            add_block(rest, nesting, other.as_slice())
+        }
+        Statement::Repeat(_, block) => add_block(rest, inside, block.as_slice()),
+        Statement::Trap(_, block) => add_block(rest, inside, block.as_slice()),
+        _ => Ok(()),
+    }
+}
+
+fn set(nestings: &mut Vec<u32>, line: usize, nesting: u32) -> Result<(), AllocError> {
+    if nestings.len() <= line {
+        nestings.resize(line.saturating_add(1), 0)?;
+    }
+    if let Some(kept) = nestings.get_mut(line) {
+        *kept = nesting;
+    }
+    Ok(())
+}
