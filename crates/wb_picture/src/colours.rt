@@ -5,7 +5,7 @@ use crate::drawing::{Drawing, Drawn};
 use wb_model::heap::Kind;
 
 /// What a cell is painted as.
-#[derive(Clone, Copy, PartialEq, Eq, PartialOrd, Ord)]
+#[derive(Clone, Copy, PartialEq, Eq)]
 pub enum Paint {
     Raw,
     Text,
@@ -28,6 +28,28 @@ impl Paint {
             Kind::Text => Paint::Text,
             Kind::Cleanup => Paint::Stack,
             Kind::Object(class) => Paint::Class(class % 8),
+        }
+    }
+
+    /// Where it is in the order in which paints are drawn.
+    pub fn rank(self) -> u32 {
+        match self {
+            Paint::Raw => 0,
+            Paint::Text => 1,
+            Paint::Stack => 2,
+            Paint::Class(class) => u32::from(class % 8).saturating_add(3),
+            Paint::Leak => 11,
+        }
+    }
+
+    /// The paint that is there in that order.
+    pub fn at(rank: u32) -> Paint {
+        match rank {
+            0 => Paint::Raw,
+            1 => Paint::Text,
+            2 => Paint::Stack,
+            11 => Paint::Leak,
+            _ => Paint::Class(u16::try_from(rank.saturating_sub(3)).unwrap_or(0)),
         }
     }
 

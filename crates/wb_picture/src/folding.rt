@@ -54,6 +54,7 @@ impl Edges {
     }
 
     /// Adds an edge, unless it is past the last place.
+    #[inline(always)]
     pub fn add(&mut self, place: u32) {
         if place > self.last {
             return;

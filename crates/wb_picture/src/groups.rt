@@ -2,27 +2,42 @@
 
 use crate::colours::Paint;
 use crate::drawing::Drawn;
+use crate::looks::Look;
 use crate::scale::{Area, Scale};
 use std::alloc::{AllocError, Global};
 use wb_history::{NEVER, Part};
 
-/// How wide a leak is at least, in pixels.
-const LEAST_LEAK: u32 = 6;
-
 /// With how many groups a part is compared that were added before it. The others are found when all are sorted.
 const NEAR: usize = 4;
+
+/// How many parts are kept of which the last few are looked at.
+const MOST_NEAR: usize = 64;
 
 /// How often the marks of a picture get twice as coarse before all of it is one.
 const MOST_HALVINGS: u32 = 12;
 
-/// What is the same of parts that are drawn as one: the area, and the colour.
-#[derive(Clone, Copy, PartialEq, Eq, PartialOrd, Ord)]
-struct Look {
-    left: u32,
-    right: u32,
+/// The places and the columns of a part, and its paint: parts of which all of this is the same look the same.
+#[derive(Clone, Copy, PartialEq, Eq)]
+struct Extent {
+    place: u32,
     top: u32,
-    bottom: u32,
+    last: u32,
+    first: u32,
     paint: Paint,
+}
+
+impl Extent {
+    #[inline(always)]
+    fn of(part: &Part, scale: &Scale) -> Extent {
+        let until = end_of(part, scale);
+        Extent {
+            place: part.place,
+            top: part.top(),
+            last: scale.columns.column(until.saturating_sub(1).max(part.from)),
+            first: scale.columns.column(part.from),
+            paint: paint_of(part),
+        }
+    }
 }
 
 /// Parts that are drawn as one rectangle, by how they look first.
@@ -36,10 +51,10 @@ pub struct Group {
 }
 
 impl Group {
-    /// A part alone, by its index.
-    fn of(part: &Part, index: usize, scale: &Scale) -> Group {
+    /// A part alone, by its look and its index.
+    fn of(look: Look, index: usize) -> Group {
         Group {
-            look: look_of(part, scale),
+            look,
             first: index,
             last: index,
             count: 1,
@@ -47,16 +62,19 @@ impl Group {
     }
 
     pub fn area(&self) -> Area {
-        Area::between(
-            self.look.left,
-            self.look.top,
-            self.look.right,
-            self.look.bottom,
-        )
+        self.look.area()
     }
 
     pub fn paint(&self) -> Paint {
-        self.look.paint
+        self.look.paint()
+    }
+
+    /// The same parts, drawn in multiples of a unit of pixels.
+    fn coarser(&self, scale: &Scale, unit: u32) -> Group {
+        Group {
+            look: self.look.coarser(scale, unit),
+            ..*self
+        }
     }
 
     /// Takes in parts that look the same.
@@ -65,9 +83,70 @@ impl Group {
         self.last = self.last.max(other.last);
         self.count = self.count.saturating_add(other.count);
     }
+
+    /// Takes in a part that comes after all of them, by its index.
+    fn add_later(&mut self, index: usize) {
+        self.last = index;
+        self.count = self.count.saturating_add(1);
+    }
 }
 
-/// Groups that look different, made of parts or groups that are added in order of their left edges.
+/// The extent of a part, and the index of the span that it is in.
+#[derive(Clone, Copy)]
+struct Near {
+    extent: Extent,
+    span: usize,
+}
+
+/// Parts in their order, of which some that have the same extent are one already.
+#[derive(Drop)]
+struct Spans {
+    groups: Vec<Group>,
+    /// The parts that were added last; the last few of these are looked at.
+    near: Vec<Near>,
+}
+
+impl Spans {
+    /// Adds a part by its index, which comes after all that were added.
+    #[inline(always)]
+    fn add(&mut self, part: &Part, index: usize, scale: &Scale) -> Drawn {
+        let extent = Extent::of(part, scale);
+        if let Some(near) = self.span_near(&extent)
+            && let Some(group) = self.groups.get_mut(near)
+        {
+            group.add_later(index);
+            return Ok(());
+        }
+        self.add_span(extent, &Group::of(look_of(part, scale), index))
+    }
+
+    /// The index of the span of one of the parts that were added last, if it has this extent.
+    #[inline(always)]
+    fn span_near(&self, extent: &Extent) -> Option<usize> {
+        for at in self.near.len().saturating_sub(NEAR)..self.near.len() {
+            if let Some(near) = self.near.get(at)
+                && near.extent == *extent
+            {
+                return Some(near.span);
+            }
+        }
+        None
+    }
+
+    /// Adds a part that has this extent, which the parts just before it don't have.
+    #[inline(never)]
+    fn add_span(&mut self, extent: Extent, group: &Group) -> Drawn {
+        if self.near.len() >= MOST_NEAR {
+            self.near.clear();
+        }
+        let span = self.groups.len();
+        self.near.push(Near { extent, span })?;
+        self.groups.push(*group)?;
+        Ok(())
+    }
+}
+
+/// Groups that look different, made of groups that are added in order of their left edges.
 #[derive(Drop)]
 struct Merged {
     groups: Vec<Group>,
@@ -78,7 +157,7 @@ struct Merged {
 impl Merged {
     fn add(&mut self, group: &Group) -> Drawn {
         if let Some(last) = self.open.last()
-            && last.look.left != group.look.left
+            && last.look.left() != group.look.left()
         {
             self.close()?;
         }
@@ -152,22 +231,29 @@ pub fn groups_of(
     scale: &Scale,
     most: usize,
 ) -> Result<Groups, AllocError> {
-    let is_partial = scale.columns.first > 0 && count_present(parts, scale) > most;
+    let is_partial = scale.columns.first > 0 && count_shown(parts, scale, Shown::Present) > most;
     let shown = if is_partial {
         Shown::Changing
     } else {
         Shown::Present
     };
-    let each = each_alone(alloc, parts, scale, shown)?;
-    let groups = merge_up_to(alloc, each, scale, most)?;
+    let groups = if count_shown(parts, scale, shown) <= most {
+        each_alone(alloc, parts, scale, shown)?
+    } else {
+        let spans = spans_of(alloc, parts, scale, shown)?;
+        merge_up_to(alloc, spans.as_slice(), scale, most)?
+    };
     Ok(Groups { groups, is_partial })
 }
 
-/// How many parts are there in one of a panel's steps.
-fn count_present(parts: &[Part], scale: &Scale) -> usize {
+/// How many parts a panel shows.
+fn count_shown(parts: &[Part], scale: &Scale, shown: Shown) -> usize {
+    if scale.columns.first == 0 && shown == Shown::Present {
+        return parts.len();
+    }
     let mut count = 0usize;
     for part in parts {
-        if Shown::Present.has(part, scale) {
+        if shown.has(part, scale) {
             count = count.saturating_add(1);
         }
     }
@@ -184,113 +270,94 @@ fn each_alone(
     let mut groups = Vec::new(alloc);
     for (index, part) in parts.iter().enumerate() {
         if shown.has(part, scale) {
-            groups.push(Group::of(part, index, scale))?;
+            groups.push(Group::of(look_of(part, scale), index))?;
         }
     }
     Ok(groups)
 }
 
-/// These parts, or, if they are too many, groups of those that look the same if marks are so coarse that the groups are few enough.
+/// These parts, of which some that have the same extent are one.
+fn spans_of(
+    alloc: Global,
+    parts: &[Part],
+    scale: &Scale,
+    shown: Shown,
+) -> Result<Vec<Group>, AllocError> {
+    let mut spans = Spans {
+        groups: Vec::new(alloc),
+        near: Vec::new(alloc),
+    };
+    for (index, part) in parts.iter().enumerate() {
+        if shown.has(part, scale) {
+            spans.add(part, index, scale)?;
+        }
+    }
+    Ok(spans.groups)
+}
+
+/// The groups of what looks the same, if marks are so coarse that the groups are few enough.
 fn merge_up_to(
     alloc: Global,
-    each: Vec<Group>,
+    spans: &[Group],
     scale: &Scale,
     most: usize,
 ) -> Result<Vec<Group>, AllocError> {
-    if each.len() <= most {
-        return Ok(each);
-    }
-    let mut groups = merge(alloc, &each)?;
     let mut unit = 1u32;
     for _ in 0..MOST_HALVINGS {
+        let groups = merge(alloc, spans, scale, unit, most)?;
         if groups.len() <= most {
-            break;
+            return Ok(groups);
         }
         unit = unit.saturating_mul(2);
-        for group in groups.as_mut_slice() {
-            group.look = group.look.coarser(scale, unit);
-        }
-        groups = merge(alloc, &groups)?;
     }
-    Ok(groups)
+    merge(alloc, spans, scale, unit, usize::MAX)
 }
 
-/// The groups of what looks the same, of parts or groups that are in order of their left edges.
-fn merge(alloc: Global, groups: &Vec<Group>) -> Result<Vec<Group>, AllocError> {
+/// The groups of what looks the same in multiples of a unit of pixels; the first of them if they are more than so many.
+fn merge(
+    alloc: Global,
+    spans: &[Group],
+    scale: &Scale,
+    unit: u32,
+    most: usize,
+) -> Result<Vec<Group>, AllocError> {
     let mut merged = Merged {
         groups: Vec::new(alloc),
         open: Vec::new(alloc),
     };
-    for group in groups.as_slice() {
-        merged.add(group)?;
+    for span in spans {
+        if merged.groups.len() > most {
+            break;
+        }
+        merged.add(&span.coarser(scale, unit))?;
     }
     merged.close()?;
     Ok(merged.groups)
 }
 
-/// How a part is drawn.
+/// How a part is drawn alone.
 fn look_of(part: &Part, scale: &Scale) -> Look {
-    let paint = if part.leaks {
+    Look::of(area_of(part, scale), paint_of(part), scale)
+}
+
+fn paint_of(part: &Part) -> Paint {
+    if part.leaks {
         Paint::Leak
     } else {
         Paint::of(part.kind)
-    };
-    let area = area_of(part, scale).at_least(least_width(paint), 2);
-    Look {
-        left: area.left,
-        right: area.right,
-        top: area.top,
-        bottom: area.bottom,
-        paint,
-    }
-    .within(scale)
-}
-
-/// How wide what is painted so is at least, in pixels.
-fn least_width(paint: Paint) -> u32 {
-    if paint == Paint::Leak { LEAST_LEAK } else { 1 }
-}
-
-impl Look {
-    /// The same look in multiples of a unit of pixels, each twice the one before it.
-    fn coarser(self, scale: &Scale, unit: u32) -> Look {
-        Look {
-            left: floor_to(self.left, unit),
-            right: ceil_to(self.right, unit),
-            top: floor_to(self.top, unit),
-            bottom: ceil_to(self.bottom, unit),
-            paint: self.paint,
-        }
-        .within(scale)
-    }
-
-    /// The same look in the frame. A leak may go past it.
-    fn within(self, scale: &Scale) -> Look {
-        let past = least_width(self.paint).saturating_sub(1);
-        let most = scale.frame.right().saturating_add(past);
-        Look {
-            right: self.right.min(most),
-            top: self.top.max(scale.frame.top),
-            bottom: self.bottom.min(scale.frame.bottom()),
-            ..self
-        }
     }
 }
 
-/// The area of a part. One that never ends goes on up to the run's end.
+/// The area of a part.
 pub fn area_of(part: &Part, scale: &Scale) -> Area {
-    let until = if part.gone == NEVER {
+    scale.area(part.from, end_of(part, scale), part.place, part.top())
+}
+
+/// Up to before which step a part goes on. One that never ends does up to the run's end.
+fn end_of(part: &Part, scale: &Scale) -> u32 {
+    if part.gone == NEVER {
         scale.last.saturating_add(1)
     } else {
         part.gone
-    };
-    scale.area(part.from, until, part.place, part.top())
-}
-
-fn floor_to(n: u32, unit: u32) -> u32 {
-    n.saturating_sub(n.checked_rem(unit).unwrap_or(0))
-}
-
-fn ceil_to(n: u32, unit: u32) -> u32 {
-    floor_to(n.saturating_add(unit).saturating_sub(1), unit)
+    }
 }

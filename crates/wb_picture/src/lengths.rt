@@ -183,30 +183,30 @@ pub fn put_rises(
             let end = scale.x_of_step(rise.step);
             let line = line_of(&scale, &done, end);
             put_rise(drawing, &done, line)?;
-            put_rise_number(drawing, &done.last, line, labels, &mut pen)?;
+            put_rise_number(drawing, done.last, line, labels, &mut pen)?;
         }
     }
     if let Some(done) = step {
         let line = line_of(&scale, &done, scale.end());
         put_rise(drawing, &done, line)?;
-        put_rise_number(drawing, &done.last, line, labels, &mut pen)?;
+        put_rise_number(drawing, done.last, line, labels, &mut pen)?;
     }
     Ok(())
 }
 
 /// The line of rises, up to where the next begins.
-fn line_of(scale: &Scale, step: &ColumnAttempts<'_>, end: u32) -> Area {
+fn line_of(scale: &Scale, step: &ColumnAttempts<'_, '_>, end: u32) -> Area {
     let y = scale.y(step.last.top());
     Area::level(scale.x(step.column), end, y)
 }
 
-fn put_rise(drawing: &mut Drawing<'_>, step: &ColumnAttempts<'_>, line: Area) -> Drawn {
+fn put_rise(drawing: &mut Drawing<'_>, step: &ColumnAttempts<'_, '_>, line: Area) -> Drawn {
     open_line(drawing, "rise strong", line)?;
     put_rise_title(drawing, step)?;
     close_line(drawing)
 }
 
-fn put_rise_title(drawing: &mut Drawing<'_>, step: &ColumnAttempts<'_>) -> Drawn {
+fn put_rise_title(drawing: &mut Drawing<'_>, step: &ColumnAttempts<'_, '_>) -> Drawn {
     let (first, last) = (step.first.attempt.number, step.last.attempt.number);
     let top = step.last.top();
     if first == last {

@@ -18,6 +18,7 @@ mod labels;
 mod leaks;
 mod legend;
 mod lengths;
+mod looks;
 mod marks;
 mod page;
 mod panel;

@@ -22,10 +22,10 @@ const TICK: u32 = 6;
 
 /// Attempts one after the other that fall in one column.
 #[derive(Clone, Copy)]
-pub struct ColumnAttempts<'a> {
+pub struct ColumnAttempts<'r, 'a> {
     pub column: u32,
-    pub first: AttemptMade<'a>,
-    pub last: AttemptMade<'a>,
+    pub first: &'r AttemptMade<'a>,
+    pub last: &'r AttemptMade<'a>,
     count: u32,
     /// How many of them failed.
     failed: u32,
@@ -72,17 +72,18 @@ pub fn put_failed(
 }
 
 /// Adds an attempt to those of its column; returns those before it once it begins another column.
-pub fn extend<'a>(
-    run: &mut Option<ColumnAttempts<'a>>,
+#[inline(always)]
+pub fn extend<'r, 'a>(
+    run: &mut Option<ColumnAttempts<'r, 'a>>,
     scale: &Scale,
-    attempt: &AttemptMade<'a>,
-) -> Option<ColumnAttempts<'a>> {
+    attempt: &'r AttemptMade<'a>,
+) -> Option<ColumnAttempts<'r, 'a>> {
     let column = scale.columns.column(attempt.step);
     let failed = u32::from(!attempt.is_granted());
     if let Some(run) = run
         && run.column == column
     {
-        run.last = *attempt;
+        run.last = attempt;
         run.count = run.count.saturating_add(1);
         run.failed = run.failed.saturating_add(failed);
         run.low = run.low.min(attempt.attempt.place);
@@ -91,8 +92,8 @@ pub fn extend<'a>(
     }
     run.replace(ColumnAttempts {
         column,
-        first: *attempt,
-        last: *attempt,
+        first: attempt,
+        last: attempt,
         count: 1,
         failed,
         low: attempt.attempt.place,
@@ -103,7 +104,7 @@ pub fn extend<'a>(
 /// Draws a tick, and its number if there is room; returns where room begins again.
 fn put_tick(
     drawing: &mut Drawing<'_>,
-    run: &ColumnAttempts<'_>,
+    run: &ColumnAttempts<'_, '_>,
     free: u32,
 ) -> Result<u32, AllocError> {
     let scale = drawing.scale;
@@ -123,7 +124,7 @@ fn put_tick(
 }
 
 /// Draws a mark: a box where the cell would have been, with a cross.
-fn put_mark(drawing: &mut Drawing<'_>, run: &ColumnAttempts<'_>) -> Drawn {
+fn put_mark(drawing: &mut Drawing<'_>, run: &ColumnAttempts<'_, '_>) -> Drawn {
     let scale = drawing.scale;
     let x = scale.x(run.column);
     let end = scale.x(run.column.saturating_add(1));
@@ -161,9 +162,9 @@ fn put_cross(drawing: &mut Drawing<'_>, class: &str, area: Area) -> Drawn {
     drawing.text.push_str("\"/>\n")
 }
 
-fn put_run_title(drawing: &mut Drawing<'_>, run: &ColumnAttempts<'_>) -> Drawn {
+fn put_run_title(drawing: &mut Drawing<'_>, run: &ColumnAttempts<'_, '_>) -> Drawn {
     if run.count == 1 {
-        return put_attempt_title(drawing, &run.first);
+        return put_attempt_title(drawing, run.first);
     }
     put_digits(drawing, run.count)?;
     put_both(drawing, " attempts, from ", run.first.attempt.number)?;
