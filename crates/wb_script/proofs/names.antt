@@ -8,6 +8,7 @@ pub mod FoundItems
 pub mod Indexes
 pub mod KnownLines
 pub mod LineFits
+pub mod LinesOfRows
 pub mod LiteralLemmas
 pub mod OneOperand
 pub mod OperandPlaces

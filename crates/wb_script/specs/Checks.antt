@@ -59,7 +59,7 @@ known_of forms = state_after known_after nothing_known forms
 -- The lines of a script with these items in its own space: what their names stand for, the literals, and the number of the
 -- first line that each check refuses.
 pub record AreChecked (items : List Declaration) (forms : List (Form Text)) (checked : Checked) : Type 0 where
-  pub lines : checked.lines.items ≡ resolved_among items forms
+  pub lines : checked.lines ≡ resolved_among items forms
   pub known : known_in checked.known ≡ known_of forms
   pub literals : bytes_of_texts checked.known.literals.items ≡ literals_of forms
   pub unknown_name : checked.first.unknown_name ≡ number_of_line (first_refused (uses_unknown items) forms)

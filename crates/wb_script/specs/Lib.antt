@@ -4,5 +4,6 @@ pub mod Checks
 pub mod Fitting
 pub mod BytesOf
 pub mod Reads
+pub mod ResolvedLines
 pub mod Stated
 pub mod Tables

@@ -8,6 +8,7 @@ pub(crate) mod limits;
 pub(crate) mod names;
 pub(crate) mod names_so_far;
 pub(crate) mod resolved;
+pub(crate) mod resolved_lines;
 pub(crate) mod tables;
 
 ghost use Rattle.std.specs.Prelude.{◌≡◌, ◌+◌, ◌<◌, ◌≤◌, [], ◌∷◌, ◌++◌, List, length, IfOk, OnOk};
@@ -19,6 +20,7 @@ ghost use Rattle.wb_model.specs.language.Resolved.{uses_unknown, resolved_line};
 ghost use Rattle.wb_lines.specs.BytesOf.{bytes_of_form, bytes_of_forms};
 ghost use Rattle.wb_script.specs.BytesOf.{bytes_of_items};
 ghost use Rattle.wb_script.specs.Checks.{known_in, or_here, AreChecked, IsFew};
+ghost use Rattle.wb_script.specs.ResolvedLines.{form_of};
 
 use crate::checks::declarations::Declarations;
 use crate::checks::kinds::has_wrong_kind;
@@ -26,11 +28,10 @@ use crate::checks::leaving::may_leave;
 use crate::checks::limits::passes_limit;
 use crate::checks::names::{declares_again, has_unknown};
 use crate::checks::names_so_far::NamesSoFar;
-use crate::checks::resolved::resolved_line;
+use crate::checks::resolved_lines::{ResolvedLine, ResolvedLines};
 use std::alloc::{AllocError, Global};
-use wb_lines::lists::add;
 use wb_model::limits::LONGEST_SCRIPT;
-use wb_model::script_lines::{Form, Referent};
+use wb_model::script_lines::Form;
 
 /// The number of the first line that a check refuses, with one more line.
 fn or_here(found: Option<u32>, line: u32, refused: bool) -> Option<u32>
@@ -60,11 +61,11 @@ impl FirstLines {
         known: &NamesSoFar,
         number: u32,
         form: &Form<&[u8]>,
-        line: &Form<Referent>,
+        line: ResolvedLine,
     ) -> FirstLines
         requires few { IsFew known.now }
-        requires line { line.now ≡ resolved_line (bytes_of_items items.now) (known_in known.now)
-            (bytes_of_form form.now) }
+        requires line { form_of line ≡ resolved_line (bytes_of_items items.now)
+            (known_in known.now) (bytes_of_form form.now) }
         ensures unknown_name { result.unknown_name ≡ or_here self.unknown_name number
             (uses_unknown (bytes_of_items items.now) (known_in known.now)
             (bytes_of_form form.now)) }
@@ -95,19 +96,23 @@ impl FirstLines {
 #[derive(Drop)]
 pub(crate) struct Checked<'a> {
     /// The lines with what their names and literals stand for.
-    pub lines: Vec<Form<Referent>>,
+    pub lines: ResolvedLines,
     pub known: NamesSoFar<'a>,
     pub first: FirstLines,
 }
 
 impl<'a> Checked<'a> {
-    fn nothing(alloc: Global) -> Checked<'a>
-        ensures checked { (items : List space.Declaration) → AreChecked items [] result }
-        ensures items { items_before (known_in result.known) ≤ length result.lines.items }
-        ensures lines { length result.lines.items ≡ 0 }
+    /// Nothing yet, with room for so many lines.
+    fn with_capacity(alloc: Global, count: usize) -> Result<Checked<'a>, AllocError>
+        ensures checked { IfOk result (λ checked. (items : List space.Declaration) →
+            AreChecked items [] checked) }
+        ensures items { IfOk result (λ checked. items_before (known_in checked.known)
+            ≤ length checked.lines) }
+        ensures lines { IfOk result (λ checked. length checked.lines ≡ 0) }
     {
-        Checked {
-            lines: Vec::new(alloc),
+        let lines = ResolvedLines::with_capacity(alloc, count)?;
+        Ok(Checked {
+            lines,
             known: NamesSoFar::nothing(alloc),
             first: FirstLines {
                 unknown_name: None,
@@ -116,32 +121,26 @@ impl<'a> Checked<'a> {
                 may_leave: None,
                 too_many: None,
             },
-        }
+        })
     }
 
     /// Checks one more line of a script with these items in its own space.
-    fn add_line(
-        &mut self,
-        alloc: Global,
-        items: &Declarations,
-        form: &Form<&'a [u8]>,
-    ) -> Result<(), AllocError>
-        requires few { length self.now.lines.items < LONGEST_SCRIPT }
-        requires items { items_before (known_in self.now.known) ≤ length self.now.lines.items }
+    fn add_line(&mut self, items: &Declarations, form: &Form<&'a [u8]>) -> Result<(), AllocError>
+        requires few { length self.now.lines < LONGEST_SCRIPT }
+        requires items { items_before (known_in self.now.known) ≤ length self.now.lines }
         ensures checked { OnOk result ((before : List (model.Form Text)) →
             AreChecked (bytes_of_items items.now) before self.old →
             AreChecked (bytes_of_items items.now) (before ++ bytes_of_form form.now
             ∷ []) self.new) }
         ensures items { OnOk result (items_before (known_in self.new.known)
-            ≤ length self.new.lines.items) }
-        ensures lines { OnOk result (length self.new.lines.items
-            ≡ length self.old.lines.items + 1) }
+            ≤ length self.new.lines) }
+        ensures lines { OnOk result (length self.new.lines ≡ length self.old.lines + 1) }
     {
-        let line = resolved_line(alloc, items, &self.known, form)?;
-        let number = self.lines.len() as u32 + 1;
-        self.first = self.first.with(items, &self.known, number, form, &line);
+        self.lines.add(items, &self.known, form)?;
+        let number = self.lines.len() as u32;
+        let line = self.lines.last();
+        self.first = self.first.with(items, &self.known, number, form, line);
         self.known.add_line(form)?;
-        add(&mut self.lines, line)?;
         Ok(())
     }
 }
@@ -155,9 +154,9 @@ pub(crate) fn checked_lines<'a>(
     requires { length forms.now ≤ LONGEST_SCRIPT }
     ensures { IfOk result (AreChecked (bytes_of_items items.now) (bytes_of_forms forms.now)) }
 {
-    let mut checked = Checked::nothing(alloc);
+    let mut checked = Checked::with_capacity(alloc, forms.len())?;
     for form in forms {
-        checked.add_line(alloc, items, form)?;
+        checked.add_line(items, form)?;
     }
     Ok(checked)
 }

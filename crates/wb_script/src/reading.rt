@@ -17,6 +17,7 @@ ghost use Rattle.wb_lines.specs.Typed.{AreTyped};
 
 use crate::checks::declarations::Declarations;
 use crate::checks::resolved::item_referent;
+use crate::checks::resolved_lines::ResolvedLines;
 use crate::checks::{FirstLines, checked_lines};
 use crate::tree::bodies_of;
 use std::alloc::{AllocError, Global};
@@ -79,7 +80,7 @@ fn literals_of(alloc: Global, texts: &[&[u8]]) -> Result<Items<Chars>, AllocErro
 fn script_of(
     alloc: Global,
     items: &Declarations,
-    lines: &[Form<Referent>],
+    lines: &ResolvedLines,
     literals: &[&[u8]],
     main: usize,
 ) -> Result<Script, AllocError>

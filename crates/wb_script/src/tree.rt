@@ -25,8 +25,10 @@ ghost use Rattle.wb_script.specs.Building.{AllFit, counts_of};
 ghost use Rattle.wb_script.specs.Growing.{AreSound, GrowsWhereFit, IsBelow, IsSound, OpensWhereFit, declared_in_space};
 ghost use Rattle.wb_script.specs.Growing.{if_added, in_body, items_in_order, outside};
 ghost use Rattle.wb_script.specs.BytesOf.{declared_by};
+ghost use Rattle.wb_script.specs.ResolvedLines.{form_of};
 
 use crate::checks::declarations::Declarations;
+use crate::checks::resolved_lines::{ResolvedLine, ResolvedLines};
 use crate::tree::bodies::{BodyProgress, OpenBody, add_statement_in_place, add_to_body};
 use crate::tree::classes::{add_to_class, begin_class};
 use crate::tree::openings::{begin_operation, begin_procedure};
@@ -36,7 +38,7 @@ use std::alloc::{AllocError, Global};
 use std::mem::replace;
 use wb_lines::line_kinds::role_of;
 use wb_model::limits::LONGEST_SCRIPT;
-use wb_model::script_lines::{Form, LineKind, Operand, Referent, Role};
+use wb_model::script_lines::{LineKind, Operand, Referent, Role};
 
 /// What a line opens where nothing is open, with its number; `None` if it has no place there.
 fn begin_item(
@@ -142,26 +144,20 @@ fn add_form(
     space: Space,
     building: Building,
     number: u32,
-    line: &Form<Referent>,
+    line: ResolvedLine,
 ) -> Result<Option<Building>, AllocError>
     requires sound { IsSound (declared_in_space space) building }
     requires below { IsBelow number building }
-    requires known { line.now ≢ Unknown }
-    ensures { IfOk result (GrowsWhereFit (declared_in_space space.entry) number line.now building) }
+    requires known { form_of line ≢ Unknown }
+    ensures { IfOk result (GrowsWhereFit (declared_in_space space.entry) number
+        (form_of line.entry) building) }
 {
     match line {
-        Form::Skip => Ok(Some(building)),
-        Form::Unknown => unreachable!(),
-        Form::Line(line_kind, operands) => {
-            add_line(
-                alloc,
-                space,
-                building,
-                number,
-                *line_kind,
-                operands.as_slice(),
-            )
-        }
+        ResolvedLine::Skip => Ok(Some(building)),
+        ResolvedLine::Unknown => unreachable!(),
+        ResolvedLine::Line(line_kind, operands) => add_line(
+            alloc, space, building, number, line_kind, operands,
+        ),
     }
 }
 
@@ -172,25 +168,18 @@ fn add_next(
     space: Space,
     building: &mut Building,
     number: u32,
-    line: &Form<Referent>,
+    line: ResolvedLine,
 ) -> Result<bool, AllocError>
     requires sound { IsSound (declared_in_space space) building.old }
     requires below { IsBelow number building.old }
-    requires known { line.now ≢ Unknown }
-    ensures { IfOk result (λ added. GrowsWhereFit (declared_in_space space.entry) number line.now
-        building.old (if_added added building.new)) }
+    requires known { form_of line ≢ Unknown }
+    ensures { IfOk result (λ added. GrowsWhereFit (declared_in_space space.entry) number
+        (form_of line.entry) building.old (if_added added building.new)) }
 {
-    if let Form::Line(line_kind, operands) = line {
-        if let Role::Plain = role_of(*line_kind) {
+    if let ResolvedLine::Line(line_kind, operands) = line {
+        if let Role::Plain = role_of(line_kind) {
             if let Stage::InBody(_, body) = &mut building.stage {
-                return add_statement_in_place(
-                    alloc,
-                    space,
-                    body,
-                    number,
-                    *line_kind,
-                    operands.as_slice(),
-                );
+                return add_statement_in_place(alloc, space, body, number, line_kind, operands);
             }
         }
     }
@@ -205,11 +194,7 @@ fn add_next(
 }
 
 /// What is whole of a script after all its lines.
-fn items_from(
-    alloc: Global,
-    space: Space,
-    lines: &[Form<Referent>],
-) -> Result<WholeItems, AllocError>
+fn items_from(alloc: Global, space: Space, lines: &ResolvedLines) -> Result<WholeItems, AllocError>
     requires grammar { IsGrammatical (map role_of_form lines.now) }
     requires fit { AllFit (declared_in_space space) lines.now }
     requires few { length lines.now ≤ LONGEST_SCRIPT }
@@ -220,9 +205,12 @@ fn items_from(
         signatures_of b.procedures ≡ (counts_of lines.now).procedures) }
     ensures operations { IfOk result (λ b. length b.operations ≡ (counts_of lines.now).operations) }
 {
+    let (rows, mut left) = lines.parts();
     let mut building = Building::nothing(alloc);
     let mut number = 0;
-    for line in lines {
+    for row in rows {
+        let (line, later) = row.split(left);
+        left = later;
         number += 1;
         if !add_next(alloc, space, &mut building, number, line)? {
             unreachable!();
@@ -241,7 +229,7 @@ pub(crate) fn bodies_of(
     alloc: Global,
     literals: u32,
     items: &Declarations,
-    lines: &[Form<Referent>],
+    lines: &ResolvedLines,
 ) -> Result<WholeItems, AllocError>
     requires grammar { IsGrammatical (map role_of_form lines.now) }
     requires fit { AllFit (declared_by literals items.now) lines.now }

@@ -11,10 +11,10 @@ use Rattle.wb_lines.specs.BytesOf.{bytes_of_texts}
 use Rattle.wb_script.specs.declared.checks.Checked.{Checked}
 use Rattle.wb_script.proofs.lists.Passes.{state_last, each_last, each_length, first_last}
 
-module _ (items : List Declaration) (before : List (Form Text)) (form : Form Text) (old new : Checked) (number : ℕ) (checked : AreChecked items before old) (counted : number ≡ length old.lines.items + 1) where
+module _ (items : List Declaration) (before : List (Form Text)) (form : Form Text) (old new : Checked) (number : ℕ) (checked : AreChecked items before old) (counted : number ≡ length old.lines + 1) where
   number_is : number ≡ suc (length before)
   number_is =
-      let same : length old.lines.items ≡ length before = ap length checked.lines ∙ each_length known_after (resolved_line items) before nothing_known in
+      let same : length old.lines ≡ length before = ap length checked.lines ∙ each_length known_after (resolved_line items) before nothing_known in
       omega (arith, counted, same)
 
   one_more_refused : (bad : NamesSoFar → Form Text → Bool) (was is : Option ℕ) → was ≡ number_of_line (first_refused bad before) → is ≡ or_here was number (bad (known_in old.known) form) → is ≡ number_of_line (first_refused bad (before ++ form ∷ []))
@@ -25,7 +25,7 @@ module _ (items : List Declaration) (before : List (Form Text)) (form : Form Tex
       ∙ ap (λ k. or_here (number_of_line (first_refused bad before)) (suc (length before)) (bad k form)) checked.known
       ∙ sym (first_last known_after bad before form nothing_known)
 
-  pub one_more_checked : new.lines.items ≡ old.lines.items ++ resolved_line items (known_in old.known) form ∷ [] →
+  pub one_more_checked : new.lines ≡ old.lines ++ resolved_line items (known_in old.known) form ∷ [] →
       known_in new.known ≡ known_after (known_in old.known) form →
       bytes_of_texts new.known.literals.items ≡ bytes_of_texts old.known.literals.items ++ literals_in form →
       new.first.unknown_name ≡ or_here old.first.unknown_name number (uses_unknown items (known_in old.known) form) →

@@ -12,11 +12,13 @@ ghost use Rattle.wb_model.specs.language.Kinds.{operand_kind_of};
 ghost use Rattle.wb_model.specs.language.Names.{parameter_type_of};
 ghost use Rattle.wb_model.specs.language.Resolved.{resolved_line};
 ghost use Rattle.wb_script.specs.Checks.{known_in};
+ghost use Rattle.wb_script.specs.ResolvedLines.{form_of};
 ghost use Rattle.wb_lines.specs.BytesOf.{bytes_of_form, bytes_of_operands, bytes_of_text};
 ghost use Rattle.wb_script.specs.BytesOf.{bytes_of_items};
 
 use crate::checks::declarations::Declarations;
 use crate::checks::names_so_far::NamesSoFar;
+use crate::checks::resolved_lines::ResolvedLine;
 use wb_lines::operand_kinds::{is_pointer_kind, operand_kind_of, takes};
 use wb_lines::operand_places::OperandPlaces;
 use wb_lines::same::are_same;
@@ -129,14 +131,14 @@ fn arguments_agree(
 }
 
 /// Whether all operands of a line are of the kinds that it takes.
-pub(crate) fn is_right_line(items: &Declarations, line: &Form<Referent>) -> bool
-    ensures { result ≡ is_right_line (bytes_of_items items.now) line.now }
+pub(crate) fn is_right_line(items: &Declarations, line: ResolvedLine) -> bool
+    ensures { result ≡ is_right_line (bytes_of_items items.now) (form_of line.entry) }
 {
     match line {
-        Form::Line(line_kind, operands) => {
-            are_right(*line_kind, operands.as_slice())
-                && sides_agree(*line_kind, operands.as_slice())
-                && arguments_agree(items, *line_kind, operands.as_slice())
+        ResolvedLine::Line(line_kind, operands) => {
+            are_right(line_kind, operands)
+                && sides_agree(line_kind, operands)
+                && arguments_agree(items, line_kind, operands)
         }
         _ => true,
     }
@@ -232,9 +234,9 @@ pub(crate) fn has_wrong_kind(
     items: &Declarations,
     known: &NamesSoFar,
     form: &Form<&[u8]>,
-    line: &Form<Referent>,
+    line: ResolvedLine,
 ) -> bool
-    requires { line.now
+    requires { form_of line
         ≡ resolved_line (bytes_of_items items.now) (known_in known.now) (bytes_of_form form.now) }
     ensures { result
         ≡ has_wrong_kind (bytes_of_items items.now) (known_in known.now) (bytes_of_form form.now) }

@@ -7,11 +7,13 @@ ghost use Rattle.wb_model.specs.language.Names.{name_passed, names_of, parameter
 ghost use Rattle.wb_model.specs.language.Names.{declares_again};
 ghost use Rattle.wb_model.specs.language.Resolved.{has_unknown, refers_to_nothing, means_nothing, takes_nothing};
 ghost use Rattle.wb_script.specs.Checks.{known_in, IsFew};
+ghost use Rattle.wb_script.specs.ResolvedLines.{form_of};
 ghost use Rattle.wb_lines.specs.BytesOf.{bytes_of_texts, bytes_of_operands, bytes_of_form};
 ghost use Rattle.wb_script.specs.BytesOf.{bytes_of_items};
 
 use crate::checks::declarations::Declarations;
 use crate::checks::names_so_far::NamesSoFar;
+use crate::checks::resolved_lines::ResolvedLine;
 use wb_lines::declares::first_name;
 use wb_lines::forms::role;
 use wb_lines::same::are_same;
@@ -148,11 +150,11 @@ fn any_nothing(operands: &[Operand<Referent>]) -> bool
 }
 
 /// Whether a line uses a name that is declared nowhere.
-pub(crate) fn has_unknown(line: &Form<Referent>) -> bool
-    ensures { result ≡ has_unknown line.now }
+pub(crate) fn has_unknown(line: ResolvedLine) -> bool
+    ensures { result ≡ has_unknown (form_of line.entry) }
 {
     match line {
-        Form::Line(_, operands) => any_nothing(operands.as_slice()),
+        ResolvedLine::Line(_, operands) => any_nothing(operands),
         _ => false,
     }
 }

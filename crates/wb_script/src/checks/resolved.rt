@@ -1,6 +1,6 @@
-//! A line of a script with what its names and literals stand for.
+//! What the names and literals of a line stand for.
 
-ghost use Rattle.std.specs.Prelude.{◌≡◌, length, map, slice_get, IfOk};
+ghost use Rattle.std.specs.Prelude.{◌≡◌, ◌++◌, length, map, slice_get, OnOk};
 ghost use Rattle.std.specs.Option.{option_map};
 ghost use Rattle.wb_model.specs.language.Forms.{renamed_parameter_type};
 ghost use Rattle.wb_model.specs.language.LineKinds.{operand_places_for};
@@ -8,9 +8,9 @@ ghost use Rattle.wb_model.specs.language.Names.{first_declaration_of, names_befo
 ghost use Rattle.wb_model.specs.language.Resolved.{class_in, class_named, class_of_base, class_of_kind, class_of_local};
 ghost use Rattle.wb_model.specs.language.Resolved.{class_of_this, field_at, field_referent, has_this, is_this};
 ghost use Rattle.wb_model.specs.language.Resolved.{item_referent, local_referent, referent_at};
-ghost use Rattle.wb_model.specs.language.Resolved.{name_referent, own_referent, resolved_line, resolved_operand};
+ghost use Rattle.wb_model.specs.language.Resolved.{name_referent, own_referent, resolved_operand};
 ghost use Rattle.wb_model.specs.language.Resolved.{resolved_operands, resolved_parameter_type, this_referent};
-ghost use Rattle.wb_lines.specs.BytesOf.{bytes_of_form, bytes_of_kind, bytes_of_operand, bytes_of_operands};
+ghost use Rattle.wb_lines.specs.BytesOf.{bytes_of_kind, bytes_of_operand, bytes_of_operands};
 ghost use Rattle.wb_lines.specs.BytesOf.{bytes_of_text};
 ghost use Rattle.wb_script.specs.BytesOf.{bytes_of_items};
 ghost use Rattle.wb_script.specs.Checks.{known_in};
@@ -18,13 +18,12 @@ ghost use Rattle.wb_script.specs.Checks.{known_in};
 use crate::checks::declarations::Declarations;
 use crate::checks::names::place_of;
 use crate::checks::names_so_far::NamesSoFar;
-use std::alloc::{AllocError, Global};
+use std::alloc::AllocError;
 use wb_lines::lists::add;
 use wb_lines::operand_places::OperandPlaces;
 use wb_lines::same::are_same;
-use wb_model::items::Items;
 use wb_model::script_lines::{
-    BodyKind, Form, LineKind, LocalKind, Operand, OperandPlace, ParameterType, Referent,
+    BodyKind, LineKind, LocalKind, Operand, OperandPlace, ParameterType, Referent,
 };
 
 /// What the local with an index holds.
@@ -270,47 +269,28 @@ fn resolved_operand(
     }
 }
 
-fn resolved_operands(
-    alloc: Global,
+/// Adds the operands of a line.
+pub(crate) fn add_operands(
+    found: &mut Vec<Operand<Referent>>,
     items: &Declarations,
     known: &NamesSoFar,
     line_kind: LineKind,
     operands: &[Operand<&[u8]>],
-) -> Result<Vec<Operand<Referent>>, AllocError>
-    ensures { IfOk result (λ found. found.items
-        ≡ resolved_operands (bytes_of_items items.now) (known_in known.now) line_kind
+) -> Result<(), AllocError>
+    ensures { OnOk result (found.new.items
+        ≡ found.old.items
+        ++ resolved_operands (bytes_of_items items.now) (known_in known.now) line_kind
         (operand_places_for line_kind (length operands.now)) (bytes_of_operands operands.now)) }
 {
     let operand_places = OperandPlaces::of(line_kind);
-    let mut found = Vec::with_capacity(alloc, operands.len())?;
     for (index, operand) in operands.iter().enumerate() {
         let Some(operand_place) = operand_places.at(index) else {
-            return Ok(found);
+            return Ok(());
         };
         add(
-            &mut found,
+            found,
             resolved_operand(items, known, line_kind, operand_place, operand),
         )?;
     }
-    Ok(found)
-}
-
-/// A line, by the script's own space and what is before it.
-pub(crate) fn resolved_line(
-    alloc: Global,
-    items: &Declarations,
-    known: &NamesSoFar,
-    form: &Form<&[u8]>,
-) -> Result<Form<Referent>, AllocError>
-    ensures { IfOk result (λ line. line
-        ≡ resolved_line (bytes_of_items items.now) (known_in known.now) (bytes_of_form form.now)) }
-{
-    match form {
-        Form::Skip => Ok(Form::Skip),
-        Form::Unknown => Ok(Form::Unknown),
-        Form::Line(line_kind, operands) => {
-            let found = resolved_operands(alloc, items, known, *line_kind, operands.as_slice())?;
-            Ok(Form::Line(*line_kind, Items::from_vec(found)))
-        }
-    }
+    Ok(())
 }

@@ -8,9 +8,9 @@ use Rattle.wb_script.proofs.checks.checked_lines.Goals as goal
 
 pub loop-form-init : goal.loop-form-init
 loop-form-init c = record {
-  checked = c.nothing-checked.ensures.checked (bytes_of_items c.args.items.now);
-  items = c.nothing-checked.ensures.items;
-  lines = c.nothing-checked.ensures.lines;
+  checked = c.in_ok-checked.ensures.checked (bytes_of_items c.args.items.now);
+  items = c.in_ok-checked.ensures.items;
+  lines = c.in_ok-checked.ensures.lines;
 }
 
 pub loop-form-preserved : goal.loop-form-preserved

@@ -8,6 +8,6 @@ use Rattle.wb_script.proofs.checks.checked_lines.Given as goal
 abbrev pub invariant-loop-form : goal.invariant-loop-form
 invariant-loop-form l = record {
   checked : AreChecked (bytes_of_items l.items) (bytes_of_forms (take l.form-index l.forms)) l.checked;
-  items : items_before (known_in l.checked.known) ≤ length l.checked.lines.items;
-  lines : length l.checked.lines.items ≡ l.form-index;
+  items : items_before (known_in l.checked.known) ≤ length l.checked.lines;
+  lines : length l.checked.lines ≡ l.form-index;
 }

@@ -1,9 +1,10 @@
-use Rattle.std.proofs.Common.{◌≡◌, sym, subst}
+use Rattle.std.proofs.Common.{◌≡◌, sym, ap, subst}
 use Rattle.std.specs.Prelude.{IfOk}
 use Rattle.wb_model.specs.declared.script_lines.Form.TheVariants.{Line}
 use Rattle.wb_model.specs.language.Trees.{Indexed}
 use Rattle.wb_script.specs.declared.tree.whole.Stage.{Stage}
 use Rattle.wb_script.specs.declared.tree.whole.Stage.TheVariants.{InBody}
+use Rattle.wb_script.specs.ResolvedLines.{form_of}
 use Rattle.wb_script.specs.Growing.{GrowsWhereFit, IsBelowWhere, IsSoundWhere, declared_in_space, if_added, in_body}
 use Rattle.wb_script.proofs.building.Growth.{result_grows}
 use Rattle.wb_script.proofs.tree.add_next.Goals as goal
@@ -16,11 +17,11 @@ returns-in-InBody c =
     let owner = c.in-InBody.field-0 in
     let p = c.in-InBody.body in
     let line_kind = c.in-Line.line_kind in
-    let operands = c.as_slice.result.now in
+    let operands = c.in-Line.operands.now in
     let next = c.add_statement_in_place.new.body in
     let result = c.add_statement_in_place.result in
     let stage_is : c.args.building.now.stage ≡ InBody owner p = cc in
-    let line_is : c.args.line.now ≡ Line line_kind operands = cc in
+    let line_is : form_of c.args.line ≡ Line line_kind operands = ap form_of c.in-Line.is in
     let sound = subst (IsSoundWhere declared whole) stage_is c.requires.sound.stands in
     let below = subst (IsBelowWhere number whole) stage_is c.requires.below.stands in
     let grows = result_grows declared number line_kind operands whole owner p sound below result next c.add_statement_in_place.ensures in

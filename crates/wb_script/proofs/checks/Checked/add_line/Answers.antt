@@ -1,5 +1,5 @@
-use Rattle.std.proofs.Common.{◌∙◌, ◌++◌, ◌∷◌, [], ap, arith}
-use Rattle.std.proofs.lemmas.Grind.{common_steps}
+use Rattle.std.proofs.Common.{◌∙◌, ap, length}
+use Rattle.std.proofs.lemmas.List.{length_push}
 use Rattle.wb_lines.specs.BytesOf.{bytes_of_form}
 use Rattle.wb_script.specs.BytesOf.{bytes_of_items}
 use Rattle.wb_script.proofs.names.CheckedLemmas.{one_more_checked}
@@ -7,8 +7,9 @@ use Rattle.wb_script.proofs.checks.Checked.add_line.Goals as goal
 
 pub returns-clause-checked : goal.returns-clause-checked
 returns-clause-checked c = λ before checked.
-    one_more_checked (bytes_of_items c.args.items.now) before (bytes_of_form c.args.form.now) c.args.self.now _ _ checked (grind (arith, common_steps, c.len.ensures))
-    (c.in_ok-add.ensures ∙ ap (λ l. c.args.self.now.lines.items ++ l ∷ []) c.in_ok-line.ensures)
+    one_more_checked (bytes_of_items c.args.items.now) before (bytes_of_form c.args.form.now) c.args.self.now _ _ checked
+    (c.len-number.ensures ∙ ap length c.in_ok-add.ensures.added ∙ length_push c.args.self.now.lines _)
+    c.in_ok-add.ensures.added
     c.in_ok-add_line.ensures.known
     c.in_ok-add_line.ensures.literals
     c.with-self.ensures.unknown_name

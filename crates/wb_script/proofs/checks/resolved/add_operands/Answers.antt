@@ -7,7 +7,7 @@ use Rattle.wb_script.specs.Checks.{known_in}
 use Rattle.wb_lines.specs.BytesOf.{bytes_of_operand, bytes_of_operands}
 use Rattle.wb_script.specs.BytesOf.{bytes_of_items}
 use Rattle.wb_script.proofs.names.OperandPlaces.{resolved_here, resolved_past, resolved_short}
-use Rattle.wb_script.proofs.checks.resolved.resolved_operands.Goals as goal
+use Rattle.wb_script.proofs.checks.resolved.add_operands.Goals as goal
 
 pub returns-in_default : goal.returns-in_default
 returns-in_default c =
@@ -18,7 +18,7 @@ returns-in_default c =
     let past = resolved_past bytes_of_operand items known c.args.line_kind operand_places operands c.loop-index.index (c.at.ensures (length operands) c.loop-index-test.true ∙ c.in_default.is) in
     let found = c.loop-index.found.items in
     sym (ap (λ (l : List (Operand Referent)). found ++ l) past ∙ append-nil found)
-    ∙ c.loop-index.invariant ∙ ap (λ l. resolved_operands items known c.args.line_kind l (bytes_of_operands operands)) (c.of-operand_places.ensures (length operands))
+    ∙ c.loop-index.invariant ∙ ap (λ l. c.args.found.now.items ++ resolved_operands items known c.args.line_kind l (bytes_of_operands operands)) (c.of-operand_places.ensures (length operands))
 
 pub loop-index-preserved : goal.loop-index-preserved
 loop-index-preserved c =
@@ -43,4 +43,4 @@ returns c =
     let past = resolved_short bytes_of_operand items known c.args.line_kind operand_places operands c.loop-index.index c.loop-index-test.false in
     let found = c.loop-index.found.items in
     sym (ap (λ (l : List (Operand Referent)). found ++ l) past ∙ append-nil found)
-    ∙ c.loop-index.invariant ∙ ap (λ l. resolved_operands items known c.args.line_kind l (bytes_of_operands operands)) (c.of-operand_places.ensures (length operands))
+    ∙ c.loop-index.invariant ∙ ap (λ l. c.args.found.now.items ++ resolved_operands items known c.args.line_kind l (bytes_of_operands operands)) (c.of-operand_places.ensures (length operands))
