@@ -10,6 +10,7 @@ mod carry_text;
 mod cells;
 mod cleanup;
 mod control;
+pub mod counted;
 mod depths;
 pub mod fault;
 mod fingerprint;

@@ -149,7 +149,7 @@ const LEAKING: &[u8] = b"proc main\nptr a\nalloc a 16\nend\n";
 const THRICE: &[u8] =
     b"proc main\nptr a\nrepeat 3\nif null a\nalloc a 16\nend\nend\nstore a 0 7\nfree a\nend\n";
 
-static TOLD: [Wanted; 15] = [
+static TOLD: [Wanted; 18] = [
     Wanted {
         words: &["workbench", "sweep"],
         script: FALLBACK,
@@ -177,6 +177,15 @@ static TOLD: [Wanted; 15] = [
         last: Some(3),
         failures: &[Failing::Every(1), Failing::Every(2)],
         are_sets_searched: false,
+    },
+    Wanted {
+        words: &["workbench", "check", "--pairs"],
+        script: FALLBACK,
+        sweeps: 1,
+        lengths: &[],
+        last: Some(3),
+        failures: &[Failing::Number(1), Failing::Number(2), Failing::Number(3)],
+        are_sets_searched: true,
     },
     // The run in which attempt 1 fails makes no other, and that in which attempt 2 fails makes a fourth. Pairs are found by states.
     Wanted {
@@ -227,7 +236,25 @@ static TOLD: [Wanted; 15] = [
         failures: &[],
         are_sets_searched: false,
     },
+    Wanted {
+        words: &["workbench", "check"],
+        script: LEAKING,
+        sweeps: 1,
+        lengths: &[],
+        last: None,
+        failures: &[],
+        are_sets_searched: false,
+    },
     // It is cut.
+    Wanted {
+        words: &["workbench", "check", "--budget", "2"],
+        script: FALLBACK,
+        sweeps: 0,
+        lengths: &[],
+        last: None,
+        failures: &[],
+        are_sets_searched: false,
+    },
     Wanted {
         words: &["workbench", "sweep", "--budget", "2"],
         script: FALLBACK,

@@ -3,6 +3,7 @@
 
 pub mod fault;
 pub mod measure;
+pub mod sized_run;
 pub mod sizing;
 
 pub use fault::SizeFault;

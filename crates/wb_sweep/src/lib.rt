@@ -12,6 +12,7 @@ pub mod found;
 mod larger_sets;
 mod pace;
 mod pairs;
+pub mod run_known;
 mod scout;
 pub mod set_answer;
 pub mod set_sweep;

@@ -132,7 +132,7 @@ fn try_numbers<P: Progress>(
 
 /// The least failure of a part that makes a run bad; `None` if none does. The run without failure isn't cut, is fine where the part
 /// has number 0, makes `last` attempts, and takes so many steps if it is fine.
-fn find_later<P: Progress>(
+pub(crate) fn find_later<P: Progress>(
     alloc: Global,
     script: &Script,
     failures: Failures,

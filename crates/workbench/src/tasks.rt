@@ -1,16 +1,21 @@
 //! What each task comes to on a script: the text, its values, and the exit status. Nothing is read or written here. Sweeps over
 //! parts, and those that tell of all that they find, are in `parts`, those over sets in `sets`, and those over all sets in `every_set`.
 
-ghost use Rattle.std.specs.Prelude.{◌≡◌, ◌≤◌, IfOk, IsTrue, if◌then◌else◌};
+ghost use Rattle.std.specs.Prelude.{◌≡◌, ◌≢◌, ◌≤◌, ℕ, IfOk, IsTrue, if◌then◌else◌};
+ghost use Rattle.wb_model.specs.declared.failures.Failing.TheVariants.{Number};
+ghost use Rattle.wb_model.specs.declared.run.Why.{Why};
 ghost use Rattle.wb_model.specs.runs.Run.{run};
 ghost use Rattle.wb_model.specs.language.Sound.{is_script};
 ghost use Rattle.wb_model.specs.heap.Space.{is_shape};
+ghost use Rattle.wb_model.specs.runs.SweepAnswers.{IsCutShort};
+ghost use Rattle.wb_sweep.specs.Sweeping.{IsSweep};
 ghost use Rattle.wb_command_line.specs.Command.{is_answerable};
 ghost use Rattle.workbench.specs.LengthsReport.{IsLengthsReport};
-ghost use Rattle.workbench.specs.ReportValues.{cut_values};
+ghost use Rattle.workbench.specs.ReportValues.{cut_values, size_values};
 ghost use Rattle.workbench.specs.Report.{IsRunReport, IsTaskReport};
 ghost use Rattle.workbench.specs.RunText.{outcome_status};
-ghost use Rattle.workbench.specs.TwoNumbers.{IsSizeReport, IsSweepReport, IsCheckReport};
+ghost use Rattle.workbench.specs.TwoNumbers.{cut_at_line, size_text, IsSizeReport, IsSweepReport};
+ghost use Rattle.workbench.specs.TwoNumbers.{IsCheckReport};
 
 use crate::every_set::{check_every_set_report, every_set_report};
 use crate::exit_status::{CUT, FOUND, NOTHING_FOUND};
@@ -31,8 +36,11 @@ use wb_model::limits::LARGEST_BUDGET;
 use wb_model::memory::NoMemory;
 use wb_model::run::Outcome;
 use wb_model::script::Script;
+use wb_size::sized_run::{SizedRun, size_by_run};
+use wb_size::sizing::Sizing;
 use wb_size::{SizeFault, size};
-use wb_sweep::{Progress, SweepFault, sweep};
+use wb_sweep::run_known::sweep_beside_known;
+use wb_sweep::{Progress, Sweep, SweepFault, sweep};
 
 /// What the command's task comes to on a script. The only error is that memory ran out. `progress` is notified of a sweep, and of the
 /// runs in heaps of all lengths.
@@ -134,23 +142,41 @@ pub fn size_report(
     ensures { IfOk result (λ r. IsSizeReport script.now budget shape
         r.text.items r.values r.status) }
 {
-    let mut text = Vec::new(alloc);
     match size(alloc, script, budget, shape) {
-        Ok(sizing) => {
-            put_sizing(&mut text, &sizing)?;
-            Ok(Report {
-                text,
-                values: ReportValues::of_size(sizing),
-                status: NOTHING_FOUND,
-            })
-        }
-        Err(SizeFault::Cut { number, why }) => {
+        Ok(sizing) => report_of_size(alloc, sizing),
+        Err(fault) => report_of_size_fault(alloc, fault),
+    }
+}
+
+/// The report of a length and of what shorter heaps refuse.
+fn report_of_size(alloc: Global, sizing: Sizing) -> Result<Report, NoMemory>
+    ensures { IfOk result (λ r. (r.text.items ≡ size_text sizing.required sizing.rises)
+        × (r.values ≡ size_values sizing.required sizing.rises) × (r.status ≡ 0)) }
+{
+    let mut text = Vec::new(alloc);
+    put_sizing(&mut text, &sizing)?;
+    Ok(Report {
+        text,
+        values: ReportValues::of_size(sizing),
+        status: NOTHING_FOUND,
+    })
+}
+
+/// The report of a script that wasn't sized, whose text is the line of the run that was cut.
+fn report_of_size_fault(alloc: Global, fault: SizeFault) -> Result<Report, NoMemory>
+    requires shape { fault ≢ SizeFault.BadShape }
+    ensures { IfOk result (λ r. (number : ℕ) × (why : Why) × (fault ≡ SizeFault.Cut number why)
+        × (r.text.items ≡ cut_at_line (Number number) why)
+        × (r.values ≡ cut_values (Number number)) × (r.status ≡ 3)) }
+{
+    match fault {
+        SizeFault::Cut { number, why } => {
+            let mut text = Vec::new(alloc);
             put_cut_at(&mut text, Failing::Number(number), why)?;
             Ok(cut_report(text, Failing::Number(number)))
         }
-        // The command's shape is one that a heap may have.
-        Err(SizeFault::BadShape) => unreachable!(),
-        Err(SizeFault::NoMemory) => Err(NoMemory),
+        SizeFault::BadShape => unreachable!(),
+        SizeFault::NoMemory => Err(NoMemory),
     }
 }
 
@@ -212,8 +238,26 @@ pub fn sweep_report<P: Progress>(
     ensures { IfOk result (λ r. IsSweepReport failures script.now budget shape
         r.text.items r.values r.status) }
 {
+    let swept = sweep(alloc, script, failures, budget, shape, progress);
+    report_of_sweep(alloc, failures, swept)
+}
+
+/// The report of what a sweep over these failures came to.
+fn report_of_sweep(
+    alloc: Global,
+    failures: Failures,
+    swept: Result<Sweep, SweepFault>,
+) -> Result<Report, NoMemory>
+    requires shape { swept ≢ Err SweepFault.BadShape }
+    ensures { (script : Script) (budget : ℕ) (shape : Shape) →
+        IfOk swept (IsSweep failures script budget shape) →
+        ((at : Failing) (why : Why) → swept ≡ Err (SweepFault.Cut at why) →
+        IsCutShort failures script budget shape at why) →
+        IfOk result (λ r. IsSweepReport failures script budget shape
+        r.text.items r.values r.status) }
+{
     let mut text = Vec::new(alloc);
-    match sweep(alloc, script, failures, budget, shape, progress) {
+    match swept {
         Ok(sweep) => {
             put_sweep(&mut text, failures, &sweep)?;
             let (number, status) = match &sweep.found {
@@ -230,7 +274,6 @@ pub fn sweep_report<P: Progress>(
             put_cut_at(&mut text, at, why)?;
             Ok(cut_report(text, at))
         }
-        // The command's shape is one that a heap may have.
         Err(SweepFault::BadShape) => unreachable!(),
         Err(SweepFault::NoMemory) => Err(NoMemory),
     }
@@ -249,7 +292,8 @@ pub fn cut_report(text: Vec<u8>, at: Failing) -> Report
     }
 }
 
-/// Both, the size first; where the script wasn't sized, the line of the cut alone.
+/// Both, the size first; where the script wasn't sized, the line of the cut alone. The run that it is sized by is the sweep's run
+/// without failure.
 fn check_report<P: Progress>(
     alloc: Global,
     script: &Script,
@@ -265,11 +309,21 @@ fn check_report<P: Progress>(
     ensures { IfOk result (λ r. IsCheckReport failures script.now budget shape
         r.text.items r.values r.status) }
 {
-    let mut report = size_report(alloc, script, budget, shape)?;
-    if report.status == CUT {
-        return Ok(report);
-    }
-    let sweep = sweep_report(alloc, script, failures, budget, shape, progress)?;
+    let sized = match size_by_run(alloc, script, budget, shape) {
+        Ok(sized) => sized,
+        Err(fault) => return report_of_size_fault(alloc, fault),
+    };
+    let SizedRun {
+        sizing,
+        outcome,
+        attempts,
+        steps,
+    } = sized;
+    let mut report = report_of_size(alloc, sizing)?;
+    let swept = sweep_beside_known(
+        alloc, script, failures, budget, shape, &outcome, attempts, steps, progress,
+    );
+    let sweep = report_of_sweep(alloc, failures, swept)?;
     report.text.extend_from_slice(sweep.text.as_slice())?;
     report.values = ReportValues::of_both(report.values, sweep.values);
     report.status = sweep.status;

@@ -269,7 +269,7 @@ fn resolved_operand(
     }
 }
 
-/// Adds the operands of a line.
+/// Adds what the operands of a line stand for, by the script's own space and what is before the line.
 pub(crate) fn add_operands(
     found: &mut Vec<Operand<Referent>>,
     items: &Declarations,

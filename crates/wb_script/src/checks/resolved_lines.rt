@@ -1,5 +1,5 @@
 //! All lines of a script with what their names and literals stand for. The operands of all of them are in one list, so that
-//! a line takes no memory of its own. What a name stands for is found in `resolved`.
+//! a line needs no allocation of its own. What a name stands for is found in `resolved`.
 
 ghost use Rattle.std.specs.Prelude.{◌≡◌, ◌<◌, ◌≤◌, ◌++◌, [], ◌∷◌, List, drop, length, take, IfOk, OnErr, OnOk};
 ghost use Rattle.wb_model.specs.declared.script_lines.Form as model;
@@ -131,6 +131,7 @@ impl ResolvedLines {
         })
     }
 
+    /// How many lines there are.
     pub(crate) fn len(&self) -> usize
         ensures { result ≡ length self.now }
     {

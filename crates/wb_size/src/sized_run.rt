@@ -1,0 +1,70 @@
+//! Sizes a script, and says how the run ended that it was sized by.
+
+ghost use Rattle.std.specs.Prelude.{◌≡◌, ◌≤◌, ◌↔◌, ℕ, false, IfOk, IsTrue};
+ghost use Rattle.wb_model.specs.runs.Run.{run};
+ghost use Rattle.wb_model.specs.language.Sound.{is_script};
+ghost use Rattle.wb_model.specs.heap.Space.{is_shape};
+ghost use Rattle.wb_model.specs.declared.heap.Rule.TheVariants.{Unlimited};
+ghost use Rattle.wb_model.specs.declared.run.Outcome.TheVariants as outcomes;
+ghost use Rattle.wb_model.specs.declared.run.Why.{Why};
+ghost use Rattle.wb_size.specs.declared.fault.SizeFault.TheVariants.{BadShape, Cut};
+ghost use Rattle.wb_size.specs.SizedRun.{IsOfRun};
+ghost use Rattle.wb_size.specs.Sizing.{IsSizing};
+
+use crate::fault::SizeFault;
+use crate::sizing::{Sizing, sizing_of};
+use std::alloc::Global;
+use wb_machine::counted::run_rises_counted;
+use wb_model::heap::Shape;
+use wb_model::limits::LARGEST_BUDGET;
+use wb_model::run::{Outcome, RisesResult};
+use wb_model::script::Script;
+
+/// What a script needs, and what the run without a limit comes to.
+#[derive(Drop)]
+pub struct SizedRun {
+    pub sizing: Sizing,
+    /// How the run ended.
+    pub outcome: Outcome,
+    /// How many attempts it made.
+    pub attempts: u32,
+    /// How many steps it took.
+    pub steps: u32,
+}
+
+/// The same as `size`. Beside the sizing it returns how the run ended, and how many attempts and steps it made, so that no second
+/// run is needed for these. It asks for no more memory.
+pub fn size_by_run(
+    alloc: Global,
+    script: &Script,
+    budget: u32,
+    shape: Shape,
+) -> Result<SizedRun, SizeFault>
+    requires script { IsTrue (is_script script.now) }
+    requires least { 1 ≤ budget }
+    requires greatest { budget ≤ LARGEST_BUDGET }
+    ensures sizing { IfOk result (λ sized. IsSizing script.now budget shape sized.sizing) }
+    ensures ran { IfOk result (IsOfRun (run script.now Unlimited budget shape)) }
+    ensures cut { (number : ℕ) (why : Why) → result ≡ Err (SizeFault.Cut number why) →
+        (number ≡ 0) × ((run script.now Unlimited budget shape).outcome ≡ outcomes.Cut why) }
+    ensures shape { (result ≡ Err SizeFault.BadShape) ↔ (is_shape shape ≡ false) }
+{
+    let (run_result, attempts) = run_rises_counted(alloc, script, budget, shape)?;
+    if let Outcome::Cut(why) = &run_result.outcome {
+        return Err(SizeFault::Cut {
+            number: 0,
+            why: *why,
+        });
+    }
+    let RisesResult {
+        outcome,
+        rises,
+        steps,
+    } = run_result;
+    Ok(SizedRun {
+        sizing: sizing_of(rises),
+        outcome,
+        attempts,
+        steps,
+    })
+}

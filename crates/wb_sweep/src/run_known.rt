@@ -1,0 +1,80 @@
+//! A sweep over all failures whose run without failure is known: that run isn't made again where it is fine.
+
+ghost use Rattle.std.specs.Prelude.{◌≡◌, ◌≢◌, ◌≤◌, ◌&&◌, not, IfOk, IsTrue};
+ghost use Rattle.wb_model.specs.language.Sound.{is_script};
+ghost use Rattle.wb_model.specs.heap.Space.{is_shape};
+ghost use Rattle.wb_model.specs.runs.Parts.{last_attempt};
+ghost use Rattle.wb_model.specs.runs.Run.{is_bad_outcome};
+ghost use Rattle.wb_model.specs.runs.SweepAnswers.{IsCutShort};
+ghost use Rattle.wb_model.specs.runs.Sweeps.{is_cut_outcome, runs_of};
+ghost use Rattle.wb_model.specs.declared.run.Why.{Why};
+ghost use Rattle.wb_sweep.specs.Sweeping.{IsSweep};
+
+use crate::fault::SweepFault;
+use crate::found::Sweep;
+use crate::sweeping::{find_later, sweep};
+use std::alloc::Global;
+use wb_model::failures::{Failing, Failures};
+use wb_model::heap::Shape;
+use wb_model::limits::LARGEST_BUDGET;
+use wb_model::part::Part;
+use wb_model::progress::Progress;
+use wb_model::run::Outcome;
+use wb_model::script::Script;
+
+/// All numbers.
+const ALL: Part = Part {
+    from: 0,
+    to: u32::MAX,
+};
+
+/// Whether a run that ended so is neither bad nor cut.
+fn is_fine_outcome(outcome: &Outcome) -> bool
+    ensures { result ≡ (not (is_bad_outcome outcome.now) && not (is_cut_outcome outcome.now)) }
+{
+    match outcome {
+        Outcome::Ended { leaks, .. } => leaks.len() == 0,
+        Outcome::Panicked(_) | Outcome::Cut(_) => false,
+        Outcome::NoCleanup => true,
+    }
+}
+
+/// The same as `sweep`, where it is known how the run without failure ends, and how many attempts and steps it makes. That run is
+/// made only where it isn't fine: then what is found, or cut, is that run itself. The shape is one that a heap may have, so
+/// `BadShape` doesn't come. `progress` is notified as by `sweep`.
+pub fn sweep_beside_known<P: Progress>(
+    alloc: Global,
+    script: &Script,
+    failures: Failures,
+    budget: u32,
+    shape: Shape,
+    outcome: &Outcome,
+    attempts: u32,
+    steps: u32,
+    progress: &mut P,
+) -> Result<Sweep, SweepFault>
+    requires script { IsTrue (is_script script.now) }
+    requires least { 1 ≤ budget }
+    requires greatest { budget ≤ LARGEST_BUDGET }
+    requires shape { IsTrue (is_shape shape) }
+    requires outcome { outcome.now ≡ (runs_of failures script.now budget shape 0).outcome }
+    requires attempts { attempts ≡ last_attempt failures script.now budget shape }
+    requires steps { steps ≡ (runs_of failures script.now budget shape 0).steps }
+    ensures swept { IfOk result (IsSweep failures script.now budget shape) }
+    ensures cut { (at : Failing) (why : Why) → result ≡ Err (SweepFault.Cut at why) →
+        IsCutShort failures script.now budget shape at why }
+    ensures shape { result ≢ Err SweepFault.BadShape }
+{
+    if !is_fine_outcome(outcome) {
+        return sweep(alloc, script, failures, budget, shape, progress);
+    }
+    progress.begin();
+    progress.begin_failures(attempts);
+    let steps = Some(steps);
+    let found = find_later(
+        alloc, script, failures, ALL, budget, shape, attempts, steps, progress,
+    );
+    progress.end();
+    let found = found?;
+    Ok(Sweep { attempts, found })
+}
