@@ -198,6 +198,23 @@ end
 end
 """
 
+# a leak in the run in which attempt 3 fails, and 3,000 further attempts
+FOUND_EARLY = """
+proc main
+ptr a
+ptr b
+ptr c
+allocl a 16
+allocl c 16
+free a
+free c
+repeat 3000
+alloc b 40
+free b
+end
+end
+"""
+
 SWEPT = """
 proc main
 ptr a
@@ -473,6 +490,7 @@ WORKLOADS = [
     Workload("texts of 256 units", "run", BUFFERS, "step", steps),
     Workload("reading 5,000 lines", "run", long_script(), "byte", lambda _: len(long_script())),
     Workload("sizing of allocation and release", "size", ALLOCATION, "attempt", lambda _: 1 + 3 * 142_857),
+    Workload("check of 3,003 attempts, found at the third", "check", FOUND_EARLY, "attempt", attempts_swept),
     Workload("sweep of 1,001 attempts", "sweep", SWEPT, "attempt", attempts_swept),
     Workload("all of a sweep of 1,001 attempts", "sweep --all", SWEPT, "attempt", attempts_swept),
     Workload("a quarter of a sweep of 1,001 attempts", "sweep --from 501 --to 750", SWEPT, "attempt of the whole", attempts_swept),
