@@ -6,7 +6,7 @@ use crate::heap::Numbers;
 /// Receives how far a sweep, or the search through all lengths, has come. Its calls return nothing, so what is found doesn't
 /// depend on who receives them.
 pub trait Progress {
-    /// A sweep begins, with the run without failure.
+    /// A sweep begins. The run without failure is made next, unless it is known what that comes to.
     fn begin(&mut self);
 
     /// Nothing was found in the run without failure, and runs under failures follow. `last` is how many attempts the run without
