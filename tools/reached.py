@@ -16,7 +16,7 @@ from pathlib import Path
 
 from tools.crates import Crates, without_comments
 from tools.definitions import WORD, Definitions, Target, targets_of
-from tools.seen_code import IMPORT, called_code, seen_code
+from tools.seen_code import IMPORT, called_code, seen_code, with_derived_drops
 
 # a path from code to a lemma or a definition of its own crate
 OWN_LEMMA = re.compile(r"\bcrate((?:::\w+)+)::([\w-]+)")
@@ -90,7 +90,7 @@ class Reached:
     @cache
     def code(self, file: Path) -> str:
         """What is seen of code from above."""
-        return seen_code(without_comments(file.read_text(encoding="utf-8")))
+        return seen_code(with_derived_drops(without_comments(file.read_text(encoding="utf-8"))))
 
     def text(self, file: Path, names: set[str] | None) -> str:
         """What is seen of a file where these names of it are wanted, or all of them."""
@@ -147,7 +147,7 @@ class ReachedWithin(Reached):
         """What is seen of code: of the crate itself, what the given files call."""
         if self.crate_of(file) != self.crate:
             return self.reached.code(file)
-        return called_code(without_comments(file.read_text(encoding="utf-8")), self.words)
+        return called_code(with_derived_drops(without_comments(file.read_text(encoding="utf-8"))), self.words)
 
 
 class Parts:

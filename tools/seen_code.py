@@ -35,6 +35,12 @@ IMPORT = re.compile(r"^[ \t]*(?:ghost )?use ([^;]*);\n?", re.MULTILINE)
 # its path's last part: names in braces, or one name
 NAMES = re.compile(r"\{([^{}]*)\}$|([^\s:.{}]+)$")
 NAME = re.compile(r"(?:.*\bas )?(\w+)")
+# what drops the fields of a struct and does no more, where it is written out, with the blank line after it; and the struct with what is
+# derived on it
+WRITTEN_DROP = re.compile(
+    r"^impl(?:<.*>)? Drop for (\w+).* \{\n    fn drop\(self\) \{\n        let \1 \{(?:\s+\w+: _,?)*\s+\} = self;\n    \}\n\}\n\n?", re.MULTILINE
+)
+DERIVED = r"(?m)^(?:#\[derive\((.*)\)\]\n)?(?=(?:pub(?:\(\w+\))? )?struct {}\b)"
 # a line that only names a module
 MODULE = re.compile(r"^(?:pub(?:\(crate\))? )?mod \w+;$", re.MULTILINE)
 
@@ -82,6 +88,14 @@ def without_idle_imports(code: str) -> str:
         return needed_import(found, words[sort], texts[sort])
 
     return IMPORT.sub(needed, code)
+
+
+def with_derived_drops(code: str) -> str:
+    """Code in which a drop that is written out is derived, where it drops the fields and does no more: either way all that is known of it is
+    that one may be dropped."""
+    for name in WRITTEN_DROP.findall(code):
+        code = re.sub(DERIVED.format(name), lambda found: f"#[derive({found[1]}, Drop)]\n" if found[1] else "#[derive(Drop)]\n", code, count=1)
+    return WRITTEN_DROP.sub("", code)
 
 
 def blocks_of(code: str) -> list[list[str]]:

@@ -15,6 +15,7 @@ from pathlib import Path
 from tools.crates import FUNCTION_HEAD, Crates, without_comments
 from tools.kit import version
 from tools.reached import COMMENT, Reached, ReachedWithin
+from tools.seen_code import with_derived_drops
 from tools.wrong_body_files import WRONG_BODIES, WrittenEdit, written_edits
 
 FILE = "wrong-bodies.txt"
@@ -127,7 +128,7 @@ def text_of(file: Path) -> str:
     text = file.read_text(encoding="utf-8")
     if file.suffix == ".rt":
         # where a line ends is layout
-        return " ".join(it.strip() for it in without_comments(text).splitlines() if not COMPILED.fullmatch(it))
+        return " ".join(it.strip() for it in with_derived_drops(without_comments(text)).splitlines() if not COMPILED.fullmatch(it))
     return "\n".join(it for it in text.splitlines() if not COMMENT.fullmatch(it))
 
 

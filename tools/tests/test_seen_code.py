@@ -2,7 +2,7 @@
 
 import unittest
 
-from tools.seen_code import called_code, seen_code
+from tools.seen_code import called_code, seen_code, with_derived_drops
 
 CHUNK = """\
 ghost use Rattle.std.specs.Prelude.{◌≡◌, length};
@@ -125,3 +125,32 @@ class WhatIsCalled(unittest.TestCase):
         self.assertEqual(called_code("const MOST: u32 = 9;\n", set()), "")
         self.assertIn("MOST", called_code("const MOST: u32 = 9;\n", {"MOST"}))
         self.assertIn("MOST", called_code("pub const MOST: u32 = 9;\n", set()))
+
+
+class WrittenDrops(unittest.TestCase):
+    """A drop that is written out."""
+
+    DERIVED = "#[derive(Debug, Drop)]\npub struct Run<'a> {\n    at: &'a [u8],\n    made: Vec<u32>,\n}\n\nimpl Run<'_> {\n}\n"
+    STRUCT = "#[derive(Debug)]\npub struct Run<'a> {\n    at: &'a [u8],\n    made: Vec<u32>,\n}\n\n"
+
+    def written(self, body: str, clause: str = "") -> str:
+        """The struct with such a drop."""
+        return f"{self.STRUCT}impl Drop for Run<'_> {{\n    fn drop(self){clause} {{\n{body}    }}\n}}\n\nimpl Run<'_> {{\n}}\n"
+
+    def test_one_of_the_fields_alone_counts_as_derived(self) -> None:
+        for body in (
+            "        let Run {\n            at: _,\n            made: _,\n        } = self;\n",
+            "        let Run { at: _, made: _ } = self;\n",
+        ):
+            self.assertEqual(with_derived_drops(self.written(body)), self.DERIVED)
+
+    def test_a_struct_from_which_nothing_else_is_derived(self) -> None:
+        plain = self.written("        let Run { at: _, made: _ } = self;\n").replace("#[derive(Debug)]\n", "")
+        self.assertEqual(with_derived_drops(plain), self.DERIVED.replace("Debug, ", ""))
+
+    def test_one_that_does_more_counts_as_it_is(self) -> None:
+        for code in (
+            self.written("        let Run { at: _, made } = self;\n        free(made);\n"),
+            self.written("        let Run { at: _, made: _ } = self;\n", "\n        ensures { self.exit.at.now ≡ [] }\n   "),
+        ):
+            self.assertEqual(with_derived_drops(code), code)

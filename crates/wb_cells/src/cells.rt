@@ -28,12 +28,23 @@ use wb_model::memory::NoMemory;
 /// free cells touch. One bit for each place of 16 bytes says whether a live cell begins there, so that no payload can
 /// pass for a header. An index of the free cells' lengths finds one without a walk, so no call costs more the more cells
 /// there are, live or free.
-#[derive(Drop)]
 pub struct Cells {
     pub(crate) words: Chunk,
     starts: Bits,
     gaps: GapIndex,
     ends: Ends,
+}
+
+/// Written out, so that other proofs have one call where one is dropped, and its fields are gone over here alone.
+impl Drop for Cells {
+    fn drop(self) {
+        let Cells {
+            words: _,
+            starts: _,
+            gaps: _,
+            ends: _,
+        } = self;
+    }
 }
 
 impl Model for Cells {
@@ -82,9 +93,15 @@ impl Cells {
     pub fn try_copy_over(&self, spare: Cells) -> Result<Cells, NoMemory>
         ensures { IfOk result (λ copy. copy ≡ self.now) }
     {
-        let words = self.words.try_copy_over(spare.words)?;
+        let Cells {
+            words,
+            starts: _,
+            gaps,
+            ends: _,
+        } = spare;
+        let words = self.words.try_copy_over(words)?;
         let starts = self.starts.try_copy()?;
-        let gaps = self.gaps.try_copy_over(spare.gaps)?;
+        let gaps = self.gaps.try_copy_over(gaps)?;
         let ends = self.ends;
         Ok(Cells {
             words,

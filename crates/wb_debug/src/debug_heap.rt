@@ -35,7 +35,6 @@ use wb_rheap::{Heap, HeapFault};
 /// chosen first. Then the script's own setting is asked, which counts the attempt; then the rule; then the ceiling.
 /// Each attempt that the ceiling doesn't cut adds its line to the trace; or, of a heap made by `new_rises`, the rise that
 /// it is.
-#[derive(Drop)]
 pub struct DebugHeap {
     pub(crate) alloc: Global,
     /// Its limit is the rule's.
@@ -49,6 +48,22 @@ pub struct DebugHeap {
     pub(crate) log: Log,
     /// What the live cells come to.
     pub(crate) tally: Tally,
+}
+
+/// Written out, so that other proofs have one call where one is dropped, and its fields are gone over here alone.
+impl Drop for DebugHeap {
+    fn drop(self) {
+        let DebugHeap {
+            alloc: _,
+            heap: _,
+            rule: _,
+            level: _,
+            setting: _,
+            attempts: _,
+            log: _,
+            tally: _,
+        } = self;
+    }
 }
 
 impl Model for DebugHeap {

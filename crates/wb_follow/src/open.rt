@@ -42,7 +42,6 @@ pub(crate) struct RepeatAt {
 }
 
 /// All that is open.
-#[derive(Drop)]
 pub(crate) struct Open {
     items: Vec<ItemAt>,
     traps: Vec<TrapAt>,
@@ -59,6 +58,23 @@ pub(crate) struct Open {
     last: At,
     /// For each number of bodies that run, the line that was begun last.
     lines: Vec<u32>,
+}
+
+/// Written out, so that other proofs have one call where one is dropped, and its fields are gone over here alone.
+impl Drop for Open {
+    fn drop(self) {
+        let Open {
+            items: _,
+            traps: _,
+            repeats: _,
+            deleted: _,
+            stack: _,
+            doomed: _,
+            undone_at: _,
+            last: _,
+            lines: _,
+        } = self;
+    }
 }
 
 /// An object that is to be destroyed, with its cell; `None` if the pointer names none.

@@ -31,7 +31,6 @@ pub(crate) struct Widths {
 }
 
 /// Rows that are being written. If memory runs out the rest is left out, and `hand_to` says so.
-#[derive(Drop)]
 pub(crate) struct Rows {
     widths: Widths,
     /// Whole rows that haven't gone out.
@@ -42,6 +41,20 @@ pub(crate) struct Rows {
     is_shown: bool,
     has_effect: bool,
     is_cut: bool,
+}
+
+/// Written out, so that other proofs have one call where one is dropped, and its fields are gone over here alone.
+impl Drop for Rows {
+    fn drop(self) {
+        let Rows {
+            widths: _,
+            whole: _,
+            row: _,
+            is_shown: _,
+            has_effect: _,
+            is_cut: _,
+        } = self;
+    }
 }
 
 impl Rows {

@@ -31,7 +31,6 @@ struct Call {
 }
 
 /// The bodies that run, and the call paths of all that happened.
-#[derive(Drop)]
 pub struct Calls<'a> {
     /// By depth, 1 for `main`.
     frames: Vec<Frame<'a>>,
@@ -44,6 +43,19 @@ pub struct Calls<'a> {
     /// How many of the bodies, from `main` on, have their paths in their frames. They get them once no more calls are
     /// kept: until then a path is looked for anew each time.
     known: u32,
+}
+
+/// Written out, so that other proofs have one call where one is dropped, and its fields are gone over here alone.
+impl Drop for Calls<'_> {
+    fn drop(self) {
+        let Calls {
+            frames: _,
+            depth: _,
+            calls: _,
+            newest: _,
+            known: _,
+        } = self;
+    }
 }
 
 impl<'a> Calls<'a> {

@@ -65,7 +65,6 @@ pub struct PartStart {
 }
 
 /// What a picture draws of a run.
-#[derive(Drop)]
 pub struct Course {
     is_wanted: bool,
     parts: Vec<Part>,
@@ -75,6 +74,21 @@ pub struct Course {
     pub levels: Series,
     pub traps: Series,
     pub items: Series,
+}
+
+/// Written out, so that other proofs have one call where one is dropped, and its fields are gone over here alone.
+impl Drop for Course {
+    fn drop(self) {
+        let Course {
+            is_wanted: _,
+            parts: _,
+            latest: _,
+            committed: _,
+            levels: _,
+            traps: _,
+            items: _,
+        } = self;
+    }
 }
 
 impl Course {

@@ -38,12 +38,22 @@ impl Leave {
 }
 
 /// The TRAPs that are open, and the leaves.
-#[derive(Drop)]
 pub struct Traps {
     open: Vec<OpenTrap>,
     last_ended: Option<OpenTrap>,
     /// The oldest first, and the last.
     leaves: Vec<Leave>,
+}
+
+/// Written out, so that other proofs have one call where one is dropped, and its fields are gone over here alone.
+impl Drop for Traps {
+    fn drop(self) {
+        let Traps {
+            open: _,
+            last_ended: _,
+            leaves: _,
+        } = self;
+    }
 }
 
 impl Traps {

@@ -39,7 +39,6 @@ struct Outside<'a> {
 }
 
 /// What happened in a run so far.
-#[derive(Drop)]
 pub struct History<'a> {
     pub attempts: Attempts<'a>,
     pub lives: Lives,
@@ -64,6 +63,32 @@ pub struct History<'a> {
     undoes: bool,
     /// What was begun last outside of these, before the one that runs.
     outside: Outside<'a>,
+}
+
+/// Written out, so that other proofs have one call where one is dropped, and its fields are gone over here alone.
+impl Drop for History<'_> {
+    fn drop(self) {
+        let History {
+            attempts: _,
+            lives: _,
+            items: _,
+            traps: _,
+            views: _,
+            calls: _,
+            bodies: _,
+            course: _,
+            last_item: _,
+            last_deleted: _,
+            deletions: _,
+            live: _,
+            blocks: _,
+            stack: _,
+            steps: _,
+            last: _,
+            undoes: _,
+            outside: _,
+        } = self;
+    }
 }
 
 impl<'a> History<'a> {

@@ -20,7 +20,6 @@ use wb_model::run::Outcome;
 use wb_model::script::{Script, Statement};
 
 /// What ended a run.
-#[derive(Drop)]
 pub struct EndOfRun<'a> {
     /// The panic that ended it.
     pub raised: Option<Raised>,
@@ -36,13 +35,39 @@ pub struct EndOfRun<'a> {
     pub path: Vec<u32>,
 }
 
+/// Written out, so that other proofs have one call where one is dropped, and its fields are gone over here alone.
+impl Drop for EndOfRun<'_> {
+    fn drop(self) {
+        let EndOfRun {
+            raised: _,
+            statement: _,
+            pointer: _,
+            values: _,
+            counted: _,
+            names: _,
+            path: _,
+        } = self;
+    }
+}
+
 /// A run that is over, and what happened in it.
-#[derive(Drop)]
 pub struct WatchedRun<'a> {
     pub parameters: RunParameters,
     pub outcome: Outcome,
     pub history: History<'a>,
     pub end: EndOfRun<'a>,
+}
+
+/// Written out, so that other proofs have one call where one is dropped, and its fields are gone over here alone.
+impl Drop for WatchedRun<'_> {
+    fn drop(self) {
+        let WatchedRun {
+            parameters: _,
+            outcome: _,
+            history: _,
+            end: _,
+        } = self;
+    }
 }
 
 /// Runs the script once with these parameters and watches it, and keeps what explanations name, and besides what is said; `None` if the

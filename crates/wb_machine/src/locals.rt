@@ -56,7 +56,6 @@ pub enum Stored {
 }
 
 /// The locals of all frames, those of the innermost last. Each is named by its index in its frame.
-#[derive(Drop)]
 pub struct Locals {
     slots: Vec<Stored>,
     /// The buffers of all frames, in the order of their locals.
@@ -65,6 +64,18 @@ pub struct Locals {
     none: Buf,
     /// Where the innermost frame begins.
     base: usize,
+}
+
+/// Written out, so that other proofs have one call where one is dropped, and its fields are gone over here alone.
+impl Drop for Locals {
+    fn drop(self) {
+        let Locals {
+            slots: _,
+            buffers: _,
+            none: _,
+            base: _,
+        } = self;
+    }
 }
 
 impl Model for Locals {

@@ -35,7 +35,6 @@ use wb_model::run::{Leaks, Lines, Notes, Outcome, RisesResult, RunResult};
 use wb_model::script::{Holder, Local, Number, Pointer, Script};
 
 /// What all bodies share.
-#[derive(Drop)]
 pub struct State {
     pub heap: DebugHeap,
     /// Where there is none yet, attempt 1 is still to come, or was refused.
@@ -46,6 +45,21 @@ pub struct State {
     pub lines: Lines,
     pub notes: Notes,
     pub steps: u32,
+}
+
+/// Written out, so that other proofs have one call where one is dropped, and its fields are gone over here alone.
+impl Drop for State {
+    fn drop(self) {
+        let State {
+            heap: _,
+            cleanup: _,
+            this: _,
+            locals: _,
+            lines: _,
+            notes: _,
+            steps: _,
+        } = self;
+    }
 }
 
 impl Model for State {

@@ -216,11 +216,20 @@ impl Shown {
 }
 
 /// The groups of the parts that a panel shows.
-#[derive(Drop)]
 pub struct Groups {
     pub groups: Vec<Group>,
     /// Whether parts are left out that don't change in the panel's steps.
     pub is_partial: bool,
+}
+
+/// Written out, so that other proofs have one call where one is dropped, and its fields are gone over here alone.
+impl Drop for Groups {
+    fn drop(self) {
+        let Groups {
+            groups: _,
+            is_partial: _,
+        } = self;
+    }
 }
 
 /// The groups of these parts, at most about this many. Where the end of a run is drawn, and too much is there, what doesn't change is

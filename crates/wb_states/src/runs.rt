@@ -26,7 +26,6 @@ const INTERVAL: u64 = 32;
 const BYTES_A_STATE: u64 = 2048;
 
 /// The runs of states.
-#[derive(Drop)]
 pub(crate) struct Runs<'a> {
     /// Those that are kept.
     pub machines: HashMap<usize, Machine<'a>>,
@@ -40,6 +39,20 @@ pub(crate) struct Runs<'a> {
     pub revisited: usize,
     /// The memory of a run that was dropped, or is over.
     pub spare: Option<Heap>,
+}
+
+/// Written out, so that other proofs have one call where one is dropped, and its fields are gone over here alone.
+impl Drop for Runs<'_> {
+    fn drop(self) {
+        let Runs {
+            machines: _,
+            states: _,
+            newest: _,
+            bytes: _,
+            revisited: _,
+            spare: _,
+        } = self;
+    }
 }
 
 /// About how many bytes a run takes.

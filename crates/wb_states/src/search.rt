@@ -9,7 +9,6 @@ use wb_model::part::Part;
 use wb_model::script::Script;
 
 /// The states that were met, in the order of their sets and attempts, and how runs go on from each.
-#[derive(Drop)]
 pub(crate) struct Search<'a> {
     pub script: &'a Script,
     /// The greatest number of steps that a run may take.
@@ -38,4 +37,27 @@ pub(crate) struct Search<'a> {
     pub latest: HashMap<u64, usize>,
     /// Of each state but the first, the one before it with its fingerprint; its own index if there is none.
     pub earlier: Items<usize>,
+}
+
+/// Written out, so that other proofs have one call where one is dropped, and its fields are gone over here alone.
+impl Drop for Search<'_> {
+    fn drop(self) {
+        let Search {
+            script: _,
+            budget: _,
+            shape: _,
+            states: _,
+            runs: _,
+            granted: _,
+            failed: _,
+            shown: _,
+            whole: _,
+            part: _,
+            last: _,
+            exact: _,
+            met: _,
+            latest: _,
+            earlier: _,
+        } = self;
+    }
 }

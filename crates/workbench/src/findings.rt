@@ -7,7 +7,7 @@ use wb_model::number_ends::NumberEnds;
 use wb_size::Rises;
 
 /// What a report was made of.
-#[derive(Debug, Drop)]
+#[derive(Debug)]
 pub struct Findings {
     /// The bytes of the script that were read.
     pub bytes: Vec<u8>,
@@ -24,4 +24,19 @@ pub struct Findings {
     /// How the runs of all numbers ended that leak, panic or are cut; `None` if that wasn't asked for, if the script is
     /// refused, and if the run without failure is cut.
     pub all: Option<NumberEnds>,
+}
+
+/// Written out, so that other proofs have one call where one is dropped, and its fields are gone over here alone.
+impl Drop for Findings {
+    fn drop(self) {
+        let Findings {
+            bytes: _,
+            at: _,
+            set: _,
+            fine: _,
+            rises: _,
+            ranges: _,
+            all: _,
+        } = self;
+    }
 }
