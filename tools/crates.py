@@ -24,8 +24,8 @@ NOT_BUILT = 70
 # how a function begins up to its name, by the layout that `rt fmt` gives; its group is what it is indented by
 FUNCTION_HEAD = r"( *)(?:pub(?:\([^)]*\))? )?(?:const |unsafe )*fn "
 
-# what a process of the prover takes at most, in bytes
-MEMORY = 3 << 30
+# what a process of the prover takes at most, and a tool with the program that it runs, in bytes
+MEMORY, RUN_MEMORY = 3 << 30, 512 << 20
 
 
 class Crates:
@@ -108,14 +108,15 @@ def is_being_built() -> bool:
     return False
 
 
-def processors() -> int:
-    """How many checks the processors and the free memory hold at once, or as many as the variable RT_JOBS says."""
+def processors(memory: int = MEMORY) -> int:
+    """How many processes that take so much memory the processors and the free memory hold at once, or as many as the variable RT_JOBS
+    says."""
     given = os.environ.get("RT_JOBS", "")
     if given.isdigit():
         return max(1, int(given))
     lines = Path("/proc/meminfo").read_text(encoding="utf-8").splitlines()
     kibibytes = next(int(it.split()[1]) for it in lines if it.startswith("MemAvailable:"))
-    return max(1, min(len(os.sched_getaffinity(0)), kibibytes * 1024 // MEMORY))
+    return max(1, min(len(os.sched_getaffinity(0)), kibibytes * 1024 // memory))
 
 
 @dataclass

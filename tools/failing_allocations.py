@@ -24,13 +24,15 @@ import shutil
 import subprocess
 import sys
 import tempfile
+from collections.abc import Iterator
 from concurrent.futures import ThreadPoolExecutor
+from functools import partial
 from itertools import accumulate, zip_longest
 from pathlib import Path
 from typing import Any
 
 from tools import case_file
-from tools.crates import processors
+from tools.crates import RUN_MEMORY, processors
 from tools.paths import CASES, PROGRAM, ROOT, TOOLS, examples
 from tools.program import READ_OR_WRITE_FAULT, WANT_OF_MEMORY, Answer, NoAnswer, answer_of, program_parser
 from tools.tally import Tally
@@ -135,6 +137,10 @@ class Trial:
             world["COUNT_TO"] = str(self.count)
         return self.answer(world)
 
+    def answers(self, how: str, last: int) -> Iterator[Answer]:
+        """What comes of the runs whose allocations with the numbers up to the last fail in this way, in their order."""
+        return map(partial(self.run, how), range(1, last + 1))
+
     def unwritten(self, how: str, fail_at: int) -> int:
         """The status of the same run where standard output takes nothing."""
         with open("/dev/full", "wb") as full:
@@ -172,8 +178,7 @@ class Trial:
         for how in WAYS:
             was_read = False
             wanted: list[int] = []
-            for number in range(1, last + 1):
-                answer = self.run(how, number)
+            for number, answer in enumerate(self.answers(how, last), 1):
                 was_read |= answer == NO_MEMORY
                 if self.wants(answer, plain):
                     wanted.append(number)
@@ -188,11 +193,14 @@ class Trial:
 
 
 class SameTrial(Trial):
-    """A program that is given nothing, and makes a call once more where it found no memory."""
+    """A program that is given nothing, and makes a call once more where it found no memory. Its runs go side by side."""
 
-    def __init__(self, program: Path, room: Path) -> None:
+    def __init__(self, program: Path, room: Path, pool: ThreadPoolExecutor) -> None:
         super().__init__(program, program, room)
-        self.words = []
+        self.words, self.pool = [], pool
+
+    def answers(self, how: str, last: int) -> Iterator[Answer]:
+        return self.pool.map(partial(self.run, how), range(1, last + 1))
 
     def asked_again(self, wanted: list[int]) -> set[int]:
         # it ends with 4 whether its last line is written or not
@@ -264,12 +272,12 @@ def main(words: list[str]) -> int:
         sys.exit("failing allocations can't be tried: there is no C compiler `cc` on the path")
     program = CALLS if given.same and given.program == PROGRAM else given.program
     scripts, tally = given.scripts or [*examples(), *(CASES / f"{it}.case" for it in TRIED)], Tally()
-    with tempfile.TemporaryDirectory() as folder, ThreadPoolExecutor(processors()) as pool:
+    with tempfile.TemporaryDirectory() as folder, ThreadPoolExecutor(processors(RUN_MEMORY)) as pool:
         room = Path(folder)
         subprocess.run(["cc", "-O1", "-shared", "-fPIC", "-o", room / "failing_allocation.so", SOURCE, "-ldl"], check=True)
-        trials = [(Trial(program, it, room), it) for it in scripts]
         if given.same:
-            trials = [(SameTrial(program, room), program)]
-        for is_fine in pool.map(lambda it: passes(*it), trials):
-            tally.check(is_fine)
+            tally.check(passes(SameTrial(program, room, pool), program))
+        else:
+            for is_fine in pool.map(lambda it: passes(Trial(program, it, room), it), scripts):
+                tally.check(is_fine)
     return tally.end()

@@ -9,7 +9,7 @@ from concurrent.futures import ThreadPoolExecutor
 from pathlib import Path
 from typing import NamedTuple
 
-from tools.crates import processors
+from tools.crates import RUN_MEMORY, processors
 from tools.made_scripts import SORTS, add_choice, scripts
 from tools.paths import examples
 from tools.program import CUT, FINE, FOUND, NoAnswer, answer_of, program_parser
@@ -176,7 +176,7 @@ def compare_scripts(script: type[Script], wanted: Wanted, about: str | None, wor
     given, tally = arguments(about, words), Tally()
     made = [(f"made {number}", it.encode("ascii")) for number, it in enumerate(scripts(given.scripts, given.seed, script.SORTS))]
     named = [*((it.name, it.read_bytes()) for it in script.files()), *made]
-    with ThreadPoolExecutor(processors()) as pool:
+    with ThreadPoolExecutor(processors(RUN_MEMORY)) as pool:
         told = list(pool.map(lambda it: compared(script, given.program, *it), named))
     for _, fault in told:
         tally.check(fault is None, fault or "")

@@ -42,3 +42,12 @@ def read_tally(line: str) -> Tally | None:
     """What a last line tells, if it is one."""
     told = LAST_LINE.fullmatch(line.strip())
     return Tally(int(told[1]), int(told[2])) if told else None
+
+
+def tally_of(said: str, status: int, may_be_none: bool = False) -> Tally:
+    """What a command counts as that prints this and ends with this status. One that tries nothing has failed, unless there may be nothing
+    to try."""
+    told = read_tally(said.removesuffix("\n").rpartition("\n")[2]) or Tally(0, 1)
+    # a command that fails without a failure in its tally counts as one
+    is_fault = status != 0 or not (told.passed or told.failed or may_be_none)
+    return Tally(told.passed, told.failed or int(is_fault))

@@ -8,12 +8,25 @@ import tempfile
 import unittest
 from importlib.machinery import SourceFileLoader
 from importlib.util import module_from_spec, spec_from_loader
+from pathlib import Path
 from types import ModuleType
 from unittest.mock import patch
 
 from tools.door import COMMANDS, said_by
 from tools.paths import ROOT, TOOLS
 from tools.tally import Tally
+from tools.tool_runs import Outcome, ToolRun, ToolRuns
+
+# the commands that the gate runs on the program, and what some are given
+RUN = """
+cases, lost-messages, broken-streams, progress, forks, rates, pairs, failures, every-set, sets, parts, lengths, followed, mistakes,
+pictures, failing-allocations, failing-allocations --same, ci-examples, help-files --compare
+"""
+
+
+def pass_once(runs: ToolRuns, tool: ToolRun, jobs: int) -> None:
+    """Takes a tool as run, which counts one."""
+    runs.outcomes.append(Outcome(tool.name(), Tally(1, 0), 0.0, 0.0))
 
 
 def the_gate() -> ModuleType:
@@ -64,10 +77,27 @@ class WhatCounts(unittest.TestCase):
         with patch.object(self.gate, "tally", return_value=Tally(1, 0)) as tallied, patch.object(
             self.gate, "check", return_value=Tally(1, 0)
         ) as checked:
-            counted = [self.gate.tools(), self.gate.pages(), self.gate.runs()]
+            counted = [self.gate.tools(), self.gate.pages()]
         words = [*(it.args[0] for it in tallied.call_args_list), *(it.args[1] for it in checked.call_args_list)]
         self.assertEqual(sum(it.passed for it in counted), len(words))
         self.assertEqual([it[3] for it in words if it[2] != TOOLS / "dev" or it[3] not in COMMANDS], ["discover"])
+
+    def test_each_tool_that_runs_the_program_is_run_once(self) -> None:
+        with patch.object(ToolRuns, "run", autospec=True, side_effect=pass_once) as ran, contextlib.redirect_stdout(io.StringIO()) as said:
+            counted = self.gate.runs()
+        names = [it.args[1].name() for it in ran.call_args_list]
+        self.assertEqual(counted, Tally(len(names), 0))
+        self.assertEqual(sorted(names), sorted(RUN.replace("\n", " ").strip().split(", ")))
+        self.assertLessEqual({it.split()[0] for it in names}, set(COMMANDS))
+        self.assertEqual(sorted(it.split()[0] for it in said.getvalue().splitlines()[1:]), sorted(it.split()[0] for it in names))
+
+    def test_the_chain_of_proofs(self) -> None:
+        with tempfile.TemporaryDirectory() as folder, patch.dict(os.environ, PATH=f"{folder}{os.pathsep}{os.environ['PATH']}"):
+            Path(folder, "rt").write_text("#!/bin/sh\necho 'rt: wb_model proved'\necho '3 passed, 0 failed'\n", encoding="utf-8")
+            Path(folder, "rt").chmod(0o755)
+            with patch.object(self.gate, "building", contextlib.nullcontext), contextlib.redirect_stdout(io.StringIO()) as said:
+                self.assertEqual(self.gate.gate(), Tally(3, 0))
+        self.assertRegex(said.getvalue(), "(?s)rt: wb_model proved\n3 passed, 0 failed\n.*\n    wb_model +0.0 +0.0  waited for no crate\n")
 
     def test_what_is_tried_after_a_failure(self) -> None:
         def ran(is_needed: bool, first: Tally) -> tuple[list[str], Tally]:
@@ -91,9 +121,11 @@ class WhatCounts(unittest.TestCase):
         self.assertEqual(ran(False, Tally(1, 1)), (["first", "second"], Tally(3, 1)))
 
     def test_no_compiler(self) -> None:
+        runs, tools = ToolRuns(), [it for it in self.gate.RUNS if it.words[0] == "failing-allocations"]
         with tempfile.TemporaryDirectory() as empty, patch.dict(os.environ, PATH=empty), contextlib.redirect_stdout(io.StringIO()):
-            # of the program on scripts, and of the one that makes calls once more
-            self.assertEqual(self.gate.allocations(), Tally(0, 2))
+            runs.run_all(tools, 1)
+        # of the program on scripts, and of the one that makes calls once more
+        self.assertEqual([it.tally for it in runs.outcomes], [Tally(0, 1), Tally(0, 1)])
 
 
 class WithoutCompiler(unittest.TestCase):
