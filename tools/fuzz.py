@@ -14,7 +14,7 @@ from functools import partial
 from pathlib import Path
 
 from tools import case_file
-from tools.crates import processors
+from tools.crates import RUN_MEMORY, processors
 from tools.paths import CASES, examples
 from tools.program import CUT, NoAnswer, answer_of, program_parser
 from tools.tally import Tally
@@ -117,7 +117,7 @@ def main(words: list[str]) -> int:
     given = parser.parse_args(words)
     shares = range(-(-given.scripts // SHARE))
     tally, statuses = Tally(), Counter[str]()
-    with ProcessPoolExecutor(processors()) as pool:
+    with ProcessPoolExecutor(processors(RUN_MEMORY)) as pool:
         share = partial(share_of, program=given.program, keep=given.keep)
         for faults, told in pool.map(share, (given.seed * 1_000_000 + it for it in shares)):
             print("".join(f"{it}\n" for it in faults), end="", flush=True)
