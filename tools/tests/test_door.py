@@ -13,7 +13,7 @@ from tools.paths import TOOLS
 PARTS = {
     *("__init__", "case_file", "case_tables", "crates", "door", "kit", "language", "paths", "picture_file", "picture_reports"),
     *("picture_scripts", "program", "report_terms", "script_terms", "sweep_checks", "tally", "terms", "theorem_files"),
-    *("definitions", "reached", "seen_code", "verdicts"),
+    *("definitions", "proof_chain", "reached", "seen_code", "tool_runs", "verdicts"),
     *("wrong_body_checks", "wrong_body_edits", "wrong_body_files", "wrong_body_twins"),
     *("completions", "help_table", "install", "line_words", "made_files", "man_page", "page_references", "textmate_files", "vim_files"),
 }
