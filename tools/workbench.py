@@ -1,20 +1,23 @@
 """Turns into the workbench, on the same words and streams.
 
-Where the program isn't built, or is older than what it is made of, its sources are compiled without their proof for this one answer."""
+Where the program isn't built, or is older than what it is made of, its sources are compiled without their proof, and what is compiled is
+kept for the next answer (`tools/unproved.py`)."""
 
 import os
 import re
+import shutil
 import signal
 import subprocess
 import sys
 import tempfile
 from collections.abc import Iterator
+from contextlib import contextmanager
 from pathlib import Path
+from typing import NoReturn
 
 from tools.crates import NOT_BUILT, Crates, is_being_built
 from tools.paths import PROGRAM, PROGRAM_CRATE, ROOT
-
-NAME = "workbench"
+from tools.unproved import NAME, NoProgram, Toolchain, Unproved, copy_sources, environment
 
 # the option whose file is written
 PICTURE = "--picture"
@@ -105,16 +108,12 @@ def handed_on(words: list[str]) -> tuple[list[str], list[str]]:
     return words, ["--data", f"{inside}={path}"]
 
 
-def first_answer(crates: Crates, words: list[str]) -> int:
-    """Compiles the sources without their proof, runs them on these words, and gives the status that they end with."""
+def answer_of_try(crates: Crates, words: list[str]) -> int:
+    """Has `rt try` compile the sources and run them on these words, and gives the status that they end with."""
     words, data = handed_on(with_whole_picture(words))
-    with tempfile.TemporaryDirectory(prefix="workbench-") as folder:
+    with tempfile.TemporaryDirectory(prefix=f"{NAME}-") as folder:
         room = Path(folder)
-        # a copy, since `rt` works alone in a crate's folder
-        made_of = [*crates.below(PROGRAM_CRATE), PROGRAM_CRATE]
-        for crate in made_of:
-            crates.copy(crate, room / "crates" / crate)
-        (room / "crates.txt").write_text("".join(f"{crates.lines[it]}\n" for it in made_of), encoding="utf-8")
+        copy_sources(crates, room)
         with (room / "input").open("wb") as given:
             given.write(sys.stdin.buffer.read(LONGEST_INPUT) if reads_standard_input(words) else b"")
         with (room / "input").open("rb") as given:
@@ -122,16 +121,21 @@ def first_answer(crates: Crates, words: list[str]) -> int:
             ran = subprocess.run(command, cwd=room / "crates" / PROGRAM_CRATE, stdin=given, capture_output=True)
     ended = ENDED.search(ran.stderr)
     if not ended:
-        found = NO_ANSWER.search(ran.stderr)
-        said = found[1] if found else b"; ".join(ran.stderr.splitlines()[-3:]) or b"nothing was said"
-        say(f"this way there is no answer: {said.decode(errors='replace')}")
-        say("./build proves and builds the program, which has no such bounds")
-        return NOT_BUILT
+        return say_no_answer(ran.stderr)
     sys.stdout.buffer.write(ran.stdout)
     sys.stdout.flush()
     sys.stderr.buffer.write(b"".join(without_closing(ran.stderr.splitlines(keepends=True))))
     sys.stderr.flush()
     return int(ended[1])
+
+
+def say_no_answer(messages: bytes) -> int:
+    """Says why the toolchain gave no answer, by its own messages, and gives the status for that."""
+    found = NO_ANSWER.search(messages)
+    said = found[1] if found else b"; ".join(messages.splitlines()[-3:]) or b"nothing was said"
+    say(f"this way there is no answer: {said.decode(errors='replace')}")
+    say("./build proves and builds the program, which has no such bounds")
+    return NOT_BUILT
 
 
 def without_closing(lines: list[bytes]) -> Iterator[bytes]:
@@ -142,6 +146,56 @@ def without_closing(lines: list[bytes]) -> Iterator[bytes]:
     yield from (OTHER_NAME.sub(b"Usage: " + NAME.encode(), it) for it in lines[:last])
 
 
+def answer_unproved(why: str, crates: Crates, words: list[str]) -> int:
+    """Answers by the program without its proof: by one that is kept, else by one that is compiled now, and kept where it can be."""
+    command = shutil.which("rt")
+    if command is None:
+        say(f"{why}, and the toolchain's command rt is not on the path")
+        return NOT_BUILT
+    unproved = Unproved(crates, Toolchain(Path(command)))
+    program = unproved.kept()
+    can_keep = not program and unproved.can_keep()
+    if program:
+        say(f"{why}, so this is what the same sources answer, compiled without their proof;")
+    elif can_keep:
+        say(f"{why}, so these sources are compiled without their proof, in about two minutes, and the next answer comes at once;")
+    else:
+        say(f"{why}, so these sources are compiled without their proof for this one answer, in about two minutes;")
+    say("./build proves and builds the program, in about 20 to 40 minutes")
+    if can_keep:
+        try:
+            with interruptible():
+                program = unproved.keep()
+        except NoProgram as refused:
+            return say_no_answer(refused.messages)
+        except OSError as fault:
+            say(f"what was compiled can't be kept: {fault}")
+    if program:
+        become(program[0], [*program, *words], environment())
+    return answer_of_try(crates, words)
+
+
+@contextmanager
+def interruptible() -> Iterator[None]:
+    """Lets an interrupt remove what was begun, before it ends this process as it would end the program."""
+    signal.signal(signal.SIGINT, signal.default_int_handler)
+    try:
+        yield
+    except KeyboardInterrupt:
+        signal.signal(signal.SIGINT, signal.SIG_DFL)
+        signal.raise_signal(signal.SIGINT)
+    finally:
+        signal.signal(signal.SIGINT, signal.SIG_DFL)
+
+
+def become(file: str, words: list[str], environment: dict[str, str]) -> NoReturn:
+    """Turns into a program."""
+    # Python ignores these, and the program would too
+    for ignored in (signal.SIGPIPE, signal.SIGXFSZ):
+        signal.signal(ignored, signal.SIG_DFL)
+    os.execve(file, words, environment)
+
+
 def main(words: list[str]) -> int:
     """Turns into the program, or answers in its place."""
     # as the program itself would end
@@ -149,11 +203,6 @@ def main(words: list[str]) -> int:
     crates = Crates()
     why = why_not_built(crates)
     if why:
-        say(f"{why}, so these sources are compiled unproved for this one answer, in about two minutes;")
-        say("./build proves and builds the program, in about 20 to 40 minutes, and then an answer takes a fraction of a second")
-        return first_answer(crates, words)
-    # Python ignores these, and the program would too
-    for ignored in (signal.SIGPIPE, signal.SIGXFSZ):
-        signal.signal(ignored, signal.SIG_DFL)
+        return answer_unproved(why, crates, words)
     # the name by which it calls itself in its help
-    os.execv(PROGRAM, [NAME, *words])
+    become(str(PROGRAM), [NAME, *words], dict(os.environ))
