@@ -4,7 +4,7 @@ seen of a file can be told for some of its definitions alone. Where it can't be 
 import re
 from collections.abc import Iterable, Iterator
 from dataclasses import dataclass
-from functools import cached_property
+from functools import cache, cached_property
 
 # words before the name that a line defines
 MODIFIERS = {"abbrev", "pub", "unfoldable", "record", "module", "data", "|"}
@@ -57,6 +57,7 @@ class Definitions:
             elif not part.startswith("pub mod "):
                 self.items.append(Item(names_of(part), part))
 
+    @cache
     def reached(self, names: frozenset[str] | None) -> list[Item]:
         """The definitions with these names, and those that they lead to in the file, in its order; all of them for `None`."""
         if names is None:
@@ -68,13 +69,13 @@ class Definitions:
             wanted = set().union(*(self.items[at].words for at in more))
         return [self.items[at] for at in sorted(found)]
 
-    def targets(self, items: list[Item]) -> Iterator[Target]:
-        """What some of its definitions lead to outside of it."""
+    @cache
+    def targets(self, names: frozenset[str] | None) -> list[Target]:
+        """What these definitions lead to outside of the file."""
+        items = self.reached(names)
         words = frozenset().union(*(it.words for it in items))
-        for line in self.imports:
-            yield from targets_of(line, words)
-        for it in items:
-            yield from targets_of(it.text)
+        found = [it for line in self.imports for it in targets_of(line, words)]
+        return found + [target for it in items for target in targets_of(it.text)]
 
 
 def parts_of(text: str) -> Iterator[str]:
@@ -109,7 +110,7 @@ def name_of(line: str) -> str:
 
 def targets_of(text: str, words: frozenset[str] | None = None) -> Iterator[Target]:
     """What the paths in a text lead to; of an import only names that are among some words, where words are given."""
-    for crate, path, names, alias in PATH.findall(text):
+    for crate, path, names, alias in paths_in(text):
         modules = tuple(path.split(".")[1:])
         if alias or not names:
             if words is None or not alias or alias in words:
@@ -119,3 +120,9 @@ def targets_of(text: str, words: frozenset[str] | None = None) -> Iterator[Targe
         used = frozenset(it[0] for it in taken if words is None or it[-1] in words or MIXFIX in it[0])
         if used:
             yield Target(crate, modules, used)
+
+
+@cache
+def paths_in(text: str) -> list[tuple[str, str, str, str]]:
+    """The paths in a text: the same definition is asked for again and again."""
+    return PATH.findall(text)

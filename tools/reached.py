@@ -30,6 +30,8 @@ DECLARED = re.compile(r"\b(?:struct|enum|trait|type) (\w+)")
 # those types that no other crate can name, and those that one can
 HIDDEN = re.compile(r"^(?:pub\(crate\) )?(?:struct|enum|type) (\w+)", re.MULTILINE)
 NAMEABLE = re.compile(r"^pub (?:struct|enum|type) (\w+)", re.MULTILINE)
+# the name of a function or a constant
+NAMED = re.compile(r"\b(?:fn|const|static) (?=(\w+))")
 # definitions of what code declares and promises are in no file of their own
 OF_CODE = ("declared", "contracts")
 # what a path of code begins with
@@ -73,6 +75,7 @@ class Reached:
         wanted[file] = None if names is None else wanted.get(file, set()) | names
         return True
 
+    @cache
     def crate_of(self, file: Path) -> str:
         """The crate that a file belongs to."""
         return file.relative_to(self.crates.root / "crates").parts[0]
@@ -92,11 +95,21 @@ class Reached:
         """What is seen of code from above."""
         return seen_code(with_derived_drops(without_comments(file.read_text(encoding="utf-8"))))
 
+    @cache
+    def names_in(self, file: Path) -> frozenset[str]:
+        """The names of the functions and constants of code."""
+        return frozenset(NAMED.findall(file.read_text(encoding="utf-8")))
+
+    @cache
+    def code_called(self, file: Path, names: frozenset[str]) -> str:
+        """What is seen of code by a file of its own crate that has these of the names."""
+        return called_code(with_derived_drops(without_comments(file.read_text(encoding="utf-8"))), names)
+
     def text(self, file: Path, names: set[str] | None) -> str:
         """What is seen of a file where these names of it are wanted, or all of them."""
         if file.suffix == ".rt":
             return self.code(file)
-        return "\n".join(it.text for it in self.definitions(file).reached(names))
+        return "\n".join(it.text for it in self.definitions(file).reached(None if names is None else frozenset(names)))
 
     def targets_of_own(self, file: Path) -> list[Target]:
         """What a file leads to as its own crate sees it."""
@@ -106,18 +119,15 @@ class Reached:
     def targets(self, file: Path, names: set[str] | None) -> list[Target]:
         """What it leads to as a crate above sees it, where these names of it are wanted, or all of them."""
         if file.suffix == ".rt":
-            text = self.code(file)
-            words = frozenset(WORD.findall(IMPORT.sub("", text)))
-            return [*targets_of(text, words), *code_targets(text)]
-        definitions = self.definitions(file)
-        return list(definitions.targets(definitions.reached(names)))
+            return targets_of_code(self.code(file))
+        return self.definitions(file).targets(None if names is None else frozenset(names))
 
     def files_of(self, own: str, targets: Iterable[Target], lower: Set[str]) -> Iterator[tuple[Path, frozenset[str] | None]]:
         """The files of the crates below that targets lead to, each with the names that are taken of it; `None` for all."""
         for it in targets:
             crate = own if it.crate == "crate" else it.crate
             if crate in lower:
-                yield from self.parts(crate).files_of(it)
+                yield from self.parts(crate).files_of(it.path, it.names)
 
 
 class ReachedWithin(Reached):
@@ -147,7 +157,7 @@ class ReachedWithin(Reached):
         """What is seen of code: of the crate itself, what the given files call."""
         if self.crate_of(file) != self.crate:
             return self.reached.code(file)
-        return called_code(with_derived_drops(without_comments(file.read_text(encoding="utf-8"))), self.words)
+        return self.reached.code_called(file, self.words & self.reached.names_in(file))
 
 
 class Parts:
@@ -164,9 +174,13 @@ class Parts:
         # those that count whether they are named or not
         self.always = {it for it, text in code.items() if gives_to_others(text, hidden)}
 
-    def files_of(self, target: Target) -> Iterator[tuple[Path, frozenset[str] | None]]:
+    @cache
+    def files_of(self, path: tuple[str, ...], names: frozenset[str] | None) -> tuple[tuple[Path, frozenset[str] | None], ...]:
         """The files that a path leads to, each with the names that are taken of it. A path to a module of modules leads to all of these."""
-        path, names = target.path, target.names
+        return tuple(self.files_by(path, names))
+
+    def files_by(self, path: tuple[str, ...], names: frozenset[str] | None) -> Iterator[tuple[Path, frozenset[str] | None]]:
+        """The same, one after the other."""
         if path[:1] == CODE or path[1:2] and path[1] in OF_CODE:
             yield from ((it, None) for it in self.of_code(frozenset(path)))
             return
@@ -187,6 +201,13 @@ class Parts:
             for place, file in self.files.items()
             if place[0] == "src" and (place[1:] in (("lib",), ("main",)) or words.issuperset(place[1:]))
         }
+
+
+@cache
+def targets_of_code(text: str) -> list[Target]:
+    """What code leads to as a crate above sees it, whose text this is."""
+    words = frozenset(WORD.findall(IMPORT.sub("", text)))
+    return [*targets_of(text, words), *code_targets(text)]
 
 
 def code_targets(text: str) -> Iterator[Target]:

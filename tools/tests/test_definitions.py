@@ -35,7 +35,7 @@ class WhatAFileDefines(unittest.TestCase):
 
     def targets(self, *names: str) -> set[Target]:
         """What they lead to elsewhere."""
-        return set(self.definitions.targets(self.definitions.reached(frozenset(names))))
+        return set(self.definitions.targets(frozenset(names)))
 
     def test_a_definition_with_its_clauses(self) -> None:
         self.assertEqual(self.reached("count"), ["abbrev pub count"])
