@@ -10,6 +10,7 @@ import hashlib
 import re
 from dataclasses import dataclass
 from datetime import date
+from functools import cache
 from pathlib import Path
 
 from tools.crates import FUNCTION_HEAD, Crates, without_comments
@@ -35,9 +36,14 @@ LOGIC = re.compile(r"\blogic [0-9a-f]+")
 
 
 def logic_of_toolchain() -> str:
-    """The logic by which the toolchain proves: of what `rt version` prints, or all of that where it names none."""
-    named = LOGIC.search(version())
-    return named[0] if named else version()
+    """The logic by which the toolchain proves."""
+    return logic_in(version())
+
+
+def logic_in(said: str) -> str:
+    """The logic that is named in what `rt version` prints, or all of that where it names none."""
+    named = LOGIC.search(said)
+    return named[0] if named else said
 
 
 @dataclass(frozen=True)
@@ -50,7 +56,7 @@ class Verdict:
 
 
 class Verdicts:
-    """The file of verdicts of a repository."""
+    """The file of verdicts of a repository. What is read of the crates is read once: what is changed later, another one of these sees."""
 
     def __init__(self, root: Path, logic: str) -> None:
         self.crates = Crates(root)
@@ -64,6 +70,7 @@ class Verdicts:
         found = (LINE.fullmatch(it) for it in lines)
         return {it[1]: Verdict(int(it[2]), it[3], it[4]) for it in found if it}
 
+    @cache
     def sources(self, crate: str) -> dict[str, list[WrittenEdit]]:
         """The wrong bodies of a crate, by the source that each changes first; those without a change by none."""
         found: dict[str, list[WrittenEdit]] = {}
@@ -90,6 +97,7 @@ class Verdicts:
         lines = (f"{name} {it.count} {it.day} {it.checksum}\n" for name, it in sorted(verdicts.items()))
         self.file.write_text(HEAD + "".join(lines), encoding="utf-8")
 
+    @cache
     def checksum(self, crate: str, source: str) -> str:
         """The checksum of all that a check of the source's wrong bodies reads."""
         edits = self.sources(crate).get(source, [])
@@ -107,15 +115,21 @@ class Verdicts:
     def own_files(self, crate: str, edits: list[WrittenEdit]) -> frozenset[Path]:
         """The files of a crate that count whole for wrong bodies: those that they change, those that have a function of a name that must be
         disproved, where no changed file has it, and the proofs of functions of all these."""
-        code = {it: it.read_text(encoding="utf-8") for it in self.crates.files(crate) if it.suffix == ".rt"}
-        functions = {file: {name for _, name in FUNCTION_NAME.findall(text)} for file, text in code.items()}
-        own = {file for it in edits for name, _, _ in it.changes if (file := self.crates.folder(crate) / name) in code}
+        files, functions = self.files(crate)
+        own = {file for it in edits for name, _, _ in it.changes if (file := self.crates.folder(crate) / name) in functions}
         named = {path.rpartition("::")[2] for it in edits for path in it.functions.split(", ")}
         elsewhere = named - set().union(*(functions[it] for it in own))
         own |= {file for file, names in functions.items() if not names.isdisjoint(elsewhere)}
         proved = set().union(*(functions[it] for it in own))
         proofs = self.crates.folder(crate) / "proofs"
-        return frozenset(own | {it for it in self.crates.files(crate) if proofs in it.parents and it.parent.name in proved})
+        return frozenset(own | {it for it in files if it.parent.name in proved and proofs in it.parents})
+
+    @cache
+    def files(self, crate: str) -> tuple[list[Path], dict[Path, set[str]]]:
+        """The files that a crate is made of, and the names of the functions of those with code."""
+        files = self.crates.files(crate)
+        code = {it: it.read_text(encoding="utf-8") for it in files if it.suffix == ".rt"}
+        return files, {file: {name for _, name in FUNCTION_NAME.findall(text)} for file, text in code.items()}
 
 
 def add(whole: "hashlib._Hash", path: Path, text: str) -> None:

@@ -3,10 +3,10 @@
 import os
 import re
 import shutil
-import subprocess
 from dataclasses import dataclass
 from pathlib import Path
 
+from tools.bounded_checks import Checks
 from tools.crates import Crates
 from tools.kit import kit
 
@@ -85,14 +85,13 @@ def last_words(text: str) -> str:
     return next((it for it in lines if re.search(r"error|killed", it)), lines[-1])
 
 
-def check(room: Path, crate: str, functions: list[str], jobs: int) -> Verdict:
+def check(checks: Checks, room: Path, crate: str, functions: list[str], jobs: int) -> Verdict:
     """Checks some functions of the crate in a room, and what they call; what the check prints is added to a file beside the
     room."""
     only = [word for it in functions for word in ("--only", it)]
     with room.with_name(f"{room.name}.log").open("a+", encoding="utf-8", errors="replace") as log:
         start = log.seek(0, os.SEEK_END)
-        words = ["rt", "check", "--jobs", str(jobs), *only]
-        subprocess.run(words, cwd=room / "crates" / crate, stdin=subprocess.DEVNULL, stdout=log, stderr=subprocess.STDOUT)
+        checks.run(["rt", "check", "--jobs", str(jobs), *only], room / "crates" / crate, log)
         log.seek(start)
         return read_verdict(log.read())
 

@@ -13,8 +13,8 @@ from tools.paths import TOOLS
 PARTS = {
     *("__init__", "case_file", "case_tables", "crates", "door", "kit", "language", "paths", "picture_file", "picture_reports"),
     *("picture_scripts", "program", "report_terms", "script_terms", "sweep_checks", "tally", "terms", "theorem_files"),
-    *("definitions", "proof_chain", "reached", "seen_code", "tool_runs", "verdicts"),
-    *("wrong_body_checks", "wrong_body_edits", "wrong_body_files", "wrong_body_twins"),
+    *("bounded_checks", "definitions", "open_verdicts", "proof_chain", "reached", "seen_code", "tool_runs", "unproved", "verdicts"),
+    *("wrong_body_checks", "wrong_body_choice", "wrong_body_edits", "wrong_body_files", "wrong_body_trial", "wrong_body_twins"),
     *("completions", "help_table", "install", "line_words", "made_files", "man_page", "page_references", "textmate_files", "vim_files"),
 }
 
