@@ -2,7 +2,8 @@
 
 Code and tables are left out of the counts. What is in the code type counts as one word. The tool fails where the pages have more such
 sentences than `pyproject.toml` allows; that number is only ever lowered. It also fails where a file that is linked to, a page that is
-named, or a section that is named with its page isn't there.
+named, or a section that is named with its page isn't there; and, unless pages are given, where the README has another number of open
+wrong bodies than there are, which takes some seconds.
 """
 
 import re
@@ -10,6 +11,7 @@ from collections.abc import Iterator
 from pathlib import Path
 from typing import NamedTuple
 
+from tools.open_verdicts import fault_of_readme
 from tools.page_references import lacking
 from tools.paths import ROOT
 from tools.program import parser_of
@@ -105,4 +107,6 @@ def main(words: list[str]) -> int:
     most = long if given.pages else most_allowed()
     if long != most:
         print(f"pyproject.toml allows {most}: " + ("make them shorter" if long > most else f"lower that to {long}"))
-    return 1 if long > most or lacked else 0
+    if fault := "" if given.pages else fault_of_readme():
+        print(fault)
+    return 1 if long > most or lacked or fault else 0
