@@ -26,8 +26,8 @@ LENGTHS = b"from 0 nocleanup\nfrom 144 ended\nfrom 176 leaks 1\nlength 176\n" + 
 READ_FAULT = b"read fault\n", READ_OR_WRITE_FAULT
 UNWRITTEN = b"", READ_OR_WRITE_FAULT
 NO_COMMAND = b"", COMMAND_LINE_FAULT
-# how long a run may take, in seconds, beside as many others as there are processors
-LIMIT = 30
+# how long a run may take, in seconds
+LIMIT = 5
 
 # what is looked at of an answer: one of its streams, nothing where that isn't read, and the status
 Told = tuple[bytes, int]
