@@ -158,9 +158,9 @@ def answer_unproved(why: str, crates: Crates, words: list[str]) -> int:
     if program:
         say(f"{why}, so this is what the same sources answer, compiled without their proof;")
     elif can_keep:
-        say(f"{why}, so these sources are compiled without their proof, in about two minutes, and the next answer comes at once;")
+        say(f"{why}, so these sources are compiled without their proof, in about two to three minutes, and the next answer comes at once;")
     else:
-        say(f"{why}, so these sources are compiled without their proof for this one answer, in about two minutes;")
+        say(f"{why}, so these sources are compiled without their proof for this one answer, in about two to three minutes;")
     say("./build proves and builds the program, in about 20 to 40 minutes")
     if can_keep:
         try:
