@@ -1,0 +1,12 @@
+pub mod RowLemmas
+pub mod Partners
+pub mod SameRows
+pub mod PlacedHeaps
+pub mod PlacedProcesses
+pub mod PlacedAttempts
+pub mod PlacedTexts
+pub mod PlacedFrames
+pub mod PlacedStatements
+pub mod PlacedPieces
+pub mod PlacedResults
+pub mod PlacedExamples

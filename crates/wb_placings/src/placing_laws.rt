@@ -1,0 +1,42 @@
+//! Laws of runs in heaps that choose the places of cells in whatever way: by a placing, which says of each attempt where its cell goes, and
+//! whether a cell that grows stays. Each law is the contract of a function that does nothing, so that the gate proves it.
+
+ghost use Rattle.std.specs.Prelude.{◌≡◌, ◌≢◌, ℕ, List, true};
+ghost use Rattle.wb_model.specs.heap.Placement.{placement_of, Placement};
+ghost use Rattle.wb_model.specs.runs.Agreement.{IsSameButNotes};
+ghost use Rattle.wb_model.specs.runs.Sets.{set_run, AreAllSetsFine, IsSet};
+ghost use Rattle.wb_model.specs.runs.Sweeps.{is_fine};
+ghost use Rattle.wb_model.specs.declared.heap.Shape.{Shape};
+ghost use Rattle.wb_model.specs.declared.run.Outcome.TheVariants.{Cut};
+ghost use Rattle.wb_model.specs.declared.run.Why.TheVariants.{Ceiling};
+ghost use Rattle.wb_model.specs.declared.script.Script.{Script};
+ghost use Rattle.wb_placings.specs.PlacedRuns.{placed_run, IsSameButPlaces};
+
+/// The run in a heap of a shape, where the ceiling doesn't cut it, is the placed run by that heap's own choice of places, but for notes.
+pub fn runs_are_placed_by_their_heap()
+    ensures same { (script : Script) (budget : ℕ) (shape : Shape) (numbers : List ℕ) →
+        (set_run script budget shape numbers).outcome ≢ Cut Ceiling →
+        IsSameButNotes (set_run script budget shape numbers)
+        (placed_run script budget numbers (placement_of shape)) }
+{}
+
+/// Let a run be neither bad nor cut in a heap where each growing cell moves. Then it is the same but for places wherever cells lie, and whichever
+/// growing cells stay (`same`). So if the runs of all sets of failures are fine in that heap, they are fine by every placing (`every`). They are
+/// fine, too, in a heap of any other shape, such as one where cells stay if they can, provided that the ceiling cuts none of them there (`in_place`).
+pub fn moving_runs_stand_for_every_placing()
+    ensures same { (script : Script) (budget : ℕ) (shape : Shape) (numbers : List ℕ)
+        (placement : Placement) →
+        shape.moving ≡ true →
+        is_fine (set_run script budget shape numbers) ≡ true →
+        IsSameButPlaces (set_run script budget shape numbers)
+        (placed_run script budget numbers placement) }
+    ensures every { (script : Script) (budget : ℕ) (shape : Shape) →
+        shape.moving ≡ true → AreAllSetsFine script budget shape →
+        (numbers : List ℕ) → IsSet numbers → (placement : Placement) →
+        is_fine (placed_run script budget numbers placement) ≡ true }
+    ensures in_place { (script : Script) (budget : ℕ) (shape still : Shape) →
+        shape.moving ≡ true → AreAllSetsFine script budget shape →
+        ((numbers : List ℕ) → IsSet numbers →
+        (set_run script budget still numbers).outcome ≢ Cut Ceiling) →
+        AreAllSetsFine script budget still }
+{}
