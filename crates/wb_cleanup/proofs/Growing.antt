@@ -12,6 +12,7 @@ use Rattle.wb_model.specs.declared.heap.Answer.{Answer}
 use Rattle.wb_model.specs.declared.heap.Answer.TheVariants.{Granted, Simulated, Refused}
 use Rattle.wb_model.specs.declared.heap.Gave.{Gave}
 use Rattle.wb_model.specs.declared.heap.Gave.TheVariants as G
+use Rattle.wb_model.specs.heap.Placement.{place_to_put}
 use Rattle.wb_model.specs.heap.Row.{Cell, headers, cell_at, cell_length, end_of, inserted, place_of, pointer_to, without}
 use Rattle.wb_model.specs.cells.CellRow.{resized_words}
 use Rattle.wb_model.specs.cells.CleanupCells.{IsItem, IsCleanup, IsCleanupAt}
@@ -97,7 +98,8 @@ module _ (d e : Debug) (sound : IsSoundDebug e) where
     where
       empty : (row : List (Cell (List ℕ))) → d.heap.row ≡ row → IsSoundDebug d → answer_in d asked ≢ None
       empty [] is kept cut =
-          let place : asked.place ≡ 0 = ap (λ r. place_of (headers r) 144) is in
+          let place : asked.place ≡ 0 =
+          ap (λ w. place_to_put w (headers d.heap.row) 144) kept.placed ∙ ap (λ r. place_of (headers r) 144) is in
           below-answered d.rule (number_of_next d) asked (omega (arith, place)) cut
       empty (c ∷ cs) is kept cut =
           let live : IsLiveIn d c.head = subst (λ r. All (IsLiveIn d) (headers r)) is kept.live 0 c.head (omega arith) in
@@ -141,7 +143,7 @@ module _ (old new : Cleanup) (d e : Debug) (is : IsStack old d) (sound : IsSound
       }
 
   abbrev wider : Cell (List ℕ)
-  wider = record { head = moved c.head (number_of_next d) more; content = resized_words more.length c.content }
+  wider = record { head = moved d.heap.placement c.head (number_of_next d) more; content = resized_words more.length c.content }
 
   abbrev after : Option Answer → Made
   after o = made_by d more (after_realloc d.heap more c.head (resized_words more.length c.content)) o

@@ -56,6 +56,7 @@ kept-sound inside kept = record {
   attempts = kept.counted;
   untraced = kept.untraced;
   shape = kept.sound.shape;
+  placed = refl;
 }
 
 -- what a look-up finds

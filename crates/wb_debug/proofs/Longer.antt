@@ -14,6 +14,7 @@ use Rattle.wb_model.specs.heap.Debug.{Debug, Made, made_by, number_of_next, trac
 use Rattle.wb_model.specs.heap.Heap.{after_realloc, request_at, shortened}
 use Rattle.wb_model.specs.heap.LimitedHeap.{LimitedHeap, IsSoundHeap, heap_grown, heap_shortened, heap_reallocated, committed_grown, grown_cell, grown_pointer, place_to_grow, space_in}
 use Rattle.wb_model.specs.runs.Rises.{end_of_line, granted_end, rises_with}
+use Rattle.wb_model.specs.heap.Placement.{placement_of}
 use Rattle.wb_model.specs.heap.Row.{Cell, headers, end_of, cell_at, cell_length, inserted, pointer_to, without}
 use Rattle.wb_model.specs.heap.Rules.{Request, after_attempt}
 use Rattle.wb_model.specs.heap.Rules as rules
@@ -87,7 +88,7 @@ made-longer inside p cell bytes len line is =
 -- what callers see of a heap, a setting, a number of attempts and what is kept of them
 abbrev told : Inside → LimitedHeap → rules.Setting → ℕ → Log → Debug
 told inside heap setting attempts log = record {
-  heap = record { row = heap.row; level = inside.level; setting = setting };
+  heap = record { row = heap.row; level = inside.level; setting = setting; placement = placement_of heap.shape };
   rule = inside.rule;
   shape = heap.shape;
   committed = heap.committed;

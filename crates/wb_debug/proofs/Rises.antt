@@ -12,6 +12,7 @@ use Rattle.wb_model.specs.heap.Debug.{Debug, made_by, number_of_next, trace_line
 use Rattle.wb_model.specs.heap.Heap.{AfterAnswer, alloc_request, request_at}
 use Rattle.wb_model.specs.heap.LimitedHeap.{place_in, space_in}
 use Rattle.wb_model.specs.runs.Rises.{end_of_line, granted_end, rise_of, rises_with, top_of_rises}
+use Rattle.wb_model.specs.heap.Placement.{place_to_put}
 use Rattle.wb_model.specs.heap.Row.{cell_length, headers, place_of}
 use Rattle.wb_model.specs.heap.Rules.{Request, answer_to, limit_of, refusal_of, refusal_past, simulates, unless_refused}
 use Rattle.wb_model.specs.heap.Space.{below_ceiling, committed_by, limit_under}
@@ -100,8 +101,8 @@ pub allocation : (inside : Inside) (d : Debug) (bytes len place : ℕ) → debug
     request_at d.heap place len ≡ alloc_request d.heap bytes
 allocation inside d bytes len place view long placed =
     ap (λ p. request_at d.heap p len)
-    (placed ∙ ap (place_of (headers inside.heap.row)) long ∙ ap (λ (x : Debug). place_of (headers x.heap.row) (cell_length bytes)) view)
-    ∙ ap (request_at d.heap (place_of (headers d.heap.row) (cell_length bytes))) long
+    (placed ∙ ap (place_of (headers inside.heap.row)) long ∙ ap (λ (x : Debug). place_to_put x.heap.placement (headers x.heap.row) (cell_length bytes)) view)
+    ∙ ap (request_at d.heap (place_to_put d.heap.placement (headers d.heap.row) (cell_length bytes))) long
 
 -- where a cell ends that was granted
 pub end-of-grant : (line : Attempt) (number : ℕ) (t : Request) → line ≡ trace_line number t line.answer → line.answer ≡ Granted → end_of_line line ≡ t.place + t.length

@@ -2,6 +2,7 @@
 use Rattle.std.specs.Prelude.{◌≡◌, ◌⊎◌, ℕ, ◌*◌, ◌≤◌, [], All, true, false, is_some, length, min}
 use Rattle.wb_model.specs.heap.Debug.{Debug}
 use Rattle.wb_model.specs.heap.LimitedHeap.{IsSoundHeap, space_in}
+use Rattle.wb_model.specs.heap.Placement.{placement_of}
 use Rattle.wb_model.specs.heap.Row.{headers}
 use Rattle.wb_model.specs.heap.Space.{Space, limit_under}
 use Rattle.wb_debug.specs.Log.{top_in}
@@ -11,7 +12,12 @@ use Rattle.wb_debug.specs.declared.debug_heap.DebugHeap.TheInside.{Inside}
 
 abbrev pub debug_of : Inside → Debug
 debug_of inside = record {
-  heap = record { row = inside.heap.row; level = inside.level; setting = setting_of inside.setting };
+  heap = record {
+    row = inside.heap.row;
+    level = inside.level;
+    setting = setting_of inside.setting;
+    placement = placement_of inside.heap.shape;
+  };
   rule = inside.rule;
   shape = inside.heap.shape;
   committed = inside.heap.committed;

@@ -275,10 +275,10 @@ impl DebugHeap {
     ///
     /// A cell length that isn't longer is no attempt: it answers `Granted` with the pointer, the tail is free, and what
     /// was there is dropped. A longer one is an attempt, and is answered as `attempt_alloc` does. Its place is the
-    /// cell's own where the bytes after it are free, and else the lowest that fits beside it. What the cell holds is
-    /// kept and followed by zeros; kind and level are kept; a cell that moved bears the attempt's number, so that the old
-    /// pointer is stale. Source: Symbian OS v9 SDK reference, RHeap, for what is kept and for a refusal that leaves the
-    /// cell, and this project's profile for places and numbers.
+    /// cell's own where the bytes after it are free, and else the lowest that fits beside it; where the shape says that cells
+    /// move, always the latter. What the cell holds is kept and followed by zeros; kind and level are kept; a cell that moved
+    /// bears the attempt's number, so that the old pointer is stale. Source: Symbian OS v9 SDK reference, RHeap, for what is
+    /// kept and for a refusal that leaves the cell, and this project's profile for places and numbers.
     pub fn attempt_realloc(&mut self, ptr: Ptr, bytes: u32) -> Result<Gave, NoMemory>
         requires live { IsSome (cell_at ptr self.old.heap.row) }
         requires bytes { bytes ≤ CEILING }

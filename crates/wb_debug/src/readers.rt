@@ -1,5 +1,5 @@
 //! Readers for those who watch a run: the live cells by place, what they come to, the committed length, and the marks that are
-//! open, and the script's own setting. Nothing here changes a heap.
+//! open, the script's own setting, and how places are chosen. Nothing here changes a heap.
 
 ghost use Rattle.std.specs.Prelude.{◌≡◌, ◌↔◌, true, length};
 ghost use Rattle.wb_model.specs.heap.LimitedHeap.{next_live_of};
@@ -46,5 +46,12 @@ impl DebugHeap {
         ensures { (result ≡ true) ↔ (other.now.heap.setting ≡ self.now.heap.setting) }
     {
         other.setting == self.setting
+    }
+
+    /// Whether places are chosen as in another heap: cells that are to be longer always move in both, or in neither.
+    pub fn chooses_places_of(&self, other: &DebugHeap) -> bool
+        ensures { (result ≡ true) ↔ (other.now.heap.placement ≡ self.now.heap.placement) }
+    {
+        other.heap.is_moving() == self.heap.is_moving()
     }
 }

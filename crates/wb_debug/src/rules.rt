@@ -19,6 +19,8 @@ fn refusal(rule: &Rule, number: u32, end: u32) -> Option<Answer>
         Rule::Number(failing) => (*failing == number).then_some(Answer::Simulated),
         Rule::Every(0) => None,
         Rule::Every(rate) => (number % *rate == 0).then_some(Answer::Simulated),
+        Rule::From(0) => None,
+        Rule::From(first) => (*first <= number).then_some(Answer::Simulated),
         Rule::Pair(first, second) => {
             (*first == number || *second == number).then_some(Answer::Simulated)
         }
@@ -50,9 +52,12 @@ pub fn limit_under(rule: &Rule) -> u32
 {
     match rule {
         Rule::Limit(limit) => (*limit).min(CEILING),
-        Rule::Unlimited | Rule::Number(_) | Rule::Every(_) | Rule::Pair(..) | Rule::Set(_) => {
-            CEILING
-        }
+        Rule::Unlimited
+        | Rule::Number(_)
+        | Rule::Every(_)
+        | Rule::From(_)
+        | Rule::Pair(..)
+        | Rule::Set(_) => CEILING,
     }
 }
 

@@ -79,7 +79,7 @@ module _ (p : Ptr) (d new : Debug) (is : IsTextAt p d) (n : ℕ) (fits : length 
       by None g m = subst (IsRemadeText new p t) (sym g) (stays (ap (λ (x : Debug). x.heap.row) m))
       by (Some Granted) g m =
           subst (IsRemadeText new p t) (sym g)
-          (granted-text new (record { head = moved c.head (number_of_next d) asked; content = resized_words to c.content })
+          (granted-text new (record { head = moved d.heap.placement c.head (number_of_next d) asked; content = resized_words to c.content })
           (without (pointer_to c.head) d.heap.row) t (ap (λ (x : Debug). x.heap.row) m) sound is.kind kept)
       by (Some Simulated) g m = subst (IsRemadeText new p t) (sym g) (stays (ap (λ (x : Debug). x.heap.row) m))
       by (Some Refused) g m = subst (IsRemadeText new p t) (sym g) (stays (ap (λ (x : Debug). x.heap.row) m))

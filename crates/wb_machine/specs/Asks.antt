@@ -23,7 +23,7 @@ asks_at steps _ = false
 
 -- attempt 1 is to come, or what is left to do asks for an attempt before it counts a second step
 abbrev pub asks_next : Script → ℕ → Progress → Bool
-asks_next script budget not_begun = true
+asks_next script budget (not_begun placement) = true
 asks_next script budget (going ps way st) = asks_at (st.steps + 1) (resume script budget ps way st)
 asks_next script budget (has_stopped stop st) = false
 

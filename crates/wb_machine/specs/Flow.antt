@@ -182,7 +182,7 @@ progress_by (Cut why) ps st = has_stopped (is_cut why) st
 progress_by NoCleanup ps st = has_stopped no_cleanup st
 
 abbrev pub progress_of : Bool → Ending → List Pending → State → Progress
-progress_of false ending ps st = not_begun
+progress_of false ending ps st = not_begun st.heap.placement
 progress_of true ending ps st = progress_by ending ps st
 
 -- what a process comes to under a rule, from the state of a run on

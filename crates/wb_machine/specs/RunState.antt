@@ -52,9 +52,9 @@ read_cell script c = record { head = c.head; content = read_as (field_count scri
 abbrev pub read_row : Script → List (Cell (List ℕ)) → List (Cell Content)
 read_row script row = map (read_cell script) row
 
--- the cells read, with the same level and setting
+-- the cells read, with the same level, setting and way to choose places
 abbrev pub read_heap : Script → Heap (List ℕ) → Heap Content
-read_heap script heap = record { row = read_row script heap.row; level = heap.level; setting = heap.setting }
+read_heap script heap = record { row = read_row script heap.row; level = heap.level; setting = heap.setting; placement = heap.placement }
 
 -- the state of the definitions
 abbrev pub state_of : Script → RunState → State

@@ -1,6 +1,6 @@
 //! What a run leaves once it is over.
 
-ghost use Rattle.std.specs.Prelude.{◌≡◌, ◌↔◌, true, false, length, IfOk};
+ghost use Rattle.std.specs.Prelude.{◌≡◌, ◌+◌, ◌≤◌, ◌↔◌, true, false, length, IfOk};
 ghost use Rattle.wb_model.specs.runs.Run.{rises_result_of, run};
 ghost use Rattle.wb_model.specs.declared.run.Outcome.TheVariants.{Cut};
 ghost use Rattle.wb_model.specs.declared.run.Why.TheVariants.{Ceiling};
@@ -40,7 +40,7 @@ impl<'a> Machine<'a> {
     }
 
     /// What the run reports, once it is over: exactly what the definitions say of the script, the rule, the
-    /// budget and the shape. Its trace has a line for each attempt. The machine is one made by `new`.
+    /// budget and the shape. Its trace has a line for each attempt, one more than the budget at most. The machine is one made by `new`.
     pub fn result(self) -> RunResult
         requires over { self.over ≡ true }
         requires well { self.failed ≡ false }
@@ -48,6 +48,7 @@ impl<'a> Machine<'a> {
         ensures run_result { result
             ≡ run self.entry.script self.entry.rule self.entry.budget self.entry.shape }
         ensures attempts { length result.trace ≡ self.entry.attempts }
+        ensures few { length result.trace ≤ self.entry.budget + 1 }
         ensures ceiling { (self.entry.met_ceiling ≡ true) ↔ (result.outcome ≡ Cut Ceiling) }
     {
         self.into_finished().result
@@ -59,6 +60,7 @@ impl<'a> Machine<'a> {
         requires well { self.failed ≡ false }
         ensures run_result { result.result ≡ (whole_run_of self.entry).result }
         ensures attempts { (whole_run_of self.entry).attempts ≡ self.entry.attempts }
+        ensures few { self.entry.attempts ≤ self.entry.budget + 1 }
         ensures ceiling { (self.entry.met_ceiling ≡ true) ↔ (result.result.outcome ≡ Cut Ceiling) }
     {
         let Machine {

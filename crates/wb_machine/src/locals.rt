@@ -3,17 +3,16 @@
 ghost use Rattle.std.specs.Prelude.{◌≡◌, ℕ, List, ◌∷◌, ◌++◌, [], map, length, slice_set, vec_len, ◌≤◌, IsTrue, IfOk};
 ghost use Rattle.std.specs.Prelude.{OnOk};
 ghost use Rattle.std.specs.List.{list_all};
-ghost use Rattle.wb_model.specs.meaning.Texts.{Buffer, answer_of, delete_text, set_length_text};
-ghost use Rattle.wb_hbuf.specs.Sources.{IsSource, SuitsEdit, edit_text, source_units};
+ghost use Rattle.wb_model.specs.meaning.Texts.{Buffer};
 ghost use Rattle.wb_model.specs.meaning.Reading.{max_in};
 ghost use Rattle.wb_model.specs.meaning.State.{initial};
 ghost use Rattle.wb_machine.specs.RunState.{value_in};
 ghost use Rattle.wb_machine.specs.LocalValues.{is_small, value_of, value_of_buffer, values_stored, no_buffer};
 ghost use Rattle.wb_machine.specs.LocalValues.{stored_at, AreAscending, first_buffer, number_over};
 ghost use Rattle.wb_machine.specs.LocalValues.{values_over, framed, unframed, buffer_in, window_in};
-ghost use Rattle.wb_machine.specs.BufferEdits.{frames_edited, frames_put_back};
 ghost use Rattle.wb_machine.specs.PointerOperands.{holder_pointer_over, pointer_over};
 
+mod edits;
 mod same;
 
 use crate::arguments::{CallArguments, hand, number_over};
@@ -21,9 +20,7 @@ use crate::pointers::{ReadContext, holder_pointer_over, pointer_over};
 use crate::windows::Window;
 use std::alloc::{AllocError, Global};
 use std::marker::Model;
-use wb_hbuf::DebugHeap;
-use wb_hbuf::sources::{Edit, Source};
-use wb_model::heap::{Panic, Ptr};
+use wb_model::heap::Ptr;
 use wb_model::script::{Holder, Local, Number, Pointer};
 use wb_text::buf::Buf;
 
@@ -329,83 +326,5 @@ impl Locals {
                 self.set(index, Slot::NoBuffer);
             }
         }
-    }
-}
-
-/// Edits of the buffer in a local, where it is. A refusal leaves it as it was.
-impl Locals {
-    /// Changes it by the units of a source. The heap is where the source's cell is.
-    pub fn edit_buffer(
-        &mut self,
-        index: u8,
-        heap: &DebugHeap,
-        change: Edit,
-        source: Source,
-    ) -> Result<(), Panic>
-        requires source { IsSource heap.now source }
-        requires suits { SuitsEdit change source }
-        ensures answer { let b = buffer_in (value_in self.old.locals index) in
-            let us = source_units heap.now b.units source.entry in
-            result ≡ answer_of (edit_text change b.max b.units us) }
-        ensures locals { let b = buffer_in (value_in self.old.locals index) in
-            let us = source_units heap.now b.units source.entry in
-            self.new ≡ frames_edited self.old index b (edit_text change b.max b.units us) }
-    {
-        match stored_at(&self.slots, self.base + index as usize) {
-            Stored::Buffer(place) => {
-                wb_hbuf::edit_buf(heap, &mut self.buffers[place.at], change, source)
-            }
-            Stored::Small(_) => {
-                let mut none = copy_of(self.buffer(index));
-                let answer = wb_hbuf::edit_buf(heap, &mut none, change, source);
-                self.put_back(index, none, answer)
-            }
-        }
-    }
-
-    /// Takes `count` units from a position on out of it.
-    pub fn delete_in_buffer(&mut self, index: u8, position: u32, count: u32) -> Result<(), Panic>
-        ensures answer { let b = buffer_in (value_in self.old.locals index) in
-            result ≡ answer_of (delete_text b.units position count) }
-        ensures locals { let b = buffer_in (value_in self.old.locals index) in
-            self.new ≡ frames_edited self.old index b (delete_text b.units position count) }
-    {
-        match stored_at(&self.slots, self.base + index as usize) {
-            Stored::Buffer(place) => self.buffers[place.at].delete(position, count),
-            Stored::Small(_) => {
-                let mut none = copy_of(self.buffer(index));
-                let answer = none.delete(position, count);
-                self.put_back(index, none, answer)
-            }
-        }
-    }
-
-    /// Gives it another length.
-    pub fn set_buffer_length(&mut self, index: u8, length: u32) -> Result<(), Panic>
-        ensures answer { let b = buffer_in (value_in self.old.locals index) in
-            result ≡ answer_of (set_length_text b.max b.units length) }
-        ensures locals { let b = buffer_in (value_in self.old.locals index) in
-            self.new ≡ frames_edited self.old index b (set_length_text b.max b.units length) }
-    {
-        match stored_at(&self.slots, self.base + index as usize) {
-            Stored::Buffer(place) => self.buffers[place.at].set_length(length),
-            Stored::Small(_) => {
-                let mut none = copy_of(self.buffer(index));
-                let answer = none.set_length(length);
-                self.put_back(index, none, answer)
-            }
-        }
-    }
-
-    /// What was edited in the place of a buffer goes to its local, unless the edit was refused.
-    fn put_back(&mut self, index: u8, buf: Buf, answer: Result<(), Panic>) -> Result<(), Panic>
-        requires { buf.max ≡ max_in (value_in self.old.locals index) }
-        ensures answer { result ≡ answer }
-        ensures locals { self.new ≡ frames_put_back self.old index buf answer }
-    {
-        if answer.is_ok() {
-            self.set_buffer(index, buf);
-        }
-        answer
     }
 }

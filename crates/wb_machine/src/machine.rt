@@ -197,12 +197,14 @@ impl<'a> Machine<'a> {
         self.state.steps() < self.budget && self.control.asks(self.script, &self.state)
     }
 
-    /// How many attempts were made so far; once the run is over, how many it makes. One that the ceiling cuts isn't counted.
+    /// How many attempts were made so far; once the run is over, how many it makes. One that the ceiling cuts isn't counted. Each
+    /// takes a step, but for the first, so they are one more than the budget at most.
     pub fn attempts(&self) -> u32
         ensures so_far { result ≡ self.now.attempts }
         ensures all { self.now.over ≡ true → self.now.failed ≡ false →
             result
             ≡ length (run self.now.script self.now.rule self.now.budget self.now.shape).trace }
+        ensures few { self.now.failed ≡ false → result ≤ self.now.budget + 1 }
     {
         self.state.attempts()
     }
@@ -281,8 +283,8 @@ fn list_leaks(leaks: &mut Leaks, ending: Ending, state: &State) -> Result<(), No
 /// A whole run.
 ///
 /// An Ok is exactly what the definitions say of the script, the rule, the budget (in steps) and the shape
-/// (in bytes); a run that is cut is an outcome. `BadShape` comes exactly where the shape is none that a heap
-/// may have, and before `NoMemory`.
+/// (in bytes); a run that is cut is an outcome. Its trace has at most one line more than the budget has steps. `BadShape`
+/// comes exactly where the shape is none that a heap may have, and before `NoMemory`.
 pub fn run(
     alloc: Global,
     script: &Script,
@@ -294,10 +296,12 @@ pub fn run(
     requires least { 1 ≤ budget }
     requires greatest { budget ≤ LARGEST_BUDGET }
     ensures ran { IfOk result (λ run_result. run_result ≡ run script.now rule budget shape) }
+    ensures few { IfOk result (λ run_result. length run_result.trace ≤ budget + 1) }
     ensures shape { (result ≡ Err RunFault.BadShape) ↔ (is_shape shape ≡ false) }
 {
-    let machine = Machine::new(alloc, script, rule, budget, shape)?;
-    Ok(machine.run_to_end()?)
+    let mut machine = Machine::new(alloc, script, rule, budget, shape)?;
+    machine.take_all_turns()?;
+    Ok(machine.result())
 }
 
 /// A whole run without a limit, of which the rises are kept and no trace, so that an attempt that isn't a rise adds

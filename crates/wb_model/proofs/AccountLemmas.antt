@@ -18,6 +18,7 @@ use Rattle.wb_model.specs.heap.Heap.{AfterAnswer, alloc_request, after_alloc, re
 use Rattle.wb_model.specs.heap.LimitedHeap.{zero_words}
 use Rattle.wb_model.specs.heap.Row.{Cell, cell_length}
 use Rattle.wb_model.specs.runs.Rises.{end_of_line, highest_end, rise_of, rises_above, top_from, top_of_rises, with_line, rises_with, trace_with}
+use Rattle.wb_model.specs.heap.Placement.{placement_of}
 use Rattle.wb_model.specs.heap.Rules.{answer_to, Request}
 use Rattle.wb_model.specs.runs.Run.{process, before, run, run_with_rises, whole_of, whole_run, WholeRun}
 use Rattle.wb_model.specs.heap.Space.{Space, space_of}
@@ -159,12 +160,12 @@ settled-with_rises rule space (notes q p) a k =
     ap (settled rule space p) (measured_noted space q a) ∙ settled-with_rises rule space p (noted space q a) (noted-lines space q a k)
 
 last_lines : (script : Script) (rule : Rule) (budget : ℕ) (shape : Shape) →
-    KeepsLines (settled rule (space_of rule shape) (process script budget) (before (space_of rule shape))).account
-last_lines script rule budget shape = settled-keeps rule (space_of rule shape) (process script budget) _ (before-lines (space_of rule shape))
+    KeepsLines (settled rule (space_of rule shape) (process script budget (placement_of shape)) (before (space_of rule shape))).account
+last_lines script rule budget shape = settled-keeps rule (space_of rule shape) (process script budget (placement_of shape)) _ (before-lines (space_of rule shape))
 
 pub whole-with_rises : (script : Script) (rule : Rule) (budget : ℕ) (shape : Shape) → whole_run true script rule budget shape ≡ run_with_rises (run script rule budget shape)
 whole-with_rises script rule budget shape =
-    ap whole_of (settled-with_rises rule (space_of rule shape) (process script budget) (before (space_of rule shape)) (before-lines (space_of rule shape)))
+    ap whole_of (settled-with_rises rule (space_of rule shape) (process script budget (placement_of shape)) (before (space_of rule shape)) (before-lines (space_of rule shape)))
     ∙ ap (λ n. record (run_with_rises (run script rule budget shape)) { attempts = n }) (last_lines script rule budget shape).lines
 
 pub whole-attempts : (keeps_rises : Bool) (script : Script) (rule : Rule) (budget : ℕ) (shape : Shape) →

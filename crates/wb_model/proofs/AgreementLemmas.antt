@@ -7,6 +7,7 @@ use Rattle.wb_model.specs.declared.heap.Answer.TheVariants.{Granted, Simulated, 
 use Rattle.wb_model.specs.declared.heap.Attempt.{Attempt}
 use Rattle.wb_model.specs.declared.run.Why.TheVariants.{Ceiling}
 use Rattle.wb_model.specs.declared.script.Script.{Script}
+use Rattle.wb_model.specs.heap.Placement.{placement_of}
 use Rattle.wb_model.specs.heap.Rules.{refusal_of, unless_refused, answer_to, Request}
 use Rattle.wb_model.specs.meaning.State.{is_cut, State, Query, heap_note, available_note, compress_note, Process, ends, stops, asks, notes}
 use Rattle.wb_model.specs.heap.Space.{Space, space_below, bound_below, below_ceiling, space_of}
@@ -233,15 +234,15 @@ agree r s x_space y_space h (asks t cut go) a b e not =
 -- the law, of whole runs
 pub rules_agree-law : (script : Script) (budget : ℕ) (shape : Shape) (r s : Rule) → Agrees script budget shape r s
 rules_agree-law script budget shape r s h not =
-    of_run (agree r s (space_of r shape) (space_of s shape) h (process script budget) (before (space_of r shape)) (before (space_of s shape))
+    of_run (agree r s (space_of r shape) (space_of s shape) h (process script budget (placement_of shape)) (before (space_of r shape)) (before (space_of s shape))
     (record { one = before-lines (space_of r shape); other = before-lines (space_of s shape); trace = refl })
-    (λ e. not (ap (λ w. outcome_of w (settled r (space_of r shape) (process script budget) (before (space_of r shape))).state) e)))
+    (λ e. not (ap (λ w. outcome_of w (settled r (space_of r shape) (process script budget (placement_of shape)) (before (space_of r shape))).state) e)))
   where
     x : Settled
-    x = settled r (space_of r shape) (process script budget) (before (space_of r shape))
+    x = settled r (space_of r shape) (process script budget (placement_of shape)) (before (space_of r shape))
 
     y : Settled
-    y = settled s (space_of s shape) (process script budget) (before (space_of s shape))
+    y = settled s (space_of s shape) (process script budget (placement_of shape)) (before (space_of s shape))
 
     spaces : (r s : Rule) → IsNoLimit r → IsNoLimit s → space_of s shape ≡ space_of r shape
     spaces r s p q = ap (λ o. space_below (bound_below (below_ceiling o)) shape) (q ∙ sym p)

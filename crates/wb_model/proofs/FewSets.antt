@@ -3,7 +3,7 @@ use Rattle.std.proofs.Common.{◌≡◌, ℕ, zero, suc, ◌<◌, ◌≤◌, ◌
 use Rattle.std.specs.Prelude.{◌↔◌, ◌||◌, ◌&&◌, nat_eq, nat_lt}
 use Rattle.std.proofs.lemmas.Bool.{le-ltb, lt-ltb}
 use Rattle.wb_model.specs.declared.failures.Failing.{Failing}
-use Rattle.wb_model.specs.declared.failures.Failing.TheVariants.{Number, Every, Pair}
+use Rattle.wb_model.specs.declared.failures.Failing.TheVariants.{Number, Every, Pair, From}
 use Rattle.wb_model.specs.declared.failures.Failures.{Failures}
 use Rattle.wb_model.specs.declared.failures.Failures.TheVariants.{Single, Pairs}
 use Rattle.wb_model.specs.declared.heap.Shape.{Shape}
@@ -39,9 +39,13 @@ same_order part last (Pair a b) (Number zero) is too = refl
 same_order part last (Pair a b) (Number (suc n)) is too = refl
 same_order part last (Pair a b) (Pair i j) is too = ap (λ t. nat_lt a i || (nat_eq a i && t)) (or_none (nat_lt b j) (nat_eq b j))
 same_order part last (Every m) other is too = absurd is
+same_order part last (From m) other is too = absurd is
 same_order part last (Number zero) (Every n) is too = absurd too
+same_order part last (Number zero) (From n) is too = absurd too
 same_order part last (Number (suc m)) (Every n) is too = absurd too
+same_order part last (Number (suc m)) (From n) is too = absurd too
 same_order part last (Pair a b) (Every n) is too = absurd too
+same_order part last (Pair a b) (From n) is too = absurd too
 
 -- ---- which sets the failures are that a sweep tries
 
@@ -50,6 +54,7 @@ set_is part last (Number zero) is = record { set = tt; least = is }
 set_is part last (Number (suc n)) is = record { set = (omega arith, tt); least = is }
 set_is part last (Pair i j) is = record { set = (omega (arith, is.1), (is.2, tt)); least = is.0 }
 set_is part last (Every n) is = absurd is
+set_is part last (From n) is = absurd is
 
 -- the failures that a sweep tries, of those by pairs, are the sets of at most so many attempts
 pub record AreSetsOfAtMost (most : ℕ) (failures : Failures) : Type 0 where
@@ -66,12 +71,14 @@ single_sets = record { without = refl; in_pairs = in_pairs; few = few; from = fr
     in_pairs part last (Number n) is = is
     in_pairs part last (Pair i j) is = absurd is
     in_pairs part last (Every n) is = absurd is
+    in_pairs part last (From n) is = absurd is
 
     few : (part : Part) (last : ℕ) (at : Failing) → IsTried Single part last at → length (set_of at) ≤ 1
     few part last (Number zero) is = omega arith
     few part last (Number (suc n)) is = omega arith
     few part last (Pair i j) is = absurd is
     few part last (Every n) is = absurd is
+    few part last (From n) is = absurd is
 
     from : (part : Part) (last : ℕ) (numbers : List ℕ) → IsSetOf part last numbers → length numbers ≤ 1 →
         (at : Failing) × (numbers ≡ set_of at) × IsTried Single part last at
@@ -88,6 +95,7 @@ paired_sets = record { without = refl; in_pairs = λ part last at is. is; few = 
     few part last (Number (suc n)) is = omega arith
     few part last (Pair i j) is = omega arith
     few part last (Every n) is = absurd is
+    few part last (From n) is = absurd is
 
     from : (part : Part) (last : ℕ) (numbers : List ℕ) → IsSetOf part last numbers → length numbers ≤ 2 →
         (at : Failing) × (numbers ≡ set_of at) × IsTried Pairs part last at
@@ -140,6 +148,7 @@ module _ (failures : Failures) (most : ℕ) (are : AreSetsOfAtMost most failures
       by (Number (suc n)) is = one-fails script budget shape (suc n)
       by (Pair i j) is = two-fail script budget shape i j
       by (Every n) is = absurd is
+      by (From n) is = absurd is
 
   order_is : (at other : Failing) → tried at → tried other → comes_before at other ≡ set_comes_before (set_of at) (set_of other)
   order_is at other is too = same_order part last at other (are.in_pairs part last at is) (are.in_pairs part last other too)

@@ -6,6 +6,7 @@ use Rattle.wb_model.specs.declared.heap.Panic.{Panic}
 use Rattle.wb_model.specs.declared.heap.Ptr.{Ptr}
 use Rattle.wb_model.specs.declared.script.Script.{Script}
 use Rattle.wb_model.specs.declared.script.Statement.TheViews.{out-Statement}
+use Rattle.wb_model.specs.heap.Placement.{Placement}
 use Rattle.wb_model.specs.meaning.Meaning.{begun, begun_if, piece, meaning_within, meaning_of}
 use Rattle.wb_model.specs.meaning.State.{State, Way, goes_on, returns, leaves, Process, ends, then_do, require}
 use Rattle.wb_model.specs.meaning.Statements.{Todo, all, turns, destroy_items, Context, Meaning}
@@ -188,15 +189,16 @@ module _ (budget further : ℕ) (script : Script) where
     within = b.within;
   })
 
-  process-follows : {w : Renaming} → IsBeside budget further w start start → Follows budget further w (process script budget) (process script budget)
+  process-follows : {w : Renaming} (placement : Placement) → IsBeside budget further w (start placement) (start placement) →
+      Follows budget further w (process script budget placement) (process script budget placement)
   unfolding process
-  process-follows b = allocate-follows budget further _ _ _ _ _ same_none b (λ v o q st other x s c. started-follows v o q st other s c)
+  process-follows placement b = allocate-follows budget further _ _ _ _ _ same_none b (λ v o q st other x s c. started-follows v o q st other s c)
 
-  start-beside : {w : Renaming} → IsRenaming w → 0 ≡ further → IsBeside budget further w start start
-  start-beside is e = record {
+  start-beside : {w : Renaming} (placement : Placement) → IsRenaming w → 0 ≡ further → IsBeside budget further w (start placement) (start placement)
+  start-beside placement is e = record {
     renamed = is;
     same = record {
-      heap = record { row = none_beside; level = refl; setting = refl };
+      heap = record { row = none_beside; level = refl; setting = refl; placement = refl };
       cleanup = null-beside is;
       items = none_beside;
       slots = refl;
@@ -209,7 +211,7 @@ module _ (budget further : ℕ) (script : Script) where
   progress-follows : {w : Renaming} {p q : Progress} → IsRenaming w → IsSameProgress w.names p q → steps_of q ≡ steps_of p + further → steps_of q ≤ budget →
       Follows budget further w (left_to_do script budget p) (left_to_do script budget q)
   unfolding left_to_do
-  progress-follows is same_not_begun steps within = process-follows (start-beside is (omega (arith, steps)))
+  progress-follows is (same_not_begun placement) steps within = process-follows placement (start-beside placement is (omega (arith, steps)))
   progress-follows {w = w} is (same_going pieces way same) steps within =
       resume-follows pieces w _ _ _ _ (λ n m r. r) way (record { renamed = is; same = same; steps = steps; within = within })
   progress-follows is (same_stopped stop same) steps within = both_stop refl (record { renamed = is; same = same; steps = steps; within = within })

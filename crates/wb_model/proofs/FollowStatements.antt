@@ -74,7 +74,7 @@ module _ (budget further : ℕ) where
   setting-beside : {w : Renaming} {st other : State} (setting : Setting) → IsBeside budget further w st other → IsBeside budget further w (set_setting st setting) (set_setting other setting)
   setting-beside {w = w} {st = st} {other = other} setting b =
       let heap : IsSameHeap w.names (record st.heap { setting = setting }) (record other.heap { setting = setting }) =
-      record { row = b.same.heap.row; level = b.same.heap.level; setting = refl } in
+      record { row = b.same.heap.row; level = b.same.heap.level; setting = refl; placement = b.same.heap.placement } in
       set_heap-beside budget further heap b
 
   number-follows : {w : Renaming} {st other : State} (f : ℤ → Option ℕ) (v : Number) (panic : Panic) (go other_go : ℕ → Process) → IsBeside budget further w st other →

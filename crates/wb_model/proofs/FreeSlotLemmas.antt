@@ -9,6 +9,7 @@ use Rattle.wb_model.specs.meaning.Statements.{Todo, all, turns, destroy_items, d
 use Rattle.wb_model.specs.declared.heap.Rule.{Rule}
 use Rattle.wb_model.specs.declared.heap.Answer.{Answer}
 use Rattle.wb_model.specs.declared.run.Why.TheVariants.{Ceiling}
+use Rattle.wb_model.specs.heap.Placement.{Placement}
 use Rattle.wb_model.specs.heap.Rules.{answer_to}
 use Rattle.wb_model.specs.heap.Space.{Space}
 use Rattle.wb_model.specs.runs.Account.{End, over, stopped, Account, settled, on_answer, next_number, recorded, noted}
@@ -73,9 +74,9 @@ module _ (script : Script) (budget : ℕ) where
   started-free None st f = tt
   started-free (Some p) st f = and_then-free 8 _ _ (inside (meaning_of script budget) meaning-free 8 _ _ _ f.0 f.1) (λ w st e. main_trapped-free _ w st e)
 
-  process-free : KeepsFree 8 (process script budget)
+  process-free : (placement : Placement) → KeepsFree 8 (process script budget placement)
   unfolding process
-  process-free = allocate-free 8 _ _ _ start _ (omega arith, omega arith) (λ o heap. started-free o _ (omega arith, omega arith))
+  process-free placement = allocate-free 8 _ _ _ (start placement) _ (omega arith, omega arith) (λ o heap. started-free o _ (omega arith, omega arith))
 
 -- how a process ends under a rule, where it keeps a slot free
 abbrev pub ShownFree : ℕ → End → State → Type 0
@@ -115,8 +116,8 @@ finds (turns n body) st free = free
 finds (destroy_items n) st free = (omega (arith, free), omega (arith, free), omega (arith, free))
 finds (destroy_object p) st free = free
 
-pub run-has_free_slot : (script : Script) (budget : ℕ) → WhereverItGoesOn HasFreeSlot (process script budget)
-run-has_free_slot script budget = onward 8 (process script budget) (process-free script budget)
+pub run-has_free_slot : (script : Script) (budget : ℕ) (placement : Placement) → WhereverItGoesOn HasFreeSlot (process script budget placement)
+run-has_free_slot script budget placement = onward 8 (process script budget placement) (process-free script budget placement)
 
 pub piece-has_free_slot : (script : Script) (budget : ℕ) (at : Context) (p : Todo) (st : State) → HasFreeSlot st → WhereverItGoesOn HasFreeSlot (meaning_of script budget at p st)
 piece-has_free_slot script budget at p st free = onward st.slots (meaning_of script budget at p st) (meaning-free script budget at p st (finds p st free))

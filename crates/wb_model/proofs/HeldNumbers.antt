@@ -46,7 +46,7 @@ module _ {v : Renaming} (is : IsRenaming v) where
   cell-itself s = record { head = header-itself s.head; content = content-itself s.content }
 
   heap-itself : {h g : Heap Content} → IsSameHeap v.names h g → IsSameHeap (up_to v.made) h h
-  heap-itself s = record { row = all-itself (λ c d r. cell-itself r) s.row; level = refl; setting = refl }
+  heap-itself s = record { row = all-itself (λ c d r. cell-itself r) s.row; level = refl; setting = refl; placement = refl }
 
   item-itself : {i j : Item} → IsSameItem v.names i j → IsSameItem (up_to v.made) i i
   item-itself (same_free s) = same_free (pointer-itself s)

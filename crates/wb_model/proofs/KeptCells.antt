@@ -1,6 +1,7 @@
 -- What a script does to its heap keeps the cells a row, numbered by the attempts so far, each with what its kind holds.
 use Rattle.std.proofs.Common.{◌≡◌, ◌≢◌, ℕ, suc, ◌+◌, ◌-◌, ◌%◌, ◌≤◌, Bool, true, false, not, cond, List, [], ◌∷◌, length, filter, find, All, AllPairs, Some, refl, sym, subst, arith}
 use Rattle.std.specs.Prelude.{◌&&◌, nat_eq}
+use Rattle.std.proofs.lemmas.Bool.{and_parts}
 use Rattle.std.proofs.lemmas.List.Elements.{All-cons, All-nil, All-filter}
 use Rattle.std.proofs.lemmas.List.Kept.{AllPairs-cons}
 use Rattle.wb_model.specs.declared.heap.Ptr.{Ptr}
@@ -10,8 +11,10 @@ use Rattle.wb_model.specs.declared.heap.Kind.TheVariants as K
 use Rattle.wb_model.specs.declared.heap.Answer.{Answer}
 use Rattle.wb_model.specs.declared.heap.Answer.TheVariants.{Granted, Simulated, Refused}
 use Rattle.wb_model.specs.declared.script.Script.{Script}
-use Rattle.wb_model.specs.heap.Row.{Cell, headers, end_of, pointer_to, is_at, cell_at, cell_length, inserted, without, changed, place_of, IsSpacedFrom, IsRow, IsFree}
-use Rattle.wb_model.specs.heap.Heap.{Heap, new_cell, moved, alloc_request, after_alloc, realloc_request, after_realloc, shortened, fits_in_place, lower, lowered, is_cleanup}
+use Rattle.wb_model.specs.heap.Row.{Cell, headers, end_of, pointer_to, is_at, cell_at, cell_length, inserted, without, changed, place_of, IsSpacedFrom, IsRow, IsFree, IsLeastPlace}
+use Rattle.wb_model.specs.heap.Placement.{Placement, first_fit, by_placing, after_placing, fits_in_place, has_stayed, place_to_put, place_to_grow_to, IsByFirstFit}
+use Rattle.wb_model.specs.heap.Heap.{Heap, new_cell, moved, alloc_request, after_alloc, realloc_request, after_realloc, shortened, lower, lowered, is_cleanup}
+use Rattle.wb_model.specs.heap.Rules.{Request}
 use Rattle.wb_model.specs.runs.Throughout.{SuitsKind, HoldsItsKind, AreCellsAfter}
 use Rattle.wb_model.specs.meaning.State.{Content, words, fields, units, none}
 use Rattle.wb_model.specs.meaning.Attempts.{resized}
@@ -107,17 +110,40 @@ resized_to c place to number =
 pub one_more : (n : ℕ) (ns : List ℕ) → n ≡ length ns + 1 → n ≡ length (n ∷ ns)
 one_more n ns e = omega (arith, e)
 
+-- of first fit, what holds of the first gap holds of the place of a new cell
+put-by_first_fit : (P : ℕ → Type 0) (way : Placement) (row : List Header) (length : ℕ) → IsByFirstFit way → P (place_of row length) → P (place_to_put way row length)
+put-by_first_fit P (first_fit moving) row length is p = p
+put-by_first_fit P (by_placing spots) row length is p = absurd is
+
+counted-by_first_fit : (way : Placement) → IsByFirstFit way → IsByFirstFit (after_placing way)
+counted-by_first_fit (first_fit moving) is = is
+counted-by_first_fit (by_placing spots) is = is
+
+-- an answer leaves it so
+pub alloc-by_first_fit : {A : Type 0} (heap : Heap A) (t : Request) (kind : Kind) (fresh : A) (n : ℕ) (answer : Answer) → IsByFirstFit heap.placement →
+    IsByFirstFit (after_alloc heap t kind fresh n answer).heap.placement
+alloc-by_first_fit heap t kind fresh n Granted is = counted-by_first_fit heap.placement is
+alloc-by_first_fit heap t kind fresh n Simulated is = counted-by_first_fit heap.placement is
+alloc-by_first_fit heap t kind fresh n Refused is = counted-by_first_fit heap.placement is
+
+pub realloc-by_first_fit : {A : Type 0} (heap : Heap A) (t : Request) (h : Header) (content : A) (n : ℕ) (answer : Answer) → IsByFirstFit heap.placement →
+    IsByFirstFit (after_realloc heap t h content n answer).heap.placement
+realloc-by_first_fit heap t h content n Granted is = counted-by_first_fit heap.placement is
+realloc-by_first_fit heap t h content n Simulated is = counted-by_first_fit heap.placement is
+realloc-by_first_fit heap t h content n Refused is = counted-by_first_fit heap.placement is
+
 -- a new cell
-module _ (script : Script) (made : ℕ) (heap : Heap Content) (is : AreCellsAfter script made heap.row) where
+module _ (script : Script) (made : ℕ) (heap : Heap Content) (chosen : IsByFirstFit heap.placement) (is : AreCellsAfter script made heap.row) where
   pub allocated : (bytes : ℕ) (kind : Kind) (fresh : Content) (n : ℕ) (answer : Answer) → SuitsKind script kind fresh → n ≡ made + 1 →
       AreCellsAfter script n (after_alloc heap (alloc_request heap bytes) kind fresh n answer).heap.row
   allocated bytes kind fresh n Simulated suits next = later script made n heap.row (omega (arith, next)) is
   allocated bytes kind fresh n Refused suits next = later script made n heap.row (omega (arith, next)) is
   allocated bytes kind fresh n Granted suits next =
       let length = cell_length bytes in
-      let place = place_of-least (headers heap.row) length (omega arith) is.row.spaced in
+      let place = put-by_first_fit (λ at. IsLeastPlace (headers heap.row) length at) heap.placement (headers heap.row) length chosen
+      (place_of-least (headers heap.row) length (omega arith) is.row.spaced) in
       let cell : Cell Content =
-      record { head = record { place = place_of (headers heap.row) length; length = length; kind = kind; level = heap.level; number = n }; content = fresh } in
+      record { head = record { place = place_to_put heap.placement (headers heap.row) length; length = length; kind = kind; level = heap.level; number = n }; content = fresh } in
       record {
         row = IsRow-inserted cell heap.row place.aligned (omega arith) (omega arith) (omega (arith, next)) place.free
             (λ k d lt e. omega (arith, next, e, is.made_before k d lt)) is.row;
@@ -184,7 +210,7 @@ module _ (script : Script) (made : ℕ) (heap : Heap Content) (is : AreCellsAfte
       AreCellsAfter script n (after_realloc heap (realloc_request heap c.head bytes) c.head (resized (cell_length bytes - 16) c.content) n answer).heap.row
   reallocated p c bytes n Simulated e next = later script made n heap.row (omega (arith, next)) is
   reallocated p c bytes n Refused e next = later script made n heap.row (omega (arith, next)) is
-  reallocated p c bytes n Granted e next = by (fits_in_place (headers heap.row) c.head to) refl
+  reallocated p c bytes n Granted e next = chosen_by heap.placement chosen
     where
       to : ℕ
       to = cell_length bytes
@@ -192,19 +218,28 @@ module _ (script : Script) (made : ℕ) (heap : Heap Content) (is : AreCellsAfte
       q : Ptr
       q = pointer_to c.head
 
-      by : (b : Bool) → fits_in_place (headers heap.row) c.head to ≡ b →
+      by : (moving b : Bool) → (not moving && fits_in_place (headers heap.row) c.head to) ≡ b →
           AreCellsAfter script n
           (inserted
           (resized_to c (cond b c.head.place (place_of (headers heap.row) to)) to
           (cond (nat_eq (cond b c.head.place (place_of (headers heap.row) to)) c.head.place) c.head.number n)) (without q heap.row))
-      by true fits =
+      by moving true stays =
+          let fits = (and_parts (not moving) (fits_in_place (headers heap.row) c.head to) stays).1 in
           let there = found-from q (headers heap.row) 0 c.head is.row.spaced (found-own p c e) in
           moved_to p c c.head.place to n next e there.placed (omega arith) (omega arith)
           (fits-free q to (headers heap.row) (fits-words (headers heap.row) c.head to fits))
-      by false full =
+      by moving false full =
           let place = place_of-least (headers heap.row) to (omega arith) is.row.spaced in
           moved_to p c (place_of (headers heap.row) to) to n next e place.aligned (omega arith) (omega arith)
           (free-filter (λ h. not (is_at q h)) (headers heap.row) (place_of (headers heap.row) to) to place.free)
+
+      chosen_by : (way : Placement) → IsByFirstFit way →
+          AreCellsAfter script n
+          (inserted
+          (resized_to c (place_to_grow_to way (headers heap.row) c.head to) to
+          (cond (has_stayed way c.head (place_to_grow_to way (headers heap.row) c.head to)) c.head.number n)) (without q heap.row))
+      chosen_by (first_fit moving) first = by moving (not moving && fits_in_place (headers heap.row) c.head to) refl
+      chosen_by (by_placing spots) first = absurd first
 
   pub cut_down : (p : Ptr) (c : Cell Content) (bytes : ℕ) → cell_at p heap.row ≡ Some c → cell_length bytes ≤ c.head.length →
       AreCellsAfter script made (shortened heap c.head (cell_length bytes) (resized (cell_length bytes - 16) c.content)).row
@@ -253,20 +288,24 @@ abbrev pub cells : Script → Lasting
 cells script = record {
   script = script;
   Counts = λ _. Unit {0};
-  Holds = λ ns heap. AreCounted ns → AreCellsAfter script (length ns) heap.row;
+  Holds = λ ns heap. AreCounted ns → IsByFirstFit heap.placement × AreCellsAfter script (length ns) heap.row;
   Prints = λ _. Unit {0};
   printed = λ _ _ _ _. tt;
-  allocated = λ ns heap bytes kind fresh n answer suits h counted.
-      subst (λ m. AreCellsAfter script m (after_alloc heap (alloc_request heap bytes) kind fresh n answer).heap.row) (one_more n ns counted.0)
-      (allocated script (length ns) heap (h counted.1) bytes kind fresh n answer suits counted.0);
-  reallocated = λ ns heap p c bytes n answer e longer h counted.
-      subst (λ m. AreCellsAfter script m (after_realloc heap (realloc_request heap c.head bytes) c.head (resized (cell_length bytes - 16) c.content) n answer).heap.row)
-      (one_more n ns counted.0) (reallocated script (length ns) heap (h counted.1) p c bytes n answer e counted.0);
-  cut_down = λ ns heap p c bytes e shorter h counted. cut_down script (length ns) heap (h counted) p c bytes e shorter;
-  freed = λ ns heap p h counted. freed script (length ns) heap (h counted) p;
-  rewritten = λ ns heap p f suits h counted. rewritten script (length ns) heap (h counted) p f suits;
+  allocated = λ ns heap bytes kind fresh n answer suits h counted. (
+    alloc-by_first_fit heap (alloc_request heap bytes) kind fresh n answer (h counted.1).0,
+    subst (λ m. AreCellsAfter script m (after_alloc heap (alloc_request heap bytes) kind fresh n answer).heap.row) (one_more n ns counted.0)
+        (allocated script (length ns) heap (h counted.1).0 (h counted.1).1 bytes kind fresh n answer suits counted.0),
+  );
+  reallocated = λ ns heap p c bytes n answer e longer h counted. (
+    realloc-by_first_fit heap (realloc_request heap c.head bytes) c.head (resized (cell_length bytes - 16) c.content) n answer (h counted.1).0,
+    subst (λ m. AreCellsAfter script m (after_realloc heap (realloc_request heap c.head bytes) c.head (resized (cell_length bytes - 16) c.content) n answer).heap.row)
+        (one_more n ns counted.0) (reallocated script (length ns) heap (h counted.1).0 (h counted.1).1 p c bytes n answer e counted.0),
+  );
+  cut_down = λ ns heap p c bytes e shorter h counted. ((h counted).0, cut_down script (length ns) heap (h counted).0 (h counted).1 p c bytes e shorter);
+  freed = λ ns heap p h counted. ((h counted).0, freed script (length ns) heap (h counted).0 (h counted).1 p);
+  rewritten = λ ns heap p f suits h counted. ((h counted).0, rewritten script (length ns) heap (h counted).0 (h counted).1 p f suits);
   marked = λ ns heap h. h;
-  mark_ended = λ ns heap h counted. mark_ended script (length ns) heap (h counted) heap.level;
+  mark_ended = λ ns heap h counted. ((h counted).0, mark_ended script (length ns) heap (h counted).0 (h counted).1 heap.level);
   set = λ ns heap setting h. h;
 }
 
@@ -284,7 +323,7 @@ kinds-allocated script heap bytes kind fresh n Refused suits all = all
 pub kinds-reallocated : (script : Script) (heap : Heap Content) (p : Ptr) (c : Cell Content) (bytes n : ℕ) (answer : Answer) → cell_at p heap.row ≡ Some c →
     AreOfKind script heap → AreOfKind script (after_realloc heap (realloc_request heap c.head bytes) c.head (resized (cell_length bytes - 16) c.content) n answer).heap
 kinds-reallocated script heap p c bytes n Granted e all =
-    All-placed (HoldsItsKind script) (record { head = moved c.head n (realloc_request heap c.head bytes); content = resized (cell_length bytes - 16) c.content })
+    All-placed (HoldsItsKind script) (record { head = moved heap.placement c.head n (realloc_request heap c.head bytes); content = resized (cell_length bytes - 16) c.content })
     (without (pointer_to c.head) heap.row) (suits-resized script c.head.kind c.content (cell_length bytes - 16) (found-cell (HoldsItsKind script) p heap.row c all e))
     (All-filter _ (HoldsItsKind script) heap.row all)
 kinds-reallocated script heap p c bytes n Simulated e all = all

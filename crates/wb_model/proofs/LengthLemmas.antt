@@ -11,6 +11,7 @@ use Rattle.wb_model.specs.declared.heap.Attempt.{Attempt}
 use Rattle.wb_model.specs.declared.run.Outcome.TheVariants.{Cut}
 use Rattle.wb_model.specs.declared.run.Why.TheVariants.{Budget, Ceiling}
 use Rattle.wb_model.specs.declared.script.Script.{Script}
+use Rattle.wb_model.specs.heap.Placement.{placement_of}
 use Rattle.wb_model.specs.heap.Rules.{Request, answer_to, unless_refused}
 use Rattle.wb_model.specs.heap.Space.{Space, space_of}
 use Rattle.wb_model.specs.meaning.State.{State, panics, is_cut, no_cleanup, Process, ends, stops, asks, notes}
@@ -68,10 +69,10 @@ pub heap-uncut : (script : Script) (budget : ℕ) (shape : Shape) (l : ℕ) → 
 heap-uncut script budget shape l le = by last.end refl
   where
     last : Settled
-    last = settled (Limit l) (space_of (Limit l) shape) (process script budget) (before (space_of (Limit l) shape))
+    last = settled (Limit l) (space_of (Limit l) shape) (process script budget (placement_of shape)) (before (space_of (Limit l) shape))
 
     uncut : last.end ≢ stopped (is_cut Ceiling)
-    uncut = settled_uncut _ l _ [] (process script budget) _ le (process-keeps (anything script) budget tt tt)
+    uncut = settled_uncut _ l _ [] (process script budget (placement_of shape)) _ le (process-keeps (anything script) budget (placement_of shape) tt tt)
 
     by : (end : End) → last.end ≡ end → outcome_of end last.state ≢ Cut Ceiling
     by (over way) is e = cc

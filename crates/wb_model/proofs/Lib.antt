@@ -42,6 +42,7 @@ pub mod FollowTexts
 pub mod FreeSlots
 pub mod FreeSlotLemmas
 pub mod Payloads
+pub mod PersistentExamples
 pub mod Rows
 pub mod SetLemmas
 pub mod SetOrder

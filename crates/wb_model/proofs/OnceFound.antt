@@ -5,7 +5,7 @@ use Rattle.std.proofs.lemmas.Bool.{cases_order}
 use Rattle.wb_model.specs.declared.failures.Failing.{Failing}
 use Rattle.wb_model.specs.declared.failures.Failing.TheVariants.{Pair}
 use Rattle.wb_model.specs.declared.failures.Failures.{Failures}
-use Rattle.wb_model.specs.declared.failures.Failures.TheVariants.{Single, Every, Pairs}
+use Rattle.wb_model.specs.declared.failures.Failures.TheVariants.{Single, Every, Pairs, Persistent}
 use Rattle.wb_model.specs.declared.heap.Shape.{Shape}
 use Rattle.wb_model.specs.declared.run.Outcome.{Outcome}
 use Rattle.wb_model.specs.declared.run.Outcome.TheVariants.{Cut}
@@ -122,6 +122,7 @@ module _ (script : Script) (budget : ℕ) (shape : Shape) where
   pub found-run : (failures : Failures) (at : Failing) (r : RunResult) → IsFound failures script budget shape at r → r ≡ run script (rule_for at) budget shape
   found-run Single at r is = among-run (failing_at Single) at r is
   found-run Every at r is = among-run (failing_at Every) at r is
+  found-run Persistent at r is = among-run (failing_at Persistent) at r is
   found-run Pairs at r (inl is) = among-run (failing_at Pairs) at r is
   found-run Pairs at r (inr (i, j, e, is)) = is.run_is ∙ ap (λ f. run script (rule_for f) budget shape) (sym e)
 
@@ -129,6 +130,7 @@ module _ (script : Script) (budget : ℕ) (shape : Shape) where
       (at ≡ at') × (r ≡ r')
   once-found Single at at' r r' is is' = found_once (failing_at Single) at at' r r' is is'
   once-found Every at at' r r' is is' = found_once (failing_at Every) at at' r r' is is'
+  once-found Persistent at at' r r' is is' = found_once (failing_at Persistent) at at' r r' is is'
   once-found Pairs at at' r r' (inl is) (inl is') = found_once (failing_at Pairs) at at' r r' is is'
   once-found Pairs at at' r r' (inl is) (inr (k, l, f, is')) = absurd (found_unfine (failing_at Pairs) at r is is'.alone)
   once-found Pairs at at' r r' (inr (i, j, e, is)) (inl is') = absurd (found_unfine (failing_at Pairs) at' r' is' is.alone)
@@ -138,6 +140,7 @@ module _ (script : Script) (budget : ℕ) (shape : Shape) where
       (at ≡ at') × (why ≡ why')
   once-cut Single at at' why why' is is' = cut_once (failing_at Single) at at' why why' is is'
   once-cut Every at at' why why' is is' = cut_once (failing_at Every) at at' why why' is is'
+  once-cut Persistent at at' why why' is is' = cut_once (failing_at Persistent) at at' why why' is is'
   once-cut Pairs at at' why why' (inl is) (inl is') = cut_once (failing_at Pairs) at at' why why' is is'
   once-cut Pairs at at' why why' (inl is) (inr (k, l, f, is')) = absurd (cut_among_unfine (failing_at Pairs) at why is is'.alone)
   once-cut Pairs at at' why why' (inr (i, j, e, is)) (inl is') = absurd (cut_among_unfine (failing_at Pairs) at' why' is' is.alone)
@@ -147,6 +150,7 @@ module _ (script : Script) (budget : ℕ) (shape : Shape) where
       IsCutShort failures script budget shape at' why → ⊥
   found-uncut Single at at' r why is is' = found_uncut (failing_at Single) at at' r why is is'
   found-uncut Every at at' r why is is' = found_uncut (failing_at Every) at at' r why is is'
+  found-uncut Persistent at at' r why is is' = found_uncut (failing_at Persistent) at at' r why is is'
   found-uncut Pairs at at' r why (inl is) (inl is') = found_uncut (failing_at Pairs) at at' r why is is'
   found-uncut Pairs at at' r why (inl is) (inr (k, l, f, is')) = found_unfine (failing_at Pairs) at r is is'.alone
   found-uncut Pairs at at' r why (inr (i, j, e, is)) (inl is') = cut_among_unfine (failing_at Pairs) at' why is' is.alone
@@ -155,11 +159,13 @@ module _ (script : Script) (budget : ℕ) (shape : Shape) where
   pub found-some : (failures : Failures) (at : Failing) (r : RunResult) → IsFound failures script budget shape at r → IsNoneFound failures script budget shape → ⊥
   found-some Single at r is none = found_unfine (failing_at Single) at r is none
   found-some Every at r is none = found_unfine (failing_at Every) at r is none
+  found-some Persistent at r is none = found_unfine (failing_at Persistent) at r is none
   found-some Pairs at r (inl is) none = found_unfine (failing_at Pairs) at r is none.0
   found-some Pairs at r (inr (i, j, e, is)) none = bad-unfine (pairs i j) is.bad (none.1 i j is.counted is.later)
 
   pub cut-some : (failures : Failures) (at : Failing) (why : Why) → IsCutShort failures script budget shape at why → IsNoneFound failures script budget shape → ⊥
   cut-some Single at why is none = cut_among_unfine (failing_at Single) at why is none
   cut-some Every at why is none = cut_among_unfine (failing_at Every) at why is none
+  cut-some Persistent at why is none = cut_among_unfine (failing_at Persistent) at why is none
   cut-some Pairs at why (inl is) none = cut_among_unfine (failing_at Pairs) at why is none.0
   cut-some Pairs at why (inr (i, j, e, is)) none = cut-unfine (pairs i j) why is.cut (none.1 i j is.counted is.later)

@@ -6,7 +6,7 @@ use Rattle.wb_model.specs.declared.failures.Failing.{Failing}
 use Rattle.wb_model.specs.declared.failures.Failing.TheVariants.{Number, Pair}
 use Rattle.wb_model.specs.declared.failures.Failing.TheVariants as failings
 use Rattle.wb_model.specs.declared.failures.Failures.{Failures}
-use Rattle.wb_model.specs.declared.failures.Failures.TheVariants.{Single, Every, Pairs}
+use Rattle.wb_model.specs.declared.failures.Failures.TheVariants.{Single, Every, Pairs, Persistent}
 use Rattle.wb_model.specs.declared.heap.Shape.{Shape}
 use Rattle.wb_model.specs.declared.part.Part.{Part}
 use Rattle.wb_model.specs.declared.run.Outcome.{Outcome}
@@ -50,11 +50,13 @@ bad_is_uncut (Cut why) e = absurd (false≢true e)
 pub tried-at : (failures : Failures) (part : Part) (last n : ℕ) → IsNumberOf part last n → IsTried failures part last (failing_at failures n)
 tried-at Single part last n is = is
 tried-at Every part last n is = is
+tried-at Persistent part last n is = is
 tried-at Pairs part last n is = is
 
 pub number_before : (failures : Failures) (m n : ℕ) → m < n → comes_before (failing_at failures m) (failing_at failures n) ≡ true
 number_before Single m n lt = lt-ltb m n lt
 number_before Every m n lt = lt-ltb m n lt
+number_before Persistent m n lt = lt-ltb m n lt
 number_before Pairs m n lt = lt-ltb m n lt
 
 pub pair_before : (a b i j : ℕ) → ComesBefore a b i j → comes_before (Pair a b) (Pair i j) ≡ true
@@ -73,12 +75,19 @@ pub before-number : (failures : Failures) (part : Part) (script : Script) (budge
     ((m : ℕ) → part.from ≤ m → m < n → is_fine (runs_of failures script budget shape m) ≡ true) → AreFineBefore failures part script budget shape (failing_at failures n)
 before-number Single part script budget shape n below (Number m) tried e = below m tried.from (ltb-true m n e)
 before-number Single part script budget shape n below (failings.Every m) tried e = absurd tried
+before-number Single part script budget shape n below (failings.From m) tried e = absurd tried
 before-number Single part script budget shape n below (Pair i j) tried e = absurd tried
 before-number Every part script budget shape n below (failings.Every m) tried e = below m tried.from (ltb-true m n e)
+before-number Persistent part script budget shape n below (failings.From m) tried e = below m tried.from (ltb-true m n e)
 before-number Every part script budget shape n below (Number m) tried e = absurd tried
+before-number Every part script budget shape n below (failings.From m) tried e = absurd tried
+before-number Persistent part script budget shape n below (Number m) tried e = absurd tried
+before-number Persistent part script budget shape n below (failings.Every m) tried e = absurd tried
 before-number Every part script budget shape n below (Pair i j) tried e = absurd tried
+before-number Persistent part script budget shape n below (Pair i j) tried e = absurd tried
 before-number Pairs part script budget shape n below (Number m) tried e = below m tried.from (ltb-true m n e)
 before-number Pairs part script budget shape n below (failings.Every m) tried e = absurd tried
+before-number Pairs part script budget shape n below (failings.From m) tried e = absurd tried
 before-number Pairs part script budget shape n below (Pair i j) tried e = absurd (false≢true e)
 
 -- what is tried before a pair is a number of the part, or a pair that comes before
@@ -88,6 +97,7 @@ pub before-pair : (part : Part) (script : Script) (budget : ℕ) (shape : Shape)
     AreFineBefore Pairs part script budget shape (Pair i j)
 before-pair part script budget shape i j fine least (Number m) tried e = fine m tried
 before-pair part script budget shape i j fine least (failings.Every m) tried e = absurd tried
+before-pair part script budget shape i j fine least (failings.From m) tried e = absurd tried
 before-pair part script budget shape i j fine least (Pair a b) tried e = least a b tried.0.from tried.1 tried.2 (before_pair a b i j e)
 
 -- ---- the numbers of a whole part
@@ -161,12 +171,19 @@ module _ (part : Part) (script : Script) (budget : ℕ) (shape : Shape) (start :
       IsFoundIn failures part script budget shape at result → IsFound failures script budget shape at result
   found-all Single within (Number n) result is = (n, refl, record { bad = is.bad; least = below_of Single within n is.tried.made is.least; run_is = is.run_is })
   found-all Single within (failings.Every n) result is = absurd is.tried
+  found-all Single within (failings.From n) result is = absurd is.tried
   found-all Single within (Pair i j) result is = absurd is.tried
   found-all Every within (failings.Every n) result is = (n, refl, record { bad = is.bad; least = below_of Every within n is.tried.made is.least; run_is = is.run_is })
+  found-all Persistent within (failings.From n) result is = (n, refl, record { bad = is.bad; least = below_of Persistent within n is.tried.made is.least; run_is = is.run_is })
   found-all Every within (Number n) result is = absurd is.tried
+  found-all Every within (failings.From n) result is = absurd is.tried
+  found-all Persistent within (Number n) result is = absurd is.tried
+  found-all Persistent within (failings.Every n) result is = absurd is.tried
   found-all Every within (Pair i j) result is = absurd is.tried
+  found-all Persistent within (Pair i j) result is = absurd is.tried
   found-all Pairs within (Number n) result is = inl (n, refl, record { bad = is.bad; least = below_of Pairs within n is.tried.made is.least; run_is = is.run_is })
   found-all Pairs within (failings.Every n) result is = absurd is.tried
+  found-all Pairs within (failings.From n) result is = absurd is.tried
   found-all Pairs within (Pair i j) result is = inr (
     i,
     j,
@@ -185,6 +202,7 @@ module _ (part : Part) (script : Script) (budget : ℕ) (shape : Shape) (start :
       IsFound failures script budget shape at result → IsFoundIn failures part script budget shape at result
   all-found Single within at result (n, e, is) = subst (λ f. IsFoundIn Single part script budget shape f result) (sym e) (number_found Single within n result is)
   all-found Every within at result (n, e, is) = subst (λ f. IsFoundIn Every part script budget shape f result) (sym e) (number_found Every within n result is)
+  all-found Persistent within at result (n, e, is) = subst (λ f. IsFoundIn Persistent part script budget shape f result) (sym e) (number_found Persistent within n result is)
   all-found Pairs within at result (inl (n, e, is)) = subst (λ f. IsFoundIn Pairs part script budget shape f result) (sym e) (number_found Pairs within n result is)
   all-found Pairs within at result (inr (i, j, e, is)) =
       let found : IsFoundIn Pairs part script budget shape (Pair i j) result = record {
@@ -225,15 +243,23 @@ module _ (part : Part) (script : Script) (budget : ℕ) (shape : Shape) (start :
       IsCutIn failures part script budget shape at why → IsCutShort failures script budget shape at why
   cut-all Single within at why (inl is) = cut_without Single at why is
   cut-all Every within at why (inl is) = cut_without Every at why is
+  cut-all Persistent within at why (inl is) = cut_without Persistent at why is
   cut-all Pairs within at why (inl is) = inl (cut_without Pairs at why is)
   cut-all Single within (Number n) why (inr is) = (n, refl, record { cut = is.cut; least = below_of Single within n is.tried.made is.least })
   cut-all Single within (failings.Every n) why (inr is) = absurd is.tried
+  cut-all Single within (failings.From n) why (inr is) = absurd is.tried
   cut-all Single within (Pair i j) why (inr is) = absurd is.tried
   cut-all Every within (failings.Every n) why (inr is) = (n, refl, record { cut = is.cut; least = below_of Every within n is.tried.made is.least })
+  cut-all Persistent within (failings.From n) why (inr is) = (n, refl, record { cut = is.cut; least = below_of Persistent within n is.tried.made is.least })
   cut-all Every within (Number n) why (inr is) = absurd is.tried
+  cut-all Every within (failings.From n) why (inr is) = absurd is.tried
+  cut-all Persistent within (Number n) why (inr is) = absurd is.tried
+  cut-all Persistent within (failings.Every n) why (inr is) = absurd is.tried
   cut-all Every within (Pair i j) why (inr is) = absurd is.tried
+  cut-all Persistent within (Pair i j) why (inr is) = absurd is.tried
   cut-all Pairs within (Number n) why (inr is) = inl (n, refl, record { cut = is.cut; least = below_of Pairs within n is.tried.made is.least })
   cut-all Pairs within (failings.Every n) why (inr is) = absurd is.tried
+  cut-all Pairs within (failings.From n) why (inr is) = absurd is.tried
   cut-all Pairs within (Pair i j) why (inr is) = inr (
     i,
     j,
@@ -251,6 +277,7 @@ module _ (part : Part) (script : Script) (budget : ℕ) (shape : Shape) (start :
       IsCutShort failures script budget shape at why → IsCutIn failures part script budget shape at why
   all-cut Single within at why (n, e, is) = subst (λ f. IsCutIn Single part script budget shape f why) (sym e) (number_cut Single within n why is)
   all-cut Every within at why (n, e, is) = subst (λ f. IsCutIn Every part script budget shape f why) (sym e) (number_cut Every within n why is)
+  all-cut Persistent within at why (n, e, is) = subst (λ f. IsCutIn Persistent part script budget shape f why) (sym e) (number_cut Persistent within n why is)
   all-cut Pairs within at why (inl (n, e, is)) = subst (λ f. IsCutIn Pairs part script budget shape f why) (sym e) (number_cut Pairs within n why is)
   all-cut Pairs within at why (inr (i, j, e, is)) =
       let cut : IsLeastCutIn Pairs part script budget shape (Pair i j) why = record {
@@ -266,6 +293,7 @@ module _ (part : Part) (script : Script) (budget : ℕ) (shape : Shape) (start :
   none-all : (failures : Failures) → last_attempt failures script budget shape ≤ part.to → IsNoneIn failures part script budget shape → IsNoneFound failures script budget shape
   none-all Single within is = all_fine Single script budget shape (λ n lt. is.fine (Number n) (number_of Single within n (omega (arith, lt))))
   none-all Every within is = all_fine Every script budget shape (λ n lt. is.fine (failings.Every n) (number_of Every within n (omega (arith, lt))))
+  none-all Persistent within is = all_fine Persistent script budget shape (λ n lt. is.fine (failings.From n) (number_of Persistent within n (omega (arith, lt))))
   none-all Pairs within is =
       let alone = alone_of within (λ n le. is.fine (Number n) (number_of Pairs within n le)) in
       (alone, all-pairs-fine script budget shape (alone 0) (λ i first le j later. is.fine (Pair i j) (number_of Pairs within i le, first, later)))
@@ -274,17 +302,25 @@ module _ (part : Part) (script : Script) (budget : ℕ) (shape : Shape) (start :
       is_fine (run_at script budget shape at) ≡ true
   fine_at Single fine last (Number n) tried = fine n
   fine_at Single fine last (failings.Every n) tried = absurd tried
+  fine_at Single fine last (failings.From n) tried = absurd tried
   fine_at Single fine last (Pair i j) tried = absurd tried
   fine_at Every fine last (failings.Every n) tried = fine n
+  fine_at Persistent fine last (failings.From n) tried = fine n
   fine_at Every fine last (Number n) tried = absurd tried
+  fine_at Every fine last (failings.From n) tried = absurd tried
+  fine_at Persistent fine last (Number n) tried = absurd tried
+  fine_at Persistent fine last (failings.Every n) tried = absurd tried
   fine_at Every fine last (Pair i j) tried = absurd tried
+  fine_at Persistent fine last (Pair i j) tried = absurd tried
   fine_at Pairs fine last (Number n) tried = fine.0 n
   fine_at Pairs fine last (failings.Every n) tried = absurd tried
+  fine_at Pairs fine last (failings.From n) tried = absurd tried
   fine_at Pairs fine last (Pair i j) tried = fine.1 i j tried.1 tried.2
 
   fine_without : (failures : Failures) → IsNoneFound failures script budget shape → is_fine (runs_of failures script budget shape 0) ≡ true
   fine_without Single fine = fine 0
   fine_without Every fine = fine 0
+  fine_without Persistent fine = fine 0
   fine_without Pairs fine = fine.0 0
 
   all-none : (failures : Failures) → IsNoneFound failures script budget shape → IsNoneIn failures part script budget shape

@@ -1,14 +1,14 @@
 -- What a reallocation and another level keep of a heap with a limit.
 use Rattle.std.proofs.Common.{◌≡◌, ◌≢◌, ℕ, suc, ◌+◌, ◌/◌, ◌%◌, ◌≤◌, ◌<◌, inl, inr, Bool, true, false, not, cond, List, [], ◌∷◌, length, max, filter, find, All, AllPairs, Some, refl, sym, subst, arith}
-use Rattle.std.specs.Prelude.{nat_lt, nat_eq}
+use Rattle.std.specs.Prelude.{nat_lt, nat_eq, ◌&&◌}
 use Rattle.std.proofs.Math.Nat.{mul-mod_left}
-use Rattle.std.proofs.lemmas.Bool.{ltb-true, ltb-false}
+use Rattle.std.proofs.lemmas.Bool.{ltb-true, ltb-false, and_parts}
 use Rattle.std.proofs.lemmas.List.Elements.{All-cons, All-nil, All-filter}
 use Rattle.std.proofs.lemmas.List.Kept.{AllPairs-cons}
 use Rattle.wb_model.specs.declared.heap.Header.{Header}
 use Rattle.wb_model.specs.declared.heap.Ptr.{Ptr}
 use Rattle.wb_model.specs.cells.CellRow.{FitsInPlace, resized_words, with_level}
-use Rattle.wb_model.specs.heap.Heap.{fits_in_place}
+use Rattle.wb_model.specs.heap.Placement.{fits_in_place}
 use Rattle.wb_model.specs.heap.LimitedHeap.{LimitedHeap, IsSoundHeap, IsCellLength, IsFilled, space_in, place_in, place_to_grow, grown_pointer, grown_cell, committed_grown, heap_grown, heap_shortened, heap_reallocated, heap_leveled}
 use Rattle.wb_model.specs.heap.Row.{Cell, headers, end_of, pointer_to, is_at, cell_at, inserted, without, IsSpacedFrom, IsRow, IsFree, Misses, place_of}
 use Rattle.wb_model.proofs.LimitedHeaps.{shape_is, committed_by-is, IsCommitted, place_in-least, place_in-committed}
@@ -72,11 +72,12 @@ pub record IsPlaceToGrow (heap : LimitedHeap) (p : Ptr) (h : Header) (length pla
 
 pub place_to_grow-is : (heap : LimitedHeap) (p : Ptr) (c : Cell (List ℕ)) (length : ℕ) → IsCellLength length → IsSoundHeap heap →
     cell_at p heap.row ≡ Some c → IsPlaceToGrow heap p c.head length (place_to_grow heap c.head length)
-place_to_grow-is heap p c length long is e = by (fits_in_place (headers heap.row) c.head length) refl
+place_to_grow-is heap p c length long is e = by (not heap.shape.moving && fits_in_place (headers heap.row) c.head length) refl
   where
-    by : (b : Bool) → fits_in_place (headers heap.row) c.head length ≡ b →
+    by : (b : Bool) → (not heap.shape.moving && fits_in_place (headers heap.row) c.head length) ≡ b →
         IsPlaceToGrow heap p c.head length (cond b c.head.place (place_of (headers heap.row) length))
-    by true fits =
+    by true stays =
+        let fits = (and_parts (not heap.shape.moving) (fits_in_place (headers heap.row) c.head length) stays).1 in
         let found = found-head p heap.row c e in
         let there = found-from p (headers heap.row) 0 c.head is.row.spaced found in
         let words = subst (λ q. FitsInPlace q length (headers heap.row)) (pointer-at p c.head there.named) (fits-words (headers heap.row) c.head length fits) in

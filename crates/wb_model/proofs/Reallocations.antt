@@ -7,7 +7,7 @@ use Rattle.std.proofs.lemmas.List.{length-take, length-replicate, take_all, drop
 use Rattle.wb_model.specs.declared.heap.Header.{Header}
 use Rattle.wb_model.specs.declared.heap.Ptr.{Ptr}
 use Rattle.wb_model.specs.cells.CellRow.{room_after, Clears, FitsInPlace, resized_words, resized_cell, with_length}
-use Rattle.wb_model.specs.heap.Heap.{fits_in_place}
+use Rattle.wb_model.specs.heap.Placement.{fits_in_place}
 use Rattle.wb_model.specs.heap.LimitedHeap.{zero_words}
 use Rattle.wb_model.specs.heap.Row.{Cell, headers, end_of, pointer_to, is_at, cell_at, inserted, without, changed, IsSpacedFrom, Misses, IsFree}
 use Rattle.wb_model.proofs.Rows.{head-cell_at, headers-without, spaced-filter}

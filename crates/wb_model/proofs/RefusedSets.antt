@@ -12,6 +12,7 @@ use Rattle.wb_model.specs.declared.heap.Rule.TheVariants.{Set}
 use Rattle.wb_model.specs.declared.heap.Shape.{Shape}
 use Rattle.wb_model.specs.declared.run.Why.TheVariants.{Ceiling}
 use Rattle.wb_model.specs.declared.script.Script.{Script}
+use Rattle.wb_model.specs.heap.Placement.{placement_of}
 use Rattle.wb_model.specs.heap.Rules.{Request, answer_to, refusal_of, unless_refused}
 use Rattle.wb_model.specs.heap.Space.{Space, space_of}
 use Rattle.wb_model.specs.meaning.State.{State, Process, ends, stops, asks, notes, is_cut}
@@ -222,12 +223,12 @@ module _ (script : Script) (budget : ℕ) (shape : Shape) (r : Rule) where
   pub refused-ascending : IsSet (refused_numbers trace)
   refused-ascending = refused-ascend 0 trace numbered
 
-  same : IsSame (settled r (space_of r shape) (process script budget) (before (space_of r shape)))
-      (settled (Set (refused_numbers trace)) (space_of (Set (refused_numbers trace)) shape) (process script budget) (before (space_of (Set (refused_numbers trace)) shape)))
+  same : IsSame (settled r (space_of r shape) (process script budget (placement_of shape)) (before (space_of r shape)))
+      (settled (Set (refused_numbers trace)) (space_of (Set (refused_numbers trace)) shape) (process script budget (placement_of shape)) (before (space_of (Set (refused_numbers trace)) shape)))
   same =
-      as-set r (refused_numbers trace) (space_of r shape) (space_of (Set (refused_numbers trace)) shape) (process script budget) _ _
+      as-set r (refused_numbers trace) (space_of r shape) (space_of (Set (refused_numbers trace)) shape) (process script budget (placement_of shape)) _ _
       (record { one = before-lines (space_of r shape); other = before-lines (space_of (Set (refused_numbers trace)) shape); trace = refl })
-      (process-takes-alike script budget)
+      (process-takes-alike script budget (placement_of shape))
       (record { each = refused-tells 0 trace numbered; past = λ n later. refused-past 0 trace numbered n (omega (arith, later)) })
 
   pub refused-same : IsSameButRefusals (run script r budget shape) (set_run script budget shape (refused_numbers trace))
@@ -239,10 +240,10 @@ module _ (script : Script) (budget : ℕ) (shape : Shape) (r : Rule) where
   }
     where
       x : Settled
-      x = settled r (space_of r shape) (process script budget) (before (space_of r shape))
+      x = settled r (space_of r shape) (process script budget (placement_of shape)) (before (space_of r shape))
 
       y : Settled
-      y = settled (Set (refused_numbers trace)) (space_of (Set (refused_numbers trace)) shape) (process script budget) (before (space_of (Set (refused_numbers trace)) shape))
+      y = settled (Set (refused_numbers trace)) (space_of (Set (refused_numbers trace)) shape) (process script budget (placement_of shape)) (before (space_of (Set (refused_numbers trace)) shape))
 
   -- where all sets are fine, so is the run under any rule
   pub fine-by-sets : AreAllSetsFine script budget shape → is_fine (run script r budget shape) ≡ true

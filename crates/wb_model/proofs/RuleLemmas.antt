@@ -1,11 +1,11 @@
 -- Rules that say the same of the attempts made so far: a heap is as long under each, and a rule that fits under one fits under
 -- the other. The failures of a sweep say the same as failure 0 of the attempts before.
 use Rattle.std.proofs.Common.{◌≡◌, ℕ, ◌+◌, ◌%◌, ◌<◌, ◌≤◌, false, refl, ap, ◌∙◌, sym, subst, inl, inr, arith, Some, None, cond}
-use Rattle.std.specs.Prelude.{nat_eq}
+use Rattle.std.specs.Prelude.{nat_eq, nat_le}
 use Rattle.std.proofs.Math.Nat.{mod-eq_of_lt}
-use Rattle.std.proofs.lemmas.Bool.{ne_eqb}
+use Rattle.std.proofs.lemmas.Bool.{lt-leb, ne_eqb}
 use Rattle.wb_model.specs.declared.failures.Failures.{Failures}
-use Rattle.wb_model.specs.declared.failures.Failures.TheVariants.{Single, Every, Pairs}
+use Rattle.wb_model.specs.declared.failures.Failures.TheVariants.{Single, Every, Pairs, Persistent}
 use Rattle.wb_model.specs.declared.heap.Answer.TheVariants.{Simulated}
 use Rattle.wb_model.specs.declared.heap.Rule.{Rule}
 use Rattle.wb_model.specs.declared.heap.Rule.TheVariants.{Number}
@@ -38,6 +38,7 @@ pub failures-no_limit : (failures : Failures) (n : ℕ) → IsNoLimit (rule_of f
 failures-no_limit Single n = refl
 failures-no_limit Every n = refl
 failures-no_limit Pairs n = refl
+failures-no_limit Persistent n = refl
 
 zero-alone : (number end : ℕ) → 1 ≤ number → refusal_of (Number 0) number end ≡ None
 zero-alone number end first = unsimulated-open (Number 0) number end refl (ne_eqb 0 number (λ z. omega (arith, z, first)))
@@ -50,16 +51,20 @@ pub zero-refuses_none : (failures : Failures) (number end : ℕ) → 1 ≤ numbe
 zero-refuses_none Single number end first = zero-alone number end first
 zero-refuses_none Every number end first = refl
 zero-refuses_none Pairs number end first = zero-alone number end first
+zero-refuses_none Persistent number end first = refl
+
+positive : (n number : ℕ) → number < n → nat_eq n 0 ≡ false
+positive n number before = ne_eqb n 0 (λ z. omega (arith, z, before))
 
 -- and no failure refuses an attempt with a lesser number
 pub later-refuses_none : (failures : Failures) (n number end : ℕ) → 1 ≤ number → number < n → refusal_of (rule_of failures n) number end ≡ None
 later-refuses_none Single n number end first before = later-alone n number end before
 later-refuses_none Pairs n number end first before = later-alone n number end before
-later-refuses_none Every n number end first before = unsimulated-open (rule_of Every n) number end refl (ap (λ b. cond b false (nat_eq (number % n) 0)) positive ∙ undivided)
+later-refuses_none Persistent n number end first before =
+    unsimulated-open (rule_of Persistent n) number end refl (ap (λ b. cond b false (nat_le n number)) (positive n number before) ∙ lt-leb n number before)
+later-refuses_none Every n number end first before =
+    unsimulated-open (rule_of Every n) number end refl (ap (λ b. cond b false (nat_eq (number % n) 0)) (positive n number before) ∙ undivided)
   where
-    positive : nat_eq n 0 ≡ false
-    positive = ne_eqb n 0 (λ z. omega (arith, z, before))
-
     undivided : nat_eq (number % n) 0 ≡ false
     undivided = ne_eqb (number % n) 0 (λ z. omega (arith, z, mod-eq_of_lt before, first))
 

@@ -1,8 +1,9 @@
 -- Two tiny states that are the same but for numbers, and states that aren't: what the relation asks of each part.
-use Rattle.std.proofs.Common.{◌≡◌, ℕ, ◌+◌, [], ◌∷◌, List, inl, inr, refl, arith}
+use Rattle.std.proofs.Common.{◌≡◌, ℕ, ◌+◌, false, [], ◌∷◌, List, inl, inr, refl, arith}
 use Rattle.std.specs.Prelude.{pos}
 use Rattle.wb_model.specs.declared.heap.Kind.TheVariants.{Raw, Cleanup}
 use Rattle.wb_model.specs.declared.heap.Ptr.{Ptr}
+use Rattle.wb_model.specs.heap.Placement.{first_fit}
 use Rattle.wb_model.specs.heap.Row.{Cell}
 use Rattle.wb_model.specs.heap.Rules.{never}
 use Rattle.wb_model.specs.meaning.State.{Content, words, none, pointer, State, null}
@@ -18,7 +19,7 @@ cells number level =
 -- a script's state with these cells and one variable, which points to the place of the second with a number
 abbrev state : ℕ → ℕ → ℕ → State
 state number level held = record {
-  heap = record { row = cells number level; level = 1; setting = never };
+  heap = record { row = cells number level; level = 1; setting = never; placement = first_fit false };
   cleanup = record { place = 0; number = 1 };
   items = [];
   slots = 8;
@@ -39,6 +40,7 @@ same_but_for_the_number = record {
         (one_beside (record { head = record { place = refl; length = refl; kind = refl; level = refl; number = inr (inr (inl (refl, refl))) }; content = same_words _ }) none_beside);
     level = refl;
     setting = refl;
+    placement = refl;
   };
   cleanup = record { place = refl; number = inr (inl (refl, refl)) };
   items = none_beside;

@@ -1,5 +1,5 @@
 -- Heaps that are the same but for numbers: what they are asked is the same, and so is what an answer, a release or a mark leaves.
-use Rattle.std.proofs.Common.{◌≡◌, ℕ, ◌+◌, ◌-◌, Bool, not, ◌&&◌, ◌||◌, List, inr, refl, ap, cond, Option, Some, None}
+use Rattle.std.proofs.Common.{◌≡◌, ℕ, ◌+◌, ◌-◌, Bool, not, ◌&&◌, ◌||◌, List, inr, refl, ap, ◌∙◌, cond, Option, Some, None}
 use Rattle.std.specs.Prelude.{nat_eq, nat_lt, nat_le}
 use Rattle.wb_model.specs.declared.heap.Answer.{Answer}
 use Rattle.wb_model.specs.declared.heap.Answer.TheVariants.{Granted, Simulated, Refused}
@@ -8,7 +8,8 @@ use Rattle.wb_model.specs.declared.heap.Kind.{Kind}
 use Rattle.wb_model.specs.declared.heap.Panic.{Panic}
 use Rattle.wb_model.specs.declared.heap.Panic.TheVariants.{Alloc}
 use Rattle.wb_model.specs.declared.heap.Ptr.{Ptr}
-use Rattle.wb_model.specs.heap.Heap.{Heap, attempt_counted, alloc_request, after_alloc, fits_in_place, realloc_place, realloc_request, moved, after_realloc, shortened, is_cleanup, cells_of_level, cells_of_all_levels, lowest, checked, lower, lowered, after_mark, after_mark_end, mark_end_refusal}
+use Rattle.wb_model.specs.heap.Heap.{Heap, attempt_counted, alloc_request, after_alloc, realloc_request, moved, after_realloc, shortened, is_cleanup, cells_of_level, cells_of_all_levels, lowest, checked, lower, lowered, after_mark, after_mark_end, mark_end_refusal}
+use Rattle.wb_model.specs.heap.Placement.{Placement, first_fit, by_placing, after_placing, fits_in_place, has_stayed, next_spot, place_to_grow_to, place_to_put, realloc_place}
 use Rattle.wb_model.specs.heap.Row.{Cell, headers, end_of, pointer_to, cell_at, without, inserted, changed, place_from, cell_length}
 use Rattle.wb_model.specs.heap.Rules.{Request, is_due, after_attempt}
 use Rattle.wb_model.specs.meaning.State.{Content}
@@ -26,7 +27,7 @@ module _ {names : Names} where
 
   pub with_row-beside : {h g : Heap Content} {xs ys : List (Cell Content)} → AllBeside (IsSameCell names) xs ys → IsSameHeap names h g →
       IsSameHeap names (record h { row = xs }) (record g { row = ys })
-  with_row-beside all s = record { row = all; level = s.level; setting = s.setting }
+  with_row-beside all s = record { row = all; level = s.level; setting = s.setting; placement = s.placement }
 
   pub end-same : {h g : Header} → IsSameHeader names h g → end_of g ≡ end_of h
   end-same s = ap_two ◌+◌ s.place s.length
@@ -47,6 +48,14 @@ module _ {names : Names} where
   place_from-same at other length e (one_beside {x = h} {y = g} s rest) =
       cond-beside (λ (x y : ℕ). y ≡ x) _ _ _ _ _ _ (ap_two nat_le (ap (λ n. n + length) e) s.place) e
       (place_from-same (end_of h) (end_of g) length (end-same s) rest)
+
+  pub put-same : {way other : Placement} {hs gs : List Header} (length : ℕ) → other ≡ way → AllBeside (IsSameHeader names) hs gs →
+      place_to_put other gs length ≡ place_to_put way hs length
+  put-same {way = way} {hs = hs} {gs = gs} length e all = ap (λ (w : Placement). place_to_put w gs length) e ∙ by way
+    where
+      by : (way : Placement) → place_to_put way gs length ≡ place_to_put way hs length
+      by (first_fit moving) = place_from-same 0 0 length refl all
+      by (by_placing spots) = refl
 
   lower-beside : {h g : Header} (level other : ℕ) → other ≡ level → IsSameHeader names h g → IsSameHeader names (lower level h) (lower other g)
   lower-beside {h = h} {g = g} level other e s =
@@ -88,11 +97,11 @@ module _ {names : Names} where
       cond-beside (λ (x y : Option Panic). y ≡ x) _ _ _ _ _ _ (ap (λ l. nat_eq l 0) s.level) refl (level-check n s)
 
   pub mark-beside : {h g : Heap Content} → IsSameHeap names h g → IsSameHeap names (after_mark h) (after_mark g)
-  mark-beside s = record { row = s.row; level = ap (λ l. l + 1) s.level; setting = s.setting }
+  mark-beside s = record { row = s.row; level = ap (λ l. l + 1) s.level; setting = s.setting; placement = s.placement }
 
   pub mark_end-beside : {h g : Heap Content} → IsSameHeap names h g → IsSameHeap names (after_mark_end h) (after_mark_end g)
   mark_end-beside {h = h} {g = g} s =
-      record { row = lowered-beside h.level g.level s.level s.row; level = ap (λ l. l - 1) s.level; setting = s.setting }
+      record { row = lowered-beside h.level g.level s.level s.row; level = ap (λ l. l - 1) s.level; setting = s.setting; placement = s.placement }
 
 -- a request by its parts
 abbrev request : ℕ → ℕ → Bool → Request
@@ -100,7 +109,7 @@ request length place due = record { length = length; place = place; due = due }
 
 pub alloc_request-same : {names : Names} {h g : Heap Content} (bytes : ℕ) → IsSameHeap names h g → alloc_request g bytes ≡ alloc_request h bytes
 alloc_request-same bytes s =
-    ap_two (request (cell_length bytes)) (place_from-same 0 0 (cell_length bytes) refl (headers-beside s.row)) (ap is_due s.setting)
+    ap_two (request (cell_length bytes)) (put-same (cell_length bytes) s.placement (headers-beside s.row)) (ap is_due s.setting)
 
 -- what depends on which numbers are equal
 module _ {w : Renaming} (is : IsRenaming w) where
@@ -131,28 +140,44 @@ module _ {w : Renaming} (is : IsRenaming w) where
       (ap_two ◌||◌ (ap_two nat_le (ap (λ p. p + length) s.place) t.place) (ap_two nat_le (end-same t) s.place)))
       (fits-same length s rest)
 
-  realloc_place-same : {h g : Header} {hs gs : List Header} (length : ℕ) → IsSameHeader w.names h g → AllBeside (IsSameHeader w.names) hs gs →
-      realloc_place gs g length ≡ realloc_place hs h length
-  realloc_place-same length s all =
-      cond-beside (λ (x y : ℕ). y ≡ x) _ _ _ _ _ _ (fits-same length s all) s.place (place_from-same 0 0 length refl all)
+  realloc_place-same : {h g : Header} {hs gs : List Header} (moving : Bool) (length : ℕ) → IsSameHeader w.names h g → AllBeside (IsSameHeader w.names) hs gs →
+      realloc_place moving gs g length ≡ realloc_place moving hs h length
+  realloc_place-same moving length s all =
+      cond-beside (λ (x y : ℕ). y ≡ x) _ _ _ _ _ _ (ap (λ b. not moving && b) (fits-same length s all)) s.place (place_from-same 0 0 length refl all)
+
+  grow-same : {way other : Placement} {h g : Header} {hs gs : List Header} (length : ℕ) → other ≡ way → IsSameHeader w.names h g → AllBeside (IsSameHeader w.names) hs gs →
+      place_to_grow_to other gs g length ≡ place_to_grow_to way hs h length
+  grow-same {way = way} {h = h} {g = g} {hs = hs} {gs = gs} length e s all = ap (λ (u : Placement). place_to_grow_to u gs g length) e ∙ by way
+    where
+      by : (way : Placement) → place_to_grow_to way gs g length ≡ place_to_grow_to way hs h length
+      by (first_fit moving) = realloc_place-same moving length s all
+      by (by_placing spots) = ap (λ at. cond (next_spot spots).stays at (next_spot spots).place) s.place
+
+  stayed-same : {way other : Placement} {h g : Header} {place to : ℕ} → other ≡ way → to ≡ place → IsSameHeader w.names h g →
+      has_stayed other g to ≡ has_stayed way h place
+  stayed-same {way = way} {h = h} {g = g} {place = place} {to = to} e at s = ap (λ (u : Placement). has_stayed u g to) e ∙ by way
+    where
+      by : (way : Placement) → has_stayed way g to ≡ has_stayed way h place
+      by (first_fit moving) = ap_two nat_eq at s.place
+      by (by_placing spots) = refl
 
   pub realloc_request-same : {h g : Heap Content} {c d : Header} (bytes : ℕ) → IsSameHeap w.names h g → IsSameHeader w.names c d →
       realloc_request g d bytes ≡ realloc_request h c bytes
   realloc_request-same bytes s t =
-      ap_two (request (cell_length bytes)) (realloc_place-same (cell_length bytes) t (headers-beside s.row)) (ap is_due s.setting)
+      ap_two (request (cell_length bytes)) (grow-same (cell_length bytes) s.placement t (headers-beside s.row)) (ap is_due s.setting)
 
   pub shortened-beside : {h g : Heap Content} {c d : Header} (length : ℕ) {one other : Content} → IsSameHeap w.names h g → IsSameHeader w.names c d →
       IsSameContent w.names one other → IsSameHeap w.names (shortened h c length one) (shortened g d length other)
   shortened-beside {c = c} {d = d} length s t same =
       let head : IsSameHeader w.names (record c { length = length }) (record d { length = length }) =
       record { place = t.place; length = refl; kind = t.kind; level = t.level; number = t.number } in
-      record { row = inserted-beside (cell-beside head same) (without-beside (pointer_to-beside t) s.row); level = s.level; setting = s.setting }
+      record { row = inserted-beside (cell-beside head same) (without-beside (pointer_to-beside t) s.row); level = s.level; setting = s.setting; placement = s.placement }
 
   pub one_more-extends : Extends w.names (one_more w).names
   one_more-extends a b r = inr r
 
   counted-beside : {h g : Heap Content} → IsSameHeap w.names h g → IsSameHeap (one_more w).names (attempt_counted h) (attempt_counted g)
-  counted-beside s = record { row = row-later one_more-extends s.row; level = s.level; setting = ap after_attempt s.setting }
+  counted-beside s = record { row = row-later one_more-extends s.row; level = s.level; setting = ap after_attempt s.setting; placement = ap after_placing s.placement }
 
   -- a heap after an answer, and the pointer given
   pub alloc-beside : {h g : Heap Content} {one other : Content} (t u : Request) (kind : Kind) (answer : Answer) → u ≡ t → IsSameHeap w.names h g → IsSameContent w.names one other →
@@ -170,17 +195,18 @@ module _ {w : Renaming} (is : IsRenaming w) where
         number = new-renamed w;
       } in
       let counted = counted-beside s in (
-        record { row = inserted-beside (cell-beside head (content-later one_more-extends same)) counted.row; level = s.level; setting = counted.setting },
+        record { row = inserted-beside (cell-beside head (content-later one_more-extends same)) counted.row; level = s.level; setting = counted.setting; placement = counted.placement },
         both_some (pointer_to-beside head),
       )
 
-  moved-beside : {c d : Header} (t u : Request) → u ≡ t → IsSameHeader w.names c d → IsSameHeader (one_more w).names (moved c (w.made + 1) t) (moved d (w.other_made + 1) u)
-  moved-beside {c = c} {d = d} t u e s = record {
+  moved-beside : {way other : Placement} {c d : Header} (t u : Request) → other ≡ way → u ≡ t → IsSameHeader w.names c d →
+      IsSameHeader (one_more w).names (moved way c (w.made + 1) t) (moved other d (w.other_made + 1) u)
+  moved-beside {c = c} {d = d} t u chosen e s = record {
     place = ap (λ (r : Request). r.place) e;
     length = ap (λ (r : Request). r.length) e;
     kind = s.kind;
     level = s.level;
-    number = cond-beside (Renames (one_more w).names) _ _ _ _ _ _ (ap_two nat_eq (ap (λ (r : Request). r.place) e) s.place) (one_more-extends c.number d.number s.number) (new-renamed w);
+    number = cond-beside (Renames (one_more w).names) _ _ _ _ _ _ (stayed-same chosen (ap (λ (r : Request). r.place) e) s) (one_more-extends c.number d.number s.number) (new-renamed w);
   }
 
   pub realloc-beside : {h g : Heap Content} {c d : Header} {one other : Content} (t u : Request) (answer : Answer) → u ≡ t → IsSameHeap w.names h g → IsSameHeader w.names c d → IsSameContent w.names one other →
@@ -189,9 +215,9 @@ module _ {w : Renaming} (is : IsRenaming w) where
   realloc-beside t u Simulated e s head same = (counted-beside s, neither)
   realloc-beside t u Refused e s head same = (counted-beside s, neither)
   realloc-beside t u Granted e s head same =
-      let m = moved-beside t u e head in
+      let m = moved-beside t u s.placement e head in
       let counted = counted-beside s in
       let kept = row-later one_more-extends (without-beside (pointer_to-beside head) s.row) in (
-        record { row = inserted-beside (cell-beside m (content-later one_more-extends same)) kept; level = s.level; setting = counted.setting },
+        record { row = inserted-beside (cell-beside m (content-later one_more-extends same)) kept; level = s.level; setting = counted.setting; placement = counted.placement },
         both_some (pointer_to-beside m),
       )

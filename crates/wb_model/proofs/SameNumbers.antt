@@ -139,7 +139,7 @@ module _ {names more : Names} (x : Extends names more) where
   row-later all = all-weaker (λ c d r. cell-later r) all
 
   pub heap-later : {h g : Heap Content} → IsSameHeap names h g → IsSameHeap more h g
-  heap-later s = record { row = row-later s.row; level = s.level; setting = s.setting }
+  heap-later s = record { row = row-later s.row; level = s.level; setting = s.setting; placement = s.placement }
 
   pub item-later : {i j : Item} → IsSameItem names i j → IsSameItem more i j
   item-later (same_free s) = same_free (pointer-later s)

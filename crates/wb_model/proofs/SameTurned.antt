@@ -65,7 +65,7 @@ module _ {names : Names} where
   cell-turned s = record { head = header-turned s.head; content = content-turned s.content }
 
   heap-turned : {h g : Heap Content} → IsSameHeap names h g → IsSameHeap (turned_names names) g h
-  heap-turned s = record { row = all-turned (λ c d r. cell-turned r) s.row; level = sym s.level; setting = sym s.setting }
+  heap-turned s = record { row = all-turned (λ c d r. cell-turned r) s.row; level = sym s.level; setting = sym s.setting; placement = sym s.placement }
 
   item-turned : {i j : Item} → IsSameItem names i j → IsSameItem (turned_names names) j i
   item-turned (same_free s) = same_free (pointer-turned s)
@@ -124,7 +124,7 @@ module _ {names : Names} where
   pending-turned (same_main_caught code) = same_main_caught code
 
   pub progress-turned : {p q : Progress} → IsSameProgress names p q → IsSameProgress (turned_names names) q p
-  progress-turned same_not_begun = same_not_begun
+  progress-turned (same_not_begun placement) = same_not_begun placement
   progress-turned (same_going pieces way s) = same_going (all-turned (λ p q r. pending-turned r) pieces) (way-turned way) (state-turned s)
   progress-turned (same_stopped stop s) = same_stopped stop (state-turned s)
 

@@ -15,6 +15,7 @@ use Rattle.wb_model.specs.declared.run.Outcome.TheVariants.{Cut}
 use Rattle.wb_model.specs.declared.run.RunResult.{RunResult}
 use Rattle.wb_model.specs.declared.run.Why.TheVariants.{Ceiling}
 use Rattle.wb_model.specs.declared.script.Script.{Script}
+use Rattle.wb_model.specs.heap.Placement.{placement_of}
 use Rattle.wb_model.specs.heap.Rules.{Request, answer_to, refusal_of, unless_refused}
 use Rattle.wb_model.specs.heap.Space.{Space, space_of}
 use Rattle.wb_model.specs.meaning.State.{Process, ends, stops, asks, notes, is_cut}
@@ -65,19 +66,19 @@ module _ (script : Script) (budget : ℕ) (shape : Shape) where
   told = set_run script budget shape
 
   pub none-fails : told [] ≡ runs_of Single script budget shape 0
-  none-fails = ap result_of (settled-alike (Number 0) (Set []) alike (space_of (Number 0) shape) (process script budget) (before (space_of (Number 0) shape)))
+  none-fails = ap result_of (settled-alike (Number 0) (Set []) alike (space_of (Number 0) shape) (process script budget (placement_of shape)) (before (space_of (Number 0) shape)))
     where
       alike : (number end : ℕ) → 1 ≤ number → refusal_of (Set []) number end ≡ refusal_of (Number 0) number end
       alike number end one = sym (unsimulated-open (Number 0) number end refl (ne_eqb 0 number (λ z. omega (arith, z, one))))
 
   pub one-fails : (n : ℕ) → told (n ∷ []) ≡ runs_of Single script budget shape n
-  one-fails n = ap result_of (settled-alike (Number n) (Set (n ∷ [])) alike (space_of (Number n) shape) (process script budget) (before (space_of (Number n) shape)))
+  one-fails n = ap result_of (settled-alike (Number n) (Set (n ∷ [])) alike (space_of (Number n) shape) (process script budget (placement_of shape)) (before (space_of (Number n) shape)))
     where
       alike : (number end : ℕ) → 1 ≤ number → refusal_of (Set (n ∷ [])) number end ≡ refusal_of (Number n) number end
       alike number end one = ap (λ b. cond b (Some Simulated) None) (or_false (nat_eq n number))
 
   pub two-fail : (i j : ℕ) → told (i ∷ j ∷ []) ≡ pair_run script budget shape i j
-  two-fail i j = ap result_of (settled-alike (Pair i j) (Set (i ∷ j ∷ [])) alike (space_of (Pair i j) shape) (process script budget) (before (space_of (Pair i j) shape)))
+  two-fail i j = ap result_of (settled-alike (Pair i j) (Set (i ∷ j ∷ [])) alike (space_of (Pair i j) shape) (process script budget (placement_of shape)) (before (space_of (Pair i j) shape)))
     where
       alike : (number end : ℕ) → 1 ≤ number → refusal_of (Set (i ∷ j ∷ [])) number end ≡ refusal_of (Pair i j) number end
       alike number end one = ap (λ b. cond (nat_eq i number || b) (Some Simulated) None) (or_false (nat_eq j number))

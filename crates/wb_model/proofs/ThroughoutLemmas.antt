@@ -14,6 +14,7 @@ use Rattle.wb_model.specs.declared.run.Outcome.TheVariants.{Ended}
 use Rattle.wb_model.specs.declared.script.Script.{Script}
 use Rattle.wb_model.specs.heap.Row.{headers}
 use Rattle.wb_model.specs.heap.Heap.{cells_of_all_levels}
+use Rattle.wb_model.specs.heap.Placement.{Placement, placement_of}
 use Rattle.wb_model.specs.heap.Rules.{answer_to}
 use Rattle.wb_model.specs.heap.Space.{Space, space_of}
 use Rattle.wb_model.specs.meaning.State.{State, Way, goes_on, returns, leaves, Query, heap_note, available_note, compress_note, panics, is_cut, no_cleanup, Process, ends, stops, asks, notes}
@@ -55,9 +56,9 @@ module _ (L : Lasting) (budget : ℕ) where
   started-keeps ns None st f = (refl, (f, tt))
   started-keeps ns (Some p) st f = and_then-alike B _ _ _ _ _ (meaning-keeps ns _ _ _ f) (λ ns w st f. main_trapped-keeps ns _ w st f)
 
-  pub process-keeps : L.Holds [] start.heap → L.Prints [] → Keeps B [] (process L.script budget)
+  pub process-keeps : (placement : Placement) → L.Holds [] (start placement).heap → L.Prints [] → Keeps B [] (process L.script budget placement)
   unfolding process
-  process-keeps first none = (allocate-alike B _ _ _ start _ _ tt ((omega arith, omega arith), first, none) started-keeps).1
+  process-keeps placement first none = (allocate-alike B _ _ _ (start placement) _ _ tt ((omega arith, omega arith), first, none) started-keeps).1
 
 -- what follows from a lasting fact, where attempts are numbered in order
 throughout : (L : Lasting) (P : ℕ → State → Type 0) → ((ns : List ℕ) (st : State) → AreCounted ns → Fine L ns st → P (length ns) st) →
@@ -76,13 +77,17 @@ throughout L P is ns (notes q p) k counted = ((k.0.0, is ns k.0.0 counted k.0.1,
 abbrev HasCells : Script → ℕ → State → Type 0
 HasCells script made st = AreCellsAfter script made st.heap.row
 
-pub process-throughout : (script : Script) (budget : ℕ) → Throughout (HasCells script) 0 (process script budget)
-process-throughout script budget =
-    throughout (between (cells script) 0 budget) (HasCells script) (λ ns st counted f. f.1 counted) [] (process script budget) (process-keeps (cells script) budget (λ counted. record {
-      row = record { spaced = tt; numbered = λ i j d lt end. absurd (omega (arith, end)) };
-      made_before = All-nil _;
-      kinds = All-nil _;
-    }) tt) tt
+pub process-throughout : (script : Script) (budget : ℕ) (shape : Shape) → Throughout (HasCells script) 0 (process script budget (placement_of shape))
+process-throughout script budget shape =
+    throughout (between (cells script) 0 budget) (HasCells script) (λ ns st counted f. (f.1 counted).1) [] (process script budget (placement_of shape))
+    (process-keeps (cells script) budget (placement_of shape) (λ counted. (
+      tt,
+      record {
+        row = record { spaced = tt; numbered = λ i j d lt end. absurd (omega (arith, end)) };
+        made_before = All-nil _;
+        kinds = All-nil _;
+      },
+    )) tt) tt
 
 abbrev HasPrinted : ℕ → State → Type 0
 HasPrinted made st = All ArePrintable st.lines
@@ -91,9 +96,10 @@ HasPrinted made st = All ArePrintable st.lines
 abbrev lines : Script → Lasting
 lines script = record (anything script) { Prints = All ArePrintable; printed = λ lines line is are. All-push ArePrintable lines line are is }
 
-process-prints : (script : Script) (budget : ℕ) → Throughout HasPrinted 0 (process script budget)
-process-prints script budget =
-    throughout (between (lines script) 0 budget) HasPrinted (λ ns st counted f. f.2) [] (process script budget) (process-keeps (lines script) budget tt (All-nil ArePrintable)) tt
+process-prints : (script : Script) (budget : ℕ) (placement : Placement) → Throughout HasPrinted 0 (process script budget placement)
+process-prints script budget placement =
+    throughout (between (lines script) 0 budget) HasPrinted (λ ns st counted f. f.2) [] (process script budget placement)
+    (process-keeps (lines script) budget placement tt (All-nil ArePrintable)) tt
 
 -- each attempt tells whether the setting at the time refuses it
 tells : (L : Lasting) (ns : List ℕ) (p : Process) → Keeps L ns p → TellsSettings p
@@ -102,8 +108,9 @@ tells L ns (stops stop st) k = tt
 tells L ns (asks t cut go) k = (k.1, λ n a. tells L (n ∷ ns) (go n a) (k.3 n a))
 tells L ns (notes q p) k = tells L ns p k.1
 
-pub process-tells : (script : Script) (budget : ℕ) → TellsSettings (process script budget)
-process-tells script budget = tells (between (anything script) 0 budget) [] (process script budget) (process-keeps (anything script) budget tt tt)
+pub process-tells : (script : Script) (budget : ℕ) (placement : Placement) → TellsSettings (process script budget placement)
+process-tells script budget placement =
+    tells (between (anything script) 0 budget) [] (process script budget placement) (process-keeps (anything script) budget placement tt tt)
 
 -- a refusal of either kind makes no difference to what follows
 abbrev pub TakesRefusalsAlike : Process → Type 0
@@ -118,9 +125,9 @@ takes-alike L ns (stops stop st) k = tt
 takes-alike L ns (asks t cut go) k = (k.2, λ n a. takes-alike L (n ∷ ns) (go n a) (k.3 n a))
 takes-alike L ns (notes q p) k = takes-alike L ns p k.1
 
-pub process-takes-alike : (script : Script) (budget : ℕ) → TakesRefusalsAlike (process script budget)
-process-takes-alike script budget =
-    takes-alike (between (anything script) 0 budget) [] (process script budget) (process-keeps (anything script) budget tt tt)
+pub process-takes-alike : (script : Script) (budget : ℕ) (placement : Placement) → TakesRefusalsAlike (process script budget placement)
+process-takes-alike script budget placement =
+    takes-alike (between (anything script) 0 budget) [] (process script budget placement) (process-keeps (anything script) budget placement tt tt)
 
 -- the state in which a run ends or stops
 settled-holds : (P : ℕ → State → Type 0) (rule : Rule) (space : Space) (p : Process) (a : Account) → Throughout P a.attempts p →
@@ -171,12 +178,12 @@ pub run-leaks : (script : Script) (budget : ℕ) (shape : Shape) (rule : Rule) (
 run-leaks script budget shape rule left leaks = by last.end
   where
     last : Settled
-    last = settled rule (space_of rule shape) (process script budget) (before (space_of rule shape))
+    last = settled rule (space_of rule shape) (process script budget (placement_of shape)) (before (space_of rule shape))
 
     is : AreCellsAfter script (length last.account.trace) last.state.heap.row
     is =
-        subst (λ n. AreCellsAfter script n last.state.heap.row) (settled-keeps rule (space_of rule shape) (process script budget) _ (before-lines (space_of rule shape))).lines
-        (settled-holds (HasCells script) rule (space_of rule shape) (process script budget) (before (space_of rule shape)) (process-throughout script budget))
+        subst (λ n. AreCellsAfter script n last.state.heap.row) (settled-keeps rule (space_of rule shape) (process script budget (placement_of shape)) _ (before-lines (space_of rule shape))).lines
+        (settled-holds (HasCells script) rule (space_of rule shape) (process script budget (placement_of shape)) (before (space_of rule shape)) (process-throughout script budget shape))
 
     by : (end : End) → outcome_of end last.state ≡ Ended left leaks → AreLeaksAfter (length last.account.trace) leaks
     by (over way) e = record {
@@ -191,4 +198,4 @@ run-leaks script budget shape rule left leaks = by last.end
 
 -- the lines of a run are those of its last state
 pub run-prints : (script : Script) (budget : ℕ) (shape : Shape) (rule : Rule) → All ArePrintable (run script rule budget shape).lines
-run-prints script budget shape rule = settled-holds HasPrinted rule (space_of rule shape) (process script budget) (before (space_of rule shape)) (process-prints script budget)
+run-prints script budget shape rule = settled-holds HasPrinted rule (space_of rule shape) (process script budget (placement_of shape)) (before (space_of rule shape)) (process-prints script budget (placement_of shape))

@@ -11,6 +11,7 @@ use Rattle.wb_model.specs.declared.heap.Answer.TheVariants.{Granted, Simulated, 
 use Rattle.wb_model.specs.declared.heap.Attempt.{Attempt}
 use Rattle.wb_model.specs.declared.run.Why.TheVariants.{Ceiling}
 use Rattle.wb_model.specs.declared.script.Script.{Script}
+use Rattle.wb_model.specs.heap.Placement.{placement_of}
 use Rattle.wb_model.specs.heap.Rules.{limit_of, simulates, refusal_past, refusal_of, unless_refused, answer_to, Request}
 use Rattle.wb_model.specs.meaning.State.{is_cut, Query, heap_note, available_note, compress_note, Process, ends, stops, asks, notes}
 use Rattle.wb_model.specs.heap.Space.{Space, space_of}
@@ -111,8 +112,8 @@ settled-lines rule space (notes q p) a qs k are = by q (λ q. settled-lines rule
 
 -- of whole runs
 pub run-lines : (script : Script) (budget : ℕ) (shape : Shape) (rule : Rule) →
-    AreAnsweredLines rule 0 (asked_for rule 0 (process script budget)) (run script rule budget shape).trace
-run-lines script budget shape rule = settled-lines rule (space_of rule shape) (process script budget) (before (space_of rule shape)) [] (before-lines (space_of rule shape)) tt
+    AreAnsweredLines rule 0 (asked_for rule 0 (process script budget (placement_of shape))) (run script rule budget shape).trace
+run-lines script budget shape rule = settled-lines rule (space_of rule shape) (process script budget (placement_of shape)) (before (space_of rule shape)) [] (before-lines (space_of rule shape)) tt
 
 -- without a limit no line is refused
 pub unlimited_refuses_none : (made : ℕ) (asked : Request) (t : Attempt) → IsLine Unlimited made asked t → t.answer ≢ Refused

@@ -14,17 +14,20 @@ pub enum Failures {
     Every,
     /// One attempt fails, and once that shows nothing, two do: each pair of them is tried.
     Pairs,
+    /// The n-th attempt and all after it fail: their first number n is tried.
+    Persistent,
 }
 
 impl Failures {
-    /// The failure that is tried as `n`; for `Pairs` a single one, since these are tried before any pair. Number 0 and rate 0 are
-    /// the run without failure.
+    /// The failure that is tried as `n`; for `Pairs` a single one, since these are tried before any pair. As 0, each kind
+    /// is the run without failure.
     pub fn at(self, n: u32) -> Failing
         ensures { result ≡ failing_at self n }
     {
         match self {
             Failures::Single | Failures::Pairs => Failing::Number(n),
             Failures::Every => Failing::Every(n),
+            Failures::Persistent => Failing::From(n),
         }
     }
 }
@@ -38,6 +41,8 @@ pub enum Failing {
     Every(u32),
     /// The attempts with these two numbers fail, of which the second is the greater.
     Pair(u32, u32),
+    /// Each attempt fails whose number is this or greater; of number 0 none does.
+    From(u32),
 }
 
 impl Failing {
@@ -49,6 +54,7 @@ impl Failing {
             Failing::Number(number) => Rule::Number(number),
             Failing::Every(rate) => Rule::Every(rate),
             Failing::Pair(first, second) => Rule::Pair(first, second),
+            Failing::From(first) => Rule::From(first),
         }
     }
 }

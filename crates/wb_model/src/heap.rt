@@ -1,7 +1,7 @@
 //! What a heap is made of, what is asked of it, and what it answers. All places and lengths are in bytes, a
 //! place from where the chunk begins; the first attempt has number 1.
 
-ghost use Rattle.std.specs.Prelude.{◌≡◌, ◌+◌, ◌/◌, ◌^◌, ◌<◌, ◌≤◌, IfOk};
+ghost use Rattle.std.specs.Prelude.{◌≡◌, ◌+◌, ◌/◌, ◌^◌, ◌<◌, ◌≤◌, false, IfOk};
 ghost use Rattle.wb_model.specs.heap.Row.{end_of, pointer_to, usable_of};
 
 use crate::items::Items;
@@ -87,6 +87,8 @@ pub enum Rule {
     /// Those whose number is a multiple of this rate; rate 0 refuses nothing. The attempts count from the run's first, whatever
     /// the script's own setting counts from.
     Every(u32),
+    /// Those whose number is this or greater; number 0 refuses nothing.
+    From(u32),
     /// The two with these numbers.
     Pair(u32, u32),
     /// Those with these numbers, however many.
@@ -103,6 +105,7 @@ impl Rule {
             Rule::Limit(limit) => Rule::Limit(*limit),
             Rule::Number(number) => Rule::Number(*number),
             Rule::Every(rate) => Rule::Every(*rate),
+            Rule::From(first) => Rule::From(*first),
             Rule::Pair(first, second) => Rule::Pair(*first, *second),
             Rule::Set(numbers) => Rule::Set(numbers.try_copy()?),
         })
@@ -112,20 +115,37 @@ impl Rule {
 /// Numbers of attempts.
 pub type Numbers = Items<u32>;
 
-/// The heap's minimum length and growth step, in bytes.
+/// The heap's minimum length and growth step, in bytes, and whether cells that grow always move.
 ///
 /// Multiples of 16: the minimum from 0 to `LARGEST_MINIMUM`, the step from `SMALLEST_STEP` to `LARGEST_STEP`.
 #[derive(Clone, Copy, Debug, PartialEq, Eq)]
 pub struct Shape {
     pub min: u32,
     pub step: u32,
+    /// Whether a cell that is to be longer moves, even where the bytes after it are free. Source: this project's profile; RHeap
+    /// lets such a cell stay.
+    pub moving: bool,
+}
+
+impl Shape {
+    /// The shape with this minimum and step in which a cell stays where it can. They are lengths in bytes, in the ranges above; it isn't
+    /// asked whether they are.
+    pub fn new(min: u32, step: u32) -> Shape
+        ensures { result ≡ record { min = min; step = step; moving = false } }
+    {
+        Shape {
+            min,
+            step,
+            moving: false,
+        }
+    }
 }
 
 /// What came of an attempt.
 #[derive(Clone, Copy, Debug, PartialEq, Eq)]
 pub enum Answer {
     Granted,
-    /// Refused by the script's own setting, or by `Rule::Number`, `Rule::Every`, `Rule::Pair` or `Rule::Set`.
+    /// Refused by the script's own setting, or by `Rule::Number`, `Rule::Every`, `Rule::From`, `Rule::Pair` or `Rule::Set`.
     Simulated,
     /// Refused by `Rule::Limit`.
     Refused,

@@ -9,6 +9,7 @@ ghost use Rattle.wb_model.specs.runs.FreeSlots.{HasFreeSlot, WhereverItGoesOn};
 ghost use Rattle.wb_model.specs.runs.Throughout.{Throughout, AreCellsAfter, AreLeaksAfter};
 ghost use Rattle.wb_model.specs.runs.Rest.{Unfolds};
 ghost use Rattle.wb_model.specs.heap.Row.{Cell, IsSpacedFrom, IsLeastPlace, place_of, top_of};
+ghost use Rattle.wb_model.specs.heap.Placement.{Placement, placement_of};
 ghost use Rattle.wb_model.specs.heap.Rules.{next, each, is_due, after_attempts};
 ghost use Rattle.wb_model.specs.heap.Debug.{Debug, alloc_made, first_debug, first_debug_of, keeps_rises};
 ghost use Rattle.wb_model.specs.heap.Debug.{made_with_rises, realloc_made, with_rises};
@@ -83,11 +84,12 @@ pub fn rules_agree()
 /// the rule is; a simulated one is refused by the script's own setting, or by the rule.
 pub fn lines_are_answered()
     ensures lines { (script : Script) (budget : ℕ) (shape : Shape) (r : Rule) →
-        AreAnsweredLines r 0 (asked_for r 0 (process script budget))
+        AreAnsweredLines r 0 (asked_for r 0 (process script budget (placement_of shape)))
         (run script r budget shape).trace }
     ensures numbered { (script : Script) (budget : ℕ) (shape : Shape) (r : Rule) (k : ℕ)
         (t : Attempt) → slice_get (run script r budget shape).trace k ≡ Some t → t.number ≡ k + 1 }
-    ensures settings { (script : Script) (budget : ℕ) → TellsSettings (process script budget) }
+    ensures settings { (script : Script) (budget : ℕ) (placement : Placement) →
+        TellsSettings (process script budget placement) }
 {}
 
 /// What is measured of a trace, in words: the number of the first line that the heap's limit refused, and none if no line
@@ -166,8 +168,9 @@ pub fn sweeps_end()
 /// without meeting, at multiples of 16, and have different numbers, each that of an attempt made before. Each cell
 /// holds what its kind holds, an object a pointer for each field of its class. So the leaks that a run reports are cells of a row.
 pub fn cells_stay_a_row()
-    ensures throughout { (script : Script) (budget : ℕ) →
-        Throughout (λ made st. AreCellsAfter script made st.heap.row) 0 (process script budget) }
+    ensures throughout { (script : Script) (budget : ℕ) (shape : Shape) →
+        Throughout (λ made st. AreCellsAfter script made st.heap.row) 0
+        (process script budget (placement_of shape)) }
     ensures leaks { (script : Script) (budget : ℕ) (shape : Shape) (r : Rule) (left : Option ℤ)
         (leaks : List Leak) → (run script r budget shape).outcome ≡ Ended left leaks →
         AreLeaksAfter (length (run script r budget shape).trace) leaks }
@@ -183,8 +186,8 @@ pub fn printed_lines_are_ascii()
 /// comes to a plain end or returns. And what begins so, a statement or all that is left of a block, goes on so; from which it
 /// follows, statement by statement, that each push finds a free slot.
 pub fn a_slot_stays_free()
-    ensures run { (script : Script) (budget : ℕ) →
-        WhereverItGoesOn HasFreeSlot (process script budget) }
+    ensures run { (script : Script) (budget : ℕ) (placement : Placement) →
+        WhereverItGoesOn HasFreeSlot (process script budget placement) }
     ensures pieces { (script : Script) (budget : ℕ) (at : Context) (p : Todo) (st : State) →
         HasFreeSlot st → WhereverItGoesOn HasFreeSlot (meaning_of script budget at p st) }
 {}

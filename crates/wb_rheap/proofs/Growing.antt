@@ -1,11 +1,11 @@
 -- Where a cell goes that becomes longer, and what a pointer to it is.
 use Rattle.std.proofs.Common.{cond, All, IfSome, ◌≡◌, ◌≢◌, ℕ, ◌+◌, ◌-◌, ◌*◌, ◌/◌, ◌%◌, ◌≤◌, ◌<◌, Bool, true, false, List, length, Option, Some, None, option_map, Result, Ok, Err, OnOk, IsSomeAnd, refl, sym, ◌∙◌, ap, subst, arith}
-use Rattle.std.specs.Prelude.{nat_eq, nat_le, nat_lt}
-use Rattle.std.proofs.lemmas.Bool.{leb-true, leb-false, le-leb, lt-leb, lt-ltb, le-ltb, cond-true, cond-false, false_from_ne_true}
+use Rattle.std.specs.Prelude.{not, ◌&&◌, nat_eq, nat_le, nat_lt}
+use Rattle.std.proofs.lemmas.Bool.{leb-true, leb-false, le-leb, lt-leb, lt-ltb, le-ltb, and_from, and_left, and_right, cond-true, cond-false, false_from_ne_true}
 use Rattle.wb_model.specs.declared.heap.Header.{Header}
 use Rattle.wb_model.specs.declared.heap.Ptr.{Ptr}
 use Rattle.wb_model.specs.cells.CellRow.{FitsInPlace, payload_of, resized_words, with_length, content_or_nil, room_after, IsGap}
-use Rattle.wb_model.specs.heap.Heap.{fits_in_place}
+use Rattle.wb_model.specs.heap.Placement.{fits_in_place}
 use Rattle.wb_model.specs.heap.LimitedHeap.{LimitedHeap, IsSoundHeap, IsCellLength, place_in, place_to_grow, committed_grown, grown_cell, heap_grown, heap_shortened, heap_reallocated, reallocated_pointer, grown_pointer, IsFilled}
 use Rattle.wb_model.specs.heap.Row.{Cell, IsRow, IsLeastPlace, headers, cell_at, end_of, inserted, without, pointer_to, usable_of}
 use Rattle.wb_model.proofs.LimitedHeaps.{place_in-least}
@@ -54,23 +54,36 @@ room-left a b room lt = by (nat_le (b - a) room) refl
     by true e = sym (le-leb b (a + room) (omega (arith, leb-true (b - a) room e)))
     by false e = sym (lt-leb b (a + room) (omega (arith, leb-false (b - a) room e)))
 
-pub stays-there : (heap : LimitedHeap) (p : Ptr) (h : Header) (length : ℕ) → IsSoundHeap heap → Names p heap.row h → FitsInPlace p length (headers heap.row) →
-    place_to_grow heap h length ≡ p.place
-stays-there heap p h length is e fits =
+pub stays-there : (heap : LimitedHeap) (p : Ptr) (h : Header) (length : ℕ) → IsSoundHeap heap → Names p heap.row h → heap.shape.moving ≡ false →
+    FitsInPlace p length (headers heap.row) → place_to_grow heap h length ≡ p.place
+stays-there heap p h length is e still fits =
     let own = own-pointer heap p h is e in
-    cond-true (fits_in_place (headers heap.row) h length) h.place (place_in heap length)
-    (words-fit (headers heap.row) h length (subst (λ q. FitsInPlace q length (headers heap.row)) (sym own) fits))
+    cond-true (not heap.shape.moving && fits_in_place (headers heap.row) h length) h.place (place_in heap length)
+    (and_from (not heap.shape.moving) (fits_in_place (headers heap.row) h length) (ap not still)
+    (words-fit (headers heap.row) h length (subst (λ q. FitsInPlace q length (headers heap.row)) (sym own) fits)))
     ∙ ap (λ q. q.place) own
+
+-- where it doesn't stay it goes where a new cell would
+moved-least : (heap : LimitedHeap) (h : Header) (length : ℕ) → IsCellLength length → IsSoundHeap heap →
+    (not heap.shape.moving && fits_in_place (headers heap.row) h length) ≡ false → IsLeastPlace (headers heap.row) length (place_to_grow heap h length)
+moved-least heap h length long is elsewhere =
+    subst (IsLeastPlace (headers heap.row) length)
+    (sym (cond-false (not heap.shape.moving && fits_in_place (headers heap.row) h length) h.place (place_in heap length) elsewhere))
+    (place_in-least heap length long is)
+
+pub always-moves : (heap : LimitedHeap) (h : Header) (length : ℕ) → IsCellLength length → IsSoundHeap heap → heap.shape.moving ≡ true →
+    IsLeastPlace (headers heap.row) length (place_to_grow heap h length)
+always-moves heap h length long is moving =
+    moved-least heap h length long is (and_left (not heap.shape.moving) (fits_in_place (headers heap.row) h length) (ap not moving))
 
 pub moves-least : (heap : LimitedHeap) (p : Ptr) (h : Header) (length : ℕ) → IsCellLength length → IsSoundHeap heap → Names p heap.row h →
     (FitsInPlace p length (headers heap.row) → ⊥) → IsLeastPlace (headers heap.row) length (place_to_grow heap h length)
 moves-least heap p h length long is e full =
     let own = own-pointer heap p h is e in
-    let no : fits_in_place (headers heap.row) h length ≡ false =
+    let full_there : fits_in_place (headers heap.row) h length ≡ false =
     false_from_ne_true (fits_in_place (headers heap.row) h length)
     (λ fits. full (subst (λ q. FitsInPlace q length (headers heap.row)) own (fits-words (headers heap.row) h length fits))) in
-    subst (IsLeastPlace (headers heap.row) length) (sym (cond-false (fits_in_place (headers heap.row) h length) h.place (place_in heap length) no))
-    (place_in-least heap length long is)
+    moved-least heap h length long is (and_right (not heap.shape.moving) (fits_in_place (headers heap.row) h length) full_there)
 
 pub grows-within : (heap : LimitedHeap) (h : Header) (length : ℕ) → IsCellLength length → IsSoundHeap heap → Names (pointer_to h) heap.row h →
     place_to_grow heap h length ≤ heap.committed

@@ -301,6 +301,13 @@ impl Heap {
         self.committed
     }
 
+    /// Whether a cell that is to be longer moves even where it could stay.
+    pub fn is_moving(&self) -> bool
+        ensures { result ≡ self.now.shape.moving }
+    {
+        self.shape.moving
+    }
+
     /// The greatest committed length so far, in bytes, for which memory is held.
     pub fn held(&self) -> u32
         ensures { result ≡ self.now.held }

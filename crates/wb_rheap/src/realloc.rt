@@ -2,9 +2,9 @@
 //! cell.
 
 ghost use Rattle.std.specs.Prelude.{◌≡◌, ◌≢◌, ◌+◌, ◌<◌, ◌≤◌, ◌%◌, ◌↔◌, All, IfOk, IfErr, IfSome, IsOk, IsSome};
-ghost use Rattle.std.specs.Prelude.{IsSomeAnd, OnOk, OnErr, Some, None, option_map};
+ghost use Rattle.std.specs.Prelude.{IsSomeAnd, OnOk, OnErr, Some, None, option_map, not, ◌&&◌, true, false};
 ghost use Rattle.wb_model.specs.cells.CellRow.{FitsInPlace, payload_of};
-ghost use Rattle.wb_model.specs.heap.Heap.{fits_in_place};
+ghost use Rattle.wb_model.specs.heap.Placement.{fits_in_place};
 ghost use Rattle.wb_model.specs.heap.LimitedHeap.{IsCellLength, IsSoundHeap, heap_grown, heap_shortened, heap_leveled};
 ghost use Rattle.wb_model.specs.heap.LimitedHeap.{heap_reallocated, place_to_grow, committed_grown, grown_pointer};
 ghost use Rattle.wb_model.specs.heap.LimitedHeap.{reallocated_pointer};
@@ -18,7 +18,8 @@ use wb_model::heap::{Header, Ptr};
 
 impl Heap {
     /// The place where a cell goes that is to be longer: its own where the bytes after it are free, so always where it
-    /// is the last; else the one that `place_for` gives while the cell is still there.
+    /// is the last; else the one that `place_for` gives while the cell is still there. Where the shape says that cells move, it
+    /// is always the latter.
     ///
     /// The length is the cell length in bytes, header included. The limit isn't asked, and the place plus any cell
     /// length stays below 2^32.
@@ -28,8 +29,11 @@ impl Heap {
         requires longer { IfSome (cell_at ptr self.now.row) (λ c. c.head.length < length) }
         ensures place { IfSome (cell_at ptr self.now.row) (λ c.
             result ≡ place_to_grow self.now c.head length) }
-        ensures stays { FitsInPlace ptr length (headers self.now.row) → result ≡ ptr.place }
+        ensures stays { self.now.shape.moving ≡ false →
+            FitsInPlace ptr length (headers self.now.row) → result ≡ ptr.place }
         ensures moves { ¬ (FitsInPlace ptr length (headers self.now.row)) →
+            IsLeastPlace (headers self.now.row) length result }
+        ensures moving { self.now.shape.moving ≡ true →
             IsLeastPlace (headers self.now.row) length result }
         ensures within { result ≤ self.now.committed }
         ensures sound { IsSoundHeap self.now }
@@ -49,11 +53,23 @@ impl Heap {
         ensures within { result ≤ self.now.committed }
         ensures sound { IsSoundHeap self.now }
     {
-        if self.fits(cell, length) {
+        if self.stays(cell, length) {
             cell.place
         } else {
             self.place_for(length)
         }
+    }
+
+    /// Whether a live cell stays that is to have this length.
+    fn stays(&self, cell: Header, length: u32) -> bool
+        requires live { option_map (λ c. c.head) (cell_at (pointer_to cell) self.now.row)
+            ≡ Some cell }
+        requires longer { cell.length < length }
+        ensures stays { result ≡ (not self.now.shape.moving
+            && fits_in_place (headers self.now.row) cell length) }
+        ensures sound { IsSoundHeap self.now }
+    {
+        !self.shape.moving && self.fits(cell, length)
     }
 
     /// Whether a live cell can have this length where it is.

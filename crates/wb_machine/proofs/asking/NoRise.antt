@@ -22,9 +22,10 @@ use Rattle.wb_model.specs.cells.CellRow.{resized_words}
 use Rattle.wb_model.specs.cells.Spelling.{read_as}
 use Rattle.wb_model.specs.cells.TextCells.{text_in}
 use Rattle.wb_model.specs.heap.Debug.{answer_in, longer_made, made_by, number_of_next, realloc_made, shorter_made}
-use Rattle.wb_model.specs.heap.Heap.{AfterAnswer, after_alloc, after_realloc, alloc_request, realloc_place, realloc_request}
+use Rattle.wb_model.specs.heap.Heap.{AfterAnswer, after_alloc, after_realloc, alloc_request, realloc_request}
 use Rattle.wb_model.specs.heap.LimitedHeap.{zero_words}
-use Rattle.wb_model.specs.heap.Row.{Cell, cell_at, cell_length, place_of}
+use Rattle.wb_model.specs.heap.Placement.{place_to_grow_to, place_to_put}
+use Rattle.wb_model.specs.heap.Row.{Cell, cell_at, cell_length}
 use Rattle.wb_model.specs.heap.Rules.{Request, answer_to}
 use Rattle.wb_model.specs.heap.Space.{Space, space_of}
 use Rattle.wb_model.specs.meaning.Attempts.{after_growth, allocate, attempt, grow_if, push, reallocate, reallocate_longer, resized}
@@ -146,7 +147,7 @@ module _ (script : Script) (h : RunState) where
   unfolding allocate
   allocated bytes kind fresh go after =
       let t = alloc_request h.debug.heap bytes in
-      let same : alloc_request st.heap bytes ≡ t = ap (λ hs. record t { place = place_of hs (cell_length bytes) }) (headers_read script h.debug.heap.row) in
+      let same : alloc_request st.heap bytes ≡ t = ap (λ hs. record t { place = place_to_put h.debug.heap.placement hs (cell_length bytes) }) (headers_read script h.debug.heap.row) in
       subst (λ (u : Request). IsNoRise (attempt u (after_alloc st.heap u kind fresh) st st go) (made_by h.debug t after (answer_in h.debug t)).debug.rises) (sym same)
       (attempted t after (after_alloc st.heap t kind fresh) st st go)
 
@@ -158,7 +159,7 @@ module _ (script : Script) (h : RunState) where
       let now : State = record st { items = items } in
       let t = realloc_request h.debug.heap c.head bytes in
       let content = resized (cell_length bytes - 16) (read_cell script c).content in
-      let same : realloc_request st.heap c.head bytes ≡ t = ap (λ hs. record t { place = realloc_place hs c.head (cell_length bytes) }) (headers_read script h.debug.heap.row) in
+      let same : realloc_request st.heap c.head bytes ≡ t = ap (λ hs. record t { place = place_to_grow_to h.debug.heap.placement hs c.head (cell_length bytes) }) (headers_read script h.debug.heap.row) in
       subst (λ (u : Request). IsNoRise (attempt u (after_realloc st.heap u c.head content) cut now go) (longer_made h.debug c bytes).debug.rises) (sym same)
       (attempted t (after_realloc h.debug.heap t c.head (resized_words t.length c.content)) (after_realloc st.heap t c.head content) cut now go)
 

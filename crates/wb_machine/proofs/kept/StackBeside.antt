@@ -8,6 +8,7 @@ use Rattle.wb_model.specs.declared.heap.Kind.{Kind}
 use Rattle.wb_model.specs.declared.heap.Kind.TheVariants.{Raw, Text, Object, Cleanup as CleanupKind}
 use Rattle.wb_model.specs.declared.heap.Answer.{Answer}
 use Rattle.wb_model.specs.declared.heap.Answer.TheVariants.{Granted, Simulated, Refused}
+use Rattle.wb_model.specs.heap.Placement.{has_stayed}
 use Rattle.wb_model.specs.heap.Row.{Cell, is_at, cell_at, cell_length, inserted, pointer_to, without}
 use Rattle.wb_model.specs.meaning.Texts.{Edited}
 use Rattle.wb_model.specs.cells.TextCells.{IsTextAt, debug_edited}
@@ -141,9 +142,10 @@ reallocated_beside o d p c bytes sound stands found other = same_cell o d _ stan
     replaced stack is new off =
         found-replaced (cell_of stack) (pointer_to c.head) new d.heap.row off (λ same. apart stack p d c is found other (same ∙ named))
 
-    placed : (stack : Cleanup) → IsStack stack d → (b : Bool) → nat_eq t.place c.head.place ≡ b →
+    placed : (stack : Cleanup) → IsStack stack d → (b : Bool) → has_stayed d.heap.placement c.head t.place ≡ b →
         is_at (cell_of stack) (record c.head { place = t.place; length = t.length; number = cond b c.head.number (number_of_next d) }) ≡ false
-    placed stack is true same =
+    placed stack is true stayed =
+        let same : nat_eq t.place c.head.place ≡ true = sym (ap (λ w. has_stayed w c.head t.place) sound.placed) ∙ stayed in
         let head : Header = record c.head { place = t.place; length = t.length } in
         not_at (cell_of stack) p head (here head (ap (λ n. record { place = n; number = c.head.number }) (eqb-true t.place c.head.place same) ∙ named)) (apart stack p d c is found other)
     placed stack is false off =
@@ -155,7 +157,7 @@ reallocated_beside o d p c bytes sound stands found other = same_cell o d _ stan
     answered stack is (Some Simulated) = refl
     answered stack is (Some Refused) = refl
     answered stack is (Some Granted) =
-        replaced stack is (record { head = moved c.head (number_of_next d) t; content = resized_words t.length c.content }) (placed stack is (nat_eq t.place c.head.place) refl)
+        replaced stack is (record { head = moved d.heap.placement c.head (number_of_next d) t; content = resized_words t.length c.content }) (placed stack is (has_stayed d.heap.placement c.head t.place) refl)
 
     by : (stack : Cleanup) → IsStack stack d → (b : Bool) →
         cell_at (cell_of stack) (cond b (longer_made d c bytes) (shorter_made d c bytes)).debug.heap.row ≡ cell_at (cell_of stack) d.heap.row

@@ -1,7 +1,8 @@
 -- A push on the cleanup stack, as the state of a run sees it.
-use Rattle.std.proofs.Common.{◌≡◌, ℕ, ◌+◌, ◌*◌, ◌≤◌, List, Bool, true, false, cond, Some, Result, Ok, Err, IfOk, OnErr, refl, sym, ap, ◌∙◌, subst, arith}
+use Rattle.std.proofs.Common.{◌≡◌, ◌≢◌, ◌++◌, ◌∷◌, [], ℕ, ◌+◌, ◌*◌, ◌≤◌, List, Bool, true, false, cond, Some, Result, Ok, Err, IfOk, OnErr, refl, sym, ap, ◌∙◌, subst, arith}
 use Rattle.wb_model.specs.declared.heap.Ptr.{Ptr}
 use Rattle.wb_model.specs.declared.heap.Item.{Item}
+use Rattle.wb_model.specs.declared.heap.Gave.{Gave}
 use Rattle.wb_model.specs.declared.heap.Gave.TheVariants as G
 use Rattle.wb_model.specs.declared.heap.Kind.TheVariants.{Text, Cleanup as CleanupKind}
 use Rattle.wb_model.specs.heap.Row.{Cell, cell_at, headers}
@@ -11,9 +12,11 @@ use Rattle.wb_model.proofs.Reallocations.{at-number, found-from, found-head}
 use Rattle.wb_model.proofs.TextCellsHeap.{found-changed}
 use Rattle.wb_cleanup.specs.declared.cleanup.Cleanup.{Cleanup}
 use Rattle.wb_cleanup.specs.declared.cleanup.Pushed.{Pushed}
-use Rattle.wb_cleanup.specs.Pushes.{fills, growth, push_made, remade, IsUnchanged, PushLeaves}
-use Rattle.wb_cleanup.specs.Stacks.{IsStack, cell_of, slots_of}
+use Rattle.wb_cleanup.specs.declared.cleanup.Pushed.TheVariants.{Ceiling}
+use Rattle.wb_cleanup.specs.Pushes.{cell_by, fills, growth, items_by, push_made, pushed_by, remade, IsUnchanged, PushLeaves}
+use Rattle.wb_cleanup.specs.Stacks.{IsStack, cell_of, items_of, slots_of}
 use Rattle.wb_cleanup.proofs.StackInHeap.{stack-kept}
+use Rattle.wb_machine.specs.CleanupEffects.{IsPushed}
 use Rattle.wb_machine.specs.TextInvariant.{AreTexts}
 use Rattle.wb_machine.specs.RunState.{RunState, with_debug}
 use Rattle.wb_machine.specs.StackInvariant.{IsMemory, StandsIn}
@@ -107,3 +110,42 @@ keeps_pushed {Y} r item stack new h g is now sound cell steps callers ok err = r
         stays_as h g _ ok.heap has (words_stay h (push_made stack h.debug).debug (cell_of new) (payload_of (cell_of new) g.debug.heap.row) (made_stays stack h is))
     by (Err y) ok err =
         stays_as h g _ err.heap has (record { rule = refl; shape = refl; fewer = omega arith; more = omega arith; kept = refl; deeper = omega arith; stack = λ has. has })
+
+-- there is one item more, unless the ceiling cuts the run
+one_more : (pushed : Pushed) (items : List Item) (item : Item) (gave : Gave) → pushed ≡ pushed_by gave → pushed ≢ Ceiling → items_by items item gave ≡ items ++ item ∷ []
+one_more pushed items item (G.Granted p) answer going = refl
+one_more pushed items item G.Denied answer going = refl
+one_more pushed items item G.Ceiling answer going = absurd (going answer)
+
+-- a push that the ceiling doesn't cut leaves the item on the stack
+pub item_pushed : {E : Type 0} (r : Result Pushed E) (item : Item) (stack new : Cleanup) (h : RunState) (e : Debug) → h.cleanup ≡ cell_of stack → h.slots ≡ slots_of stack →
+    h.items ≡ items_of stack h.debug → IfOk r (λ pushed. PushLeaves pushed item stack new h.debug e) →
+    IfOk r (λ pushed. pushed ≢ Ceiling → IsPushed h item (record h { debug = e; cleanup = cell_of new; items = items_of new e; slots = slots_of new }))
+item_pushed (Err error) item stack new h e cell slots items leaves = tt
+item_pushed (Ok pushed) item stack new h e cell slots items leaves =
+    subst (λ p. Left p h.slots h.items) (sym cell) (subst (λ n. Left (cell_of stack) n h.items) (sym slots) (subst (λ is. Left (cell_of stack) (slots_of stack) is) (sym items) left))
+  where
+    Left : Ptr → ℕ → List Item → Type 0
+    Left p n is = pushed ≢ Ceiling →
+        IsPushed (record h { cleanup = p; slots = n; items = is }) item (record h { debug = e; cleanup = cell_of new; items = items_of new e; slots = slots_of new })
+
+    left : Left (cell_of stack) (slots_of stack) (items_of stack h.debug)
+    left going =
+        let made = push_made stack h.debug in
+        let ws = payload_of (cell_of new) e.heap.row in
+        let more : items_of new e ≡ items_of stack h.debug ++ item ∷ [] =
+        leaves.items ∙ one_more pushed (items_of stack h.debug) item made.gave leaves.answer going in
+        ap (λ x. record h { debug = x; cleanup = cell_of new; items = items_of new e; slots = slots_of new }) leaves.heap
+        ∙ ap (λ p. record h { debug = debug_changed made.debug p ws; cleanup = p; items = items_of new e; slots = slots_of new }) leaves.cell
+        ∙ ap (λ is. record h {
+          debug = debug_changed made.debug (cell_by (cell_of stack) made.gave) ws;
+          cleanup = cell_by (cell_of stack) made.gave;
+          items = is;
+          slots = slots_of new;
+        }) more
+        ∙ ap (λ n. record h {
+          debug = debug_changed made.debug (cell_by (cell_of stack) made.gave) ws;
+          cleanup = cell_by (cell_of stack) made.gave;
+          items = items_of stack h.debug ++ item ∷ [];
+          slots = n;
+        }) leaves.slots

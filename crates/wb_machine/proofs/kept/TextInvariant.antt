@@ -111,7 +111,7 @@ texts_reallocated d c bytes fine texts = by (nat_lt c.head.length (cell_length b
     answered : (o : Option Answer) → AreTexts (made_by d t (after_realloc d.heap t c.head (resized_words t.length c.content)) o).debug.heap.row
     answered None = texts
     answered (Some Granted) =
-        texts_inserted (record { head = moved c.head (number_of_next d) t; content = resized_words t.length c.content }) (without (pointer_to c.head) d.heap.row) fine
+        texts_inserted (record { head = moved d.heap.placement c.head (number_of_next d) t; content = resized_words t.length c.content }) (without (pointer_to c.head) d.heap.row) fine
         (texts_without (pointer_to c.head) d.heap.row texts)
     answered (Some Simulated) = texts
     answered (Some Refused) = texts

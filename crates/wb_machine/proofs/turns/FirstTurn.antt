@@ -11,6 +11,7 @@ use Rattle.wb_model.specs.declared.heap.Gave.TheVariants as G
 use Rattle.wb_model.specs.declared.script.Script.{Script}
 use Rattle.wb_model.specs.declared.script.Local.{Local}
 use Rattle.wb_model.specs.declared.script.StatementAt.{StatementAt}
+use Rattle.wb_model.specs.heap.Placement.{placement_of}
 use Rattle.wb_model.specs.heap.Space.{space_of, bound_below, limit_under}
 use Rattle.wb_model.specs.meaning.State.{none, null, initial, State, goes_on, Process, ends, stops, asks, notes, and_then, on_plain_end}
 use Rattle.wb_model.specs.heap.Heap.{alloc_request, after_alloc}
@@ -25,7 +26,7 @@ use Rattle.wb_model.specs.meaning.Statements.{all}
 use Rattle.wb_model.specs.meaning.Meaning.{meaning_of}
 use Rattle.wb_model.specs.runs.Account.{settled}
 use Rattle.wb_model.specs.meaning.Attempts.{allocate}
-use Rattle.wb_model.specs.runs.Run.{main_trapped, in_main, started, process, whole_of, whole_run}
+use Rattle.wb_model.specs.runs.Run.{before_of, main_trapped, in_main, started, process, whole_of, whole_run}
 use Rattle.wb_model.specs.runs.Rest.{Fits, Pending, doing, main_catching, resumed, resume, left_to_do, rest}
 use Rattle.wb_machine.specs.declared.pieces.Ending.{Ending}
 use Rattle.wb_machine.specs.declared.pieces.Ending.TheVariants.{GoesOn, Cut, NoCleanup}
@@ -130,7 +131,7 @@ rest_begun b r own script budget shape statements pieces f body is =
     ∙ sym (allocated r script h first_bytes Cleanup none go ends (answer_in h.debug t) refl
     (answered_alike r h.debug t (after_alloc h.debug.heap t Cleanup (zero_words t.length)) (answer_in h.debug t) refl fits) limit)
     ∙ ap (λ p. flow r p h) (and_then-ends (allocate first_bytes Cleanup none (state_of script h) go)))
-    ∙ ap (λ l. whole_of (settled r (space_of r shape) (process script budget) (record { attempts = 0; trace = []; rises = first_rises b; notes = []; committed = min shape.min (bound_below l) }))) (sym limit)
+    ∙ ap (λ l. whole_of (settled r (space_of r shape) (process script budget (placement_of shape)) (record { attempts = 0; trace = []; rises = first_rises b; notes = []; committed = min shape.min (bound_below l) }))) (sym limit)
 
 -- the same of what a machine then holds
 pub run_begun : (r : Rule) (script : Script) (budget : ℕ) (h g : RunState) (ending : Ending) (statements : List StatementAt) (pieces : List PendingPiece) →
@@ -161,9 +162,11 @@ pub rest_first : (r : Rule) (script : Script) (budget : ℕ) (ending : Ending) (
     h ≡ first_state (keeps_rises h.debug) h.debug.rule h.debug.shape → limit_under r ≡ limit_under h.debug.rule → rest_at script budget r false ending pieces h ≡ whole_run (keeps_rises h.debug) script r budget h.debug.shape
 unfolding rest left_to_do
 rest_first r script budget ending pieces h start same =
-    ap (λ a. whole_of (settled r (space_of r h.debug.shape) (process script budget) a))
+    ap (λ a. whole_of (settled r (space_of r h.debug.shape) (process script budget h.debug.heap.placement) a))
     (ap account_of start
     ∙ ap (λ l. record { attempts = 0; trace = []; rises = first_rises (keeps_rises h.debug); notes = []; committed = min h.debug.shape.min (bound_below l) }) (sym same))
+    ∙ ap (λ w. whole_of (settled r (space_of r h.debug.shape) (process script budget w) (before_of (keeps_rises h.debug) (space_of r h.debug.shape))))
+    (ap (λ (x : RunState). x.debug.heap.placement) start)
 
 -- `main` begins where attempt 1 was granted
 pub granted_goes : (h : RunState) (locals : List Local) (gave : Gave) → is_granted gave ≡ true → (begun_by h locals gave).ending ≡ GoesOn

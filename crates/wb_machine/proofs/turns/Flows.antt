@@ -10,10 +10,10 @@ use Rattle.wb_model.specs.declared.heap.Answer.TheVariants.{Granted, Simulated, 
 use Rattle.wb_model.specs.declared.heap.Gave.{Gave}
 use Rattle.wb_model.specs.declared.heap.Gave.TheVariants as G
 use Rattle.wb_model.specs.declared.script.Script.{Script}
+use Rattle.wb_model.specs.heap.Placement.{place_to_grow_to, place_to_put}
 use Rattle.wb_model.specs.heap.Row.{Cell, inserted, without, pointer_to, cell_length}
 use Rattle.wb_model.specs.heap.Rules.{Request, answer_to}
-use Rattle.wb_model.specs.heap.Heap.{Heap, AfterAnswer, attempt_counted, new_cell, moved, alloc_request, after_alloc, realloc_request, after_realloc, realloc_place}
-use Rattle.wb_model.specs.heap.Row.{place_of}
+use Rattle.wb_model.specs.heap.Heap.{Heap, AfterAnswer, attempt_counted, new_cell, moved, alloc_request, after_alloc, realloc_request, after_realloc}
 use Rattle.wb_model.specs.heap.Space.{space_of, space_below, bound_below, limit_under}
 use Rattle.wb_model.specs.meaning.State.{Content, State, Way, Process, stops, is_cut, and_then, set_heap}
 use Rattle.wb_model.specs.declared.run.Why.TheVariants.{Ceiling}
@@ -135,7 +135,7 @@ unfolding allocate
 allocated_with r script h bytes kind ws fresh go k o is answer limit =
     let t = alloc_request h.debug.heap bytes in
     let st = state_of script h in
-    let same : alloc_request st.heap bytes ≡ t = ap (λ hs. record t { place = place_of hs (cell_length bytes) }) (headers_read script h.debug.heap.row) in
+    let same : alloc_request st.heap bytes ≡ t = ap (λ hs. record t { place = place_to_put h.debug.heap.placement hs (cell_length bytes) }) (headers_read script h.debug.heap.row) in
     ap (λ (t : Request). flow r (and_then (attempt t (after_alloc st.heap t kind fresh) st st go) k) h) same
     ∙ attempted r script h t (after_alloc h.debug.heap t kind ws) (after_alloc st.heap t kind fresh) go k o (reads_alloc script h.debug.heap t kind ws fresh is) answer limit
 
@@ -180,7 +180,7 @@ reads_longer script heap c bytes t reads = record { heap = λ n a. row n a; give
         ≡ (after_realloc (read_heap script heap) t c.head (resized (cell_length bytes - 16) (read_cell script c).content) n a).heap
     row n Granted =
         ap (λ (cells : List (Cell Content)). record (attempt_counted (read_heap script heap)) { row = cells })
-        (replaced script (pointer_to c.head) (moved c.head n t) (resized_words (cell_length bytes) c.content) _ heap.row reads)
+        (replaced script (pointer_to c.head) (moved heap.placement c.head n t) (resized_words (cell_length bytes) c.content) _ heap.row reads)
     row n Simulated = refl
     row n Refused = refl
 
@@ -202,7 +202,7 @@ made_longer_or r script h cut c bytes go k o reads answer limit =
     let t = realloc_request h.debug.heap c.head bytes in
     let st = state_of script h in
     let content = resized (cell_length bytes - 16) (read_cell script c).content in
-    let same : realloc_request st.heap c.head bytes ≡ t = ap (λ hs. record t { place = realloc_place hs c.head (cell_length bytes) }) (headers_read script h.debug.heap.row) in
+    let same : realloc_request st.heap c.head bytes ≡ t = ap (λ hs. record t { place = place_to_grow_to h.debug.heap.placement hs c.head (cell_length bytes) }) (headers_read script h.debug.heap.row) in
     ap (λ (t : Request). flow r (and_then (attempt t (after_realloc st.heap t c.head content) cut st go) k) h) same
     ∙ attempted_or r script h cut t (after_realloc h.debug.heap t c.head (resized_words t.length c.content)) (after_realloc st.heap t c.head content) go k o
     (reads_longer script h.debug.heap c bytes t reads) answer limit

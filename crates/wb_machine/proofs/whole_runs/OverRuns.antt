@@ -1,5 +1,5 @@
 -- A run that is over has come to what the definitions say of the whole run.
-use Rattle.std.proofs.Common.{◌≡◌, true, false, Some, ap, ◌∙◌, sym, refl, inl}
+use Rattle.std.proofs.Common.{◌≡◌, ◌≤◌, ◌+◌, true, false, Some, ap, ◌∙◌, sym, subst, refl, inl, arith}
 use Rattle.wb_model.specs.declared.run.RisesResult.{RisesResult}
 use Rattle.wb_model.specs.runs.Run.{WholeRun, rises_above, rises_result_of, run, run_with_rises, whole_run}
 use Rattle.wb_model.proofs.AccountLemmas.{whole-with_rises}
@@ -24,6 +24,13 @@ run_over m s is machine over well =
     ∙ sym (ap (λ b. rest_at script m.budget m.state.debug.rule b m.control.ending m.control.pieces.items m.state) begun)
     ∙ machine.keeps fine m.state.debug.rule (inl refl)
     ∙ ap (λ (s : Seen). whole_run s.keeps_rises s.script s.rule s.budget s.shape) is
+
+-- each attempt took a step, but for the first
+pub few_attempts : (m : Inside) (s : Seen) → seen m ≡ s → IsMachine m → s.failed ≡ false → s.attempts ≤ s.budget + 1
+few_attempts m s is machine well =
+    let fine : m.failed ≡ false = ap (λ (s : Seen). s.failed) is ∙ well in
+    let between = (machine.sound fine).between in
+    subst (λ (s : Seen). s.attempts ≤ s.budget + 1) is (omega (arith, between.counted, between.within))
 
 -- what is reported of a machine that kept the rises
 pub rises_over : (m : Inside) (s : Seen) → seen m ≡ s → IsMachine m → s.over ≡ true → s.failed ≡ false → s.keeps_rises ≡ true → (run_result : RisesResult) →

@@ -12,16 +12,20 @@ use super::names::Names;
 use crate::state::State;
 
 impl State {
-    /// Whether as many items, cells, marks and bytes are live as in another state, and the setting is the same: what is quickly said.
+    /// Whether as many items, cells, marks and bytes are live as in another state, the setting is the same, and so is how places are
+    /// chosen: what is quickly said.
     fn has_counts_of(&self, other: &State) -> bool
         ensures level { result ≡ true →
             other.now.debug.heap.level ≡ self.now.debug.heap.level }
         ensures setting { result ≡ true →
             other.now.debug.heap.setting ≡ self.now.debug.heap.setting }
+        ensures placement { result ≡ true →
+            other.now.debug.heap.placement ≡ self.now.debug.heap.placement }
     {
         self.items() == other.items()
             && self.heap.level() == other.heap.level()
             && self.heap.has_setting_of(&other.heap)
+            && self.heap.chooses_places_of(&other.heap)
             && self.heap.alloc_size() == other.heap.alloc_size()
     }
 

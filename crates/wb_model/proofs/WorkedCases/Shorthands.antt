@@ -1,5 +1,5 @@
 -- What the theorems of worked cases have in common. Written by tools/cases_to_theorems.py; edit nothing here.
-use Rattle.std.specs.Prelude.{ℕ, List, length, Option}
+use Rattle.std.specs.Prelude.{ℕ, List, length, Option, true, false}
 use Rattle.std.specs.Fmt.{digits}
 use Rattle.wb_model.specs.declared.heap.Shape.{Shape}
 use Rattle.wb_model.specs.declared.heap.Answer.{Answer}
@@ -115,7 +115,10 @@ abbrev pub leak : ℕ → ℕ → ℕ → Leak
 leak number length place = record { number = number; length = length; place = place }
 
 abbrev pub shaped : ℕ → ℕ → Shape
-shaped min step = record { min = min; step = step }
+shaped min step = record { min = min; step = step; moving = false }
+
+abbrev pub shaped_moving : ℕ → ℕ → Shape
+shaped_moving min step = record { min = min; step = step; moving = true }
 
 abbrev pub line : ℕ → ℕ → ℕ → Answer → Attempt
 line number length place answer = record { number = number; length = length; place = place; answer = answer }

@@ -18,8 +18,9 @@ use Rattle.wb_model.specs.declared.run.Note.TheVariants as N
 use Rattle.wb_model.specs.declared.size.Rise.{Rise}
 use Rattle.wb_model.specs.heap.Row.{Cell, IsRow, headers, cell_at, cell_length, pointer_to, end_of, without, top_of, total_length}
 use Rattle.wb_model.specs.cells.CellRow.{with_payload, resized_words}
-use Rattle.wb_model.specs.heap.Rules.{Setting, never, Request, answer_to}
-use Rattle.wb_model.specs.heap.Heap.{Heap, AfterAnswer, alloc_request, after_alloc, realloc_request, after_realloc, shortened, cells_of_level, cells_of_all_levels, checked}
+use Rattle.wb_model.specs.heap.Rules.{Setting, Request, answer_to}
+use Rattle.wb_model.specs.heap.Heap.{Heap, AfterAnswer, no_cells, alloc_request, after_alloc, realloc_request, after_realloc, shortened, cells_of_level, cells_of_all_levels, checked}
+use Rattle.wb_model.specs.heap.Placement.{placement_of}
 use Rattle.wb_model.specs.heap.Space.{Space, space_of, limit_under, compressed_to, free_runs, longest, is_shape}
 pub use Rattle.wb_model.specs.runs.Account.{trace_line}
 use Rattle.wb_model.specs.runs.Account.{committed_after}
@@ -50,7 +51,7 @@ space_under d = space_of d.rule d.shape
 -- before attempt 1, of a heap that keeps a line of each attempt, or the rises alone
 abbrev pub first_debug_of : Bool → Rule → Shape → Debug
 first_debug_of keeps_rises rule shape = record {
-  heap = record { row = []; level = 0; setting = never };
+  heap = no_cells (placement_of shape);
   rule = rule;
   shape = shape;
   committed = (space_of rule shape).least;
@@ -201,3 +202,5 @@ pub record IsSoundDebug (d : Debug) : Type 0 where
   pub attempts : keeps_rises d ≡ false → d.attempts ≡ length d.trace
   pub untraced : keeps_rises d ≡ true → d.trace ≡ []
   pub shape : is_shape d.shape ≡ true
+  -- places are chosen as the shape says
+  pub placed : d.heap.placement ≡ placement_of d.shape

@@ -1,6 +1,5 @@
 -- What attempts, marks and checks make of a heap of cells, whatever the cells hold.
-use Rattle.std.specs.Prelude.{ℕ, ◌+◌, ◌-◌, List, [], ◌∷◌, Bool, true, false, not, ◌&&◌, ◌||◌, nat_eq, nat_le, if◌then◌else◌, Option, Some, None, filter, length}
-use Rattle.std.specs.List.{list_all}
+use Rattle.std.specs.Prelude.{ℕ, ◌+◌, ◌-◌, List, [], ◌∷◌, Bool, true, false, not, ◌&&◌, nat_eq, if◌then◌else◌, Option, Some, None, filter, length}
 use Rattle.wb_model.specs.declared.heap.TheConstants.Panic.{NO_OPEN_MARK}
 use Rattle.wb_model.specs.declared.heap.Ptr.{Ptr}
 use Rattle.wb_model.specs.declared.heap.Header.{Header}
@@ -10,14 +9,20 @@ use Rattle.wb_model.specs.declared.heap.Answer.{Answer}
 use Rattle.wb_model.specs.declared.heap.Answer.TheVariants.{Granted}
 use Rattle.wb_model.specs.declared.heap.Panic.{Panic}
 use Rattle.wb_model.specs.declared.heap.Panic.TheVariants.{Alloc}
-use Rattle.wb_model.specs.heap.Row.{Cell, headers, end_of, is_at, pointer_to, without, inserted, place_of, cell_length}
-use Rattle.wb_model.specs.heap.Rules.{Setting, is_due, after_attempt, Request}
+use Rattle.wb_model.specs.heap.Placement.{Placement, after_placing, has_stayed, place_to_grow_to, place_to_put}
+use Rattle.wb_model.specs.heap.Row.{Cell, headers, pointer_to, without, inserted, cell_length}
+use Rattle.wb_model.specs.heap.Rules.{Setting, never, is_due, after_attempt, Request}
 
--- cells, the current level of marks, and the script's own setting
+-- cells, the current level of marks, the script's own setting, and how places are chosen
 pub record Heap (A : Type 0) : Type 0 where
   pub row : List (Cell A)
   pub level : ℕ
   pub setting : Setting
+  pub placement : Placement
+
+-- no cell yet
+abbrev pub no_cells : {A : Type 0} → Placement → Heap A
+no_cells placement = record { row = []; level = 0; setting = never; placement = placement }
 
 -- a heap after an answer, and the pointer that was given
 pub record AfterAnswer (A : Type 0) : Type 0 where
@@ -28,13 +33,13 @@ pub record AfterAnswer (A : Type 0) : Type 0 where
 abbrev pub request_at : {A : Type 0} → Heap A → ℕ → ℕ → Request
 request_at heap place length = record { length = length; place = place; due = is_due heap.setting }
 
--- the heap once the setting has counted the attempt
+-- the heap once an attempt was counted
 abbrev pub attempt_counted : {A : Type 0} → Heap A → Heap A
-attempt_counted heap = record heap { setting = after_attempt heap.setting }
+attempt_counted heap = record heap { setting = after_attempt heap.setting; placement = after_placing heap.placement }
 
 -- what an allocation asks: its place is chosen before anything may refuse it
 abbrev pub alloc_request : {A : Type 0} → Heap A → ℕ → Request
-alloc_request heap bytes = request_at heap (place_of (headers heap.row) (cell_length bytes)) (cell_length bytes)
+alloc_request heap bytes = request_at heap (place_to_put heap.placement (headers heap.row) (cell_length bytes)) (cell_length bytes)
 
 -- the cell that a grant inserts: the attempt's number, and the current level
 abbrev pub new_cell : {A : Type 0} → Heap A → ℕ → Request → Kind → A → Cell A
@@ -50,29 +55,20 @@ after_alloc heap t kind fresh number Granted =
     }
 after_alloc heap t kind fresh number _ = record { heap = attempt_counted heap; given = None }
 
--- whether the bytes of a longer cell are free but for the cell itself
-abbrev pub fits_in_place : List Header → Header → ℕ → Bool
-fits_in_place row h length =
-    list_all (λ g. is_at (pointer_to h) g || (nat_le (h.place + length) g.place || nat_le (end_of g) h.place)) row
-
--- the place of a cell that is to be longer: its own where the bytes after it are free, else the first gap beside it
-abbrev pub realloc_place : List Header → Header → ℕ → ℕ
-realloc_place row h length = if fits_in_place row h length then h.place else place_of row length
-
 -- what a reallocation to a longer cell asks
 abbrev pub realloc_request : {A : Type 0} → Heap A → Header → ℕ → Request
-realloc_request heap h bytes = request_at heap (realloc_place (headers heap.row) h (cell_length bytes)) (cell_length bytes)
+realloc_request heap h bytes = request_at heap (place_to_grow_to heap.placement (headers heap.row) h (cell_length bytes)) (cell_length bytes)
 
 -- the header after a granted reallocation: a cell that moved gets the attempt's number; kind and level stay
-abbrev pub moved : Header → ℕ → Request → Header
-moved h number t = record h { place = t.place; length = t.length; number = if nat_eq t.place h.place then h.number else number }
+abbrev pub moved : Placement → Header → ℕ → Request → Header
+moved placement h number t = record h { place = t.place; length = t.length; number = if has_stayed placement h t.place then h.number else number }
 
 -- the heap after a reallocation was answered
 abbrev pub after_realloc : {A : Type 0} → Heap A → Request → Header → A → ℕ → Answer → AfterAnswer A
 after_realloc heap t h content number Granted =
     record {
-      heap = record (attempt_counted heap) { row = inserted (record { head = moved h number t; content = content }) (without (pointer_to h) heap.row) };
-      given = Some (pointer_to (moved h number t));
+      heap = record (attempt_counted heap) { row = inserted (record { head = moved heap.placement h number t; content = content }) (without (pointer_to h) heap.row) };
+      given = Some (pointer_to (moved heap.placement h number t));
     }
 after_realloc heap t h content number _ = record { heap = attempt_counted heap; given = None }
 

@@ -6,7 +6,7 @@ use Rattle.wb_model.specs.declared.heap.Ptr.{Ptr}
 use Rattle.wb_model.specs.declared.heap.Kind.{Kind}
 use Rattle.wb_model.specs.declared.heap.Shape.{Shape}
 use Rattle.wb_model.specs.heap.Row.{Cell, IsRow, headers, end_of, usable_of, pointer_to, place_of, inserted, without, top_of}
-use Rattle.wb_model.specs.heap.Heap.{realloc_place}
+use Rattle.wb_model.specs.heap.Placement.{realloc_place}
 use Rattle.wb_model.specs.heap.Space.{Space, space_below, bound_below, committed_by, compressed_to, free_runs, is_shape}
 use Rattle.wb_model.specs.cells.CellRow.{with_payload, with_level, resized_words}
 
@@ -57,7 +57,7 @@ heap_without heap p = record heap { row = without p heap.row }
 
 -- where a cell goes that is to be longer
 abbrev pub place_to_grow : LimitedHeap → Header → ℕ → ℕ
-place_to_grow heap h length = realloc_place (headers heap.row) h length
+place_to_grow heap h length = realloc_place heap.shape.moving (headers heap.row) h length
 
 -- the pointer to it there: a cell that moved has the attempt's number
 abbrev pub grown_pointer : LimitedHeap → Header → ℕ → ℕ → Ptr

@@ -1,9 +1,9 @@
 -- What a rule and the script's own setting say of an attempt.
-use Rattle.std.specs.Prelude.{ℕ, zero, suc, ◌+◌, ◌%◌, Bool, false, ◌||◌, nat_eq, nat_lt, if◌then◌else◌, Option, Some, None}
+use Rattle.std.specs.Prelude.{ℕ, zero, suc, ◌+◌, ◌%◌, Bool, false, ◌||◌, nat_eq, nat_lt, nat_le, if◌then◌else◌, Option, Some, None}
 use Rattle.std.specs.List.{list_any}
 use Rattle.wb_model.specs.declared.limits.TheConstants.{CEILING}
 use Rattle.wb_model.specs.declared.heap.Rule.{Rule}
-use Rattle.wb_model.specs.declared.heap.Rule.TheVariants.{Limit, Number, Every, Pair, Set}
+use Rattle.wb_model.specs.declared.heap.Rule.TheVariants.{Limit, Number, Every, From, Pair, Set}
 use Rattle.wb_model.specs.declared.heap.Answer.{Answer}
 use Rattle.wb_model.specs.declared.heap.Answer.TheVariants.{Granted, Simulated, Refused}
 
@@ -12,10 +12,11 @@ abbrev pub limit_of : Rule → Option ℕ
 limit_of (Limit l) = Some l
 limit_of _ = None
 
--- whether a rule simulates the failure of the attempt with this number; rate 0 simulates none
+-- whether a rule simulates the failure of the attempt with this number; rate 0 and `From 0` simulate none
 abbrev pub simulates : Rule → ℕ → Bool
 simulates (Number n) number = nat_eq n number
 simulates (Every n) number = if nat_eq n 0 then false else nat_eq (number % n) 0
+simulates (From n) number = if nat_eq n 0 then false else nat_le n number
 simulates (Pair i j) number = nat_eq i number || nat_eq j number
 simulates (Set numbers) number = list_any (λ it. nat_eq it number) numbers
 simulates _ number = false

@@ -52,7 +52,7 @@ pub data Follows (budget further : ℕ) : Renaming → Process → Process → T
 
 -- the steps counted so far
 abbrev pub steps_of : Progress → ℕ
-steps_of not_begun = 0
+steps_of (not_begun placement) = 0
 steps_of (going ps way st) = st.steps
 steps_of (has_stopped stop st) = st.steps
 

@@ -5,7 +5,7 @@ use Rattle.wb_model.specs.declared.failures.Failing.{Failing}
 use Rattle.wb_model.specs.declared.failures.Failing.TheVariants.{Number, Pair}
 use Rattle.wb_model.specs.declared.failures.Failing.TheVariants as failings
 use Rattle.wb_model.specs.declared.failures.Failures.{Failures}
-use Rattle.wb_model.specs.declared.failures.Failures.TheVariants.{Single, Every, Pairs}
+use Rattle.wb_model.specs.declared.failures.Failures.TheVariants.{Single, Every, Pairs, Persistent}
 use Rattle.wb_model.specs.declared.heap.Shape.{Shape}
 use Rattle.wb_model.specs.declared.part.Part.{Part}
 use Rattle.wb_model.specs.declared.run.Outcome.TheVariants.{Cut}
@@ -26,6 +26,7 @@ abbrev pub IsTried : Failures → Part → ℕ → Failing → Type 0
 IsTried Single part last (Number n) = IsNumberOf part last n
 IsTried Every part last (failings.Every n) = IsNumberOf part last n
 IsTried Pairs part last (Number n) = IsNumberOf part last n
+IsTried Persistent part last (failings.From n) = IsNumberOf part last n
 IsTried Pairs part last (Pair i j) = IsNumberOf part last i × (1 ≤ i) × (i < j)
 IsTried _ part last _ = ⊥
 
@@ -34,6 +35,7 @@ abbrev pub comes_before : Failing → Failing → Bool
 comes_before (Number m) (Number n) = nat_lt m n
 comes_before (Number m) (Pair i j) = true
 comes_before (failings.Every m) (failings.Every n) = nat_lt m n
+comes_before (failings.From m) (failings.From n) = nat_lt m n
 comes_before (Pair a b) (Pair i j) = nat_lt a i || (nat_eq a i && nat_lt b j)
 comes_before _ _ = false
 

@@ -4,6 +4,7 @@ use Rattle.wb_model.specs.declared.heap.Ptr.{Ptr}
 use Rattle.wb_model.specs.declared.heap.Rule.{Rule}
 use Rattle.wb_model.specs.declared.heap.Shape.{Shape}
 use Rattle.wb_model.specs.declared.script.Script.{Script}
+use Rattle.wb_model.specs.heap.Placement.{Placement}
 use Rattle.wb_model.specs.heap.Rules.{refusal_of}
 use Rattle.wb_model.specs.heap.Space.{space_of}
 use Rattle.wb_model.specs.meaning.State.{State, Frame, number, pointer, Way, leaves, Stop, Process, ends, stops, and_then, on_plain_end, set_local}
@@ -54,16 +55,16 @@ unfoldable pub resume : Script → ℕ → List Pending → Way → State → Pr
 resume script budget [] way st = ends way st
 resume script budget (p ∷ ps) way st = and_then (resumed script budget p way st) (resume script budget ps)
 
--- how far a run has come: attempt 1 isn't made; pieces are pending, of which none may be left, and how the one above them
--- ended; or something stopped the run
+-- how far a run has come: attempt 1 isn't made yet, in a heap with this choice of places; pieces are pending, of which none may be left,
+-- and how the one above them ended; or something stopped the run
 pub data Progress : Type 0 where
-  not_begun : Progress
+  not_begun : Placement → Progress
   going : List Pending → Way → State → Progress
   has_stopped : Stop → State → Progress
 
 -- what is left to do
 unfoldable pub left_to_do : Script → ℕ → Progress → Process
-left_to_do script budget not_begun = process script budget
+left_to_do script budget (not_begun placement) = process script budget placement
 left_to_do script budget (going ps way st) = resume script budget ps way st
 left_to_do script budget (has_stopped stop st) = stops stop st
 
@@ -72,7 +73,7 @@ unfoldable pub rest : Script → ℕ → Shape → Rule → Progress → Account
 rest script budget shape rule progress a = whole_of (settled rule (space_of rule shape) (left_to_do script budget progress) a)
 
 abbrev pub has_ended : Progress → Bool
-has_ended not_begun = false
+has_ended (not_begun placement) = false
 has_ended (going [] way st) = true
 has_ended (going (p ∷ ps) way st) = false
 has_ended (has_stopped stop st) = true
@@ -88,7 +89,7 @@ first_line (p ∷ ps) = line_of p
 
 -- the line of the statement that is to begin next, where one is
 abbrev pub next_line : Progress → Option ℕ
-next_line not_begun = None
+next_line (not_begun placement) = None
 next_line (going ps way st) = first_line ps
 next_line (has_stopped stop st) = None
 

@@ -17,8 +17,8 @@ use Rattle.wb_model.specs.declared.size.Rise.{Rise}
 use Rattle.wb_model.specs.heap.Row.{headers}
 pub use Rattle.wb_model.specs.runs.Rises.{granted_end, end_of_line, highest_end, rises_above}
 use Rattle.wb_model.specs.runs.Rises.{first_rises}
-use Rattle.wb_model.specs.heap.Rules.{never}
-use Rattle.wb_model.specs.heap.Heap.{cells_of_all_levels}
+use Rattle.wb_model.specs.heap.Placement.{Placement, placement_of}
+use Rattle.wb_model.specs.heap.Heap.{no_cells, cells_of_all_levels}
 use Rattle.wb_model.specs.meaning.State.{State, none, require, Way, goes_on, returns, leaves, panics, is_cut, no_cleanup, Process, ends, stops, and_then, then_do, null, initial}
 use Rattle.wb_model.specs.meaning.Attempts.{allocate}
 use Rattle.wb_model.specs.meaning.Statements.{all, destroy_items, Context, Meaning, done}
@@ -27,10 +27,10 @@ use Rattle.wb_model.specs.meaning.Meaning.{meaning_of}
 use Rattle.wb_model.specs.heap.Space.{Space, space_of}
 use Rattle.wb_model.specs.runs.Account.{over, stopped, End, Account, Settled, settled}
 
--- the state before attempt 1
-abbrev pub start : State
-start = record {
-  heap = record { row = []; level = 0; setting = never };
+-- the state before attempt 1, in a heap with this choice of places
+abbrev pub start : Placement → State
+start placement = record {
+  heap = no_cells placement;
   cleanup = null;
   items = [];
   slots = 8;
@@ -55,9 +55,9 @@ unfoldable pub started : Meaning → Script → Option Ptr → State → Process
 started rec script (Some p) st = in_main rec script (record st { cleanup = p })
 started rec script None st = stops no_cleanup st
 
--- a run, up to what the rule says
-unfoldable pub process : Script → ℕ → Process
-process script budget = allocate 128 Cleanup none start (started (meaning_of script budget) script)
+-- a run in a heap with this choice of places, up to what the rule says
+unfoldable pub process : Script → ℕ → Placement → Process
+process script budget placement = allocate 128 Cleanup none (start placement) (started (meaning_of script budget) script)
 
 abbrev pub leak_of : Header → Leak
 leak_of h = record { number = h.number; length = h.length; place = h.place }
@@ -95,7 +95,7 @@ before space = before_of false space
 -- the run of a script under a rule
 abbrev pub run : Script → Rule → ℕ → Shape → RunResult
 run script rule budget shape =
-    result_of (settled rule (space_of rule shape) (process script budget) (before (space_of rule shape)))
+    result_of (settled rule (space_of rule shape) (process script budget (placement_of shape)) (before (space_of rule shape)))
 
 -- what a run comes to: its result, how many attempts it made, and the rises where they are kept in the trace's place
 pub record WholeRun : Type 0 where
@@ -108,7 +108,7 @@ whole_of s = record { result = result_of s; attempts = s.account.attempts; rises
 
 abbrev pub whole_run : Bool → Script → Rule → ℕ → Shape → WholeRun
 whole_run keeps_rises script rule budget shape =
-    whole_of (settled rule (space_of rule shape) (process script budget) (before_of keeps_rises (space_of rule shape)))
+    whole_of (settled rule (space_of rule shape) (process script budget (placement_of shape)) (before_of keeps_rises (space_of rule shape)))
 
 -- what a run comes to that keeps the rises, from what one with lines tells
 abbrev pub run_with_rises : RunResult → WholeRun

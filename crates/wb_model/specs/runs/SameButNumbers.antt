@@ -10,6 +10,7 @@ use Rattle.wb_model.specs.declared.text.Base.{Base}
 use Rattle.wb_model.specs.declared.text.Base.TheVariants as B
 use Rattle.wb_model.specs.declared.text.View.{View}
 use Rattle.wb_model.specs.heap.Heap.{Heap}
+use Rattle.wb_model.specs.heap.Placement.{Placement}
 use Rattle.wb_model.specs.heap.Row.{Cell}
 use Rattle.wb_model.specs.meaning.State.{Content, words, fields, units, none, Value, pointer, number, buffer, view, Frame, State, Way, goes_on, returns, leaves, Stop}
 use Rattle.wb_model.specs.meaning.Statements.{Todo, all, turns, destroy_items, destroy_object, Context}
@@ -99,11 +100,12 @@ pub record IsSameCell (names : Names) (c d : Cell Content) : Type 0 where
   pub head : IsSameHeader names c.head d.head
   pub content : IsSameContent names c.content d.content
 
--- the setting as what is left of it until it refuses next
+-- the setting as what is left of it until it refuses next; both choose places alike
 pub record IsSameHeap (names : Names) (h g : Heap Content) : Type 0 where
   pub row : AllBeside (IsSameCell names) h.row g.row
   pub level : g.level ≡ h.level
   pub setting : g.setting ≡ h.setting
+  pub placement : g.placement ≡ h.placement
 
 pub data IsSameItem (names : Names) : Item → Item → Type 0 where
   same_free : {p q : Ptr} → IsSamePointer names p q → IsSameItem names (I.Free p) (I.Free q)
@@ -168,7 +170,7 @@ pub data IsSamePending (names : Names) : Pending → Pending → Type 0 where
   same_main_caught : (code : ℤ) → IsSamePending names (main_caught code) (main_caught code)
 
 pub data IsSameProgress (names : Names) : Progress → Progress → Type 0 where
-  same_not_begun : IsSameProgress names not_begun not_begun
+  same_not_begun : (placement : Placement) → IsSameProgress names (not_begun placement) (not_begun placement)
   same_going : {ps qs : List Pending} {way other_way : Way} {st other : State} → AllBeside (IsSamePending names) ps qs →
       IsSameWay names way other_way → IsSameState names st other → IsSameProgress names (going ps way st) (going qs other_way other)
   same_stopped : (stop : Stop) {st other : State} → IsSameState names st other → IsSameProgress names (has_stopped stop st) (has_stopped stop other)

@@ -1,7 +1,7 @@
 -- What a sweep over the sets of a part comes to, as one value, and which sets the failures of other sweeps are.
 use Rattle.std.specs.Prelude.{◌≡◌, ℕ, zero, suc, List, [], ◌∷◌, if◌then◌else◌}
 use Rattle.wb_model.specs.declared.failures.Failing.{Failing}
-use Rattle.wb_model.specs.declared.failures.Failing.TheVariants.{Number, Every, Pair}
+use Rattle.wb_model.specs.declared.failures.Failing.TheVariants.{Number, Every, Pair, From}
 use Rattle.wb_model.specs.declared.failures.Failures.{Failures}
 use Rattle.wb_model.specs.declared.heap.Shape.{Shape}
 use Rattle.wb_model.specs.declared.part.Part.{Part}
@@ -39,12 +39,13 @@ least_set_of (cut numbers why) (cut other another) = first_set_of numbers other 
 
 -- ---- single failures and pairs
 
--- the attempts that fail, none by number 0; a rate isn't a set
+-- the attempts that fail, none by number 0; it isn't asked of a rate, nor of all from a number on
 abbrev pub set_of : Failing → List ℕ
 set_of (Number zero) = []
 set_of (Number (suc n)) = suc n ∷ []
 set_of (Pair i j) = i ∷ j ∷ []
 set_of (Every n) = []
+set_of (From n) = []
 
 -- the set is that of a failure which a sweep over a part finds
 abbrev pub IsSetOfFound : Failures → Part → Script → ℕ → Shape → List ℕ → RunResult → Type 0

@@ -4,7 +4,7 @@ use Rattle.wb_model.specs.declared.failures.Failing.{Failing}
 use Rattle.wb_model.specs.declared.failures.Failing.TheVariants.{Number, Pair}
 use Rattle.wb_model.specs.declared.failures.Failing.TheVariants as failings
 use Rattle.wb_model.specs.declared.failures.Failures.{Failures}
-use Rattle.wb_model.specs.declared.failures.Failures.TheVariants.{Single, Every, Pairs}
+use Rattle.wb_model.specs.declared.failures.Failures.TheVariants.{Single, Every, Pairs, Persistent}
 use Rattle.wb_model.specs.declared.heap.Rule.{Rule}
 use Rattle.wb_model.specs.declared.heap.Rule.TheVariants as rules
 use Rattle.wb_model.specs.declared.heap.Shape.{Shape}
@@ -48,12 +48,14 @@ abbrev pub failing_at : Failures → ℕ → Failing
 failing_at Single n = Number n
 failing_at Every n = failings.Every n
 failing_at Pairs n = Number n
+failing_at Persistent n = failings.From n
 
 -- the rule of a failure
 abbrev pub rule_for : Failing → Rule
 rule_for (Number n) = rules.Number n
 rule_for (failings.Every n) = rules.Every n
 rule_for (Pair i j) = rules.Pair i j
+rule_for (failings.From n) = rules.From n
 
 -- the runs under failures that are tried as 0, 1, 2 and so on
 abbrev pub runs_under : (ℕ → Failing) → Script → ℕ → Shape → ℕ → RunResult
@@ -62,8 +64,8 @@ runs_under tried script budget shape n = run script (rule_for (tried n)) budget 
 abbrev pub rule_of : Failures → ℕ → Rule
 rule_of failures n = rule_for (failing_at failures n)
 
--- the run under the failure that is tried as n: the attempt with number n fails, or every n-th does; as attempts count from 1,
--- n = 0 is the run without failure
+-- the run under the failure that is tried as n: the attempt with number n fails, or every n-th does, or all from the n-th on; as
+-- attempts count from 1, n = 0 is the run without failure
 abbrev pub runs_of : Failures → Script → ℕ → Shape → ℕ → RunResult
 runs_of failures = runs_under (failing_at failures)
 

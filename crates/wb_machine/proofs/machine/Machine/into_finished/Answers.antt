@@ -9,7 +9,7 @@ use Rattle.wb_machine.specs.declared.pieces.Ending.TheVariants.{GoesOn, Returns,
 use Rattle.wb_machine.specs.Flow.{has_met_ceiling}
 use Rattle.wb_machine.specs.Seen.{Seen}
 use Rattle.wb_machine.specs.Results.{outcome_by, run_result_by}
-use Rattle.wb_machine.proofs.whole_runs.OverRuns.{run_over}
+use Rattle.wb_machine.proofs.whole_runs.OverRuns.{few_attempts, run_over}
 use Rattle.wb_machine.proofs.machine.Machine.into_finished.Goals as goal
 
 pub returns-clause-run_result : goal.returns-clause-run_result
@@ -23,6 +23,9 @@ returns-clause-attempts c =
     let s = c.args.self in
     sym (ap (λ (x : WholeRun). x.attempts) (run_over c.self.inside s c.self.view_is c.self.invariant c.requires.over c.requires.well))
     ∙ ap (λ (x : Seen). x.attempts) c.self.view_is
+
+pub returns-clause-few : goal.returns-clause-few
+returns-clause-few c = few_attempts c.self.inside c.args.self c.self.view_is c.self.invariant c.requires.well
 
 -- how it ended is what is reported
 tells_ceiling : (ending : Ending) (leaks : List Leak) → (has_met_ceiling ending ≡ true) ↔ (outcome_by ending leaks ≡ outcomes.Cut Ceiling)

@@ -1,4 +1,4 @@
-use Rattle.std.proofs.Common.{false, length, ap, sym, ◌∙◌}
+use Rattle.std.proofs.Common.{◌≤◌, ◌+◌, false, length, ap, sym, subst, ◌∙◌}
 use Rattle.wb_model.specs.declared.run.RunResult.{RunResult}
 use Rattle.wb_model.specs.runs.Run.{whole_run}
 use Rattle.wb_model.proofs.AccountLemmas.{whole-attempts}
@@ -14,3 +14,6 @@ returns-clause-attempts c =
     let s = c.args.self in
     ap (λ (x : RunResult). length x.trace) (returns-clause-run_result c) ∙ sym (whole-attempts false s.script s.rule s.budget s.shape)
     ∙ sym (ap (λ b. (whole_run b s.script s.rule s.budget s.shape).attempts) c.requires.lines) ∙ c.into_finished.ensures.attempts
+
+pub returns-clause-few : goal.returns-clause-few
+returns-clause-few c = subst (λ n. n ≤ c.args.self.budget + 1) (sym (returns-clause-attempts c)) c.into_finished.ensures.few

@@ -26,6 +26,7 @@ returns-clause-state c e script =
             (c.same_cells.ensures.same e script);
         level = c.has_counts_of.ensures.level c.if-not-has_counts_of.false;
         setting = c.has_counts_of.ensures.setting c.if-not-has_counts_of.false;
+        placement = c.has_counts_of.ensures.placement c.if-not-has_counts_of.false;
       };
       cleanup = pointer-later from_stack (c.has_stack_of.ensures.cell c.if-not-has_stack_of.false);
       items = all-weaker (λ i j r. item-later from_stack r) (c.has_stack_of.ensures.items c.if-not-has_stack_of.false);

@@ -365,19 +365,3 @@ objects_that_own_one_another_lengths : (end_in script_objects_that_own_one_anoth
     ((line 1 144 0 Granted) ∷ (line 2 32 144 Granted) ∷ (line 3 32 176 Refused) ∷ []) [] [] 2)
 unfolding everything
 objects_that_own_one_another_lengths = (refl, refl, refl, refl, refl, refl, refl, refl, refl)
-
-abbrev script_pushed_object_survives_every_length_lengths : Script
-script_pushed_object_survives_every_length_lengths = script ((class_of 1 16 (None ∷ []) (Some (body [] ((on 4 (Statement-F.NewText (Field
-    H.This 0 0) (Constant (pos 4)) Leaves)) ∷ []))) (Some (body [] ((on 7 (Statement-F.Free (Field H.This 0 0))) ∷ [])))) ∷ []) ((procedure
-    10 [] (body ((OfPointer (Some 0)) ∷ []) ((on 12 (Statement-F.New (Held (H.Local 0)) 0 Leaves)) ∷ (on 13 (Statement-F.PushObject (Held
-    (H.Local 0)))) ∷ (on 14 (Statement-F.Construct (Held (H.Local 0)))) ∷ (on 15 (Statement-F.Pop (Constant (pos 1)))) ∷ (on 16
-    (Statement-F.Delete (Held (H.Local 0)))) ∷ []))) ∷ []) [] [] 0
-
-pushed_object_survives_every_length_lengths : (end_in script_pushed_object_survives_every_length_lengths 10000 (shaped 4096 4096) 0 ≡
-    E.NoCleanup) × (end_in script_pushed_object_survives_every_length_lengths 10000 (shaped 4096 4096) 143 ≡ E.NoCleanup) × (end_in
-    script_pushed_object_survives_every_length_lengths 10000 (shaped 4096 4096) 144 ≡ E.Left (negsuc 3)) × (end_in
-    script_pushed_object_survives_every_length_lengths 10000 (shaped 4096 4096) 223 ≡ E.Left (negsuc 3)) × (end_in
-    script_pushed_object_survives_every_length_lengths 10000 (shaped 4096 4096) 224 ≡ E.Plain) × (end_in
-    script_pushed_object_survives_every_length_lengths 10000 (shaped 4096 4096) 16777216 ≡ E.Plain)
-unfolding everything
-pushed_object_survives_every_length_lengths = (refl, refl, refl, refl, refl, refl)

@@ -352,28 +352,3 @@ locals_of_both_bodies_of_a_class_run : run script_locals_of_both_bodies_of_a_cla
     None []) ((line 1 144 0 Granted) ∷ (line 2 32 144 Granted) ∷ []) [] [] 4
 unfolding everything
 locals_of_both_bodies_of_a_class_run = refl
-
-abbrev script_marks_count_objects_run : Script
-script_marks_count_objects_run = script ((class_of 1 0 [] None None) ∷ []) ((procedure 3 [] (body ((OfPointer (Some 0)) ∷ []) ((on 5
-    Statement-F.Mark) ∷ (on 6 (Statement-F.New (Held (H.Local 0)) 0 Leaves)) ∷ (on 7 (Statement-F.MarkEnd (Constant (pos 0)))) ∷ []))) ∷ [])
-    [] [] 0
-
-marks_count_objects_run : run script_marks_count_objects_run R.Unlimited 10000 (shaped 4096 4096) ≡ result (Panicked (P.Alloc 144)) ((line 1
-    144 0 Granted) ∷ (line 2 32 144 Granted) ∷ []) [] [] 3
-unfolding everything
-marks_count_objects_run = refl
-
-abbrev script_members_are_destroyed_by_their_owner_run : Script
-script_members_are_destroyed_by_their_owner_run = script ((class_of 1 0 [] None (Some (body [] ((on 3 (Statement-F.PrintText (Quoted 0))) ∷
-    [])))) ∷ (class_of 6 0 ((Some 0) ∷ (Some 0) ∷ []) (Some (body [] ((on 10 (Statement-F.New (Field H.This 1 0) 0 Leaves)) ∷ (on 11
-    (Statement-F.New (Field H.This 1 1) 0 Leaves)) ∷ []))) (Some (body [] ((on 14 (Statement-F.PrintText (Quoted 1))) ∷ (on 15
-    (Statement-F.Delete (Field H.This 1 1))) ∷ (on 16 (Statement-F.Delete (Field H.This 1 0))) ∷ [])))) ∷ []) ((procedure 19 [] (body
-    ((OfPointer (Some 1)) ∷ []) ((on 21 (Statement-F.New (Held (H.Local 0)) 1 Leaves)) ∷ (on 22 (Statement-F.Construct (Held (H.Local 0))))
-    ∷ (on 23 (Statement-F.Delete (Held (H.Local 0)))) ∷ []))) ∷ []) [] ((112 ∷ 97 ∷ 114 ∷ 116 ∷ []) ∷ (119 ∷ 104 ∷ 111 ∷ 108 ∷ 101 ∷ []) ∷
-    []) 0
-
-members_are_destroyed_by_their_owner_run : run script_members_are_destroyed_by_their_owner_run R.Unlimited 10000 (shaped 4096 4096) ≡ result
-    (Ended None []) ((line 1 144 0 Granted) ∷ (line 2 48 144 Granted) ∷ (line 3 32 192 Granted) ∷ (line 4 32 224 Granted) ∷ []) ((119 ∷ 104
-    ∷ 111 ∷ 108 ∷ 101 ∷ []) ∷ (112 ∷ 97 ∷ 114 ∷ 116 ∷ []) ∷ (112 ∷ 97 ∷ 114 ∷ 116 ∷ []) ∷ []) [] 13
-unfolding everything
-members_are_destroyed_by_their_owner_run = refl

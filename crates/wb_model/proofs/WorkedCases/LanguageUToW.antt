@@ -14,6 +14,41 @@ use Rattle.wb_model.specs.declared.script.Statement.TheOpen.{Statement-F}
 use Rattle.wb_model.specs.runs.Run.{run}
 use Rattle.wb_model.proofs.WorkedCases.Shorthands.{everything, on, script, procedure, body, result, shaped, line}
 
+abbrev script_usable_length_is_rounded_up_run : Script
+script_usable_length_is_rounded_up_run = script [] ((procedure 1 [] (body ((OfPointer None) ∷ OfNumber ∷ []) ((on 4 (Statement-F.Alloc (Held
+    (H.Local 0)) (Constant (pos 1)) GivesNull)) ∷ (on 5 (Statement-F.AllocLen 1 (Held (H.Local 0)))) ∷ (on 6 (Statement-F.PrintNumber
+    (Variable 1))) ∷ (on 7 (Statement-F.Realloc (Held (H.Local 0)) (Held (H.Local 0)) (Constant (pos 17)) GivesNull)) ∷ (on 8
+    (Statement-F.AllocLen 1 (Held (H.Local 0)))) ∷ (on 9 (Statement-F.PrintNumber (Variable 1))) ∷ (on 10 (Statement-F.Realloc (Held
+    (H.Local 0)) (Held (H.Local 0)) (Constant (pos 16)) GivesNull)) ∷ (on 11 (Statement-F.AllocLen 1 (Held (H.Local 0)))) ∷ (on 12
+    (Statement-F.PrintNumber (Variable 1))) ∷ (on 13 (Statement-F.Realloc (Held (H.Local 0)) (Held (H.Local 0)) (Constant (pos 0))
+    GivesNull)) ∷ (on 14 (Statement-F.AllocLen 1 (Held (H.Local 0)))) ∷ (on 15 (Statement-F.PrintNumber (Variable 1))) ∷ (on 16
+    (Statement-F.Free (Held (H.Local 0)))) ∷ []))) ∷ []) [] [] 0
+
+usable_length_is_rounded_up_run : run script_usable_length_is_rounded_up_run R.Unlimited 10000 (shaped 4096 4096) ≡ result (Ended None [])
+    ((line 1 144 0 Granted) ∷ (line 2 32 144 Granted) ∷ (line 3 48 144 Granted) ∷ []) ((49 ∷ 54 ∷ []) ∷ (51 ∷ 50 ∷ []) ∷ (49 ∷ 54 ∷ []) ∷
+    (48 ∷ []) ∷ []) [] 13
+unfolding everything
+usable_length_is_rounded_up_run = refl
+
+abbrev script_usable_length_of_a_freed_cell_run : Script
+script_usable_length_of_a_freed_cell_run = script [] ((procedure 1 [] (body ((OfPointer None) ∷ OfNumber ∷ []) ((on 4 (Statement-F.Alloc
+    (Held (H.Local 0)) (Constant (pos 1)) GivesNull)) ∷ (on 5 (Statement-F.Free (Held (H.Local 0)))) ∷ (on 6 (Statement-F.AllocLen 1 (Held
+    (H.Local 0)))) ∷ []))) ∷ []) [] [] 0
+
+usable_length_of_a_freed_cell_run : run script_usable_length_of_a_freed_cell_run R.Unlimited 10000 (shaped 4096 4096) ≡ result (Panicked
+    (P.User 42)) ((line 1 144 0 Granted) ∷ (line 2 32 144 Granted) ∷ []) [] [] 3
+unfolding everything
+usable_length_of_a_freed_cell_run = refl
+
+abbrev script_usable_length_of_null_run : Script
+script_usable_length_of_null_run = script [] ((procedure 1 [] (body ((OfPointer None) ∷ OfNumber ∷ []) ((on 4 (Statement-F.AllocLen 1 (Held
+    (H.Local 0)))) ∷ []))) ∷ []) [] [] 0
+
+usable_length_of_null_run : run script_usable_length_of_null_run R.Unlimited 10000 (shaped 4096 4096) ≡ result (Panicked (P.User 42)) ((line
+    1 144 0 Granted) ∷ []) [] [] 1
+unfolding everything
+usable_length_of_null_run = refl
+
 abbrev script_word_before_the_first_run : Script
 script_word_before_the_first_run = script [] ((procedure 1 [] (body ((OfPointer None) ∷ OfNumber ∷ []) ((on 4 (Statement-F.Alloc (Held
     (H.Local 0)) (Constant (pos 1)) GivesNull)) ∷ (on 5 (Statement-F.SetNumber 1 (Constant (negsuc 0)))) ∷ (on 6 (Statement-F.Store (Held
