@@ -4,7 +4,7 @@ use Rattle.std.proofs.lemmas.Bool.{true≢false}
 use Rattle.wb_machine.specs.Alike.{reached_by, whole_run_under}
 use Rattle.wb_machine.specs.Seen.{Seen}
 use Rattle.wb_model.specs.declared.failures.Failures.{Failures}
-use Rattle.wb_model.specs.declared.failures.Failures.TheVariants.{Single, Every, Pairs}
+use Rattle.wb_model.specs.declared.failures.Failures.TheVariants.{Single, Every, Pairs, Persistent}
 use Rattle.wb_model.specs.declared.heap.Rule.{Rule}
 use Rattle.wb_model.specs.declared.heap.Shape.{Shape}
 use Rattle.wb_model.specs.declared.run.Outcome.TheVariants.{Cut}
@@ -29,6 +29,7 @@ lies-behind Single n first last here there e f le more =
 lies-behind Pairs n first last here there e f le more =
     let same : n ≡ last = cc in numbers-alike here there 0 n (omega arith) (omega (arith, same, more))
 lies-behind Every n first last here there e f le more = cc
+lies-behind Persistent n first last here there e f le more = cc
 
 -- a run of a machine that keeps lines, under a rule, is the one of its script, that rule, its budget and its shape
 pub run-under : (m : Seen) (rule : Rule) (script : Script) (budget : ℕ) (shape : Shape) → m.keeps_rises ≡ false → m.script ≡ script → m.budget ≡ budget →

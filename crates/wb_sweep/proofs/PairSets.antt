@@ -2,7 +2,7 @@
 use Rattle.std.proofs.Common.{◌≡◌, inl, inr, List, ℕ, zero, suc, refl, sym, subst, ◌∙◌, ap}
 use Rattle.std.proofs.lemmas.Bool.{true≢false}
 use Rattle.wb_model.specs.declared.failures.Failing.{Failing}
-use Rattle.wb_model.specs.declared.failures.Failing.TheVariants.{Number, Every, Pair}
+use Rattle.wb_model.specs.declared.failures.Failing.TheVariants.{Number, Every, Pair, From}
 use Rattle.wb_model.specs.declared.failures.Failures.TheVariants.{Pairs}
 use Rattle.wb_model.specs.declared.heap.Shape.{Shape}
 use Rattle.wb_model.specs.declared.part.Part.{Part}
@@ -25,6 +25,7 @@ failure-of-set part last (Number zero) is = refl
 failure-of-set part last (Number (suc n)) is = refl
 failure-of-set part last (Pair i j) is = refl
 failure-of-set part last (Every n) is = absurd is
+failure-of-set part last (From n) is = absurd is
 
 module _ (part : Part) (script : Script) (budget : ℕ) (shape : Shape) where
   pub pair-found : (numbers : List ℕ) (result : RunResult) → IsSetFoundIn part 2 script budget shape numbers result →

@@ -6,7 +6,7 @@ use Rattle.wb_model.specs.declared.failures.Failing.{Failing}
 use Rattle.wb_model.specs.declared.failures.Failing.TheVariants.{Number, Pair}
 use Rattle.wb_model.specs.declared.failures.Failing.TheVariants as failings
 use Rattle.wb_model.specs.declared.failures.Failures.{Failures}
-use Rattle.wb_model.specs.declared.failures.Failures.TheVariants.{Single, Every}
+use Rattle.wb_model.specs.declared.failures.Failures.TheVariants.{Single, Every, Persistent}
 use Rattle.wb_model.specs.declared.heap.Shape.{Shape}
 use Rattle.wb_model.specs.declared.part.Part.{Part}
 use Rattle.wb_model.specs.declared.run.RunResult.{RunResult}
@@ -85,13 +85,22 @@ module _ (part : Part) (script : Script) (budget : ℕ) (shape : Shape) where
       (at : Failing) → IsTried Single part (last_attempt Single script budget shape) at → is_fine (run_at script budget shape at) ≡ true
   single_fine fine (Number n) tried = fine n tried
   single_fine fine (failings.Every n) tried = absurd tried
+  single_fine fine (failings.From n) tried = absurd tried
   single_fine fine (Pair i j) tried = absurd tried
 
   rates_fine : AreNumbersFine (runs_of Every script budget shape) part (last_attempt Every script budget shape) →
       (at : Failing) → IsTried Every part (last_attempt Every script budget shape) at → is_fine (run_at script budget shape at) ≡ true
   rates_fine fine (failings.Every n) tried = fine n tried
+  rates_fine fine (failings.From n) tried = absurd tried
   rates_fine fine (Number n) tried = absurd tried
   rates_fine fine (Pair i j) tried = absurd tried
+
+  persistent_fine : AreNumbersFine (runs_of Persistent script budget shape) part (last_attempt Persistent script budget shape) →
+      (at : Failing) → IsTried Persistent part (last_attempt Persistent script budget shape) at → is_fine (run_at script budget shape at) ≡ true
+  persistent_fine fine (failings.From n) tried = fine n tried
+  persistent_fine fine (failings.Every n) tried = absurd tried
+  persistent_fine fine (Number n) tried = absurd tried
+  persistent_fine fine (Pair i j) tried = absurd tried
 
   pub none-single : IsUncut Single script budget shape → AreNumbersFine (runs_of Single script budget shape) part (last_attempt Single script budget shape) →
       IsNoneIn Single part script budget shape
@@ -100,3 +109,7 @@ module _ (part : Part) (script : Script) (budget : ℕ) (shape : Shape) where
   pub none-rates : IsUncut Every script budget shape → AreNumbersFine (runs_of Every script budget shape) part (last_attempt Every script budget shape) →
       IsNoneIn Every part script budget shape
   none-rates uncut fine = record { uncut = uncut; fine = rates_fine fine }
+
+  pub none-persistent : IsUncut Persistent script budget shape → AreNumbersFine (runs_of Persistent script budget shape) part (last_attempt Persistent script budget shape) →
+      IsNoneIn Persistent part script budget shape
+  none-persistent uncut fine = record { uncut = uncut; fine = persistent_fine fine }

@@ -1,5 +1,5 @@
 -- What a sweep over all sets says of those of a part, however many attempts they have: the least whose run is bad, or that none is.
-use Rattle.std.specs.Prelude.{◌≡◌, ℕ, None, IfSome}
+use Rattle.std.specs.Prelude.{◌≡◌, ℕ, ◌+◌, ◌≤◌, None, IfSome}
 use Rattle.wb_model.specs.declared.failures.Failures.TheVariants.{Single}
 use Rattle.wb_model.specs.declared.heap.Shape.{Shape}
 use Rattle.wb_model.specs.declared.part.Part.{Part}
@@ -8,8 +8,9 @@ use Rattle.wb_model.specs.runs.EverySet.{IsLeastSetFoundIn, IsNoSetOfAnySizeIn}
 use Rattle.wb_model.specs.runs.Parts.{last_attempt}
 use Rattle.wb_sweep.specs.declared.set_answer.SetSweep.{SetSweep}
 
--- The sets of a part are spoken of, of any number of attempts.
+-- The sets of a part are spoken of, of any number of attempts. The run without failure makes at most one attempt more than the budget has steps.
 pub record IsEverySetSweepIn (part : Part) (script : Script) (budget : ℕ) (shape : Shape) (sweep : SetSweep) : Type 0 where
   pub attempts : sweep.attempts ≡ last_attempt Single script budget shape
+  pub few : sweep.attempts ≤ budget + 1
   pub found : IfSome sweep.found (λ found. IsLeastSetFoundIn part script budget shape found.numbers found.result)
   pub none : sweep.found ≡ None → IsNoSetOfAnySizeIn part script budget shape

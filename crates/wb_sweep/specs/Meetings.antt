@@ -3,7 +3,7 @@ use Rattle.std.specs.Prelude.{◌≡◌, ℕ, ◌≤◌, Bool, true, false, Opti
 use Rattle.wb_machine.specs.Alike.{GoesOnLike}
 use Rattle.wb_machine.specs.Seen.{Seen}
 use Rattle.wb_model.specs.declared.failures.Failures.{Failures}
-use Rattle.wb_model.specs.declared.failures.Failures.TheVariants.{Single, Every, Pairs}
+use Rattle.wb_model.specs.declared.failures.Failures.TheVariants.{Single, Every, Pairs, Persistent}
 use Rattle.wb_model.specs.declared.heap.Shape.{Shape}
 use Rattle.wb_model.specs.declared.run.Outcome.TheVariants.{Cut}
 use Rattle.wb_model.specs.declared.run.RunResult.{RunResult}
@@ -17,11 +17,13 @@ use Rattle.wb_sweep.specs.declared.scout.Meeting.{Meeting}
 use Rattle.wb_sweep.specs.declared.scout.Meeting.TheVariants.{Alike, PastBudget}
 use Rattle.wb_sweep.specs.declared.scout.Scout.{Scout}
 
--- the last attempt that fails under the failure that is tried as n; under a rate there is always a later one
+-- the last attempt that fails under the failure that is tried as n; under a rate there is always a later one, and so there is where all
+-- fail from one on
 abbrev pub last_failing : Failures → ℕ → Option ℕ
 last_failing Single n = Some n
 last_failing Pairs n = Some n
 last_failing Every n = None
+last_failing Persistent n = None
 
 -- a run that has made so many attempts is past the last one that fails under the failure that is tried as n
 abbrev pub IsPastFailure : Failures → ℕ → ℕ → Type 0

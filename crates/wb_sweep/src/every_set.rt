@@ -1,6 +1,6 @@
 //! A sweep over all sets of attempts that fail together, however many they are.
 
-ghost use Rattle.std.specs.Prelude.{◌≡◌, ◌≢◌, ℕ, ◌≤◌, ◌↔◌, List, None, true, false, IfOk, IfSome, IsTrue};
+ghost use Rattle.std.specs.Prelude.{◌≡◌, ◌≢◌, ℕ, ◌+◌, ◌≤◌, ◌↔◌, List, None, true, false, IfOk, IfSome, IsTrue};
 ghost use Rattle.wb_model.specs.language.Sound.{is_script};
 ghost use Rattle.wb_model.specs.heap.Space.{is_shape};
 ghost use Rattle.wb_model.specs.runs.EverySet.{IsLeastSetCutIn, IsLeastSetFoundIn, IsNoSetOfAnySizeIn};
@@ -105,8 +105,13 @@ fn find_among_all<P: Progress>(
     ensures swept { IfOk result (IsEverySetSweepIn part script.now budget shape) }
     ensures cut { (numbers : List ℕ) (why : Why) → result ≡ Err (EverySetFault.Cut numbers why) →
         IsLeastSetCutIn part script.now budget shape numbers why }
+    ensures few_cut { (numbers : List ℕ) (why : Why) →
+        result ≡ Err (EverySetFault.Cut numbers why) →
+        last_attempt Single script.now budget shape ≤ budget + 1 }
     ensures many { (most : ℕ) → result ≡ Err (EverySetFault.ManyStates most) →
         (1 ≤ most) × IsNoSetIn part most script.now budget shape }
+    ensures few_met { (most : ℕ) → result ≡ Err (EverySetFault.ManyStates most) →
+        last_attempt Single script.now budget shape ≤ budget + 1 }
     ensures shape { (result ≡ Err EverySetFault.BadShape) ↔ (is_shape shape ≡ false) }
 {
     let single = find_least_set(alloc, script, part, 1, budget, shape, progress)?;
@@ -145,8 +150,13 @@ pub fn sweep_every_set<P: Progress>(
     ensures swept { IfOk result (IsEverySetSweepIn part script.now budget shape) }
     ensures cut { (numbers : List ℕ) (why : Why) → result ≡ Err (EverySetFault.Cut numbers why) →
         IsLeastSetCutIn part script.now budget shape numbers why }
+    ensures few_cut { (numbers : List ℕ) (why : Why) →
+        result ≡ Err (EverySetFault.Cut numbers why) →
+        last_attempt Single script.now budget shape ≤ budget + 1 }
     ensures many { (most : ℕ) → result ≡ Err (EverySetFault.ManyStates most) →
         (1 ≤ most) × IsNoSetIn part most script.now budget shape }
+    ensures few_met { (most : ℕ) → result ≡ Err (EverySetFault.ManyStates most) →
+        last_attempt Single script.now budget shape ≤ budget + 1 }
     ensures shape { (result ≡ Err EverySetFault.BadShape) ↔ (is_shape shape ≡ false) }
 {
     progress.begin();

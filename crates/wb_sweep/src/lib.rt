@@ -1,5 +1,5 @@
-//! The least number of an attempt, the least rate, or the least pair of attempts, whose failure shows a panic or a leak, of all or of
-//! a part; and what the failure of each number shows.
+//! The least number of an attempt, alone or as the first of all that fail, the least rate, or the least pair of attempts, whose failure
+//! shows a panic or a leak, of all or of a part; and what the failure of each number shows.
 #![tactic(auto)]
 
 mod all_numbers;

@@ -187,13 +187,14 @@ impl<'a> Scout<'a> {
     }
 }
 
-/// The last attempt that fails under the failure that is tried as `n`; `None` for rates, under which there is always a later one.
+/// The last attempt that fails under the failure that is tried as `n`; `None` for rates, and where all fail from one on: then there is
+/// always a later one.
 fn last_failing(failures: Failures, n: u32) -> Option<u32>
     ensures { result ≡ last_failing failures n }
 {
     match failures {
         Failures::Single | Failures::Pairs => Some(n),
-        Failures::Every => None,
+        Failures::Every | Failures::Persistent => None,
     }
 }
 
@@ -234,8 +235,8 @@ fn follow(
     Ok(Place::AtTheEnd)
 }
 
-/// A scout of the lead along the run without failure, which takes so many steps; none where they aren't known, and none of rates, under
-/// which there is always a later failure.
+/// A scout of the lead along the run without failure, which takes so many steps; none where they aren't known, and none where there is
+/// always a later failure.
 pub fn scout_beside<'a>(
     lead: &Machine<'a>,
     failures: Failures,

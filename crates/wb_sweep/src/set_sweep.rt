@@ -1,8 +1,9 @@
 //! A sweep over sets of attempts that fail together: first none and one of them, then two, and so on, up to so many.
 
-ghost use Rattle.std.specs.Prelude.{◌≡◌, ℕ, ◌≤◌, ◌↔◌, List, false, IfOk, IsTrue};
+ghost use Rattle.std.specs.Prelude.{◌≡◌, ℕ, ◌+◌, ◌≤◌, ◌↔◌, List, false, IfOk, IsTrue};
 ghost use Rattle.wb_model.specs.language.Sound.{is_script};
 ghost use Rattle.wb_model.specs.heap.Space.{is_shape};
+ghost use Rattle.wb_model.specs.runs.Parts.{last_attempt};
 ghost use Rattle.wb_model.specs.runs.SetAnswers.{set_of};
 ghost use Rattle.wb_model.specs.runs.SetParts.{IsSetCutIn};
 ghost use Rattle.wb_model.specs.declared.failures.Failures.TheVariants.{Single};
@@ -23,13 +24,13 @@ use wb_model::part::Part;
 use wb_model::progress::Progress;
 use wb_model::script::Script;
 
-/// The numbers of the attempts that fail under a failure that isn't a rate; number 0 is none.
+/// The numbers of the attempts that fail under a single failure or a pair; number 0 is none.
 fn set_of(alloc: Global, at: Failing) -> Result<Numbers, NoMemory>
     ensures { IfOk result (λ numbers. numbers ≡ set_of at) }
 {
     let mut numbers = Numbers::new(alloc);
     match at {
-        Failing::Number(0) | Failing::Every(_) => {}
+        Failing::Number(0) | Failing::Every(_) | Failing::From(_) => {}
         Failing::Number(number) => numbers.push(number)?,
         Failing::Pair(first, second) => {
             numbers.push(first)?;
@@ -83,6 +84,8 @@ pub(crate) fn find_least_set<P: Progress>(
     ensures swept { IfOk result (IsSetSweepIn part most script.now budget shape) }
     ensures cut { (numbers : List ℕ) (why : Why) → result ≡ Err (SetFault.Cut numbers why) →
         IsSetCutIn part most script.now budget shape numbers why }
+    ensures few_cut { (numbers : List ℕ) (why : Why) → result ≡ Err (SetFault.Cut numbers why) →
+        last_attempt Single script.now budget shape ≤ budget + 1 }
     ensures shape { (result ≡ Err SetFault.BadShape) ↔ (is_shape shape ≡ false) }
 {
     match find_least(
@@ -148,6 +151,8 @@ pub fn sweep_sets<P: Progress>(
     ensures swept { IfOk result (IsSetSweepIn part most script.now budget shape) }
     ensures cut { (numbers : List ℕ) (why : Why) → result ≡ Err (SetFault.Cut numbers why) →
         IsSetCutIn part most script.now budget shape numbers why }
+    ensures few_cut { (numbers : List ℕ) (why : Why) → result ≡ Err (SetFault.Cut numbers why) →
+        last_attempt Single script.now budget shape ≤ budget + 1 }
     ensures shape { (result ≡ Err SetFault.BadShape) ↔ (is_shape shape ≡ false) }
 {
     progress.begin();

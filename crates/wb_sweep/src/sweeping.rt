@@ -1,6 +1,6 @@
 //! A sweep over failures: one run without failure, which each of the others parts from at the first attempt that it lets fail.
 
-ghost use Rattle.std.specs.Prelude.{◌≡◌, ◌≢◌, ◌^◌, ◌<◌, ◌≤◌, ◌↔◌, None, false, true, IfErr, IfOk, IfSome};
+ghost use Rattle.std.specs.Prelude.{◌≡◌, ◌≢◌, ◌+◌, ◌≤◌, ◌↔◌, None, false, true, IfErr, IfOk, IfSome};
 ghost use Rattle.std.specs.Prelude.{IsTrue};
 ghost use Rattle.wb_model.specs.language.Sound.{is_script};
 ghost use Rattle.wb_model.specs.heap.Space.{is_shape};
@@ -168,6 +168,7 @@ pub(crate) fn find_later<P: Progress>(
     match failures {
         Failures::Single => Ok(None),
         Failures::Every => Ok(None),
+        Failures::Persistent => Ok(None),
         Failures::Pairs => find_pair(alloc, script, part, budget, shape, last, progress),
     }
 }
@@ -188,9 +189,9 @@ pub(crate) fn find_least<P: Progress>(
     ensures swept { IfOk result (IsSweepIn failures part script.now budget shape) }
     ensures cut { (at : Failing) (why : Why) → result ≡ Err (SweepFault.Cut at why) →
         IsCutIn failures part script.now budget shape at why }
-    ensures few { IfOk result (λ _. last_attempt failures script.now budget shape < 2 ^ 32) }
+    ensures few { IfOk result (λ _. last_attempt failures script.now budget shape ≤ budget + 1) }
     ensures few_cut { (at : Failing) (why : Why) → result ≡ Err (SweepFault.Cut at why) →
-        last_attempt failures script.now budget shape < 2 ^ 32 }
+        last_attempt failures script.now budget shape ≤ budget + 1 }
     ensures shape { (result ≡ Err SweepFault.BadShape) ↔ (is_shape shape ≡ false) }
 {
     let none = failures.at(0);
@@ -212,8 +213,8 @@ pub(crate) fn find_least<P: Progress>(
     }
 }
 
-/// The least failure that makes the run bad: the number of the attempt that fails, the rate at which attempts fail, or the pair
-/// of attempts that fail. Number 0 and rate 0 are the run without failure.
+/// The least failure that makes the run bad: the number of the attempt that fails, alone or with all after it, the rate at which
+/// attempts fail, or the pair of attempts that fail. Number 0 and rate 0 are the run without failure.
 ///
 /// Runs the script without failure, and then, up to the first that is bad or cut, under the failures from 1 to the last
 /// attempt of that run; what it finds is of every failure. Each of these goes on from where that run makes the attempt that is

@@ -25,7 +25,7 @@ use Rattle.workbench.specs.PartReport.{IsReportOver, is_whole}
 use Rattle.workbench.specs.Report.{IsReport, IsTaskReport, no_memory}
 use Rattle.workbench.specs.LengthsReport.{IsFineStatus, IsLengthsReport}
 use Rattle.workbench.specs.RunText.{outcome_status}
-use Rattle.workbench.specs.SetsReport.{IsCheckSetsReport, IsSetsReport, every_number, numbers_tried}
+use Rattle.workbench.specs.SetsReport.{IsCheckSetsReport, IsSetsReport}
 use Rattle.wb_streams.specs.Streams.{AppendsFirst, Came}
 use Rattle.workbench.specs.TwoNumbers.{IsCheckReport, IsSizeReport, IsSweepReport}
 
@@ -84,7 +84,7 @@ sets_status_le part most script budget shape text values status (inr (inr r)) = 
 
 check_sets_status_le : (most : ℕ) (script : Script) (budget : ℕ) (shape : Shape) (text : List ℕ) (values : ReportValues)
     (status : ℕ) → IsCheckSetsReport most script budget shape text values status → status ≤ 3
-check_sets_status_le most script budget shape text values status (inl r) = sets_status_le every_number most script budget shape r.second r.sweep status r.tried
+check_sets_status_le most script budget shape text values status (inl r) = sets_status_le whole most script budget shape r.second r.sweep status r.tried
 check_sets_status_le most script budget shape text values status (inr r) = omega (arith, r.1)
 
 every_set_status_le : (part : Part) (script : Script) (budget : ℕ) (shape : Shape) (text : List ℕ) (values : ReportValues) (status : ℕ)
@@ -96,7 +96,7 @@ every_set_status_le part script budget shape text values status (inr (inr (inr r
 
 check_every_set_status_le : (script : Script) (budget : ℕ) (shape : Shape) (text : List ℕ) (values : ReportValues) (status : ℕ)
     → IsCheckEverySetReport script budget shape text values status → status ≤ 3
-check_every_set_status_le script budget shape text values status (inl r) = every_set_status_le every_number script budget shape r.second r.sweep status r.searched
+check_every_set_status_le script budget shape text values status (inl r) = every_set_status_le whole script budget shape r.second r.sweep status r.searched
 check_every_set_status_le script budget shape text values status (inr r) = omega (arith, r.1)
 
 lengths_status_le : (script : Script) (budget : ℕ) (shape : Shape) (text : List ℕ) (values : ReportValues) (status : ℕ) → IsLengthsReport script budget shape text values status → status ≤ 3
@@ -116,9 +116,9 @@ task_status_le (T.Sweep failures part) script budget shape text values status r 
 task_status_le (T.All failures part) script budget shape text values status r =
     all_status_le failures part script budget shape text values status r
 task_status_le (T.Sets most part) script budget shape text values status r =
-    sets_status_le (numbers_tried part) most script budget shape text values status r
+    sets_status_le part most script budget shape text values status r
 task_status_le (T.EverySet states part) script budget shape text values status r =
-    every_set_status_le (numbers_tried part) script budget shape text values status r
+    every_set_status_le part script budget shape text values status r
 task_status_le (T.CheckEverySet states) script budget shape text values status r =
     check_every_set_status_le script budget shape text values status r
 task_status_le (T.CheckSets most) script budget shape text values status r =

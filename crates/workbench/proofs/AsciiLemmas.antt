@@ -9,7 +9,7 @@ use Rattle.wb_model.specs.declared.failures.Failing.{Failing}
 use Rattle.wb_model.specs.declared.failures.Failing.TheVariants.{Number, Pair}
 use Rattle.wb_model.specs.declared.failures.Failing.TheVariants as failings
 use Rattle.wb_model.specs.declared.failures.Failures.{Failures}
-use Rattle.wb_model.specs.declared.failures.Failures.TheVariants.{Single, Every, Pairs}
+use Rattle.wb_model.specs.declared.failures.Failures.TheVariants.{Single, Every, Pairs, Persistent}
 use Rattle.wb_model.specs.declared.heap.Answer.{Answer}
 use Rattle.wb_model.specs.declared.heap.Answer.TheVariants.{Granted, Simulated, Refused}
 use Rattle.wb_model.specs.declared.heap.Attempt.{Attempt}
@@ -191,6 +191,7 @@ of_size required rises =
 failing_text-printable : (at : Failing) → ArePrintable (failing_text at)
 failing_text-printable (Number n) = decimal-printable n
 failing_text-printable (failings.Every n) = decimal-printable n
+failing_text-printable (failings.From n) = decimal-printable n
 failing_text-printable (Pair i j) = and_number (decimal i ++ codes " ") j (and_word (decimal i) (codes " ") (decimal-printable i) refl)
 
 pub of_cut_at : (at : Failing) (why : Why) → IsPrintableText (cut_at_line at why)
@@ -207,6 +208,7 @@ of_attempts attempts = of_number (codes "attempts ") attempts refl
 of_failing_line : (failing : Failing) → IsPrintableText (failing_line failing)
 of_failing_line (Number n) = of_number (codes "number ") n refl
 of_failing_line (failings.Every n) = of_number (codes "every ") n refl
+of_failing_line (failings.From n) = of_number (codes "persistent ") n refl
 of_failing_line (Pair i j) = of_numbers (codes "pair ") i (codes " ") j refl refl
 
 pub of_found : (failing : Failing) (r : RunResult) → All ArePrintable r.lines → IsPrintableText (found_text failing r)
@@ -216,6 +218,7 @@ pub of_none : (failures : Failures) → IsPrintableText (none_line failures)
 of_none Single = of_word (codes "number none") refl
 of_none Every = of_word (codes "every none") refl
 of_none Pairs = of_word (codes "pair none") refl
+of_none Persistent = of_word (codes "persistent none") refl
 
 -- ---- all numbers
 
@@ -223,6 +226,7 @@ number_word-printable : (failures : Failures) → ArePrintable (number_word fail
 number_word-printable Single = printable_by_test (codes "number ") refl
 number_word-printable Every = printable_by_test (codes "every ") refl
 number_word-printable Pairs = printable_by_test (codes "number ") refl
+number_word-printable Persistent = printable_by_test (codes "persistent ") refl
 
 of_told : (failures : Failures) (told : NumberEnd) → IsPrintableText (told_line failures told)
 unfolding told_line

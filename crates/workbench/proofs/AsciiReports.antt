@@ -25,9 +25,10 @@ use Rattle.workbench.specs.EverySetReport.{IsCheckEverySetReport, IsEverySetRepo
 use Rattle.workbench.specs.PartReport.{IsFailingIn, IsReportOver, is_whole}
 use Rattle.workbench.specs.LengthsReport.{IsLengthsReport, bad_length_text, table_lines}
 use Rattle.workbench.specs.RunText.{line, run_text}
-use Rattle.workbench.specs.SetsReport.{IsCheckSetsReport, IsSetsReport, every_number, found_set_text, no_set_line, numbers_tried}
+use Rattle.workbench.specs.SetsReport.{IsCheckSetsReport, IsSetsReport, found_set_text, no_set_line}
 use Rattle.workbench.specs.TwoNumbers.{IsCheckReport, IsFailing, IsSized, IsSizeReport, IsSweepReport, attempts_line, attempts_of, found_text, none_line}
 use Rattle.workbench.proofs.AsciiLemmas.{both, of_all_text, of_attempts, of_cut_at, of_cut_set, of_fault, of_found, of_found_set, of_many_states, of_no_set, of_no_set_at_all, of_none, of_number, of_run, of_size, of_table_lines, of_word}
+use Rattle.workbench.proofs.SetsOver.{least-run-over, run-over}
 
 module _ (script : Script) (budget : ℕ) (shape : Shape) where
   run_lines : (rule : Rule) → All ArePrintable (run script rule budget shape).lines
@@ -101,8 +102,9 @@ module _ (script : Script) (budget : ℕ) (shape : Shape) where
   of_sets_report : (part : Part) (most : ℕ) (text : List ℕ) (values : ReportValues) (status : ℕ)
       → IsSetsReport part most script budget shape text values status → IsPrintableText text
   of_sets_report part most text values status (inl is) =
+      let ran = run-over script budget shape part most (is_whole part) is.0.numbers is.0.result is.0.found in
       let lines : All ArePrintable is.0.result.lines =
-      subst (λ (r : RunResult). All ArePrintable r.lines) (sym is.0.found.run_is) (run_lines (Set is.0.numbers)) in
+      subst (λ (r : RunResult). All ArePrintable r.lines) (sym ran) (run_lines (Set is.0.numbers)) in
       subst IsPrintableText (sym is.0.text_is)
       (both (attempts_line _) (found_set_text is.0.numbers is.0.result) (of_attempts _) (of_found_set is.0.numbers is.0.result lines))
   of_sets_report part most text values status (inr (inl is)) =
@@ -113,14 +115,15 @@ module _ (script : Script) (budget : ℕ) (shape : Shape) where
       → IsCheckSetsReport most script budget shape text values status → IsPrintableText text
   of_check_sets_report most text values status (inl is) =
       subst IsPrintableText (sym is.text_is)
-      (both is.first is.second (of_sized is.first is.size is.sized) (of_sets_report every_number most is.second is.sweep status is.tried))
+      (both is.first is.second (of_sized is.first is.size is.sized) (of_sets_report whole most is.second is.sweep status is.tried))
   of_check_sets_report most text values status (inr is) = subst IsPrintableText (sym is.0.text_is) (of_cut_at (Number 0) is.0.why)
 
   of_every_set_report : (part : Part) (text : List ℕ) (values : ReportValues) (status : ℕ)
       → IsEverySetReport part script budget shape text values status → IsPrintableText text
   of_every_set_report part text values status (inl is) =
+      let ran = least-run-over script budget shape part (is_whole part) is.0.numbers is.0.result is.0.found in
       let lines : All ArePrintable is.0.result.lines =
-      subst (λ (r : RunResult). All ArePrintable r.lines) (sym is.0.found.run_is) (run_lines (Set is.0.numbers)) in
+      subst (λ (r : RunResult). All ArePrintable r.lines) (sym ran) (run_lines (Set is.0.numbers)) in
       subst IsPrintableText (sym is.0.text_is)
       (both (attempts_line _) (found_set_text is.0.numbers is.0.result) (of_attempts _) (of_found_set is.0.numbers is.0.result lines))
   of_every_set_report part text values status (inr (inl is)) =
@@ -132,7 +135,7 @@ module _ (script : Script) (budget : ℕ) (shape : Shape) where
       → IsCheckEverySetReport script budget shape text values status → IsPrintableText text
   of_check_every_set_report text values status (inl is) =
       subst IsPrintableText (sym is.text_is)
-      (both is.first is.second (of_sized is.first is.size is.sized) (of_every_set_report every_number is.second is.sweep status is.searched))
+      (both is.first is.second (of_sized is.first is.size is.sized) (of_every_set_report whole is.second is.sweep status is.searched))
   of_check_every_set_report text values status (inr is) = subst IsPrintableText (sym is.0.text_is) (of_cut_at (Number 0) is.0.why)
 
   of_lengths_report : (text : List ℕ) (values : ReportValues) (status : ℕ) → IsLengthsReport script budget shape text values status → IsPrintableText text
@@ -151,8 +154,8 @@ module _ (script : Script) (budget : ℕ) (shape : Shape) where
   of_task T.Lengths text values status is = of_lengths_report text values status is
   of_task (T.Sweep failures part) text values status is = of_report_over (is_whole part) failures part text values status is
   of_task (T.All failures part) text values status is = of_all_report failures part text values status is
-  of_task (T.Sets most part) text values status is = of_sets_report (numbers_tried part) most text values status is
-  of_task (T.EverySet states part) text values status is = of_every_set_report (numbers_tried part) text values status is
+  of_task (T.Sets most part) text values status is = of_sets_report part most text values status is
+  of_task (T.EverySet states part) text values status is = of_every_set_report part text values status is
   of_task (T.CheckEverySet states) text values status is = of_check_every_set_report text values status is
   of_task (T.CheckAll failures) text values status is = of_check_all_report failures text values status is
   of_task (T.CheckSets most) text values status is = of_check_sets_report most text values status is

@@ -1,13 +1,15 @@
 -- From what a sweep over all sets finds to the report of it.
-use Rattle.std.proofs.Common.{◌≡◌, ◌∙◌, ◌++◌, ◌≤◌, ℕ, List, Option, Some, None, Result, Ok, Err, inl, inr, refl, ap}
+use Rattle.std.proofs.Common.{◌≡◌, ◌∙◌, ◌++◌, ◌+◌, ◌≤◌, ℕ, List, Option, Some, None, Result, Ok, Err, inl, inr, refl, ap, subst}
 use Rattle.std.specs.Prelude.{IfOk}
 use Rattle.wb_model.specs.declared.failures.Failures.TheVariants.{Single}
 use Rattle.wb_model.specs.declared.heap.Shape.{Shape}
+use Rattle.wb_model.specs.declared.limits.TheConstants.{LARGEST_BUDGET}
 use Rattle.wb_model.specs.declared.memory.NoMemory.{NoMemory}
 use Rattle.wb_model.specs.declared.part.Part.{Part}
 use Rattle.wb_model.specs.declared.run.Why.{Why}
 use Rattle.wb_model.specs.declared.script.Script.{Script}
 use Rattle.wb_model.specs.runs.EverySet.{IsLeastSetCutIn}
+use Rattle.wb_model.specs.runs.Parts.{last_attempt}
 use Rattle.wb_model.specs.runs.SetParts.{IsNoSetIn}
 use Rattle.wb_sweep.specs.declared.set_answer.FoundSet.{FoundSet}
 use Rattle.wb_sweep.specs.declared.set_answer.SetSweep.{SetSweep}
@@ -16,20 +18,25 @@ use Rattle.workbench.specs.declared.report.Report.{Report}
 use Rattle.workbench.specs.declared.report_values.FailingNumber.TheVariants.{Never}
 use Rattle.workbench.specs.declared.report_values.ReportValues.{ReportValues}
 use Rattle.workbench.specs.EverySetReport.{IsEverySetReport, every_set_text, many_states_text, no_set_at_all_line}
+use Rattle.workbench.specs.PartReport.{is_whole}
 use Rattle.workbench.specs.ReportValues.{cut_set_values, many_states_values, set_values, sweep_values}
 use Rattle.workbench.specs.SetsReport.{cut_set_line, found_set_text, swept_status, swept_values}
 use Rattle.workbench.specs.TwoNumbers.{attempts_line, attempts_of}
+use Rattle.workbench.proofs.SetsOver.{least-cut-over, least-found-over, none-of-any-size-over, none-over}
 
-module _ (part : Part) (script : Script) (budget : ℕ) (shape : Shape) where
+module _ (part : Part) (script : Script) (budget : ℕ) (shape : Shape) (allowed : budget ≤ LARGEST_BUDGET) where
   -- what the sweep finds is what the report says
   found_is : (sweep : SetSweep) (text : List ℕ) (values : ReportValues) (status : ℕ) → IsEverySetSweepIn part script budget shape sweep
       → text ≡ every_set_text sweep → values ≡ swept_values sweep → status ≡ swept_status sweep → IsEverySetReport part script budget shape text values status
   found_is sweep text values status is text_is values_are status_is = go sweep.found refl
     where
+      few : last_attempt Single script budget shape ≤ budget + 1
+      few = subst (λ n. n ≤ budget + 1) is.attempts is.few
+
       go : (found : Option FoundSet) → sweep.found ≡ found → IsEverySetReport part script budget shape text values status
       go None e = inr (inl (
         record {
-          none = is.none e;
+          none = none-of-any-size-over part script budget shape allowed few (is_whole part) refl (is.none e);
           text_is = (rw e at text_is) ∙ ap (λ n. attempts_line n ++ no_set_at_all_line) is.attempts;
           values_are = (rw e at values_are) ∙ ap (λ n. sweep_values n Never) is.attempts;
         },
@@ -39,7 +46,7 @@ module _ (part : Part) (script : Script) (budget : ℕ) (shape : Shape) where
         record {
           numbers = least.numbers;
           result = least.result;
-          found = rw e at is.found;
+          found = least-found-over part script budget shape allowed few (is_whole part) refl least.numbers least.result (rw e at is.found);
           text_is = (rw e at text_is) ∙ ap (λ n. attempts_line n ++ found_set_text least.numbers least.result) is.attempts;
           values_are = (rw e at values_are) ∙ ap (λ n. set_values n least.numbers) is.attempts;
         },
@@ -53,18 +60,22 @@ module _ (part : Part) (script : Script) (budget : ℕ) (shape : Shape) where
   if_found (Err fault) sweep is text_is values_are status_is = tt
 
   -- a cut is what the report says
-  pub if_cut : (made : Result Report NoMemory) (numbers : List ℕ) (why : Why) → IsLeastSetCutIn part script budget shape numbers why
+  pub if_cut : (made : Result Report NoMemory) (numbers : List ℕ) (why : Why) → last_attempt Single script budget shape ≤ budget + 1
+      → IsLeastSetCutIn part script budget shape numbers why
       → IfOk made (λ r. r.text.items ≡ cut_set_line numbers why) → IfOk made (λ r. r.values ≡ cut_set_values numbers) → IfOk made (λ r. r.status ≡ 3)
       → IfOk made (λ r. IsEverySetReport part script budget shape r.text.items r.values r.status)
-  if_cut (Ok r) numbers why cut text_is values_are status_is =
-      inr (inr (inl (record { numbers = numbers; why = why; cut = cut; text_is = text_is; values_are = values_are }, status_is)))
-  if_cut (Err fault) numbers why cut text_is values_are status_is = tt
+  if_cut (Ok r) numbers why few cut text_is values_are status_is =
+      let told = least-cut-over part script budget shape allowed few (is_whole part) refl numbers why cut in
+      inr (inr (inl (record { numbers = numbers; why = why; cut = told; text_is = text_is; values_are = values_are }, status_is)))
+  if_cut (Err fault) numbers why few cut text_is values_are status_is = tt
 
   -- and so is a search that met too many states
-  pub if_many : (made : Result Report NoMemory) (fine : ℕ) → (1 ≤ fine) × IsNoSetIn part fine script budget shape
+  pub if_many : (made : Result Report NoMemory) (fine : ℕ) → last_attempt Single script budget shape ≤ budget + 1
+      → (1 ≤ fine) × IsNoSetIn part fine script budget shape
       → IfOk made (λ r. r.text.items ≡ many_states_text (attempts_of Single script budget shape) fine)
       → IfOk made (λ r. r.values ≡ many_states_values fine) → IfOk made (λ r. r.status ≡ 3)
       → IfOk made (λ r. IsEverySetReport part script budget shape r.text.items r.values r.status)
-  if_many (Ok r) fine is text_is values_are status_is =
-      inr (inr (inr (record { fine = fine; some = is.0; none = is.1; text_is = text_is; values_are = values_are }, status_is)))
-  if_many (Err fault) fine is text_is values_are status_is = tt
+  if_many (Ok r) fine few is text_is values_are status_is =
+      let none = none-over part script budget shape allowed few fine (is_whole part) refl is.1 in
+      inr (inr (inr (record { fine = fine; some = is.0; none = none; text_is = text_is; values_are = values_are }, status_is)))
+  if_many (Err fault) fine few is text_is values_are status_is = tt

@@ -9,7 +9,7 @@ use Rattle.wb_command_line.specs.declared.command.Task.TheVariants as T
 use Rattle.wb_model.specs.declared.failures.Failing.TheVariants.{Number, Pair}
 use Rattle.wb_model.specs.declared.failures.Failing.TheVariants as failings
 use Rattle.wb_model.specs.declared.failures.Failures.{Failures}
-use Rattle.wb_model.specs.declared.failures.Failures.TheVariants.{Single, Every, Pairs}
+use Rattle.wb_model.specs.declared.failures.Failures.TheVariants.{Single, Every, Pairs, Persistent}
 use Rattle.wb_model.specs.declared.lengths.LengthRange.{LengthRange}
 use Rattle.wb_model.specs.declared.number_ends.NumberEnd.{NumberEnd}
 use Rattle.wb_model.specs.declared.size.Rise.{Rise}
@@ -33,6 +33,7 @@ failures_have_none : (failures : Failures) → has_float (failures_kind failures
 failures_have_none Single = refl
 failures_have_none Every = refl
 failures_have_none Pairs = refl
+failures_have_none Persistent = refl
 
 set_has_none : (set : Option (List ℕ)) → has_float (set_value set) ≡ false
 set_has_none None = refl
@@ -43,6 +44,7 @@ number_has_none None set = refl
 number_has_none (Some Never) set = refl
 number_has_none (Some (At (Number n))) set = refl
 number_has_none (Some (At (failings.Every n))) set = refl
+number_has_none (Some (At (failings.From n))) set = refl
 number_has_none (Some (At (Pair i j))) set = refl
 number_has_none (Some (Length length)) set = refl
 number_has_none (Some Set) set = set_has_none set

@@ -15,6 +15,7 @@ pub mod PrintableLines
 pub mod ProgramLemmas
 pub mod RiseLemmas
 pub mod SetsLemmas
+pub mod SetsOver
 pub mod WordsLemmas
 pub mod WorkedEverySets
 pub mod WorkedReports

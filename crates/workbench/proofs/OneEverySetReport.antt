@@ -1,5 +1,5 @@
 -- Of a sweep over all sets that isn't cut by its states the report is one, and so is that of each command.
-use Rattle.std.proofs.Common.{◌≡◌, ◌∙◌, inl, inr, ℕ, List, ◌++◌, None, Some, refl, sym, ap, subst}
+use Rattle.std.proofs.Common.{◌≡◌, ◌∙◌, inl, inr, ℕ, Bool, List, ◌++◌, None, Some, refl, sym, ap, subst}
 use Rattle.wb_model.specs.declared.failures.Failures.TheVariants.{Single}
 use Rattle.wb_model.specs.declared.heap.Shape.{Shape}
 use Rattle.wb_model.specs.declared.part.Part.{Part}
@@ -7,6 +7,7 @@ use Rattle.wb_model.specs.declared.script.Script.{Script}
 use Rattle.wb_model.specs.runs.EverySet.{IsEverySetAnswerIn}
 use Rattle.wb_model.specs.runs.SetAnswers.{SetAnswer, found, cut, none}
 use Rattle.wb_model.proofs.EverySetAnswers.{once-of-every-set}
+use Rattle.wb_command_line.specs.Spelled.{whole}
 use Rattle.wb_command_line.specs.declared.command.Command.{Command}
 use Rattle.wb_command_line.specs.declared.command.Task.{Task}
 use Rattle.wb_command_line.specs.declared.command.Task.TheVariants as T
@@ -15,17 +16,25 @@ use Rattle.wb_script.proofs.one_script.ScriptLaws.{script_once}
 use Rattle.workbench.specs.declared.report_values.FailingNumber.TheVariants.{Never}
 use Rattle.workbench.specs.declared.report_values.ReportValues.{ReportValues}
 use Rattle.workbench.specs.EverySetReport.{IsCheckEverySetReport, IsEverySetReport, IsSizedAndSearched, no_set_at_all_line}
+use Rattle.workbench.specs.PartReport.{is_whole}
 use Rattle.workbench.specs.Report.{IsReport, IsReportOfScript, IsTaskReport}
 use Rattle.workbench.specs.ReportValues.{both_values, cut_set_values, set_values, sweep_values}
-use Rattle.workbench.specs.SetsReport.{cut_set_line, every_number, found_set_text, numbers_tried}
+use Rattle.workbench.specs.SetsReport.{cut_set_line, found_set_text}
 use Rattle.workbench.specs.TwoNumbers.{attempts_line, attempts_of}
 use Rattle.workbench.proofs.OneReport.{Alike, never_both, of_fault, one_cut, one_size, one_task}
+use Rattle.workbench.proofs.SetsOver.{least-cut-in, least-found-in, none-of-any-size-in, part_over}
 
 -- ---- what is told of an answer
 
 module _ (part : Part) (script : Script) (budget : ℕ) (shape : Shape) where
   abbrev attempts : ℕ
   attempts = attempts_of Single script budget shape
+
+  abbrev is_all : Bool
+  is_all = is_whole part
+
+  abbrev tried : Part
+  tried = part_over script budget shape is_all part
 
   abbrev told_text : SetAnswer → List ℕ
   told_text (found numbers result) = attempts_line attempts ++ found_set_text numbers result
@@ -44,7 +53,7 @@ module _ (part : Part) (script : Script) (budget : ℕ) (shape : Shape) where
 
   record IsTold (text : List ℕ) (values : ReportValues) (status : ℕ) : Type 0 where
     answer : SetAnswer
-    is : IsEverySetAnswerIn part script budget shape answer
+    is : IsEverySetAnswerIn tried script budget shape answer
     text_is : text ≡ told_text answer
     values_are : values ≡ told_values answer
     status_is : status ≡ told_status answer
@@ -53,11 +62,14 @@ module _ (part : Part) (script : Script) (budget : ℕ) (shape : Shape) where
   as_told : (text : List ℕ) (values : ReportValues) (status : ℕ) → values.fine ≡ None → IsEverySetReport part script budget shape text values status
       → IsTold text values status
   as_told text values status ends (inl (s, e)) =
-      record { answer = found s.numbers s.result; is = s.found; text_is = s.text_is; values_are = s.values_are; status_is = e }
+      let here = least-found-in script budget shape part is_all s.numbers s.result s.found in
+      record { answer = found s.numbers s.result; is = here; text_is = s.text_is; values_are = s.values_are; status_is = e }
   as_told text values status ends (inr (inl (s, e))) =
-      record { answer = none; is = s.none; text_is = s.text_is; values_are = s.values_are; status_is = e }
+      let here = none-of-any-size-in script budget shape part is_all s.none in
+      record { answer = none; is = here; text_is = s.text_is; values_are = s.values_are; status_is = e }
   as_told text values status ends (inr (inr (inl (s, e)))) =
-      record { answer = cut s.numbers s.why; is = s.cut; text_is = s.text_is; values_are = s.values_are; status_is = e }
+      let here = least-cut-in script budget shape part is_all s.numbers s.why s.cut in
+      record { answer = cut s.numbers s.why; is = here; text_is = s.text_is; values_are = s.values_are; status_is = e }
   as_told text values status ends (inr (inr (inr (s, e)))) = let known : values.fine ≡ Some s.fine = ap (λ (v : ReportValues). v.fine) s.values_are in cc
 
   one_every_set : (text text' : List ℕ) (values figures' : ReportValues) (status status' : ℕ) → values.fine ≡ None → figures'.fine ≡ None
@@ -66,7 +78,7 @@ module _ (part : Part) (script : Script) (budget : ℕ) (shape : Shape) where
   one_every_set text text' values figures' status status' ends ends' is is' =
       let s = as_told text values status ends is in
       let t = as_told text' figures' status' ends' is' in
-      let same = once-of-every-set part script budget shape s.answer t.answer s.is t.is in (
+      let same = once-of-every-set tried script budget shape s.answer t.answer s.is t.is in (
         (s.text_is ∙ ap told_text same ∙ sym t.text_is, s.values_are ∙ ap told_values same ∙ sym t.values_are),
         s.status_is ∙ ap told_status same ∙ sym t.status_is,
       )
@@ -81,7 +93,7 @@ module _ (script : Script) (budget : ℕ) (shape : Shape) where
       let (first, size) = one_size script budget shape s.first t.first s.size t.size s.sized t.sized in
       let here : s.sweep.fine ≡ None = sym (ap (λ (v : ReportValues). v.fine) s.values_are) ∙ ends in
       let there : t.sweep.fine ≡ None = sym (ap (λ (v : ReportValues). v.fine) t.values_are) ∙ ends' in
-      let ((second, sweep), same) = one_every_set every_number script budget shape s.second t.second s.sweep t.sweep status status' here there s.searched t.searched in (
+      let ((second, sweep), same) = one_every_set whole script budget shape s.second t.second s.sweep t.sweep status status' here there s.searched t.searched in (
         (
           s.text_is ∙ ap (λ l. l ++ s.second) first ∙ ap (λ l. t.first ++ l) second ∙ sym t.text_is,
           s.values_are ∙ ap (λ f. both_values f s.sweep) size ∙ ap (both_values t.size) sweep ∙ sym t.values_are,
@@ -102,7 +114,7 @@ module _ (script : Script) (budget : ℕ) (shape : Shape) where
 module _ (script : Script) (budget : ℕ) (shape : Shape) (text text' : List ℕ) (values figures' : ReportValues) (status status' : ℕ) (ends : values.fine ≡ None) (ends' : figures'.fine ≡ None) where
   one_ended_task : (task : Task) → IsTaskReport task script budget shape text values status → IsTaskReport task script budget shape text' figures' status'
       → Alike text values text' figures' × (status ≡ status')
-  one_ended_task (T.EverySet states part) s t = one_every_set (numbers_tried part) script budget shape text text' values figures' status status' ends ends' s t
+  one_ended_task (T.EverySet states part) s t = one_every_set part script budget shape text text' values figures' status status' ends ends' s t
   one_ended_task (T.CheckEverySet states) s t = one_check_every_set script budget shape text text' values figures' status status' ends ends' s t
   one_ended_task (T.Run rule) s t = one_task script budget shape (T.Run rule) refl text text' values figures' status status' s t
   one_ended_task T.Size s t = one_task script budget shape T.Size refl text text' values figures' status status' s t

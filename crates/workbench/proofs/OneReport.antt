@@ -36,7 +36,7 @@ use Rattle.workbench.specs.EverySetReport.{tries_every_set}
 use Rattle.workbench.specs.LengthsReport.{IsBadLengthFound, IsFineStatus, IsLengthsReport, IsNoBadLengthFound, bad_length_text, found_length_text, table_lines}
 use Rattle.workbench.specs.PartReport.{IsFailingIn, IsPartReport, IsReportOver, IsUnsweptIn, is_whole}
 use Rattle.workbench.specs.RunText.{run_text}
-use Rattle.workbench.specs.SetsReport.{IsCheckSetsReport, IsSizedAndTried, every_number, numbers_tried}
+use Rattle.workbench.specs.SetsReport.{IsCheckSetsReport, IsSizedAndTried}
 use Rattle.workbench.specs.ReportValues.{all_values, both_values, cut_values, lengths_values, size_values, sweep_values}
 use Rattle.workbench.specs.Report.{IsReport, IsReportOfFault, IsReportOfScript, IsTaskReport, fault_line}
 use Rattle.workbench.specs.TwoNumbers.{IsBoth, IsCheckReport, IsFailing, IsSized, IsSizeReport, IsSweepReport, IsUnsized, IsUnswept, attempts_line, attempts_of, cut_at_line, found_text, size_text}
@@ -249,7 +249,7 @@ module _ (most : ℕ) (script : Script) (budget : ℕ) (shape : Shape) where
       → IsSizedAndTried most script budget shape text' figures' status' → Alike text values text' figures' × (status ≡ status')
   one_sized_and_tried text text' values figures' status status' s t =
       let (first, size) = one_size script budget shape s.first t.first s.size t.size s.sized t.sized in
-      let ((second, sweep), same) = one_sets every_number most script budget shape s.second t.second s.sweep t.sweep status status' s.tried t.tried in (
+      let ((second, sweep), same) = one_sets whole most script budget shape s.second t.second s.sweep t.sweep status status' s.tried t.tried in (
         (
           s.text_is ∙ ap (λ l. l ++ s.second) first ∙ ap (λ l. t.first ++ l) second ∙ sym t.text_is,
           s.values_are ∙ ap (λ f. both_values f s.sweep) size ∙ ap (both_values t.size) sweep ∙ sym t.values_are,
@@ -323,7 +323,7 @@ module _ (script : Script) (budget : ℕ) (shape : Shape) where
   one_task (T.Check failures) old text text' values figures' status status' s t =
       one_check failures script budget shape text text' values figures' status status' s t
   one_task (T.Sets most part) old text text' values figures' status status' s t =
-      one_sets (numbers_tried part) most script budget shape text text' values figures' status status' s t
+      one_sets part most script budget shape text text' values figures' status status' s t
   one_task (T.CheckSets most) old text text' values figures' status status' s t =
       one_check_sets most script budget shape text text' values figures' status status' s t
   one_task (T.CheckAll failures) old text text' values figures' status status' s t =

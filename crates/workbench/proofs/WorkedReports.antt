@@ -7,7 +7,7 @@ use Rattle.serde_json.specs.Data.{array}
 use Rattle.serde_json.specs.View.{items_of}
 use Rattle.wb_command_line.specs.declared.command.Task.TheVariants as T
 use Rattle.wb_model.specs.declared.failures.Failing.TheVariants as failings
-use Rattle.wb_model.specs.declared.failures.Failures.TheVariants.{Single, Every, Pairs}
+use Rattle.wb_model.specs.declared.failures.Failures.TheVariants.{Single, Every, Pairs, Persistent}
 use Rattle.wb_model.specs.declared.fault.ScriptFault.TheVariants as F
 use Rattle.wb_model.specs.declared.heap.Answer.TheVariants.{Granted, Simulated, Refused}
 use Rattle.wb_model.specs.declared.heap.Panic.TheVariants.{User, Alloc, Workbench}
@@ -151,13 +151,13 @@ every-text : sweep_text Every (record { attempts = 2; found = Some (record { at 
 unfolding digits note_line attempt_line leak_line
 every-text = refl
 
-failing-lines : (failing_line (failings.Number 12) ≡ codes "number 12\n") × (failing_line (failings.Every 12) ≡ codes "every 12\n") × (failing_line (failings.Pair 7 12) ≡ codes "pair 7 12\n")
+failing-lines : (failing_line (failings.Number 12) ≡ codes "number 12\n") × (failing_line (failings.Every 12) ≡ codes "every 12\n") × (failing_line (failings.Pair 7 12) ≡ codes "pair 7 12\n") × (failing_line (failings.From 12) ≡ codes "persistent 12\n")
 unfolding digits note_line attempt_line leak_line
-failing-lines = (refl, refl, refl)
+failing-lines = (refl, refl, refl, refl)
 
-cut-lines : (cut_at_line (failings.Every 12) Budget ≡ codes "cut 12 budget\n") × (cut_at_line (failings.Pair 7 12) Ceiling ≡ codes "cut 7 12 ceiling\n")
+cut-lines : (cut_at_line (failings.Every 12) Budget ≡ codes "cut 12 budget\n") × (cut_at_line (failings.Pair 7 12) Ceiling ≡ codes "cut 7 12 ceiling\n") × (cut_at_line (failings.From 12) Budget ≡ codes "cut 12 budget\n")
 unfolding digits note_line attempt_line leak_line
-cut-lines = (refl, refl)
+cut-lines = (refl, refl, refl)
 
 number_none-text : sweep_text Single (record { attempts = 10; found = None }) ≡ codes "attempts 10\nnumber none\n"
 unfolding digits note_line attempt_line leak_line
@@ -170,6 +170,10 @@ every_none-text = refl
 pair_none-text : sweep_text Pairs (record { attempts = 10; found = None }) ≡ codes "attempts 10\npair none\n"
 unfolding digits note_line attempt_line leak_line
 pair_none-text = refl
+
+persistent_none-text : sweep_text Persistent (record { attempts = 10; found = None }) ≡ codes "attempts 10\npersistent none\n"
+unfolding digits note_line attempt_line leak_line
+persistent_none-text = refl
 
 -- ---- as JSON
 
@@ -199,6 +203,12 @@ pair-json : json_text (T.Sweep Pairs whole) [] (sweep_values 4 (At (failings.Pai
 unfolding serde_json_on_literals digits report_object common_members
 pair-json = refl
 
+-- where all attempts fail from one on, the version is a later one
+persistent-json : json_text (T.Sweep Persistent whole) [] (sweep_values 4 (At (failings.From 2))) 1
+    ≡ codes "{\"attempts\":4,\"kind\":\"persistent\",\"lines\":[],\"number\":2,\"required\":null,\"rises\":null,\"status\":1,\"version\":3}\n"
+unfolding serde_json_on_literals digits report_object common_members
+persistent-json = refl
+
 -- those of a refused script or a cut, by what was asked for
 plain-json : json_text (T.Run Unlimited) [] no_values 2
     ≡ codes "{\"attempts\":null,\"kind\":null,\"lines\":[],\"number\":null,\"required\":null,\"rises\":null,\"status\":2,\"version\":2}\n"
@@ -224,6 +234,10 @@ numbers-text = refl
 rates-text : all_text Every 3 (record { number = 2; end = ends.Cut Budget } ∷ []) ≡ codes "attempts 3\nevery 2 cut budget\nbad 0\n"
 unfolding digits note_line attempt_line leak_line told_line
 rates-text = refl
+
+persistent-text : all_text Persistent 3 (record { number = 2; end = ends.Cut Budget } ∷ []) ≡ codes "attempts 3\npersistent 2 cut budget\nbad 0\n"
+unfolding digits note_line attempt_line leak_line told_line
+persistent-text = refl
 
 nothing-text : all_text Single 1 [] ≡ codes "attempts 1\nbad 0\n"
 unfolding digits note_line attempt_line leak_line told_line

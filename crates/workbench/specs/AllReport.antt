@@ -5,7 +5,7 @@ use Rattle.std.specs.Fmt.{decimal}
 use Rattle.std.specs.List.{flat_map}
 use Rattle.std.specs.Option.{option_map_or}
 use Rattle.wb_model.specs.declared.failures.Failures.{Failures}
-use Rattle.wb_model.specs.declared.failures.Failures.TheVariants.{Single, Every, Pairs}
+use Rattle.wb_model.specs.declared.failures.Failures.TheVariants.{Single, Every, Pairs, Persistent}
 use Rattle.wb_model.specs.declared.heap.Shape.{Shape}
 use Rattle.wb_model.specs.declared.number_ends.NumberEnd.{NumberEnd}
 use Rattle.wb_model.specs.declared.part.Part.{Part}
@@ -27,11 +27,13 @@ use Rattle.workbench.specs.TwoNumbers.{IsSized, IsUnsized, attempts_line, attemp
 
 -- ---- the lines
 
--- what the number is: of an attempt, or a rate. Pairs are not told of so; with them single attempts are
+-- what the number is: of an attempt, alone or as the first of all that fail, or a rate. Pairs are not told of so; with them single
+-- attempts are
 abbrev pub number_word : Failures → List ℕ
 number_word Single = codes "number "
 number_word Every = codes "every "
 number_word Pairs = codes "number "
+number_word Persistent = codes "persistent "
 
 -- the run under this failure ends so
 unfoldable pub told_line : Failures → NumberEnd → List ℕ

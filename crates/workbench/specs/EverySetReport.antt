@@ -1,6 +1,6 @@
 -- What `--sets` says, as lines and as values, and what that means of runs: the least set of attempts, however many, whose simulated failure
--- in one run leaks or panics (`wb_model`, `specs/runs/EverySet.antt`). A set is spoken of as `--failures` does. Where more states were met
--- than were allowed, it is said of which sets the runs are known.
+-- in one run leaks or panics, of all sets (`wb_model`, `specs/runs/Sets.antt`) or of those of a part (`EverySet.antt`). A set is spoken of as
+-- `--failures` does. Where more states were met than were allowed, it is said of which sets the runs are known.
 use Rattle.std.specs.Prelude.{◌≡◌, ◌⊎◌, ◌≤◌, ℕ, List, ◌++◌, Bool, false, true, codes}
 use Rattle.std.specs.Option.{option_map_or}
 use Rattle.wb_model.specs.declared.failures.Failures.TheVariants.{Single}
@@ -10,15 +10,17 @@ use Rattle.wb_model.specs.declared.run.RunResult.{RunResult}
 use Rattle.wb_model.specs.declared.run.Why.{Why}
 use Rattle.wb_model.specs.declared.script.Script.{Script}
 use Rattle.wb_model.specs.runs.EverySet.{IsLeastSetCutIn, IsLeastSetFoundIn, IsNoSetOfAnySizeIn}
-use Rattle.wb_model.specs.runs.SetParts.{IsNoSetIn}
+use Rattle.wb_model.specs.runs.Sets.{AreAllSetsFine, IsLeastBadSet, IsLeastCutSet}
 use Rattle.wb_sweep.specs.declared.set_answer.SetSweep.{SetSweep}
+use Rattle.wb_command_line.specs.Spelled.{whole}
 use Rattle.wb_command_line.specs.declared.command.Task.{Task}
 use Rattle.wb_command_line.specs.declared.command.Task.TheVariants as T
 use Rattle.workbench.specs.declared.report_values.FailingNumber.TheVariants.{Never}
 use Rattle.workbench.specs.declared.report_values.ReportValues.{ReportValues}
+use Rattle.workbench.specs.PartReport.{is_whole}
 use Rattle.workbench.specs.ReportValues.{both_values, cut_set_values, many_states_values, set_values, sweep_values}
 use Rattle.workbench.specs.RunText.{line}
-use Rattle.workbench.specs.SetsReport.{cut_set_line, every_number, found_set_text, no_set_line}
+use Rattle.workbench.specs.SetsReport.{IsNoSetOver, cut_set_line, found_set_text, no_set_line}
 use Rattle.workbench.specs.TwoNumbers.{IsSized, IsUnsized, attempts_line, attempts_of}
 
 -- ---- the lines
@@ -42,36 +44,53 @@ many_states_text attempts fine = attempts_line attempts ++ no_set_line fine ++ c
 
 -- ---- what they mean
 
--- A set is printed, and the run in which its attempts fail. It is the least of all that are tried whose run leaks or panics; no lesser
--- one's run is cut (`IsLeastSetFoundIn`).
+-- Each of these three is told whether the part is the whole, as it is where a command names none. Then all sets are spoken of, else those of
+-- the part.
+
+-- the least set whose run leaks or panics, and that run; no lesser one's is cut
+abbrev pub IsLeastSetFoundOver : Bool → Part → Script → ℕ → Shape → List ℕ → RunResult → Type 0
+IsLeastSetFoundOver true part script budget shape numbers result = IsLeastBadSet script budget shape numbers result
+IsLeastSetFoundOver false part script budget shape numbers result = IsLeastSetFoundIn part script budget shape numbers result
+
+-- the least set whose run is cut, and why; no lesser one's leaks or panics
+abbrev pub IsLeastSetCutOver : Bool → Part → Script → ℕ → Shape → List ℕ → Why → Type 0
+IsLeastSetCutOver true part script budget shape numbers why = IsLeastCutSet script budget shape numbers why
+IsLeastSetCutOver false part script budget shape numbers why = IsLeastSetCutIn part script budget shape numbers why
+
+-- the run of no set leaks, panics or is cut, however many attempts it has
+abbrev pub IsNoSetOfAnySizeOver : Bool → Part → Script → ℕ → Shape → Type 0
+IsNoSetOfAnySizeOver true part script budget shape = AreAllSetsFine script budget shape
+IsNoSetOfAnySizeOver false part script budget shape = IsNoSetOfAnySizeIn part script budget shape
+
+-- A set is printed, and the run in which its attempts fail. It is the least whose run leaks or panics (`IsLeastSetFoundOver`).
 pub record IsLeastFailingSet (part : Part) (script : Script) (budget : ℕ) (shape : Shape) (text : List ℕ) (values : ReportValues) : Type 0 where
   pub numbers : List ℕ
   pub result : RunResult
-  pub found : IsLeastSetFoundIn part script budget shape numbers result
+  pub found : IsLeastSetFoundOver (is_whole part) part script budget shape numbers result
   pub text_is : text ≡ attempts_line (attempts_of Single script budget shape) ++ found_set_text numbers result
   pub values_are : values ≡ set_values (attempts_of Single script budget shape) numbers
 
--- the run leaks or panics under no set that is tried, and is cut under none, however many attempts it has
+-- the run leaks or panics under no set, and is cut under none, however many attempts it has
 pub record IsNoFailingSetAtAll (part : Part) (script : Script) (budget : ℕ) (shape : Shape) (text : List ℕ) (values : ReportValues) : Type 0 where
-  pub none : IsNoSetOfAnySizeIn part script budget shape
+  pub none : IsNoSetOfAnySizeOver (is_whole part) part script budget shape
   pub text_is : text ≡ attempts_line (attempts_of Single script budget shape) ++ no_set_at_all_line
   pub values_are : values ≡ sweep_values (attempts_of Single script budget shape) Never
 
--- there is no answer: the run without failure is cut; or that of a set which is tried, and no lesser one's leaks, panics or is cut
--- (`IsLeastSetCutIn`)
+-- there is no answer: the run of a set is cut, and no lesser one's leaks, panics or is cut (`IsLeastSetCutOver`). Where the run without
+-- failure is cut, the set is the empty one, whatever the part is
 pub record IsUnsweptEverySet (part : Part) (script : Script) (budget : ℕ) (shape : Shape) (text : List ℕ) (values : ReportValues) : Type 0 where
   pub numbers : List ℕ
   pub why : Why
-  pub cut : IsLeastSetCutIn part script budget shape numbers why
+  pub cut : IsLeastSetCutOver (is_whole part) part script budget shape numbers why
   pub text_is : text ≡ cut_set_line numbers why
   pub values_are : values ≡ cut_set_values numbers
 
--- There is none: more states were met than were allowed. The run leaks, panics or is cut under no set that is tried of at most so many
--- attempts, which is at least one. How states are counted isn't said, and so not which number this is.
+-- There is none: more states were met than were allowed. The run leaks, panics or is cut under no set of at most so many attempts, which is
+-- at least one. How states are counted isn't said, and so not which number this is.
 pub record IsCutByStates (part : Part) (script : Script) (budget : ℕ) (shape : Shape) (text : List ℕ) (values : ReportValues) : Type 0 where
   pub fine : ℕ
   pub some : 1 ≤ fine
-  pub none : IsNoSetIn part fine script budget shape
+  pub none : IsNoSetOver (is_whole part) part fine script budget shape
   pub text_is : text ≡ many_states_text (attempts_of Single script budget shape) fine
   pub values_are : values ≡ many_states_values fine
 
@@ -92,7 +111,7 @@ pub record IsSizedAndSearched (script : Script) (budget : ℕ) (shape : Shape) (
   pub size : ReportValues
   pub sweep : ReportValues
   pub sized : IsSized script budget shape first size
-  pub searched : IsEverySetReport every_number script budget shape second sweep status
+  pub searched : IsEverySetReport whole script budget shape second sweep status
   pub text_is : text ≡ first ++ second
   pub values_are : values ≡ both_values size sweep
 

@@ -1,5 +1,6 @@
 -- The report as one JSON object: its lines and its values, and which failures were tried, under
--- the keys that version 2 of this form has, or version 3 of the reports of all lengths, of all that a sweep finds and of sets.
+-- the keys that version 2 of this form has, or version 3 of the reports of all lengths, of all that a sweep finds and of sets, and of
+-- sweeps in which all attempts fail from one on.
 use Rattle.std.specs.Prelude.{ℕ, List, Option, Some, None, codes, if◌then◌else◌, map}
 use Rattle.serde_json.specs.Data.{Data, Members, null, number, string, array, object, item, no_items, member, no_members, put, unsigned}
 use Rattle.serde_json.specs.View.{items_of}
@@ -11,7 +12,7 @@ use Rattle.wb_model.specs.declared.failures.Failing.{Failing}
 use Rattle.wb_model.specs.declared.failures.Failing.TheVariants.{Number, Pair}
 use Rattle.wb_model.specs.declared.failures.Failing.TheVariants as failings
 use Rattle.wb_model.specs.declared.failures.Failures.{Failures}
-use Rattle.wb_model.specs.declared.failures.Failures.TheVariants.{Single, Every, Pairs}
+use Rattle.wb_model.specs.declared.failures.Failures.TheVariants.{Single, Every, Pairs, Persistent}
 use Rattle.wb_model.specs.declared.lengths.LengthRange.{LengthRange}
 use Rattle.wb_model.specs.declared.number_ends.NumberEnd.{NumberEnd}
 use Rattle.wb_model.specs.declared.run_end.RunEnd.{RunEnd}
@@ -34,11 +35,12 @@ count_or_null (Some n) = count n
 abbrev pub count_pair : ℕ → ℕ → Data
 count_pair first second = array (item (count first) (item (count second) no_items))
 
--- whether numbers of attempts, rates or pairs are tried
+-- whether numbers of attempts, rates or pairs are tried, or numbers from which on all attempts fail
 abbrev pub failures_kind : Failures → Data
 failures_kind Single = string (codes "single")
 failures_kind Every = string (codes "every")
 failures_kind Pairs = string (codes "pairs")
+failures_kind Persistent = string (codes "persistent")
 
 -- which failures a task tries, or that it tries sets or all lengths, whatever its report says; `null` where it tries none
 abbrev pub kind_of : Task → Data
@@ -61,10 +63,11 @@ line_string text = string text
 abbrev pub line_strings : List ℕ → Data
 line_strings text = array (items_of (map line_string (lines_of text)))
 
--- the number of an attempt, a rate, or the numbers of two attempts
+-- the number of an attempt, alone or as the first of all that fail, a rate, or the numbers of two attempts
 abbrev pub failing_value : Failing → Data
 failing_value (Number n) = count n
 failing_value (failings.Every n) = count n
+failing_value (failings.From n) = count n
 failing_value (Pair i j) = count_pair i j
 
 -- the numbers of a set
@@ -127,6 +130,13 @@ with_most (T.EverySet states part) members = put (codes "most") null members
 with_most (T.CheckEverySet states) members = put (codes "most") null members
 with_most _ members = members
 
+-- that of a sweep over such failures which tells of the least alone; version 2 has no kind `persistent`
+abbrev pub failures_version : Failures → ℕ
+failures_version Single = 2
+failures_version Every = 2
+failures_version Pairs = 2
+failures_version Persistent = 3
+
 abbrev pub version_of : Task → ℕ
 version_of T.Lengths = 3
 version_of (T.All failures part) = 3
@@ -135,6 +145,8 @@ version_of (T.Sets most part) = 3
 version_of (T.CheckSets most) = 3
 version_of (T.EverySet states part) = 3
 version_of (T.CheckEverySet states) = 3
+version_of (T.Sweep failures part) = failures_version failures
+version_of (T.Check failures) = failures_version failures
 version_of _ = 2
 
 -- what each object has, by the task, the text report, its values and its status

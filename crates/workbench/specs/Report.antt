@@ -19,7 +19,7 @@ use Rattle.workbench.specs.LengthsReport.{IsLengthsReport}
 use Rattle.workbench.specs.PartReport.{IsReportOver, is_whole}
 use Rattle.workbench.specs.ReportValues.{no_values, run_values}
 use Rattle.workbench.specs.RunText.{line, run_text, run_status}
-use Rattle.workbench.specs.SetsReport.{IsCheckSetsReport, IsSetsReport, numbers_tried}
+use Rattle.workbench.specs.SetsReport.{IsCheckSetsReport, IsSetsReport}
 use Rattle.workbench.specs.TwoNumbers.{IsSizeReport, IsCheckReport}
 
 abbrev pub refused : ℕ → List ℕ
@@ -68,9 +68,9 @@ IsTaskReport (T.Sweep failures part) script budget shape text values status =
 IsTaskReport (T.All failures part) script budget shape text values status =
     IsAllReport failures part script budget shape text values status
 IsTaskReport (T.Sets most part) script budget shape text values status =
-    IsSetsReport (numbers_tried part) most script budget shape text values status
+    IsSetsReport part most script budget shape text values status
 IsTaskReport (T.EverySet states part) script budget shape text values status =
-    IsEverySetReport (numbers_tried part) script budget shape text values status
+    IsEverySetReport part script budget shape text values status
 IsTaskReport (T.Check failures) script budget shape text values status =
     IsCheckReport failures script budget shape text values status
 IsTaskReport (T.CheckAll failures) script budget shape text values status =

@@ -1,7 +1,7 @@
 -- What `--failures K` says, as lines and as values, and what that means of runs: the least set of at most K attempts whose simulated
--- failure in one run leaks or panics (`wb_model`, `specs/runs/SetParts.antt`). A set of no more than one attempt is spoken of as the
--- single number of a sweep, and the empty one as number 0.
-use Rattle.std.specs.Prelude.{◌≡◌, ◌⊎◌, ℕ, List, ◌++◌, codes, if◌then◌else◌}
+-- failure in one run leaks or panics, of all sets (`wb_model`, `specs/runs/Sets.antt`) or of those of a part (`SetParts.antt`). A set of no
+-- more than one attempt is spoken of as the single number of a sweep, and the empty one as number 0.
+use Rattle.std.specs.Prelude.{◌≡◌, ◌⊎◌, ◌≤◌, ℕ, Bool, true, false, List, ◌++◌, codes, length}
 use Rattle.std.specs.Fmt.{decimal}
 use Rattle.std.specs.List.{flat_map}
 use Rattle.std.specs.Option.{option_map_or}
@@ -14,6 +14,8 @@ use Rattle.wb_model.specs.declared.run.Why.{Why}
 use Rattle.wb_model.specs.declared.run.Why.TheVariants.{Budget, Ceiling}
 use Rattle.wb_model.specs.declared.script.Script.{Script}
 use Rattle.wb_model.specs.runs.SetParts.{IsNoSetIn, IsSetCutIn, IsSetFoundIn}
+use Rattle.wb_model.specs.runs.Sets.{AreSetsFine, IsLeastBadSet, IsLeastCutSet}
+use Rattle.wb_command_line.specs.Spelled.{whole}
 use Rattle.wb_sweep.specs.declared.set_answer.SetSweep.{SetSweep}
 use Rattle.workbench.specs.declared.report_values.FailingNumber.TheVariants.{Never}
 use Rattle.workbench.specs.declared.report_values.ReportValues.{ReportValues}
@@ -70,39 +72,47 @@ swept_status sweep = option_map_or (λ found. 1) sweep.found 0
 
 -- ---- what they mean
 
--- all numbers that there are, as a part
-abbrev pub every_number : Part
-every_number = record { from = 0; to = 4294967295 }
+-- Each of these three is told whether the part is the whole, as it is where a command names none. Then all sets of at most so many attempts are
+-- spoken of, else those of the part.
 
--- the numbers that a command has tried: where its part is the whole, all that there are. A sweep over these answers what one over all sets
--- does, by the law `a_whole_part_has_all_sets` of `wb_model`
-abbrev pub numbers_tried : Part → Part
-numbers_tried part = if is_whole part then every_number else part
+-- the least set whose run leaks or panics, and that run; no lesser one's is cut
+abbrev pub IsSetFoundOver : Bool → Part → ℕ → Script → ℕ → Shape → List ℕ → RunResult → Type 0
+IsSetFoundOver true part most script budget shape numbers result = IsLeastBadSet script budget shape numbers result × (length numbers ≤ most)
+IsSetFoundOver false part most script budget shape numbers result = IsSetFoundIn part most script budget shape numbers result
 
--- A set is printed, and the run in which its attempts fail. It is the least of those that are tried whose run leaks or panics; no lesser
--- one's run is cut (`IsSetFoundIn`).
+-- the least set whose run is cut, and why; no lesser one's leaks or panics
+abbrev pub IsSetCutOver : Bool → Part → ℕ → Script → ℕ → Shape → List ℕ → Why → Type 0
+IsSetCutOver true part most script budget shape numbers why = IsLeastCutSet script budget shape numbers why × (length numbers ≤ most)
+IsSetCutOver false part most script budget shape numbers why = IsSetCutIn part most script budget shape numbers why
+
+-- the run of no set leaks, panics or is cut
+abbrev pub IsNoSetOver : Bool → Part → ℕ → Script → ℕ → Shape → Type 0
+IsNoSetOver true part most script budget shape = AreSetsFine script budget shape most
+IsNoSetOver false part most script budget shape = IsNoSetIn part most script budget shape
+
+-- A set is printed, and the run in which its attempts fail. It is the least whose run leaks or panics (`IsSetFoundOver`).
 pub record IsFailingSet (part : Part) (most : ℕ) (script : Script) (budget : ℕ) (shape : Shape)
     (text : List ℕ) (values : ReportValues) : Type 0 where
   pub numbers : List ℕ
   pub result : RunResult
-  pub found : IsSetFoundIn part most script budget shape numbers result
+  pub found : IsSetFoundOver (is_whole part) part most script budget shape numbers result
   pub text_is : text ≡ attempts_line (attempts_of Single script budget shape) ++ found_set_text numbers result
   pub values_are : values ≡ set_values (attempts_of Single script budget shape) numbers
 
--- the run leaks or panics under no set that is tried of at most so many attempts, and is cut under none of them
+-- the run leaks or panics under no set of at most so many attempts, and is cut under none of them
 pub record IsNoFailingSet (part : Part) (most : ℕ) (script : Script) (budget : ℕ) (shape : Shape)
     (text : List ℕ) (values : ReportValues) : Type 0 where
-  pub none : IsNoSetIn part most script budget shape
+  pub none : IsNoSetOver (is_whole part) part most script budget shape
   pub text_is : text ≡ attempts_line (attempts_of Single script budget shape) ++ no_set_line most
   pub values_are : values ≡ sweep_values (attempts_of Single script budget shape) Never
 
--- there is no answer: the run without failure is cut; or that of a set which is tried, and no lesser one's leaks, panics or is cut
--- (`IsSetCutIn`)
+-- there is no answer: the run of a set is cut, and no lesser one's leaks, panics or is cut (`IsSetCutOver`). Where the run without failure
+-- is cut, the set is the empty one, whatever the part is
 pub record IsUnsweptSet (part : Part) (most : ℕ) (script : Script) (budget : ℕ) (shape : Shape)
     (text : List ℕ) (values : ReportValues) : Type 0 where
   pub numbers : List ℕ
   pub why : Why
-  pub cut : IsSetCutIn part most script budget shape numbers why
+  pub cut : IsSetCutOver (is_whole part) part most script budget shape numbers why
   pub text_is : text ≡ cut_set_line numbers why
   pub values_are : values ≡ cut_set_values numbers
 
@@ -123,7 +133,7 @@ pub record IsSizedAndTried (most : ℕ) (script : Script) (budget : ℕ) (shape 
   pub size : ReportValues
   pub sweep : ReportValues
   pub sized : IsSized script budget shape first size
-  pub tried : IsSetsReport every_number most script budget shape second sweep status
+  pub tried : IsSetsReport whole most script budget shape second sweep status
   pub text_is : text ≡ first ++ second
   pub values_are : values ≡ both_values size sweep
 

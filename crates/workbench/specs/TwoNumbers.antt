@@ -1,7 +1,7 @@
 -- What `size`, `sweep` and `check` say, as lines and as values, and what that means of runs: how
 -- long the heap must be, which attempt each shorter heap refuses first, and the least number of an
--- attempt whose simulated failure leaks or panics, the least rate of attempts whose failures do, or the
--- least pair of attempts.
+-- attempt whose simulated failure leaks or panics, alone or with that of all after it, the least rate of
+-- attempts whose failures do, or the least pair of attempts.
 use Rattle.std.specs.Prelude.{◌≡◌, ◌≢◌, ◌⊎◌, ℕ, List, [], ◌∷◌, ◌++◌, codes, length}
 use Rattle.std.specs.Fmt.{decimal}
 use Rattle.std.specs.Option.{option_map_or}
@@ -9,7 +9,7 @@ use Rattle.wb_model.specs.declared.failures.Failing.{Failing}
 use Rattle.wb_model.specs.declared.failures.Failing.TheVariants.{Number, Pair}
 use Rattle.wb_model.specs.declared.failures.Failing.TheVariants as failings
 use Rattle.wb_model.specs.declared.failures.Failures.{Failures}
-use Rattle.wb_model.specs.declared.failures.Failures.TheVariants.{Single, Every, Pairs}
+use Rattle.wb_model.specs.declared.failures.Failures.TheVariants.{Single, Every, Pairs, Persistent}
 use Rattle.wb_model.specs.declared.heap.Rule.TheVariants.{Unlimited}
 use Rattle.wb_model.specs.declared.heap.Shape.{Shape}
 use Rattle.wb_model.specs.declared.run.Outcome.TheVariants.{Cut}
@@ -42,10 +42,11 @@ table_text from (rise ∷ rises) = refuses_line from rise.number ++ table_text r
 abbrev pub size_text : ℕ → List Rise → List ℕ
 size_text required rises = line (codes "required " ++ decimal required) ++ table_text 0 rises ++ line (codes "enough from " ++ decimal required)
 
--- the number of the attempt that fails, the rate at which attempts fail, or the numbers of the two that fail
+-- the number of the attempt that fails, or of the first of all that do, the rate at which attempts fail, or the numbers of the two that fail
 abbrev pub failing_text : Failing → List ℕ
 failing_text (Number n) = decimal n
 failing_text (failings.Every n) = decimal n
+failing_text (failings.From n) = decimal n
 failing_text (Pair i j) = decimal i ++ codes " " ++ decimal j
 
 -- the run under this failure was cut
@@ -91,6 +92,7 @@ attempts_of failures script budget shape =
 abbrev pub failing_line : Failing → List ℕ
 failing_line (Number n) = line (codes "number " ++ decimal n)
 failing_line (failings.Every n) = line (codes "every " ++ decimal n)
+failing_line (failings.From n) = line (codes "persistent " ++ decimal n)
 failing_line (Pair i j) = line (codes "pair " ++ decimal i ++ codes " " ++ decimal j)
 
 abbrev pub found_text : Failing → RunResult → List ℕ
@@ -100,6 +102,7 @@ abbrev pub none_line : Failures → List ℕ
 none_line Single = line (codes "number none")
 none_line Every = line (codes "every none")
 none_line Pairs = line (codes "pair none")
+none_line Persistent = line (codes "persistent none")
 
 -- what a sweep over such failures found, as it is printed
 abbrev pub sweep_text : Failures → Sweep → List ℕ

@@ -53,6 +53,7 @@ fn put_number_word(text: &mut Vec<u8>, failures: Failures) -> Result<(), NoMemor
     let put = match failures {
         Failures::Single | Failures::Pairs => write!(text, "number "),
         Failures::Every => write!(text, "every "),
+        Failures::Persistent => write!(text, "persistent "),
     };
     or_no_memory(put)
 }

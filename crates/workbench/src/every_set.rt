@@ -14,7 +14,7 @@ use crate::every_set_text::{put_every_set, put_many_states};
 use crate::exit_status::CUT;
 use crate::report::Report;
 use crate::report_values::ReportValues;
-use crate::sets::{EVERY_NUMBER, cut_set_report, report_with};
+use crate::sets::{cut_set_report, report_with};
 use crate::tasks::size_report;
 use std::alloc::Global;
 use wb_machine::RunFault;
@@ -26,7 +26,7 @@ use wb_model::script::Script;
 use wb_sweep::{EverySetFault, Progress, SetSweep, sweep_every_set};
 
 /// Which set of attempts leaks or panics, however many it has, of those whose least number the part has; or the line of a run that was
-/// cut, or of a search that met more states than it may.
+/// cut, or of a search that met more states than it may. The whole has all sets.
 pub fn every_set_report<P: Progress>(
     alloc: Global,
     script: &Script,
@@ -131,7 +131,7 @@ pub fn check_every_set_report<P: Progress>(
     if report.status == CUT {
         return Ok(report);
     }
-    let swept = every_set_report(alloc, script, EVERY_NUMBER, states, budget, shape, progress)?;
+    let swept = every_set_report(alloc, script, Part::WHOLE, states, budget, shape, progress)?;
     report.text.extend_from_slice(swept.text.as_slice())?;
     report.values = ReportValues::of_both(report.values, swept.values);
     report.status = swept.status;

@@ -6,7 +6,7 @@ ghost use Rattle.wb_model.specs.language.Lines.{lines_of};
 ghost use Rattle.wb_model.specs.meaning.Printable.{ArePrintable};
 ghost use Rattle.workbench.specs.Ascii.{HasPrintableLines};
 ghost use Rattle.workbench.specs.JsonReport.{common_members, count, count_or_null, count_pair, failing_number};
-ghost use Rattle.workbench.specs.JsonReport.{failing_value, failures_kind};
+ghost use Rattle.workbench.specs.JsonReport.{failing_value, failures_kind, failures_version};
 ghost use Rattle.workbench.specs.JsonReport.{json_text, kind_of, line_string, line_strings, range_pair, range_pairs};
 ghost use Rattle.workbench.specs.JsonReport.{report_object, rise_pair, rise_pairs, set_value, told_pair, told_pairs};
 ghost use Rattle.workbench.specs.JsonReport.{version_of, with_all, with_most, with_ranges, words_pair};
@@ -29,7 +29,8 @@ use wb_size::Rises;
 /// The version of the form that a JSON report has.
 const VERSION: u32 = 2;
 
-/// That of the reports of all lengths, of all that a sweep finds and of sets, each of which has a key more.
+/// That of the reports of all lengths, of all that a sweep finds and of sets, each of which has a key more, and of sweeps of a kind that
+/// version 2 lacks.
 const LATER_VERSION: u32 = 3;
 
 /// The report of a task as a JSON object without blanks, and a line feed. The only error is that memory ran out.
@@ -159,7 +160,18 @@ fn version_of(task: &Task) -> u32
         Task::Lengths | Task::All(..) | Task::CheckAll(_) => LATER_VERSION,
         Task::Sets(..) | Task::CheckSets(_) => LATER_VERSION,
         Task::EverySet(..) | Task::CheckEverySet(_) => LATER_VERSION,
-        Task::Run(_) | Task::Size | Task::Sweep(..) | Task::Check(_) => VERSION,
+        Task::Sweep(failures, _) | Task::Check(failures) => failures_version(*failures),
+        Task::Run(_) | Task::Size => VERSION,
+    }
+}
+
+/// That of a sweep over such failures which tells of the least alone.
+fn failures_version(failures: Failures) -> u32
+    ensures { result ≡ failures_version failures }
+{
+    match failures {
+        Failures::Single | Failures::Every | Failures::Pairs => VERSION,
+        Failures::Persistent => LATER_VERSION,
     }
 }
 
@@ -184,6 +196,7 @@ fn failures_kind(alloc: Global, failures: Failures) -> Result<Value, AllocError>
         Failures::Single => Value::try_from_str(alloc, "single"),
         Failures::Every => Value::try_from_str(alloc, "every"),
         Failures::Pairs => Value::try_from_str(alloc, "pairs"),
+        Failures::Persistent => Value::try_from_str(alloc, "persistent"),
     }
 }
 
@@ -271,7 +284,8 @@ fn all_counts(alloc: Global, numbers: &[u32]) -> Result<Vec<Value>, AllocError>
     Ok(counts)
 }
 
-/// The number of the attempt that fails, the rate at which attempts fail, or the numbers of the two that fail.
+/// The number of the attempt that fails, or of the first of all that do, the rate at which attempts fail, or the numbers of the two
+/// that fail.
 fn failing_value(alloc: Global, failing: Failing) -> Result<Value, AllocError>
     ensures { IfOk result (λ value. view value ≡ failing_value failing) }
 {
@@ -279,6 +293,7 @@ fn failing_value(alloc: Global, failing: Failing) -> Result<Value, AllocError>
         Failing::Number(number) => Ok(Value::from(number)),
         Failing::Every(rate) => Ok(Value::from(rate)),
         Failing::Pair(first, second) => count_pair(alloc, first, second),
+        Failing::From(first) => Ok(Value::from(first)),
     }
 }
 

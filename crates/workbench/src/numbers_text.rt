@@ -74,6 +74,7 @@ pub fn put_failing(text: &mut Vec<u8>, failing: Failing) -> Result<(), NoMemory>
         Failing::Number(number) => writeln!(text, "number {number}"),
         Failing::Every(rate) => writeln!(text, "every {rate}"),
         Failing::Pair(first, second) => writeln!(text, "pair {first} {second}"),
+        Failing::From(first) => writeln!(text, "persistent {first}"),
     };
     or_no_memory(put)
 }
@@ -85,6 +86,7 @@ fn put_none(text: &mut Vec<u8>, failures: Failures) -> Result<(), NoMemory>
         Failures::Single => writeln!(text, "number none"),
         Failures::Every => writeln!(text, "every none"),
         Failures::Pairs => writeln!(text, "pair none"),
+        Failures::Persistent => writeln!(text, "persistent none"),
     };
     or_no_memory(put)
 }
@@ -97,6 +99,7 @@ pub fn put_cut_at(text: &mut Vec<u8>, at: Failing, why: Why) -> Result<(), NoMem
         Failing::Number(number) => put_cut(text, number, why),
         Failing::Every(rate) => put_cut(text, rate, why),
         Failing::Pair(first, second) => put_cut_pair(text, first, second, why),
+        Failing::From(first) => put_cut(text, first, why),
     }
 }
 

@@ -49,7 +49,7 @@ pub fn report_over<P: Progress>(
 }
 
 /// Whether the part has all numbers that a command may name.
-pub(crate) fn is_whole(part: Part) -> bool
+fn is_whole(part: Part) -> bool
     ensures { result ≡ is_whole part }
 {
     part.from == 0 && part.to == CEILING

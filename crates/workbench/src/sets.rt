@@ -5,10 +5,9 @@ ghost use Rattle.wb_model.specs.language.Sound.{is_script};
 ghost use Rattle.wb_model.specs.heap.Space.{is_shape};
 ghost use Rattle.workbench.specs.ReportValues.{cut_set_values};
 ghost use Rattle.workbench.specs.SetsReport.{IsCheckSetsReport, IsSetsReport, cut_set_line, sets_text, swept_status};
-ghost use Rattle.workbench.specs.SetsReport.{numbers_tried, swept_values};
+ghost use Rattle.workbench.specs.SetsReport.{swept_values};
 
 use crate::exit_status::{CUT, FOUND, NOTHING_FOUND};
-use crate::parts::is_whole;
 use crate::report::Report;
 use crate::report_values::{FailingNumber, ReportValues};
 use crate::sets_text::{put_cut_set, put_sets};
@@ -22,20 +21,8 @@ use wb_model::run::Why;
 use wb_model::script::Script;
 use wb_sweep::{FoundSet, Progress, SetFault, SetSweep, sweep_sets};
 
-/// All numbers that there are.
-pub const EVERY_NUMBER: Part = Part {
-    from: 0,
-    to: u32::MAX,
-};
-
-/// The numbers that a command has tried: where its part is the whole, all that there are.
-pub fn numbers_tried(part: Part) -> Part
-    ensures { result ≡ numbers_tried part }
-{
-    if is_whole(part) { EVERY_NUMBER } else { part }
-}
-
-/// Which set of at most so many attempts leaks or panics, of those whose least number the part has, or the line of a run that was cut.
+/// Which set of at most so many attempts leaks or panics, of those whose least number the part has, or the line of a run that was cut. The
+/// whole has the number of each attempt that a run makes, so that it has all sets.
 pub fn sets_report<P: Progress>(
     alloc: Global,
     script: &Script,
@@ -130,7 +117,7 @@ pub fn check_sets_report<P: Progress>(
     if report.status == CUT {
         return Ok(report);
     }
-    let swept = sets_report(alloc, script, EVERY_NUMBER, most, budget, shape, progress)?;
+    let swept = sets_report(alloc, script, Part::WHOLE, most, budget, shape, progress)?;
     report.text.extend_from_slice(swept.text.as_slice())?;
     report.values = ReportValues::of_both(report.values, swept.values);
     report.status = swept.status;

@@ -25,7 +25,7 @@ use crate::parts::{all_report, check_all_report, report_over};
 use crate::report::Report;
 use crate::report_values::{FailingNumber, ReportValues};
 use crate::run_text::put_run;
-use crate::sets::{check_sets_report, numbers_tried, sets_report};
+use crate::sets::{check_sets_report, sets_report};
 use std::alloc::Global;
 use wb_command_line::command::{Command, Task};
 use wb_lengths::lengths;
@@ -67,12 +67,10 @@ pub fn carry_out<P: Progress>(
             all_report(alloc, script, *failures, *part, budget, shape, progress)
         }
         Task::Sets(most, part) => {
-            let numbers = numbers_tried(*part);
-            sets_report(alloc, script, numbers, *most, budget, shape, progress)
+            sets_report(alloc, script, *part, *most, budget, shape, progress)
         }
         Task::EverySet(states, part) => {
-            let numbers = numbers_tried(*part);
-            every_set_report(alloc, script, numbers, *states, budget, shape, progress)
+            every_set_report(alloc, script, *part, *states, budget, shape, progress)
         }
         Task::Check(failures) => check_report(alloc, script, *failures, budget, shape, progress),
         Task::CheckAll(failures) => {

@@ -1,5 +1,5 @@
 -- Proof: sweep_beside_known. A part from number 0 on to the greatest number there is has all failures.
-use Rattle.std.proofs.Common.{rules, ◌≡◌, ◌≤◌, ◌<◌, ◌^◌, arith, inr, refl, Err}
+use Rattle.std.proofs.Common.{rules, ◌≡◌, ◌≤◌, arith, inr, refl, Err}
 use Rattle.wb_model.specs.declared.part.Part.{Part}
 use Rattle.wb_model.specs.runs.Parts.{last_attempt}
 use Rattle.wb_model.proofs.PartAnswers.{whole-cut, whole-found, whole-none}

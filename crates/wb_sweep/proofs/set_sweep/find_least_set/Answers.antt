@@ -1,5 +1,5 @@
 -- Proof: find_least_set. What single numbers show, the sets of at most one number do.
-use Rattle.std.proofs.Common.{rules, ◌≡◌, Err, None, ap, ◌∙◌, subst, sym}
+use Rattle.std.proofs.Common.{rules, ◌≡◌, ◌+◌, ◌≤◌, Err, None, ap, ◌∙◌, subst, sym}
 use Rattle.wb_model.specs.declared.failures.Failures.TheVariants.{Single}
 use Rattle.wb_model.specs.declared.run.RunResult.{RunResult}
 use Rattle.wb_model.specs.runs.Parts.{IsFoundIn}
@@ -34,8 +34,15 @@ returns-in_ok-set-in-Ok-Some-clause-swept g c =
     let found : IsFoundIn Single part script c.args.budget c.args.shape at c.in-Ok-Some.found.result = search rules in
     record {
       attempts = swept.attempts;
+      few = subst (λ n. n ≤ c.args.budget + 1) (sym swept.attempts) c.in-Ok-Some.ensures.few;
       found = found-weaker part script c.args.budget c.args.shape 1 c.args.most c.requires.most set.numbers set.result
           ((single-found part script c.args.budget c.args.shape set.numbers set.result).1
           (at, named, subst (λ (r : RunResult). IsFoundIn Single part script c.args.budget c.args.shape at r) (sym told) found));
       none = λ e. cc;
     }
+
+pub returns-in-Err-clause-few_cut : goal.returns-in-Err-clause-few_cut
+returns-in-Err-clause-few_cut g c numbers why e =
+    let is : c.as_set_fault.result ≡ Cut numbers why = cc in
+    let (at, fault, named) = c.as_set_fault.ensures.cut numbers why is in
+    c.find_least.ensures.few_cut at why (c.in-Err.is ∙ ap Err fault)

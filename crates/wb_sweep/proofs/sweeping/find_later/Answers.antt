@@ -6,7 +6,7 @@ use Rattle.wb_model.specs.runs.Sweeps.{runs_of}
 use Rattle.wb_sweep.specs.declared.fault.SweepFault.TheVariants.{Cut}
 use Rattle.wb_sweep.specs.Stretches.{AreNumbersFine}
 use Rattle.wb_sweep.proofs.AnswerLemmas.{nothing}
-use Rattle.wb_sweep.proofs.PartFound.{none-rates, none-single}
+use Rattle.wb_sweep.proofs.PartFound.{none-persistent, none-rates, none-single}
 use Rattle.wb_sweep.proofs.sweeping.find_later.Goals as goal
 
 pub returns-in_err-found-clause-cut : goal.returns-in_err-found-clause-cut
@@ -31,6 +31,15 @@ returns-in-Every-clause-none g c e =
     c.in-Every.is (c.in_ok-found.ensures.fine none) in
     subst (λ (f : Failures). IsNoneIn f c.args.part c.args.script.now c.args.budget c.args.shape) (sym c.in-Every.is)
     (none-rates c.args.part c.args.script.now c.args.budget c.args.shape uncut fine)
+
+pub returns-in-Persistent-clause-none : goal.returns-in-Persistent-clause-none
+returns-in-Persistent-clause-none g c e =
+    let none = nothing c.in_ok-found.found (sym c.is_some.ensures ∙ c.if-is_some.false) in
+    let uncut = subst (λ (f : Failures). IsUncut f c.args.script.now c.args.budget c.args.shape) c.in-Persistent.is c.requires.uncut in
+    let fine = subst (λ (f : Failures). AreNumbersFine (runs_of f c.args.script.now c.args.budget c.args.shape) c.args.part (last_attempt f c.args.script.now c.args.budget c.args.shape))
+    c.in-Persistent.is (c.in_ok-found.ensures.fine none) in
+    subst (λ (f : Failures). IsNoneIn f c.args.part c.args.script.now c.args.budget c.args.shape) (sym c.in-Persistent.is)
+    (none-persistent c.args.part c.args.script.now c.args.budget c.args.shape uncut fine)
 
 pub find_pair-requires-clause-single : goal.find_pair-requires-clause-single
 find_pair-requires-clause-single g c =

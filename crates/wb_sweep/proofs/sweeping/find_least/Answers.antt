@@ -1,8 +1,11 @@
-use Rattle.std.proofs.Common.{rules, ◌≡◌, Option, Result, Err, IfErr, inl, inr, true, length, subst, sym, ap, ◌∙◌}
+use Rattle.std.proofs.Common.{rules, ◌≡◌, ◌+◌, ◌≤◌, Option, Result, Err, IfErr, inl, inr, true, length, subst, sym, ap, ◌∙◌, ℕ}
+use Rattle.wb_model.specs.declared.failures.Failures.{Failures}
 use Rattle.wb_model.specs.declared.heap.Rule.{Rule}
+use Rattle.wb_model.specs.declared.heap.Shape.{Shape}
 use Rattle.wb_model.specs.declared.run.Outcome.TheVariants as outcomes
 use Rattle.wb_model.specs.declared.run.RunResult.{RunResult}
 use Rattle.wb_model.specs.declared.run.Why.{Why}
+use Rattle.wb_model.specs.declared.script.Script.{Script}
 use Rattle.wb_model.specs.runs.Parts.{last_attempt, IsFoundIn}
 use Rattle.wb_model.specs.runs.Run.{run, is_bad}
 use Rattle.wb_model.specs.runs.Sweeps.{failing_at, rule_for, rule_of, runs_of}
@@ -13,6 +16,12 @@ use Rattle.wb_sweep.specs.declared.found.Found.{Found}
 use Rattle.wb_sweep.specs.Sweeping.{IsBadAt, IsNumbered}
 use Rattle.wb_sweep.proofs.PartFound.{first-found}
 use Rattle.wb_sweep.proofs.sweeping.find_least.Goals as goal
+
+-- the first run is the one without failure
+few-attempts : (failures : Failures) (script : Script) (budget : ℕ) (shape : Shape) (rule : Rule) (first : RunResult) → rule ≡ rule_of failures 0 →
+    first ≡ run script rule budget shape → length first.trace ≤ budget + 1 → last_attempt failures script budget shape ≤ budget + 1
+few-attempts failures script budget shape rule first same ran few =
+    subst (λ (r : RunResult). length r.trace ≤ budget + 1) (ran ∙ ap (λ (r : Rule). run script r budget shape) same) few
 
 pub attempts_in-attempts-requires : goal.attempts_in-attempts-requires
 attempts_in-attempts-requires g c =
@@ -68,3 +77,23 @@ returns-in_err-found-clause-cut g c at why e =
     let ran : first ≡ runs_of failures script c.args.budget c.args.shape 0 =
     c.in_ok-first.ensures.ran ∙ ap (λ (r : Rule). run script r c.args.budget c.args.shape) rule in
     inl (record { failing = failing ∙ c.at-none.ensures; cut = ap (λ (r : RunResult). r.outcome) (sym ran) ∙ told.2 ∙ ap outcomes.Cut (sym same) })
+
+pub returns-in-Some-clause-few : goal.returns-in-Some-clause-few
+returns-in-Some-clause-few g c =
+    let rule : c.rule.result ≡ rule_of c.args.failures 0 = c.rule.ensures ∙ ap rule_for c.at-none.ensures in
+    few-attempts c.args.failures c.args.script.now c.args.budget c.args.shape c.rule.result c.in_ok-first.first rule c.in_ok-first.ensures.ran c.in_ok-first.ensures.few
+
+pub returns-in-Ok-clause-few : goal.returns-in-Ok-clause-few
+returns-in-Ok-clause-few g c =
+    let rule : c.rule.result ≡ rule_of c.args.failures 0 = c.rule.ensures ∙ ap rule_for c.at-none.ensures in
+    few-attempts c.args.failures c.args.script.now c.args.budget c.args.shape c.rule.result c.in_ok-first.first rule c.in_ok-first.ensures.ran c.in_ok-first.ensures.few
+
+pub returns-in-Err-clause-few_cut : goal.returns-in-Err-clause-few_cut
+returns-in-Err-clause-few_cut g c at why e =
+    let rule : c.rule.result ≡ rule_of c.args.failures 0 = c.rule.ensures ∙ ap rule_for c.at-none.ensures in
+    few-attempts c.args.failures c.args.script.now c.args.budget c.args.shape c.rule.result c.in_ok-first.first rule c.in_ok-first.ensures.ran c.in_ok-first.ensures.few
+
+pub returns-in_err-found-clause-few_cut : goal.returns-in_err-found-clause-few_cut
+returns-in_err-found-clause-few_cut g c at why e =
+    let rule : c.rule.result ≡ rule_of c.args.failures 0 = c.rule.ensures ∙ ap rule_for c.at-none.ensures in
+    few-attempts c.args.failures c.args.script.now c.args.budget c.args.shape c.rule.result c.in_ok-first.first rule c.in_ok-first.ensures.ran c.in_ok-first.ensures.few

@@ -1,5 +1,5 @@
 -- Proof: sweep. A part from number 0 on to the greatest number there is has all failures.
-use Rattle.std.proofs.Common.{◌≤◌, ◌<◌, ◌^◌, arith, refl}
+use Rattle.std.proofs.Common.{◌≤◌, ◌+◌, arith, refl}
 use Rattle.wb_model.specs.declared.part.Part.{Part}
 use Rattle.wb_model.specs.runs.Parts.{last_attempt}
 use Rattle.wb_model.proofs.PartAnswers.{whole-cut, whole-found, whole-none}
@@ -17,12 +17,12 @@ returns-clause-swept g c =
     let budget = c.args.budget in
     let shape = c.args.shape in
     map_ok c.find_least-swept.result (λ sweep both.
-    let within : last_attempt failures script budget shape ≤ 4294967295 = omega (arith, both.1) in
+    let within : last_attempt failures script budget shape ≤ 4294967295 = omega (arith, both.1, c.requires.greatest) in
     record {
       attempts = both.0.attempts;
       found = map_some sweep.found (λ found is. (whole-found failures whole script budget shape found.at found.result refl within).0 is) both.0.found;
       none = λ e. (whole-none failures whole script budget shape refl within).0 (both.0.none e);
-    }) (both_ok (IsSweepIn failures whole script budget shape) (λ _. last_attempt failures script budget shape < 2 ^ 32) c.find_least-swept.result c.find_least-swept.ensures.swept c.find_least-swept.ensures.few)
+    }) (both_ok (IsSweepIn failures whole script budget shape) (λ _. last_attempt failures script budget shape ≤ budget + 1) c.find_least-swept.result c.find_least-swept.ensures.swept c.find_least-swept.ensures.few)
 
 pub returns-clause-cut : goal.returns-clause-cut
 returns-clause-cut g c at why e =
@@ -31,5 +31,5 @@ returns-clause-cut g c at why e =
     let budget = c.args.budget in
     let shape = c.args.shape in
     let few = c.find_least-swept.ensures.few_cut at why e in
-    let within : last_attempt failures script budget shape ≤ 4294967295 = omega (arith, few) in
+    let within : last_attempt failures script budget shape ≤ 4294967295 = omega (arith, few, c.requires.greatest) in
     (whole-cut failures whole script budget shape at why refl within).0 (c.find_least-swept.ensures.cut at why e)
