@@ -4,7 +4,7 @@ use Rattle.std.specs.Prelude.{◌==◌}
 use Rattle.std.specs.Str.{bytes_eq}
 use Rattle.clap.specs.Simple.{filled}
 use Rattle.clap.specs.Walk.{Row, Rule, Text, arg_by_index, arg_by_long, arg_by_short}
-use Rattle.wb_command_line.specs.CommandLine.{all_flag, also_option, budget_option, every_option, fail_option, failures_option, follow_flag, follow_steps_option, from_option, joined_level, json_flag, level, limit_option, min_option, pairs_flag, rates_flag, sets_flag, states_option, step_option, to_option}
+use Rattle.wb_command_line.specs.CommandLine.{all_flag, also_option, budget_option, every_option, fail_option, failures_option, follow_flag, follow_steps_option, from_option, joined_level, json_flag, level, limit_option, min_option, moving_flag, pairs_flag, rates_flag, sets_flag, states_option, step_option, to_option}
 use Rattle.wb_command_line.specs.Passed.{IsIn, RowsPass}
 use Rattle.wb_command_line.specs.declared.command_line.parser.Takes.{Takes}
 use Rattle.wb_command_line.specs.declared.command_line.parser.Takes.TheVariants as taking
@@ -54,9 +54,10 @@ level_long called taking.Rule name e =
     let budget = first_false (bytes_eq (codes "budget") name) _ follow_steps.1 in
     let min = first_false (bytes_eq (codes "min") name) _ budget.1 in
     let step = first_false (bytes_eq (codes "step") name) _ min.1 in
-    let json = first_false (bytes_eq (codes "json") name) _ step.1 in
+    let moving = first_false (bytes_eq (codes "moving") name) _ step.1 in
+    let json = first_false (bytes_eq (codes "json") name) _ moving.1 in
     let picture = first_false (bytes_eq (codes "picture") name) _ json.1 in
-    rw (limit.0, fail.0, also.0, every.0, set.0, follow.0, follow_steps.0, budget.0, min.0, step.0, json.0, picture.0) (help_asks (bytes_eq (codes "help") name))
+    rw (limit.0, fail.0, also.0, every.0, set.0, follow.0, follow_steps.0, budget.0, min.0, step.0, moving.0, json.0, picture.0) (help_asks (bytes_eq (codes "help") name))
 level_long called taking.Failures name e =
     let every = first_false (bytes_eq (codes "every") name) _ e in
     let pairs = first_false (bytes_eq (codes "pairs") name) _ every.1 in
@@ -67,9 +68,10 @@ level_long called taking.Failures name e =
     let budget = first_false (bytes_eq (codes "budget") name) _ states.1 in
     let min = first_false (bytes_eq (codes "min") name) _ budget.1 in
     let step = first_false (bytes_eq (codes "step") name) _ min.1 in
-    let json = first_false (bytes_eq (codes "json") name) _ step.1 in
+    let moving = first_false (bytes_eq (codes "moving") name) _ step.1 in
+    let json = first_false (bytes_eq (codes "json") name) _ moving.1 in
     let picture = first_false (bytes_eq (codes "picture") name) _ json.1 in
-    rw (every.0, pairs.0, all.0, failures.0, sets.0, states.0, budget.0, min.0, step.0, json.0, picture.0) (help_asks (bytes_eq (codes "help") name))
+    rw (every.0, pairs.0, all.0, failures.0, sets.0, states.0, budget.0, min.0, step.0, moving.0, json.0, picture.0) (help_asks (bytes_eq (codes "help") name))
 level_long called taking.Part name e =
     let every = first_false (bytes_eq (codes "every") name) _ e in
     let pairs = first_false (bytes_eq (codes "pairs") name) _ every.1 in
@@ -82,16 +84,18 @@ level_long called taking.Part name e =
     let budget = first_false (bytes_eq (codes "budget") name) _ to.1 in
     let min = first_false (bytes_eq (codes "min") name) _ budget.1 in
     let step = first_false (bytes_eq (codes "step") name) _ min.1 in
-    let json = first_false (bytes_eq (codes "json") name) _ step.1 in
+    let moving = first_false (bytes_eq (codes "moving") name) _ step.1 in
+    let json = first_false (bytes_eq (codes "json") name) _ moving.1 in
     let picture = first_false (bytes_eq (codes "picture") name) _ json.1 in
-    rw (every.0, pairs.0, all.0, failures.0, sets.0, states.0, from.0, to.0, budget.0, min.0, step.0, json.0, picture.0) (help_asks (bytes_eq (codes "help") name))
+    rw (every.0, pairs.0, all.0, failures.0, sets.0, states.0, from.0, to.0, budget.0, min.0, step.0, moving.0, json.0, picture.0) (help_asks (bytes_eq (codes "help") name))
 level_long called taking.Neither name e =
     let budget = first_false (bytes_eq (codes "budget") name) _ e in
     let min = first_false (bytes_eq (codes "min") name) _ budget.1 in
     let step = first_false (bytes_eq (codes "step") name) _ min.1 in
-    let json = first_false (bytes_eq (codes "json") name) _ step.1 in
+    let moving = first_false (bytes_eq (codes "moving") name) _ step.1 in
+    let json = first_false (bytes_eq (codes "json") name) _ moving.1 in
     let picture = first_false (bytes_eq (codes "picture") name) _ json.1 in
-    rw (budget.0, min.0, step.0, json.0, picture.0) (help_asks (bytes_eq (codes "help") name))
+    rw (budget.0, min.0, step.0, moving.0, json.0, picture.0) (help_asks (bytes_eq (codes "help") name))
 
 pub level_short : (called : Text) (takes : Takes) (x : ℕ) → IsAsking (arg_by_short (level called takes).rules x)
 level_short called taking.Rule x = help_asks (104 == x)
@@ -201,6 +205,9 @@ min_rule = filled min_option
 abbrev pub step_rule : Rule
 step_rule = filled step_option
 
+abbrev pub moving_rule : Rule
+moving_rule = filled moving_flag
+
 abbrev pub json_rule : Rule
 json_rule = filled json_flag
 
@@ -255,6 +262,9 @@ only_min = only joined_level.rules (codes "min") min_rule refl
 
 pub only_step : IsOnly joined_level.rules (codes "step") step_rule
 only_step = only joined_level.rules (codes "step") step_rule refl
+
+pub only_moving : IsOnly joined_level.rules (codes "moving") moving_rule
+only_moving = only joined_level.rules (codes "moving") moving_rule refl
 
 pub only_json : IsOnly joined_level.rules (codes "json") json_rule
 only_json = only joined_level.rules (codes "json") json_rule refl

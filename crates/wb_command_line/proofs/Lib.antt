@@ -13,6 +13,7 @@ pub mod WordLemmas
 pub mod WorkedEverySet
 pub mod WorkedFailures
 pub mod WorkedFollowing
+pub mod WorkedMoving
 pub mod WorkedPairs
 pub mod WorkedParts
 pub mod WorkedSets

@@ -34,7 +34,7 @@ use Rattle.wb_command_line.specs.declared.command.CommandFault.{CommandFault}
 use Rattle.wb_command_line.specs.declared.command.CommandFault.TheVariants.{Usage, Both, Also, Range, NoMemory}
 use Rattle.wb_command_line.specs.declared.command.CommandFault.TheVariants as F
 use Rattle.wb_command_line.proofs.CommandLineLemmas.{one_is_met, text_is}
-use Rattle.wb_command_line.proofs.LevelLemmas.{all_rule, also_rule, budget_rule, every_rule, fail_rule, failures_rule, follow_rule, follow_steps_rule, from_rule, json_rule, level_wide, limit_rule, min_rule, only_all, only_also, only_budget, only_every, only_fail, only_failures, only_follow, only_follow_steps, only_from, only_json, only_limit, only_min, only_pairs, only_rates, only_sets, only_states, only_step, only_to, pairs_rule, rates_rule, sets_rule, states_rule, step_rule, to_rule}
+use Rattle.wb_command_line.proofs.LevelLemmas.{all_rule, also_rule, budget_rule, every_rule, fail_rule, failures_rule, follow_rule, follow_steps_rule, from_rule, json_rule, level_wide, limit_rule, min_rule, moving_rule, only_all, only_also, only_budget, only_every, only_fail, only_failures, only_follow, only_follow_steps, only_from, only_json, only_limit, only_min, only_moving, only_pairs, only_rates, only_sets, only_states, only_step, only_to, pairs_rule, rates_rule, sets_rule, states_rule, step_rule, to_rule}
 use Rattle.wb_command_line.specs.Passed.{RowsPass}
 use Rattle.wb_command_line.proofs.PassedValues.{IsOnly, PassedAs, first_passed}
 
@@ -262,6 +262,9 @@ FlagRead id = (f : Found) (r : Bool) → RowsPass joined_level.rules (rows_of f)
 
 pub json_is : FlagRead (codes "json")
 json_is = flag_is (codes "json") json_rule only_json (λ t passed. passed) refl
+
+pub moving_is : FlagRead (codes "moving")
+moving_is = flag_is (codes "moving") moving_rule only_moving (λ t passed. passed) refl
 
 pub follow_is : FlagRead (codes "follow")
 follow_is = flag_is (codes "follow") follow_rule only_follow (λ t passed. passed) refl

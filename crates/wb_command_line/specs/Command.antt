@@ -4,7 +4,7 @@ use Rattle.std.specs.List.{list_all}
 use Rattle.std.specs.Option.{option_map_or}
 use Rattle.wb_model.specs.heap.Space.{is_shape}
 use Rattle.wb_model.specs.declared.limits.TheConstants.{CEILING, LARGEST_BUDGET}
-use Rattle.wb_model.specs.declared.heap.Rule.TheVariants.{Every, Limit, Number, Pair, Set, Unlimited}
+use Rattle.wb_model.specs.declared.heap.Rule.TheVariants.{Every, From, Limit, Number, Pair, Set, Unlimited}
 use Rattle.wb_model.specs.declared.heap.Shape.{Shape}
 use Rattle.wb_model.specs.declared.part.Part.{Part}
 use Rattle.wb_command_line.specs.declared.command_line.following.TheConstants.{MOST_FOLLOWED}
@@ -46,6 +46,7 @@ is_in_range (Run Unlimited) = true
 is_in_range (Run (Limit l)) = nat_le l CEILING
 is_in_range (Run (Number n)) = nat_le n CEILING
 is_in_range (Run (Every n)) = nat_le n CEILING
+is_in_range (Run (From n)) = nat_le n CEILING
 is_in_range (Run (Pair i j)) = are_in_order i j && nat_le j CEILING
 is_in_range (Run (Set numbers)) = are_of_set numbers
 is_in_range Size = true

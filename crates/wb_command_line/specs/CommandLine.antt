@@ -49,6 +49,9 @@ step_option = number_option (codes "step") SMALLEST_STEP LARGEST_STEP
 abbrev pub flag : Text → Text → Rule
 flag id name = record (new_rule id) { long = Some name; action = Some SetTrue }
 
+abbrev pub moving_flag : Rule
+moving_flag = flag (codes "moving") (codes "moving")
+
 abbrev pub json_flag : Rule
 json_flag = flag (codes "json") (codes "json")
 
@@ -118,9 +121,13 @@ own_options taking.Neither = []
 abbrev pub number_options : List Rule
 number_options = budget_option ∷ min_option ∷ step_option ∷ []
 
+-- those that say how its report is written, and what is written beside it
+abbrev pub report_options : List Rule
+report_options = json_flag ∷ picture_option ∷ []
+
 -- those of every subcommand
 abbrev pub shared_options : List Rule
-shared_options = number_options ++ json_flag ∷ picture_option ∷ []
+shared_options = number_options ++ moving_flag ∷ report_options
 
 abbrev pub with_rules : App → List Rule → App
 with_rules = fold with_rule
@@ -129,9 +136,9 @@ with_rules = fold with_rule
 abbrev pub line_with : Text → List Rule → App
 line_with name options = with_rules (new_app name) (file_argument ∷ options ++ shared_options)
 
--- `NAME [--limit L] [--fail N] [--also J] [--every N] [--set LIST] [--follow] [--follow-steps N] [--budget B] [--min M] [--step G] [--json]
--- [--picture FILE] [FILE]`, the same with `--every`, `--pairs`, `--all`, `--failures K`, `--sets` and `--states N` in the place of a rule and
--- of the steps, with these and `[--from I] [--to J]`, or with none of them
+-- `NAME [--limit L] [--fail N] [--also J] [--every N] [--set LIST] [--follow] [--follow-steps N] [--budget B] [--min M] [--step G] [--moving]
+-- [--json] [--picture FILE] [FILE]`, the same with `--every`, `--pairs`, `--all`, `--failures K`, `--sets` and `--states N` in the place of a
+-- rule and of the steps, with these and `[--from I] [--to J]`, or with none of them
 abbrev pub subcommand_line : Text → Takes → App
 subcommand_line name takes = line_with name (own_options takes)
 

@@ -25,7 +25,7 @@ use Rattle.wb_command_line.specs.declared.command_line.parser.Takes.TheVariants 
 
 -- what holds where the words don't say otherwise
 abbrev pub default_shape : Shape
-default_shape = record { min = DEFAULT_MINIMUM; step = DEFAULT_STEP }
+default_shape = record { min = DEFAULT_MINIMUM; step = DEFAULT_STEP; moving = false }
 
 -- the number of a decimal text; a plus before it and leading zeros make no difference
 abbrev pub decimal : Text → ℕ
@@ -113,18 +113,20 @@ pub record IsPairOf (first : Rule) (second : ℕ) (rule : Rule) : Type 0 where
   pub ordered : are_in_order number second ≡ true
   pub pair : rule ≡ Pair number second
 
+-- a flag was given
+abbrev pub flag_of : Text → List Row → Bool
+flag_of option rows = option_map_or (bytes_eq (codes "true")) (one_of option rows) false
+
+-- cells that grow always move where the flag asks for it
 abbrev pub shape_of : List Row → Shape
 shape_of rows = record {
   min = unwrap_or (number_of (codes "min") rows) default_shape.min;
   step = unwrap_or (number_of (codes "step") rows) default_shape.step;
+  moving = flag_of (codes "moving") rows;
 }
 
 abbrev pub budget_of : List Row → ℕ
 budget_of rows = unwrap_or (number_of (codes "budget") rows) DEFAULT_BUDGET
-
--- a flag was given
-abbrev pub flag_of : Text → List Row → Bool
-flag_of option rows = option_map_or (bytes_eq (codes "true")) (one_of option rows) false
 
 -- how many attempts fail together at most, where sets of so many are asked for
 abbrev pub most_of : List Row → Option ℕ

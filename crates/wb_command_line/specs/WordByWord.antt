@@ -27,7 +27,7 @@ is_flag _ = false
 
 -- the options that every subcommand has
 abbrev pub shared_names : List Text
-shared_names = codes "budget" ∷ codes "min" ∷ codes "step" ∷ codes "json" ∷ codes "picture" ∷ []
+shared_names = codes "budget" ∷ codes "min" ∷ codes "step" ∷ codes "moving" ∷ codes "json" ∷ codes "picture" ∷ []
 
 -- those that a subcommand has beside them
 abbrev pub own_names : Takes → List Text

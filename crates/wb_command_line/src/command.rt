@@ -51,7 +51,7 @@ pub struct Command {
     pub file: Option<FileName>,
     /// The greatest number of steps of a run, from 1 to 1,000,000.
     pub budget: u32,
-    /// The heap's minimum length and step, in bytes, in the ranges that `Shape` states.
+    /// The heap's minimum length and step, in bytes, in the ranges that `Shape` states, and whether cells that grow always move.
     pub shape: Shape,
     /// The report is written as one JSON object, and not as lines.
     pub json: bool,

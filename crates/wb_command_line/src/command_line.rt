@@ -1,7 +1,7 @@
 //! How the words of a command line are read: `workbench run [--limit L | --fail N [--also J] | --every N | --set LIST] [--follow]
-//! [--follow-steps N] [--budget B] [--min M] [--step G] [--json] [--picture FILE] [FILE]`, the same with `--every`, `--pairs`, `--all`,
-//! `--failures K`, `--sets` and `--states N` in the place of a rule after `sweep` and `check`, after `sweep` with `[--from I] [--to J]`
-//! too, and with none of them after `size` and `lengths`. Nothing is opened or run here.
+//! [--follow-steps N] [--budget B] [--min M] [--step G] [--moving] [--json] [--picture FILE] [FILE]`, the same with `--every`, `--pairs`,
+//! `--all`, `--failures K`, `--sets` and `--states N` in the place of a rule after `sweep` and `check`, after `sweep` with `[--from I]
+//! [--to J]` too, and with none of them after `size` and `lengths`. Nothing is opened or run here.
 ghost use Rattle.std.specs.Prelude.{◌≡◌, ◌≤◌, All, IfErr, IfOk, IsSome, IsTrue, List, Some, OnErr, OnOk, codes, false};
 ghost use Rattle.std.specs.Prelude.{◌&&◌, ◌||◌, IfSome, if◌then◌else◌, is_some, map, true};
 ghost use Rattle.std.specs.Option.{option_map_or};
@@ -317,7 +317,7 @@ fn budget_in(options: &ArgMatches) -> u32
     options.get_one("budget").unwrap_or(DEFAULT_BUDGET)
 }
 
-/// The heap's minimum length and step that they spell, or `Shape`.
+/// The heap's shape that they spell, or `Shape`.
 fn shape_in(options: &ArgMatches) -> Result<Shape, CommandFault>
     requires { RowsPass joined_level.rules (rows_of (found_of options.now)) }
     ensures ok { IfOk result (λ shape. shape ≡ spelled_shape (rows_of (found_of options.now))) }
@@ -328,11 +328,20 @@ fn shape_in(options: &ArgMatches) -> Result<Shape, CommandFault>
 {
     let min = options.get_one("min").unwrap_or(DEFAULT_MINIMUM);
     let step = options.get_one("step").unwrap_or(DEFAULT_STEP);
+    let moving = moving_in(options);
     if min % GRANULE == 0 && step % GRANULE == 0 {
-        Ok(Shape { min, step })
+        Ok(Shape { min, step, moving })
     } else {
         Err(CommandFault::Shape)
     }
+}
+
+/// Whether they ask for a heap in which each cell that grows moves.
+fn moving_in(options: &ArgMatches) -> bool
+    requires { RowsPass joined_level.rules (rows_of (found_of options.now)) }
+    ensures { result ≡ flag_of (codes "moving") (rows_of (found_of options.now)) }
+{
+    options.get_flag("moving")
 }
 
 /// Whether they ask for the report as JSON.

@@ -4,4 +4,5 @@
 pub mod command;
 pub mod command_line;
 pub mod file_name;
+pub mod limit_laws;
 pub mod messages;

@@ -36,6 +36,7 @@ to the cleanup stack; of a long run the first steps and the last
 Example: workbench run --fail 3 examples/leak-under-failure.oom
 Example: workbench run --set 3,4,5 examples/loader-leaks.oom
 Example: workbench run --follow examples/leak.oom
+Example: workbench run --moving examples/item-names-the-old-cell.oom
 
 Exit status: 0 nothing found, 1 a panic or a leak, 2 the script is refused, 3 the run was cut,
 4 no memory, 5 reading or writing failed, 6 command line";
@@ -67,6 +68,7 @@ With --sets: goes on so until no set of attempts is left, of any size, or more s
 With --all, alone or with --every: tells of each attempt, or each n, for which the script leaks, panics or is cut
 With --from I or --to J: tries attempts from I to J alone, or each n from I to J; of pairs and larger sets those
 whose first number is one of these
+With --moving: finds the same in a heap in which each cell that grows moves, also where it could stay
 
 Example: workbench sweep examples/second-phase-leaks.oom
 Example: workbench sweep --all examples/second-phase-leaks.oom
@@ -87,6 +89,7 @@ in order of i and then of j, for which the script leaks or panics when both fail
 With --failures K: finds the same as with --pairs, and goes on from two attempts to three, and so on up to K
 With --sets: goes on so until no set of attempts is left, of any size, or more states were met than --states allows
 With --all, alone or with --every: tells of each attempt, or each n, for which the script leaks, panics or is cut
+With --moving: finds the same in a heap in which each cell that grows moves, also where it could stay
 
 Example: workbench check examples/second-phase-leaks.oom
 Example: workbench check --all examples/second-phase-leaks.oom
@@ -94,6 +97,7 @@ Example: workbench check --every examples/fallback-leaks.oom
 Example: workbench check --pairs examples/clean-up-fails.oom
 Example: workbench check --failures 3 examples/save-leaks.oom
 Example: workbench check --sets examples/save-leaks-mended.oom
+Example: workbench check --sets --moving examples/item-names-the-old-cell-mended.oom
 
 Exit status: 0 no failure that was tried leaks or panics, 1 one does, 2 the script is refused, 3 a run was cut,
 4 no memory, 5 reading or writing failed, 6 command line";

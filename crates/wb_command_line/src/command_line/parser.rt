@@ -4,8 +4,8 @@ ghost use Rattle.std.specs.Prelude.{◌≡◌, IfOk, false, fold};
 ghost use Rattle.clap.specs.Words.{app_of, rule_of, with_rule, with_subcommand};
 ghost use Rattle.clap.specs.declared.builder.command.Command.TheViews.{out-Command as fields_of};
 ghost use Rattle.wb_command_line.specs.CommandLine.{command_line, file_argument, json_flag, line_of};
-ghost use Rattle.wb_command_line.specs.CommandLine.{number_option, option_rule, own_options, part_options};
-ghost use Rattle.wb_command_line.specs.CommandLine.{picture_option, rule_options};
+ghost use Rattle.wb_command_line.specs.CommandLine.{moving_flag, number_option, option_rule, own_options, part_options};
+ghost use Rattle.wb_command_line.specs.CommandLine.{picture_option, report_options, rule_options};
 ghost use Rattle.wb_command_line.specs.CommandLine.{shared_options, with_level, with_option, with_rules};
 
 use crate::command_line::failures::with_failures;
@@ -249,6 +249,19 @@ fn with_shared_options<'a>(
             },
         ],
     )?;
+    with_report_options(alloc, with_argument(line, moving(alloc))?)
+}
+
+/// The subcommand with the options that say how a report is written, and what is written beside it.
+fn with_report_options<'a>(
+    alloc: Global,
+    line: clap::Command<'a>,
+) -> Result<clap::Command<'a>, AllocError>
+    ensures added { IfOk result
+        (λ more. app_of more ≡ with_rules (app_of line.entry) report_options) }
+    ensures own { IfOk result
+        (λ more. (fields_of more).has_globals ≡ (fields_of line.entry).has_globals) }
+{
     with_argument(with_argument(line, json(alloc))?, picture(alloc))
 }
 
@@ -290,6 +303,17 @@ fn file<'a>(alloc: Global) -> Arg<'a>
     Arg::new(alloc, "file")
         .value_name("FILE")
         .help("Script file [default: standard input]")
+}
+
+/// The flag that asks for a heap in which each cell that grows moves.
+fn moving<'a>(alloc: Global) -> Arg<'a>
+    ensures rule { rule_of result ≡ moving_flag }
+    ensures own { result.global ≡ false }
+{
+    Arg::new(alloc, "moving")
+        .long("moving")
+        .action(ArgAction::SetTrue)
+        .help("Moves each cell that grows, even where the bytes after it are free")
 }
 
 /// The flag that asks for the report as JSON.

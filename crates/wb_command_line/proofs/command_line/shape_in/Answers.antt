@@ -16,8 +16,8 @@ returns-then-step-eq0-clause-ok c =
     (min_is _ (λ bs r. ParsesUnsigned 32 10 bs r × ExplainsUnsignedError 10 bs r × HasUnsignedDigitsIfOk bs r) (λ u x g. g.0) (found_of c.args.options.now) c.get_one.result c.requires c.get_one.ensures.none c.get_one.ensures.value) (omega arith) (omega arith) c.unwrap_or-min.ensures in
     let step = given_or (codes "step") (rows_of (found_of c.args.options.now)) SMALLEST_STEP LARGEST_STEP DEFAULT_STEP c.unwrap_or-step.result c.get_one-2.result
     (step_is _ (λ bs r. ParsesUnsigned 32 10 bs r × ExplainsUnsignedError 10 bs r × HasUnsignedDigitsIfOk bs r) (λ u x g. g.0) (found_of c.args.options.now) c.get_one-2.result c.requires c.get_one-2.ensures.none c.get_one-2.ensures.value) (omega arith) (omega arith) c.unwrap_or-step.ensures in
-    let whole : ◌≡◌ {A = Shape} (record { min = c.unwrap_or-min.result; step = c.unwrap_or-step.result }) (shape_of (rows_of (found_of c.args.options.now))) =
-    λ i. record { min = min.is i; step = step.is i } in
+    let whole : ◌≡◌ {A = Shape} (record { min = c.unwrap_or-min.result; step = c.unwrap_or-step.result; moving = c.moving_in-moving.result }) (shape_of (rows_of (found_of c.args.options.now))) =
+    λ i. record { min = min.is i; step = step.is i; moving = c.moving_in-moving.ensures i } in
     whole
 
 pub returns-then-step-eq0-clause-range : goal.returns-then-step-eq0-clause-range
@@ -34,10 +34,10 @@ returns-else-min-eq0-clause-misshapen c =
     (min_is _ (λ bs r. ParsesUnsigned 32 10 bs r × ExplainsUnsignedError 10 bs r × HasUnsignedDigitsIfOk bs r) (λ u x g. g.0) (found_of c.args.options.now) c.get_one.result c.requires c.get_one.ensures.none c.get_one.ensures.value) (omega arith) (omega arith) c.unwrap_or-min.ensures in
     let step = given_or (codes "step") (rows_of (found_of c.args.options.now)) SMALLEST_STEP LARGEST_STEP DEFAULT_STEP c.unwrap_or-step.result c.get_one-2.result
     (step_is _ (λ bs r. ParsesUnsigned 32 10 bs r × ExplainsUnsignedError 10 bs r × HasUnsignedDigitsIfOk bs r) (λ u x g. g.0) (found_of c.args.options.now) c.get_one-2.result c.requires c.get_one-2.ensures.none c.get_one-2.ensures.value) (omega arith) (omega arith) c.unwrap_or-step.ensures in
-    let whole : ◌≡◌ {A = Shape} (record { min = c.unwrap_or-min.result; step = c.unwrap_or-step.result }) (shape_of (rows_of (found_of c.args.options.now))) =
-    λ i. record { min = min.is i; step = step.is i } in
+    let whole : ◌≡◌ {A = Shape} (record { min = c.unwrap_or-min.result; step = c.unwrap_or-step.result; moving = c.moving_in-moving.result }) (shape_of (rows_of (found_of c.args.options.now))) =
+    λ i. record { min = min.is i; step = step.is i; moving = c.moving_in-moving.ensures i } in
     let misshapen : c.unwrap_or-min.result % 16 ≡ 0 → c.unwrap_or-step.result % 16 ≡ 0 → ⊥ = elim c.else-min-eq0.branch [
       | else-min-eq0-via-then-min-eq0+else-step-eq0 w ↦ λ m s. w.if-step-eq0.false s
       | else-min-eq0-via-else-min-eq0 w ↦ λ m s. w.if-min-eq0.false m
     ] in
-    subst (λ (s : Shape). is_sixteenfold s ≡ false) whole (not_sixteenfold _ misshapen)
+    subst (λ (s : Shape). is_sixteenfold s ≡ false) whole (not_sixteenfold (record { min = c.unwrap_or-min.result; step = c.unwrap_or-step.result; moving = c.moving_in-moving.result }) misshapen)
