@@ -4,6 +4,7 @@ use crate::makers::Maker;
 use std::alloc::{AllocError, Global};
 use wb_machine::Machine;
 use wb_model::heap::{Answer, Attempt, Rule};
+use wb_model::limits::CEILING;
 
 /// The most attempts that are kept whatever they are.
 const MOST_ATTEMPTS: usize = 100_000;
@@ -118,6 +119,14 @@ impl<'a> Attempts<'a> {
         None
     }
 
+    /// Returns the place past which the rule grants nothing, in bytes.
+    pub fn bound(&self) -> u32 {
+        match &self.rule {
+            Rule::Limit(limit) => *limit,
+            _ => CEILING,
+        }
+    }
+
     /// Returns the first attempt that the limit refused; `None` if it refused none.
     pub fn first_refused(&self) -> Option<AttemptMade<'a>> {
         self.kept.get(self.refused_at?).copied()
@@ -188,6 +197,7 @@ impl<'a> Attempts<'a> {
             Rule::Unlimited => false,
             Rule::Limit(_) => attempt.answer == Answer::Refused && self.refused_at.is_none(),
             Rule::Number(number) | Rule::Every(number) => attempt.number == *number,
+            Rule::From(first) => attempt.number == *first,
             Rule::Pair(first, second) => attempt.number == *first || attempt.number == *second,
             Rule::Set(numbers) => numbers.as_slice().contains(&attempt.number),
         }
@@ -199,6 +209,7 @@ impl<'a> Attempts<'a> {
         }
         let is_by_rule = match &self.rule {
             Rule::Every(rate) => attempt.number.checked_rem(*rate) == Some(0),
+            Rule::From(first) => *first != 0 && attempt.number >= *first,
             Rule::Number(_) | Rule::Pair(..) | Rule::Set(_) => self.is_named(attempt),
             Rule::Unlimited | Rule::Limit(_) => false,
         };

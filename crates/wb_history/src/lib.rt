@@ -52,7 +52,7 @@ pub use checks::Counted;
 pub use course::{Course, NEVER, Part, PartEnd};
 pub use items::{ItemOnStack, Items};
 pub use lines::{ScriptFile, ScriptLines};
-pub use lives::{By, End, Ended, Life, Lives};
+pub use lives::{By, End, Ended, Life, Lives, Origin};
 pub use looks::{has_panicked, live_at};
 pub use makers::Maker;
 pub use moments::{Held, Moment, ShortLine};

@@ -18,6 +18,17 @@ pub enum End {
     Moved,
 }
 
+/// What began a cell's life.
+#[derive(Clone, Copy, Debug, PartialEq, Eq)]
+pub enum Origin {
+    /// A line that makes a new cell.
+    Made,
+    /// A line that reallocates: the cell may be one that moved.
+    Reallocated,
+    /// The same, of a cell that moved though it had room to grow at its place.
+    MovedWithRoom,
+}
+
 /// What ended a cell's life.
 #[derive(Clone, Copy, Debug, PartialEq, Eq)]
 pub enum By {
@@ -35,6 +46,8 @@ pub struct Ended {
     pub end: End,
     pub by: By,
     pub at: ShortLine,
+    /// Whether a cell that moved had room to grow at its place, so that it moved only because each such cell does in its heap.
+    pub had_room: bool,
 }
 
 /// The life of a cell, at one place. A cell that moves begins another. Of what happened to it the lines alone are kept, and each in two
@@ -45,8 +58,7 @@ pub struct Life {
     /// Its cell length, in bytes.
     pub length: u32,
     pub kind: Kind,
-    /// Whether the line that made it reallocates.
-    pub is_reallocated: bool,
+    pub origin: Origin,
     pub made: ShortLine,
     /// Where it grew last, at its place.
     pub grown: ShortLine,
@@ -62,12 +74,12 @@ pub struct Life {
 }
 
 impl Life {
-    fn of(cell: Header, made: u32, is_reallocated: bool, before: u32) -> Life {
+    fn of(cell: Header, made: u32, origin: Origin, before: u32) -> Life {
         Life {
             pointer: cell.pointer(),
             length: cell.length,
             kind: cell.kind,
-            is_reallocated,
+            origin,
             made: ShortLine::of(made),
             grown: ShortLine::NONE,
             pushed: ShortLine::NONE,
@@ -77,6 +89,11 @@ impl Life {
             ended: None,
             before,
         }
+    }
+
+    /// Whether the line that made it reallocates.
+    pub fn is_reallocated(&self) -> bool {
+        self.origin != Origin::Made
     }
 }
 
@@ -117,21 +134,16 @@ impl Lives {
     }
 
     /// Begins the life of a cell that was just granted, to this line.
-    pub fn begin(
-        &mut self,
-        cell: Header,
-        made: u32,
-        is_reallocated: bool,
-    ) -> Result<(), AllocError> {
+    pub fn begin(&mut self, cell: Header, made: u32, origin: Origin) -> Result<(), AllocError> {
         let before = self.newest_at(cell.place);
         if self.all.len() >= MOST_LIVES
             && let Some(at) = before.checked_sub(1)
             && let Some(life) = self.all.get_mut(at as usize)
         {
-            *life = Life::of(cell, made, is_reallocated, 0);
+            *life = Life::of(cell, made, origin, 0);
             return Ok(());
         }
-        self.all.push(Life::of(cell, made, is_reallocated, before))?;
+        self.all.push(Life::of(cell, made, origin, before))?;
         let at = (cell.place / 16) as usize;
         if self.newest.len() <= at {
             self.newest.resize(at.saturating_add(1), 0)?;

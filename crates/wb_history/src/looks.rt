@@ -24,6 +24,22 @@ pub fn live_at(machine: &Machine<'_>, place: u32) -> Option<Header> {
     }
 }
 
+/// Returns whether the bytes from one place up to another belong to no live cell but this one, where no other that begins below them
+/// reaches into them.
+pub fn are_free_but_for(machine: &Machine<'_>, own: Header, from: u32, until: u32) -> bool {
+    let first = machine.next_live(from);
+    let other = match first {
+        Some(cell) if cell.number == own.number => {
+            machine.next_live(own.place.saturating_add(own.length))
+        }
+        _ => first,
+    };
+    match other {
+        Some(cell) => until <= cell.place,
+        None => true,
+    }
+}
+
 /// Returns whether a pointer names a live cell.
 pub fn is_live(machine: &Machine<'_>, pointer: Ptr) -> bool {
     match live_at(machine, pointer.place) {

@@ -197,7 +197,8 @@ fn line_of(at: Failing, last: u32, estimate: Option<Estimate>) -> Option<ArraySt
 /// The number of a failure. Of two attempts, which are tried as a set, it is the first one's.
 fn number_of(at: Failing) -> u32 {
     match at {
-        Failing::Number(number) | Failing::Every(number) | Failing::Pair(number, _) => number,
+        Failing::Number(number) | Failing::Every(number) => number,
+        Failing::From(number) | Failing::Pair(number, _) => number,
     }
 }
 
@@ -205,6 +206,7 @@ fn put_failing(line: &mut ArrayString<WIDEST>, at: Failing, last: u32) -> fmt::R
     let number = number_of(at);
     match at {
         Failing::Every(_) => write!(line, "trying rate {number} of {last}"),
+        Failing::From(_) => write!(line, "trying failure from attempt {number} of {last} on"),
         Failing::Number(_) | Failing::Pair(_, _) => {
             write!(line, "trying attempt {number} of {last}")
         }

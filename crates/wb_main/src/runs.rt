@@ -66,7 +66,7 @@ pub fn runs_of<'a>(
 fn is_plain(run: &WatchedRun<'_>) -> bool {
     matches!(
         run.parameters.rule,
-        Rule::Unlimited | Rule::Number(0) | Rule::Every(0)
+        Rule::Unlimited | Rule::Number(0) | Rule::Every(0) | Rule::From(0)
     )
 }
 

@@ -90,7 +90,8 @@ pub fn put_lengths(drawing: &mut Drawing<'_>, run: &WatchedRun<'_>) -> Drawn {
     let mut labels = Vec::new(*drawing.text.allocator());
     let longest = longest_end(run.history.attempts.kept_attempts());
     let name = match &run.parameters.rule {
-        Rule::Unlimited | Rule::Number(0) | Rule::Every(0) => Name::Required,
+        Rule::Unlimited => Name::Required,
+        Rule::Number(0) | Rule::Every(0) | Rule::From(0) => Name::Required,
         _ => Name::Longest,
     };
     put_across(drawing, name, longest, &mut labels)?;

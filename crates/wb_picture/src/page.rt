@@ -93,7 +93,7 @@ fn put_heading(drawing: &mut Drawing<'_>, run: &WatchedRun<'_>) -> Drawn {
 
 fn put_rule(drawing: &mut Drawing<'_>, rule: &Rule) -> Drawn {
     match rule {
-        Rule::Unlimited | Rule::Number(0) | Rule::Every(0) => {
+        Rule::Unlimited | Rule::Number(0) | Rule::Every(0) | Rule::From(0) => {
             drawing.text.push_str("The run without failure")
         }
         Rule::Limit(limit) => write!(drawing.text, "The run in a heap of {limit} bytes"),
@@ -101,6 +101,10 @@ fn put_rule(drawing: &mut Drawing<'_>, rule: &Rule) -> Drawn {
         Rule::Every(rate) => write!(
             drawing.text,
             "The run in which every attempt fails whose number is a multiple of {rate}"
+        ),
+        Rule::From(first) => write!(
+            drawing.text,
+            "The run in which attempt {first} and each later one fails"
         ),
         Rule::Pair(first, second) => put_failures(drawing, &[*first, *second]),
         Rule::Set(numbers) => put_failures(drawing, numbers.as_slice()),

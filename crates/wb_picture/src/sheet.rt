@@ -179,9 +179,8 @@ fn attempts_from<'a>(run: &'a WatchedRun<'a>, first: u32) -> &'a [AttemptMade<'a
 fn first_failing<'a>(run: &'a WatchedRun<'a>) -> Option<AttemptMade<'a>> {
     let attempts = &run.history.attempts;
     match &run.parameters.rule {
-        Rule::Number(number) | Rule::Every(number) | Rule::Pair(number, _) => {
-            attempts.find(*number)
-        }
+        Rule::Number(number) | Rule::Every(number) => attempts.find(*number),
+        Rule::From(number) | Rule::Pair(number, _) => attempts.find(*number),
         Rule::Set(numbers) => attempts.find(*numbers.get(0)?),
         Rule::Limit(_) => attempts.first_refused(),
         Rule::Unlimited => None,

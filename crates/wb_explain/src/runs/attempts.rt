@@ -1,7 +1,7 @@
 //! What is said of attempts that a rule was to refuse: which of them failed, and what came of it.
 
 use crate::runs::failures::put_failed;
-use crate::runs::rates::put_rate;
+use crate::runs::rates::{put_first, put_rate};
 use crate::runs::script_page::{ScriptPage, Written};
 use crate::runs::sets::put_set;
 use wb_history::WatchedRun;
@@ -11,9 +11,10 @@ use wb_model::heap::Rule;
 /// that is the line of its panic; of several attempts it says so of each.
 pub fn put_refused(page: &mut ScriptPage<'_>, rule: &Rule, run: &WatchedRun<'_>) -> Written {
     match rule {
-        Rule::Unlimited | Rule::Number(0) | Rule::Every(0) => Ok(()),
+        Rule::Unlimited | Rule::Number(0) | Rule::Every(0) | Rule::From(0) => Ok(()),
         Rule::Number(number) => put_set(page, &[*number], run),
         Rule::Every(rate) => put_every(page, *rate, run),
+        Rule::From(first) => put_from(page, *first, run),
         Rule::Pair(first, second) => put_set(page, &[*first, *second], run),
         Rule::Set(numbers) => put_set(page, numbers.as_slice(), run),
         Rule::Limit(limit) => put_limit(page, *limit, run),
@@ -24,6 +25,15 @@ pub fn put_refused(page: &mut ScriptPage<'_>, rule: &Rule, run: &WatchedRun<'_>)
 fn put_every(page: &mut ScriptPage<'_>, rate: u32, run: &WatchedRun<'_>) -> Written {
     put_rate(page, rate, &run.history.attempts);
     match run.history.attempts.find(rate) {
+        Some(made) => put_failed(page, made, run),
+        None => Ok(()),
+    }
+}
+
+/// Says how many attempts failed where one and each later one fails.
+fn put_from(page: &mut ScriptPage<'_>, first: u32, run: &WatchedRun<'_>) -> Written {
+    put_first(page, first, &run.history.attempts);
+    match run.history.attempts.find(first) {
         Some(made) => put_failed(page, made, run),
         None => Ok(()),
     }

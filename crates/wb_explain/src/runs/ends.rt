@@ -46,8 +46,9 @@ pub fn put_findings(page: &mut ScriptPage<'_>, run: &WatchedRun<'_>) -> Written 
 /// Whether a rule may refuse anything. A leave of a run under another is what the script means to do.
 fn refuses(rule: &Rule) -> bool {
     match rule {
-        Rule::Unlimited | Rule::Number(0) | Rule::Every(0) => false,
-        Rule::Number(_) | Rule::Every(_) | Rule::Pair(..) | Rule::Set(_) | Rule::Limit(_) => true,
+        Rule::Unlimited | Rule::Number(0) | Rule::Every(0) | Rule::From(0) => false,
+        Rule::Number(_) | Rule::Every(_) | Rule::From(_) | Rule::Pair(..) => true,
+        Rule::Set(_) | Rule::Limit(_) => true,
     }
 }
 

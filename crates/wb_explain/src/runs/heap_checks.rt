@@ -60,7 +60,7 @@ pub fn put_counted(page: &mut ScriptPage<'_>, counted: &Counted, run: &WatchedRu
         let Some(life) = run.history.lives.find(*cell) else {
             continue;
         };
-        let (at, made) = match (life.grown.is_some(), life.is_reallocated) {
+        let (at, made) = match (life.grown.is_some(), life.is_reallocated()) {
             (true, _) => (life.grown, "made, moved or grown"),
             (false, true) => (life.made, "made, moved or grown"),
             (false, false) => (life.made, "made"),

@@ -5,7 +5,7 @@ use crate::runs::counts::{Many, of_one_or_more};
 use crate::runs::panics::Meaning;
 use crate::runs::paths::AfterLine;
 use crate::runs::script_page::{ScriptPage, Written};
-use wb_history::{BodyKind, ItemOnStack, WatchedRun};
+use wb_history::{BodyKind, ItemOnStack, Origin, WatchedRun};
 use wb_machine::{Raised, Raiser};
 use wb_model::heap::Panic;
 
@@ -137,15 +137,17 @@ fn put_top(page: &mut ScriptPage<'_>, run: &WatchedRun<'_>) -> Written {
         }
         Some(life) if life.pushed.is_none() && life.ended.is_none() => {
             let name = page.word(run.history.last_line(), 1);
-            let deed = if life.is_reallocated {
-                "made or moved here, and not pushed since"
-            } else {
-                "made here and never pushed"
+            let deed = match life.origin {
+                Origin::Made => "was made here and never pushed",
+                Origin::Reallocated => "was made or moved here, and not pushed since",
+                Origin::MovedWithRoom => {
+                    "moved here because of `--moving`, and was not pushed since"
+                }
             };
             page.mark_new(
                 life.made.number(),
                 1,
-                format_args!("the cell of `{name}` was {deed}"),
+                format_args!("the cell of `{name}` {deed}"),
             )
         }
         _ => {
@@ -173,7 +175,7 @@ pub fn cure_of_another(run: &WatchedRun<'_>) -> &'static str {
         (None, Some(life)) if life.popped.is_some() => {
             "each item is popped once: check the pointer whose item is the newest"
         }
-        (None, Some(life)) if life.is_reallocated => {
+        (None, Some(life)) if life.is_reallocated() => {
             "after the line that moves a cell, pop the item of its old place, and push the new pointer"
         }
         (None, Some(_)) => {

@@ -56,7 +56,7 @@ pub fn put_leaks(page: &mut ScriptPage<'_>, leaks: &[Leak], run: &WatchedRun<'_>
 
 /// Says which line made a cell that leaks, and shows the pointer that got it.
 fn put_leak(page: &mut ScriptPage<'_>, leak: Leak, life: Life) -> Written {
-    let made = if life.is_reallocated {
+    let made = if life.is_reallocated() {
         "made or moved"
     } else {
         "made"

@@ -156,6 +156,7 @@ fn put_group_numbers(page: &mut ScriptPage<'_>, failures: Failures, group: &Grou
     let word = match failures {
         Failures::Single | Failures::Pairs => "attempt",
         Failures::Every => "rate",
+        Failures::Persistent => "first attempt",
     };
     let s = if group.count == 1 { " " } else { "s " };
     page.page.write(format_args!("{word}{s}"));

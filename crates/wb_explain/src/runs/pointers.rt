@@ -46,11 +46,22 @@ fn put_ended(page: &mut ScriptPage<'_>, line: u32, fault: PointerFault, ended: E
         End::Moved => "moved",
     };
     page.page.write(format_args!("{what}{name}`{shows} {deed}"));
-    if ended.at.number() == line {
-        page.page.write_text(" by this line, an earlier time");
-    } else {
-        page.page
-            .write(format_args!(" at line {}", ended.at.number()));
+    put_ender(page, line, ended);
+}
+
+/// Says which line ended a cell's life: the one that panicked, or another.
+fn put_ender(page: &mut ScriptPage<'_>, line: u32, ended: Ended) {
+    let at = ended.at.number();
+    match (ended.end, at == line) {
+        (End::Moved, true) => {
+            page.page
+                .write_text(" when this line made it longer, an earlier time");
+        }
+        (End::Moved, false) => page
+            .page
+            .write(format_args!(" when line {at} made it longer")),
+        (End::Freed | End::Deleted, true) => page.page.write_text(" by this line, an earlier time"),
+        (End::Freed | End::Deleted, false) => page.page.write(format_args!(" at line {at}")),
     }
 }
 

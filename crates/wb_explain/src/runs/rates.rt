@@ -1,4 +1,4 @@
-//! What is said of a rate at which attempts fail.
+//! What is said of a rate at which attempts fail, and of the attempt from which on each fails.
 
 use crate::runs::script_page::ScriptPage;
 use wb_history::{Attempts, FailedCounts};
@@ -22,12 +22,35 @@ pub fn put_rate(page: &mut ScriptPage<'_>, rate: u32, attempts: &Attempts<'_>) {
     page.page.write(format_args!(
         "every {rate}{th} attempt was to fail: of the run's {made} attempts {by_rule} did, attempt {rate} first"
     ));
+    put_by_script(page, by_script);
+    page.page.end_line();
+}
+
+/// Says how many attempts failed where this one and each later one were to.
+pub fn put_first(page: &mut ScriptPage<'_>, first: u32, attempts: &Attempts<'_>) {
+    let made = attempts.count();
+    let FailedCounts { by_rule, by_script } = attempts.failed_counts();
+    if by_rule == 0 {
+        page.page.write_file_message(format_args!(
+            "attempt {first} and each later one was to fail, but the run makes only {made}"
+        ));
+        return;
+    }
+    page.page.begin_file_message();
+    page.page.write(format_args!(
+        "attempt {first} and each later one was to fail: of the run's {made} attempts {by_rule} did"
+    ));
+    put_by_script(page, by_script);
+    page.page.end_line();
+}
+
+/// Says how many more attempts failed by the script's own setting, if any did.
+fn put_by_script(page: &mut ScriptPage<'_>, by_script: u32) {
     if by_script != 0 {
         page.page.write(format_args!(
             ", and {by_script} more failed by the script's own setting only"
         ));
     }
-    page.page.end_line();
 }
 
 /// The letters after an ordinal number: 1st, 2nd, 3rd, 4th, and so on, but 11th, 12th and 13th.

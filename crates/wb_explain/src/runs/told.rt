@@ -3,6 +3,9 @@
 use crate::runs::script_page::{ScriptPage, Written};
 use wb_history::{BodyKind, By, End, Ended, History, Life};
 
+/// What is told of a line that moved a cell that had room at its place.
+const MOVED_BY_FLAG: &str = "it moved here because of `--moving`: the bytes after it were free";
+
 /// Tells how the life of a cell ended, where it was pushed if its item wasn't popped, and where it was made.
 pub fn put_life(page: &mut ScriptPage<'_>, history: &History<'_>, life: Life) -> Written {
     if let Some(ended) = life.ended {
@@ -33,6 +36,7 @@ fn put_end(page: &mut ScriptPage<'_>, history: &History<'_>, ended: Ended) -> Wr
     let deed = match ended.end {
         End::Freed => "freed",
         End::Deleted => "deleted",
+        End::Moved if ended.had_room => return page.mark_new(line, 0, MOVED_BY_FLAG),
         End::Moved => return page.mark_new(line, 0, "it moved here"),
     };
     let body = history.bodies.body_of(line);

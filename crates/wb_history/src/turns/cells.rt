@@ -1,8 +1,8 @@
 //! What becomes of cells turn by turn: which are granted, moved, resized, freed and deleted.
 
 use crate::course::PartStart;
-use crate::lives::{By, End, Ended};
-use crate::looks::{is_live, live_at};
+use crate::lives::{By, End, Ended, Origin};
+use crate::looks::{are_free_but_for, is_live, live_at};
 use crate::moments::ShortLine;
 use crate::statements::{Ahead, NULL};
 use crate::turns::{Deletion, History};
@@ -29,7 +29,7 @@ impl<'a> History<'a> {
         };
         let start = self.start_now(attempt.number);
         if cell.number == attempt.number {
-            self.see_new_cell(cell, start, ahead)?;
+            self.see_new_cell(machine, cell, start, ahead)?;
         } else {
             self.lives.resize(cell, start.line);
             self.course.resize(cell, start)?;
@@ -40,6 +40,7 @@ impl<'a> History<'a> {
     /// Sees a cell that begins, which may be one that moved.
     fn see_new_cell(
         &mut self,
+        machine: &Machine<'a>,
         cell: Header,
         start: PartStart,
         ahead: Option<&Ahead<'a>>,
@@ -53,9 +54,31 @@ impl<'a> History<'a> {
         if cell.kind == Kind::Cleanup {
             self.stack = cell.pointer();
         }
-        self.end_life(old, End::Moved, By::Line, start.line);
+        let had_room = self.had_room(machine, old, cell);
+        self.note_end(
+            old,
+            Ended {
+                end: End::Moved,
+                by: By::Line,
+                at: ShortLine::of(start.line),
+                had_room,
+            },
+        );
         self.course.begin(cell, start, old)?;
-        self.lives.begin(cell, start.line, reallocates)
+        let origin = match (reallocates, had_room) {
+            (false, _) => Origin::Made,
+            (true, false) => Origin::Reallocated,
+            (true, true) => Origin::MovedWithRoom,
+        };
+        self.lives.begin(cell, start.line, origin)
+    }
+
+    /// Whether the cell that `old` named could have grown where it was; `cell` is what it became. False for null.
+    fn had_room(&self, machine: &Machine<'a>, old: Ptr, cell: Header) -> bool {
+        let until = old.place.saturating_add(cell.length);
+        old.number != 0
+            && until <= self.attempts.bound()
+            && are_free_but_for(machine, cell, old.place, until)
     }
 
     /// A part of a cell's life that begins now, by this attempt.
@@ -124,10 +147,22 @@ impl<'a> History<'a> {
 
     /// Notes that the life of the cell that a pointer named ended.
     pub(crate) fn end_life(&mut self, pointer: Ptr, end: End, by: By, line: u32) {
+        self.note_end(
+            pointer,
+            Ended {
+                end,
+                by,
+                at: ShortLine::of(line),
+                had_room: false,
+            },
+        );
+    }
+
+    /// The same, by what is known of that end.
+    fn note_end(&mut self, pointer: Ptr, ended: Ended) {
         if pointer.number != 0 {
-            let at = ShortLine::of(line);
-            self.lives.end(pointer, Ended { end, by, at });
-            self.course.end(pointer, self.steps, end);
+            self.lives.end(pointer, ended);
+            self.course.end(pointer, self.steps, ended.end);
         }
     }
 
