@@ -17,6 +17,7 @@ const LONG: u32 = 96;
 const SHAPE: Shape = Shape {
     min: 4096,
     step: 4096,
+    moving: false,
 };
 
 /// A heap, and the number of its next attempt.

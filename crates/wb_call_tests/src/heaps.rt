@@ -41,7 +41,11 @@ pub(crate) struct Marked {
 }
 
 /// Heaps of this shape begin without memory, so that the first attempt asks for it.
-pub(crate) const SHAPE: Shape = Shape { min: 0, step: 64 };
+pub(crate) const SHAPE: Shape = Shape {
+    min: 0,
+    step: 64,
+    moving: false,
+};
 
 /// Cells that are granted in a hole and at the top, grow at their place and move, and are refused by a setting.
 static ATTEMPTS: [Call; 23] = [

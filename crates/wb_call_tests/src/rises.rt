@@ -28,7 +28,11 @@ enum Call {
 }
 
 /// The heap begins without memory, so that the first attempt asks for it.
-const SHAPE: Shape = Shape { min: 0, step: 64 };
+const SHAPE: Shape = Shape {
+    min: 0,
+    step: 64,
+    moving: false,
+};
 
 /// Cells at the top, in a hole and past the top, attempts that are simulated, and cells that become longer at their place
 /// and elsewhere, and shorter; at last cells of more levels than the heap counts, below the end of a long cell that was released.

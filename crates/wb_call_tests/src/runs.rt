@@ -20,6 +20,7 @@ pub(crate) const MOST_TURNS: u32 = BUDGET + 2;
 pub(crate) const SHAPE: Shape = Shape {
     min: 256,
     step: 256,
+    moving: false,
 };
 
 /// Runs a script.

@@ -7,6 +7,7 @@ use crate::copies::compare_copies;
 use crate::forks::compare_forks;
 use crate::meetings::compare_meetings;
 use crate::pairs::compare_pairs;
+use crate::results::{MOVING, SHAPE};
 use std::alloc::Global;
 use wb_machine::RunFault;
 use wb_model::failures::{Failing, Failures};
@@ -16,9 +17,10 @@ use wb_script::read;
 /// What was found.
 #[derive(Clone, Copy, Debug, PartialEq, Eq)]
 pub(crate) enum Comparison {
-    /// This many forks were made under numbers and as many under rates, and this many under pairs, and each comes to what its run
-    /// does; and as many copies as there are numbers are apart from their sources.
-    /// So many of those under numbers met the run without failure, and came to what it does from there on.
+    /// This many forks were made under numbers, as many under rates and as many in which all attempts fail from one on, and this many
+    /// under pairs, and each comes to what its run does; and as many copies as there are numbers are apart from their sources.
+    /// So many of those under numbers met the run without failure, and came to what it does from there on; those in a heap in which cells
+    /// always move are counted beside the others.
     Same { forks: u32, pairs: u32, met: u32 },
     /// The fork under this failure comes to something else than its run.
     OtherFork(Failing),
@@ -53,17 +55,58 @@ fn compare_met_forks(alloc: Global, script: &Script) -> Result<Comparison, RunFa
     requires { IsTrue (is_script script.now) }
 {
     match compare_all_forks(alloc, script)? {
-        Comparison::Same { forks, pairs, .. } => compare_meetings(alloc, script, forks, pairs),
+        Comparison::Same { forks, pairs, .. } => compare_all_meetings(alloc, script, forks, pairs),
         other => Ok(other),
     }
 }
 
-/// Compares the forks under numbers, those under rates, and then those under pairs, with their runs.
+/// Compares those that meet the run without failure with it, where cells may stay and where they always move.
+fn compare_all_meetings(
+    alloc: Global,
+    script: &Script,
+    forks: u32,
+    pairs: u32,
+) -> Result<Comparison, RunFault>
+    requires { IsTrue (is_script script.now) }
+{
+    match compare_meetings(alloc, script, SHAPE, forks, pairs)? {
+        Comparison::Same { met, .. } => {
+            let moving = compare_meetings(alloc, script, MOVING, forks, pairs)?;
+            Ok(with_met(moving, met))
+        }
+        other => Ok(other),
+    }
+}
+
+/// What was found, with so many more forks that met the run without failure.
+fn with_met(found: Comparison, more: u32) -> Comparison {
+    match found {
+        Comparison::Same { forks, pairs, met } => Comparison::Same {
+            forks,
+            pairs,
+            met: met.saturating_add(more),
+        },
+        other => other,
+    }
+}
+
+/// Compares the forks under numbers, those under rates, those in which all attempts fail from one on, and then those under pairs, with
+/// their runs.
 fn compare_all_forks(alloc: Global, script: &Script) -> Result<Comparison, RunFault>
     requires { IsTrue (is_script script.now) }
 {
-    match compare_single_forks(alloc, script)? {
+    match compare_numbered_forks(alloc, script)? {
         Comparison::Same { forks, .. } => compare_pairs(alloc, script, forks),
+        other => Ok(other),
+    }
+}
+
+/// Compares the forks under numbers, those under rates, and then those in which all attempts fail from one on, with their runs.
+fn compare_numbered_forks(alloc: Global, script: &Script) -> Result<Comparison, RunFault>
+    requires { IsTrue (is_script script.now) }
+{
+    match compare_single_forks(alloc, script)? {
+        Comparison::Same { .. } => compare_forks(alloc, script, Failures::Persistent),
         other => Ok(other),
     }
 }

@@ -1,10 +1,10 @@
 //! Compares the forks of a script's run with the runs that they stand for, and copies of that run with their source.
 //!
 //! A fork is a copy of the run that goes on under another rule, so that an attempt fails which the run itself is granted: it
-//! alone, or from it on each whose number is a multiple of its own. From a fork in which one attempt has failed, further ones are
-//! taken, in each of which a later attempt fails as well. A fork in which one attempt has failed may meet the run without failure: then it
-//! must go on as that does, but for allocation numbers. The program reads the script on standard input, and says how many forks
-//! there are. Where a fork or a copy comes to anything else than it should, the program says which, and ends with status 1.
+//! alone, or from it on each whose number is a multiple of its own, or each of all. From a fork in which one attempt has failed, further
+//! ones are taken, in each of which a later attempt fails as well. A fork in which one attempt has failed may meet the run without
+//! failure: then it must go on as that does, but for allocation numbers. The program reads the script on standard input, and says how
+//! many forks there are. Where a fork or a copy comes to anything else than it should, the program says which, and ends with status 1.
 #![tactic(auto)]
 
 mod comparison;
@@ -29,10 +29,10 @@ fn say(rt: &HostRuntime) -> io::Result<ExitCode> {
     match compare_input(rt)? {
         Some(Comparison::Same { forks, pairs, met }) => {
             println!(rt;
-                "{forks} forks under numbers, as many under rates and {pairs} under pairs, each as its run"
+                "{forks} forks under numbers, as many under rates, as many in which all later attempts fail too, and {pairs} under pairs, each as its run"
             )?;
             println!(rt;
-                "forks that met the run without failure, each going on as it does: {met}; copies, each apart from its source: {forks}"
+                "forks that met the run without failure, also where cells always move, each going on as it does: {met}; copies, each apart from its source: {forks}"
             )?;
             return Ok(ExitCode::SUCCESS);
         }
@@ -43,6 +43,9 @@ fn say(rt: &HostRuntime) -> io::Result<ExitCode> {
             println!(rt;
                 "another result where every attempt fails whose number is a multiple of {rate}"
             )?;
+        }
+        Some(Comparison::OtherFork(Failing::From(first))) => {
+            println!(rt; "another result where all attempts fail from {first} on")?;
         }
         Some(Comparison::OtherFork(Failing::Pair(first, second))) => {
             println!(rt; "another result where attempts {first} and {second} fail")?;

@@ -7,10 +7,10 @@ ghost use Rattle.wb_model.specs.declared.heap.Rule.TheVariants as rules;
 ghost use Rattle.wb_machine.specs.Turns.{IsSameRun};
 
 use crate::comparison::Comparison;
-use crate::results::{BUDGET, MOST_TURNS, Reached, SHAPE, is_same_from};
+use crate::results::{BUDGET, MOST_TURNS, Reached, is_same_from};
 use std::alloc::Global;
 use wb_machine::{Machine, RunFault, Turn};
-use wb_model::heap::Rule;
+use wb_model::heap::{Rule, Shape};
 use wb_model::memory::NoMemory;
 use wb_model::run::RunResult;
 use wb_model::script::Script;
@@ -18,17 +18,18 @@ use wb_model::script::Script;
 /// How many attempts after its own a fork makes at most before it is given up, and how many the other run is ahead at most.
 const MOST_AFTER: u32 = 8;
 
-/// Compares the forks under single numbers that meet the run without failure with that run, and counts them. So many forks under numbers
-/// and pairs were compared before.
+/// Compares the forks under single numbers that meet the run without failure with that run, in a heap of a shape, and counts them. So many
+/// forks under numbers and pairs were compared before.
 pub(crate) fn compare_meetings(
     alloc: Global,
     script: &Script,
+    shape: Shape,
     forks: u32,
     pairs: u32,
 ) -> Result<Comparison, RunFault>
     requires { IsTrue (is_script script.now) }
 {
-    let mut lead = Machine::new(alloc, script, Rule::Number(0), BUDGET, SHAPE)?;
+    let mut lead = Machine::new(alloc, script, Rule::Number(0), BUDGET, shape)?;
     let mut met: u32 = 0;
     for _ in 0..MOST_TURNS {
         match meets_as_run(&lead)? {

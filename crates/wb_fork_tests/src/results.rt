@@ -15,7 +15,15 @@ pub(crate) const BUDGET: u32 = 100_000;
 pub(crate) const SHAPE: Shape = Shape {
     min: 4096,
     step: 4096,
+    moving: false,
 };
+/// The same, where each cell that grows moves.
+pub(crate) const MOVING: Shape = Shape {
+    min: 4096,
+    step: 4096,
+    moving: true,
+};
+
 /// The first turn, one for each step, and one that cuts the run.
 pub(crate) const MOST_TURNS: u32 = BUDGET + 2;
 

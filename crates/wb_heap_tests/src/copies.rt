@@ -4,14 +4,13 @@
 use crate::debug_calls::{Call as DebugCall, Marked, WorkedDebugHeap};
 use crate::heap_calls::{Call as HeapCall, Numbered, WorkedHeap};
 use crate::rules::Refuses;
+use crate::shapes::SHAPE;
 use crate::walker::{Called, all_answer};
 use std::test::Fail;
 use wb_cells::Cells;
 use wb_chunk::Chunk;
 use wb_model::heap::Answer::Granted;
-use wb_model::heap::{Header, Kind, Ptr, Shape};
-
-const SHAPE: Shape = Shape { min: 0, step: 4096 };
+use wb_model::heap::{Header, Kind, Ptr};
 
 /// A heap that is copied after some calls: what both report then, and calls that change one of them.
 struct Copied<W, C: 'static> {

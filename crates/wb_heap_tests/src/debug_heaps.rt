@@ -3,15 +3,13 @@
 
 use crate::debug_calls::{Call, WorkedDebugHeap, first_other};
 use crate::rules::Refuses;
+use crate::shapes::{SHAPE, WITH_MINIMUM};
 use std::test::Fail;
 use wb_debug::{DebugFault, DebugHeap};
 use wb_model::heap::Answer::{Granted, Refused, Simulated};
 use wb_model::heap::{Attempt, Kind, Rule, Shape};
 
-/// The shape of most heaps here.
-const SHAPE: Shape = Shape { min: 0, step: 4096 };
-
-static ATTEMPTS: [WorkedDebugHeap; 17] = [
+static ATTEMPTS: [WorkedDebugHeap; 20] = [
     WorkedDebugHeap {
         about: "the next attempt fails once",
         rule: Refuses::Nothing,
@@ -128,6 +126,36 @@ static ATTEMPTS: [WorkedDebugHeap; 17] = [
         ],
     },
     WorkedDebugHeap {
+        about: "all attempts fail from one on, whatever the script sets",
+        rule: Refuses::From(3),
+        shape: SHAPE,
+        calls: &[
+            Call::Alloc(16, (144, 2)),
+            Call::NoAlloc(16),
+            Call::FailNone,
+            Call::NoRealloc((144, 2), 48),
+            Call::Trace(&[
+                (1, 144, 0, Granted),
+                (2, 32, 144, Granted),
+                (3, 32, 176, Simulated),
+                (4, 64, 144, Simulated),
+            ]),
+            Call::NoAlloc(16_777_216),
+            Call::Attempts(5),
+        ],
+    },
+    WorkedDebugHeap {
+        about: "from number 0 on nothing is refused",
+        rule: Refuses::From(0),
+        shape: SHAPE,
+        calls: &[
+            Call::Alloc(16, (144, 2)),
+            Call::FailNext(1),
+            Call::NoAlloc(16),
+            Call::Alloc(16, (176, 4)),
+        ],
+    },
+    WorkedDebugHeap {
         about: "two attempts fail beside those that the setting refuses",
         rule: Refuses::Pair(2, 5),
         shape: SHAPE,
@@ -220,6 +248,27 @@ static ATTEMPTS: [WorkedDebugHeap; 17] = [
         ],
     },
     WorkedDebugHeap {
+        about: "each cell that grows moves, if the shape says so",
+        rule: Refuses::Nothing,
+        shape: Shape {
+            min: 0,
+            step: 4096,
+            moving: true,
+        },
+        calls: &[
+            Call::Alloc(16, (144, 2)),
+            Call::Store((144, 2), 3, 7),
+            Call::Realloc((144, 2), 48, (176, 3)),
+            Call::NoHeader((144, 2)),
+            Call::Realloc((176, 3), 16, (176, 3)),
+            Call::Realloc((176, 3), 32, (208, 4)),
+            Call::Realloc((208, 4), 48, (144, 5)),
+            Call::Word((144, 5), 3, 7),
+            Call::Size(2, 208, 4096),
+            Call::Attempts(5),
+        ],
+    },
+    WorkedDebugHeap {
         about: "a shorter cell is no attempt",
         rule: Refuses::Nothing,
         shape: SHAPE,
@@ -268,7 +317,7 @@ static ATTEMPTS: [WorkedDebugHeap; 17] = [
     WorkedDebugHeap {
         about: "notes follow the committed length",
         rule: Refuses::Nothing,
-        shape: Shape { min: 256, step: 64 },
+        shape: WITH_MINIMUM,
         calls: &[
             Call::Alloc(200, (144, 2)),
             Call::Available(16, 16),
@@ -323,7 +372,7 @@ fn a_shape_that_no_heap_has(rt: HostRuntime) {
     let heap = WorkedDebugHeap {
         about: "a shape that is no multiple of 16",
         rule: Refuses::Nothing,
-        shape: Shape { min: 8, step: 4096 },
+        shape: Shape::new(8, 4096),
         calls: &[],
     };
     assert_eq!(rt; first_other(rt.alloc(), &heap), Err(DebugFault::BadShape));

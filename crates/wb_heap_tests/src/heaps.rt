@@ -1,13 +1,11 @@
 //! `wb_rheap`: worked heaps, by what scripts ask of them, and the places, notes and refusals that their reports must have.
 
 use crate::heap_calls::{Call, WorkedHeap, first_other};
+use crate::shapes::{SHAPE, SMALL_STEP, WITH_MINIMUM};
 use std::test::Fail;
 use wb_model::heap::Shape;
 use wb_model::limits::CEILING;
 use wb_rheap::HeapFault;
-
-/// The shape of most heaps here.
-const SHAPE: Shape = Shape { min: 0, step: 4096 };
 
 static GRANTS_AND_RELEASES: [WorkedHeap; 10] = [
     WorkedHeap {
@@ -122,7 +120,7 @@ static GRANTS_AND_RELEASES: [WorkedHeap; 10] = [
     WorkedHeap {
         about: "notes follow the committed length",
         limit: CEILING,
-        shape: Shape { min: 256, step: 64 },
+        shape: WITH_MINIMUM,
         calls: &[
             Call::Alloc(224, (144, 2)),
             Call::Available(16, 16),
@@ -137,7 +135,11 @@ static GRANTS_AND_RELEASES: [WorkedHeap; 10] = [
     WorkedHeap {
         about: "a limit is cut to sixteen",
         limit: 190,
-        shape: Shape { min: 176, step: 16 },
+        shape: Shape {
+            min: 176,
+            step: 16,
+            moving: false,
+        },
         calls: &[
             Call::Alloc(32, (144, 2)),
             Call::Available(0, 0),
@@ -257,7 +259,7 @@ static REALLOCATIONS: [WorkedHeap; 9] = [
     WorkedHeap {
         about: "a refused move leaves the old cell",
         limit: 271,
-        shape: Shape { min: 0, step: 16 },
+        shape: SMALL_STEP,
         calls: &[
             Call::Alloc(32, (144, 2)),
             Call::Alloc(32, (176, 3)),
@@ -346,7 +348,7 @@ static REALLOCATIONS: [WorkedHeap; 9] = [
     WorkedHeap {
         about: "a cell shrinks where it stands, twice",
         limit: CEILING,
-        shape: Shape { min: 0, step: 16 },
+        shape: SMALL_STEP,
         calls: &[
             Call::Alloc(64, (144, 2)),
             Call::Alloc(64, (208, 3)),
@@ -378,7 +380,7 @@ fn a_shape_that_no_heap_has(rt: HostRuntime) {
     let heap = WorkedHeap {
         about: "a shape that is no multiple of 16",
         limit: 176,
-        shape: Shape { min: 8, step: 4096 },
+        shape: Shape::new(8, 4096),
         calls: &[],
     };
     assert_eq!(rt; first_other(rt.alloc(), &heap), Err(HeapFault::BadShape));

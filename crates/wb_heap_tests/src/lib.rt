@@ -21,6 +21,10 @@ mod heaps;
 #[cfg(test)]
 mod marks;
 #[cfg(test)]
+mod moving_heaps;
+#[cfg(test)]
 mod rules;
+#[cfg(test)]
+mod shapes;
 #[cfg(test)]
 mod walker;

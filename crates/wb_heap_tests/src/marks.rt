@@ -2,11 +2,9 @@
 
 use crate::debug_calls::{Call, WorkedDebugHeap, first_other};
 use crate::rules::Refuses;
+use crate::shapes::SHAPE;
 use std::test::Fail;
-use wb_model::heap::{Panic, Shape};
-
-/// The shape of all heaps here.
-const SHAPE: Shape = Shape { min: 0, step: 4096 };
+use wb_model::heap::Panic;
 
 static MARKS: [WorkedDebugHeap; 4] = [
     WorkedDebugHeap {

@@ -11,6 +11,7 @@ pub(crate) enum Refuses {
     Past(u32),
     Number(u32),
     Every(u32),
+    From(u32),
     Pair(u32, u32),
     Set(&'static [u32]),
 }
@@ -22,6 +23,7 @@ impl Refuses {
             Refuses::Past(limit) => Rule::Limit(limit),
             Refuses::Number(number) => Rule::Number(number),
             Refuses::Every(rate) => Rule::Every(rate),
+            Refuses::From(first) => Rule::From(first),
             Refuses::Pair(first, second) => Rule::Pair(first, second),
             Refuses::Set(numbers) => Rule::Set(list_of(alloc, numbers)?),
         })

@@ -340,7 +340,7 @@ fn remake_text(heap: &mut DebugHeap, ptr: Ptr, n: u32) -> Result<Ptr, NoMemory>
 
 #[test]
 fn a_text_grows_with_its_cell(rt: HostRuntime) -> Result<(), Fail> {
-    let shape = Shape { min: 0, step: 4096 };
+    let shape = Shape::new(0, 4096);
     let mut heap = DebugHeap::new(rt.alloc(), Rule::Unlimited, shape)?;
     let letters = literal(rt.alloc(), b"abc")?;
     heap.fail_next(2);

@@ -62,7 +62,7 @@ pub(crate) fn first_other(
     worked: &WorkedObjects,
 ) -> Result<Option<usize>, DebugFault> {
     let script = script_of(alloc, classes)?;
-    let shape = Shape { min: 0, step: 4096 };
+    let shape = Shape::new(0, 4096);
     let mut heap = DebugHeap::new(alloc, Rule::Unlimited, shape)?;
     Ok(first_other_in(&mut heap, &script, worked.calls))
 }

@@ -11,7 +11,11 @@ use wb_debug::{DebugFault, DebugHeap};
 use wb_model::heap::{Gave, Header, Item, Kind, Panic, Ptr, Shape};
 use wb_model::limits::CEILING;
 
-const SHAPE: Shape = Shape { min: 0, step: 4096 };
+const SHAPE: Shape = Shape {
+    min: 0,
+    step: 4096,
+    moving: false,
+};
 
 /// A stack in its heap, and whether it has no room for an item.
 #[derive(Drop)]

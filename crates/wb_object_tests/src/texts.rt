@@ -56,7 +56,7 @@ pub(crate) struct WorkedTexts {
 
 /// The index of the first change that has another answer, or leaves another text.
 pub(crate) fn first_other(alloc: Global, worked: &WorkedTexts) -> Result<Option<usize>, NoMemory> {
-    let shape = Shape { min: 0, step: 4096 };
+    let shape = Shape::new(0, 4096);
     let Ok(mut heap) = DebugHeap::new(alloc, Rule::Unlimited, shape) else {
         return Err(NoMemory);
     };

@@ -3,10 +3,11 @@
 ghost use Rattle.std.specs.Prelude.{IsTrue};
 ghost use Rattle.wb_command_line.specs.Command.{is_answerable};
 
+use crate::failing::SHAPE;
 use std::alloc::Global;
 use std::io::{self, ErrorKind, Read, Write};
 use std::test::Fail;
-use wb_model::heap::{Rule, Shape};
+use wb_model::heap::Rule;
 use workbench::answer::answer;
 use workbench::exit_status::READ_OR_WRITE_FAULT;
 use workbench::{Command, Silent, Task};
@@ -161,10 +162,7 @@ fn command_in(of_lengths: bool, json: bool) -> Command
         },
         file: None,
         budget: 10_000,
-        shape: Shape {
-            min: 4096,
-            step: 4096,
-        },
+        shape: SHAPE,
         json,
         picture: None,
         follow: None,

@@ -16,14 +16,19 @@ use wb_sweep::sweeping::sweep;
 use workbench::answer::answer;
 use workbench::{Command, Silent, Task};
 
-const SHAPE: Shape = Shape {
+pub(crate) const SHAPE: Shape = Shape {
     min: 4096,
     step: 4096,
+    moving: false,
 };
 
 /// A large cell, or a smaller one in its place. Where both fail, the line that leaves forgets the cell between them.
 pub(crate) const FALLBACK: &[u8] =
     b"proc main\nptr page\nptr note\nalloc page 256\nalloc note 16\nif null page\nallocl page 64\nend\nfree note\nfree page\nend\n";
+
+/// A cell that is asked for up to three times, and used without a look at the last answer.
+pub(crate) const THRICE: &[u8] =
+    b"proc main\nptr a\nrepeat 3\nif null a\nalloc a 16\nend\nend\nstore a 0 7\nfree a\nend\n";
 
 /// A cell, and six more of which the script's own setting refuses every second.
 pub(crate) const SETS: &[u8] =

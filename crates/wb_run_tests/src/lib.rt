@@ -1,7 +1,7 @@
-//! Nothing but tests: of turns of a machine, shapes that no heap has, lengths that a table gives, attempts that fail at a rate, two
-//! at once or as a set, and of the program over words, hosts and streams in memory, with what it reports of a sweep, by the public calls of the
-//! crates that have these. They are here so that those crates are proved once, and not again with their tests. What a worked case
-//! can show is in none of them.
+//! Nothing but tests: of turns of a machine, shapes that no heap has, lengths that a table gives, attempts that fail at a rate, from
+//! one on, two at once or as a set, and of the program over words, hosts and streams in memory, with what it reports of a sweep, by the
+//! public calls of the crates that have these. They are here so that those crates are proved once, and not again with their tests. What
+//! a worked case can show is in none of them.
 #![tactic(auto)]
 
 #[cfg(test)]
@@ -18,6 +18,8 @@ mod notes;
 mod pairs;
 #[cfg(test)]
 mod parts;
+#[cfg(test)]
+mod persistent;
 #[cfg(test)]
 mod programs;
 #[cfg(test)]

@@ -87,7 +87,7 @@ const FORGETS_AND_WAITS: &[u8] =
     b"proc main\nptr a\nptr b\nptr c\nalloc a 1\nalloc b 1\nalloc c 1\nif null b\nif null c\nnull a\nend\nalloc b 1\nif null b\nrepeat 99\nend\nend\nend\nfree a\nfree b\nfree c\nend\n";
 
 /// A single cell for which the run waits.
-const WAITS_FOR_ONE: &[u8] =
+pub(crate) const WAITS_FOR_ONE: &[u8] =
     b"proc main\nptr a\nalloc a 1\nif null a\nrepeat 99\nend\nend\nfree a\nend\n";
 
 /// A cell that is never freed.

@@ -16,6 +16,7 @@ use wb_sweep::{sweep_all, sweep_part};
 const SHAPE: Shape = Shape {
     min: 4096,
     step: 4096,
+    moving: false,
 };
 
 /// Three cells by lines that leave: the third attempt leaks one, and the fourth two.
@@ -48,7 +49,7 @@ const EACH_IN_ITS_WAY: &[u8] =
 type Asked = (&'static [u8], Failures, u32, u32);
 
 /// What sweeps over parts find: how many attempts the run without failure makes, and the least failure.
-static PARTS: [(Asked, Result<(u32, Option<Failing>), SweepFault>); 15] = [
+static PARTS: [(Asked, Result<(u32, Option<Failing>), SweepFault>); 16] = [
     (
         (THREE_CELLS, Failures::Single, 0, CEILING),
         Ok((4, Some(Failing::Number(3)))),
@@ -66,6 +67,10 @@ static PARTS: [(Asked, Result<(u32, Option<Failing>), SweepFault>); 15] = [
     (
         (THREE_CELLS, Failures::Every, 3, CEILING),
         Ok((4, Some(Failing::Every(3)))),
+    ),
+    (
+        (THREE_CELLS, Failures::Persistent, 4, CEILING),
+        Ok((4, Some(Failing::From(4)))),
     ),
     // The run that is cut is no number of the part.
     (
@@ -136,7 +141,7 @@ fn parts_find_their_least(rt: HostRuntime) -> Result<(), Fail> {
 }
 
 /// What is told of each number of a part: those that aren't fine, how many leak or panic, and the least of these.
-static NUMBERS: [(Asked, &[NumberEnd], usize, Option<Failing>); 6] = [
+static NUMBERS: [(Asked, &[NumberEnd], usize, Option<Failing>); 7] = [
     (
         (THREE_CELLS, Failures::Single, 0, CEILING),
         &[
@@ -162,6 +167,22 @@ static NUMBERS: [(Asked, &[NumberEnd], usize, Option<Failing>); 6] = [
         Some(Failing::Number(4)),
     ),
     ((THREE_CELLS, Failures::Single, 5, CEILING), &[], 0, None),
+    // The run is left at the first attempt that fails, so that later ones make no difference.
+    (
+        (THREE_CELLS, Failures::Persistent, 0, CEILING),
+        &[
+            NumberEnd {
+                number: 3,
+                end: RunEnd::Leaked(1),
+            },
+            NumberEnd {
+                number: 4,
+                end: RunEnd::Leaked(2),
+            },
+        ],
+        2,
+        Some(Failing::From(3)),
+    ),
     (
         (WAITS_AND_LEAKS, Failures::Single, 0, CEILING),
         &[

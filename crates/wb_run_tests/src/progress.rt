@@ -2,7 +2,7 @@
 
 ghost use Rattle.std.specs.Prelude.{⊤};
 
-use crate::failing::FALLBACK;
+use crate::failing::{FALLBACK, THRICE};
 use std::alloc::Global;
 use std::cell::Cell;
 use std::io;
@@ -144,10 +144,6 @@ struct Wanted {
 
 /// A cell that nobody frees.
 const LEAKING: &[u8] = b"proc main\nptr a\nalloc a 16\nend\n";
-
-/// A cell that is asked for up to three times, and used without a look at the last answer.
-const THRICE: &[u8] =
-    b"proc main\nptr a\nrepeat 3\nif null a\nalloc a 16\nend\nend\nstore a 0 7\nfree a\nend\n";
 
 static TOLD: [Wanted; 18] = [
     Wanted {

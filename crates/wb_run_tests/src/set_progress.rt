@@ -106,6 +106,7 @@ const BITS: &[u8] =
 const SHAPE: Shape = Shape {
     min: 4096,
     step: 4096,
+    moving: false,
 };
 
 /// Sweeps over sets of at most so many attempts, and returns who listened.

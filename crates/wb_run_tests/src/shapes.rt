@@ -12,7 +12,11 @@ use wb_size::measure::size;
 use wb_sweep::fault::SweepFault;
 use wb_sweep::sweeping::sweep;
 
-const ODD: Shape = Shape { min: 8, step: 4096 };
+const ODD: Shape = Shape {
+    min: 8,
+    step: 4096,
+    moving: false,
+};
 
 /// An empty script.
 const EMPTY: &[u8] = b"proc main\nend";
@@ -46,7 +50,12 @@ fn no_table_of_lengths_has_it(rt: HostRuntime) -> Result<(), Fail> {
 #[test]
 fn no_sweep_has_it(rt: HostRuntime) -> Result<(), Fail> {
     let script = read(rt.alloc(), EMPTY)?;
-    for failures in [Failures::Single, Failures::Every, Failures::Pairs] {
+    for failures in [
+        Failures::Single,
+        Failures::Every,
+        Failures::Pairs,
+        Failures::Persistent,
+    ] {
         let told = sweep(rt.alloc(), &script, failures, 3, ODD, &mut Silent);
         assert_eq!(rt; told.err(), Some(SweepFault::BadShape));
     }

@@ -55,6 +55,7 @@ fn is_same(rule: &Rule, wanted: &Rule) -> bool {
         (Rule::Limit(limit), Rule::Limit(other)) => limit == other,
         (Rule::Number(number), Rule::Number(other)) => number == other,
         (Rule::Every(rate), Rule::Every(other)) => rate == other,
+        (Rule::From(first), Rule::From(other)) => first == other,
         (Rule::Pair(first, second), Rule::Pair(one, two)) => first == one && second == two,
         _ => false,
     }

@@ -10,6 +10,7 @@ use wb_script::read;
 const SHAPE: Shape = Shape {
     min: 4096,
     step: 4096,
+    moving: false,
 };
 
 /// Sixteen of the largest cells, of which the last would pass the ceiling.

@@ -9,10 +9,19 @@ use wb_model::heap::Shape;
 use wb_model::part::Part;
 use workbench::{Command, CommandFault, FileName, command};
 
-const DEFAULT_SHAPE: Shape = Shape {
-    min: 4096,
-    step: 4096,
-};
+/// The minimum length and the step of a heap, in bytes.
+type Lengths = (u32, u32);
+
+const DEFAULT: Lengths = (4096, 4096);
+
+/// Which flags are given of those that every subcommand takes.
+#[derive(Clone, Copy)]
+enum Flags {
+    None,
+    Json,
+    Moving,
+    MovingAndJson,
+}
 
 /// The subcommands, and what each asks for where no option is given.
 static SUBCOMMANDS: [(&str, Asks); 5] = [
@@ -23,236 +32,213 @@ static SUBCOMMANDS: [(&str, Asks); 5] = [
     ("check", Asks::Check(Failures::Single)),
 ];
 
-/// The budget, the shape, whether JSON is asked for, and the file.
-type Spelled = (u32, Shape, bool, Option<&'static str>);
+/// The budget, the heap's lengths, the flags, and the file.
+type Spelled = (u32, Lengths, Flags, Option<&'static str>);
 
 /// Words that every subcommand takes, and what they spell.
-static AFTER_EACH: [(&[&str], Spelled); 16] = [
-    (&[], (10_000, DEFAULT_SHAPE, false, None)),
-    (&["--"], (10_000, DEFAULT_SHAPE, false, None)),
-    (&["--budget", "1"], (1, DEFAULT_SHAPE, false, None)),
+static AFTER_EACH: [(&[&str], Spelled); 20] = [
+    (&[], (10_000, DEFAULT, Flags::None, None)),
+    (&["--"], (10_000, DEFAULT, Flags::None, None)),
+    (&["--budget", "1"], (1, DEFAULT, Flags::None, None)),
     (
         &["--budget=1000000"],
-        (1_000_000, DEFAULT_SHAPE, false, None),
+        (1_000_000, DEFAULT, Flags::None, None),
     ),
     (
         &["--budget", "+001000000"],
-        (1_000_000, DEFAULT_SHAPE, false, None),
+        (1_000_000, DEFAULT, Flags::None, None),
     ),
-    (
-        &["--min", "0"],
-        (10_000, Shape { min: 0, step: 4096 }, false, None),
-    ),
-    (
-        &["--step=16"],
-        (
-            10_000,
-            Shape {
-                min: 4096,
-                step: 16,
-            },
-            false,
-            None,
-        ),
-    ),
+    (&["--min", "0"], (10_000, (0, 4096), Flags::None, None)),
+    (&["--step=16"], (10_000, (4096, 16), Flags::None, None)),
     (
         &["--step", "64", "--budget=500", "--min=256"],
-        (500, Shape { min: 256, step: 64 }, false, None),
+        (500, (256, 64), Flags::None, None),
     ),
-    (&["--json"], (10_000, DEFAULT_SHAPE, true, None)),
+    (&["--json"], (10_000, DEFAULT, Flags::Json, None)),
     (
         &["--budget=7", "--json", "a.oom"],
-        (7, DEFAULT_SHAPE, true, Some("a.oom")),
+        (7, DEFAULT, Flags::Json, Some("a.oom")),
     ),
     (
         &["a.oom", "--min", "32", "--json"],
-        (
-            10_000,
-            Shape {
-                min: 32,
-                step: 4096,
-            },
-            true,
-            Some("a.oom"),
-        ),
+        (10_000, (32, 4096), Flags::Json, Some("a.oom")),
     ),
     (
         &["--", "--json"],
-        (10_000, DEFAULT_SHAPE, false, Some("--json")),
+        (10_000, DEFAULT, Flags::None, Some("--json")),
     ),
-    (&["size"], (10_000, DEFAULT_SHAPE, false, Some("size"))),
+    (&["size"], (10_000, DEFAULT, Flags::None, Some("size"))),
     (
         &["--min=32", "a.oom"],
-        (
-            10_000,
-            Shape {
-                min: 32,
-                step: 4096,
-            },
-            false,
-            Some("a.oom"),
-        ),
+        (10_000, (32, 4096), Flags::None, Some("a.oom")),
     ),
     (
         &["-", "--budget", "7"],
-        (7, DEFAULT_SHAPE, false, Some("-")),
+        (7, DEFAULT, Flags::None, Some("-")),
     ),
     (
         &["--", "--limit"],
-        (10_000, DEFAULT_SHAPE, false, Some("--limit")),
+        (10_000, DEFAULT, Flags::None, Some("--limit")),
+    ),
+    (&["--moving"], (10_000, DEFAULT, Flags::Moving, None)),
+    (
+        &["a.oom", "--moving", "--step=64", "--budget=7"],
+        (7, (4096, 64), Flags::Moving, Some("a.oom")),
+    ),
+    (
+        &["--json", "--moving"],
+        (10_000, DEFAULT, Flags::MovingAndJson, None),
+    ),
+    (
+        &["--", "--moving"],
+        (10_000, DEFAULT, Flags::None, Some("--moving")),
     ),
 ];
 
-/// Words that spell a run of the default budget, its rule, its shape and its file.
-static RUNS: [(&[&str], Refuses, Shape, Option<&str>); 25] = [
+/// Words that spell a run of the default budget without these flags, its rule, its heap's lengths and its file.
+static RUNS: [(&[&str], Refuses, Lengths, Option<&str>); 25] = [
     (
         &["workbench", "run", "a.oom"],
         Refuses::Nothing,
-        DEFAULT_SHAPE,
+        DEFAULT,
         Some("a.oom"),
     ),
     (
         &["another/name", "run", "run"],
         Refuses::Nothing,
-        DEFAULT_SHAPE,
+        DEFAULT,
         Some("run"),
     ),
     (
         &["workbench", "run", "-"],
         Refuses::Nothing,
-        DEFAULT_SHAPE,
+        DEFAULT,
         Some("-"),
     ),
     (
         &["workbench", "run", ""],
         Refuses::Nothing,
-        DEFAULT_SHAPE,
+        DEFAULT,
         Some(""),
     ),
     (
         &["workbench", "run", "--", "--help"],
         Refuses::Nothing,
-        DEFAULT_SHAPE,
+        DEFAULT,
         Some("--help"),
     ),
     (
         &["workbench", "run", "--", "--"],
         Refuses::Nothing,
-        DEFAULT_SHAPE,
+        DEFAULT,
         Some("--"),
     ),
     (
         &["workbench", "run", "a.oom", "--"],
         Refuses::Nothing,
-        DEFAULT_SHAPE,
+        DEFAULT,
         Some("a.oom"),
     ),
     (
         &["workbench", "run", "--limit", "303"],
         Refuses::Past(303),
-        DEFAULT_SHAPE,
+        DEFAULT,
         None,
     ),
     (
         &["workbench", "run", "--limit=0"],
         Refuses::Past(0),
-        DEFAULT_SHAPE,
+        DEFAULT,
         None,
     ),
     (
         &["workbench", "run", "--limit", "16777216"],
         Refuses::Past(16_777_216),
-        DEFAULT_SHAPE,
+        DEFAULT,
         None,
     ),
     (
         &["workbench", "run", "--min", "256", "--step", "64"],
         Refuses::Nothing,
-        Shape { min: 256, step: 64 },
+        (256, 64),
         None,
     ),
     (
         &["workbench", "run", "--step=16", "--min=0"],
         Refuses::Nothing,
-        Shape { min: 0, step: 16 },
+        (0, 16),
         None,
     ),
     (
         &["workbench", "run", "--min=1048576", "--step=1048576"],
         Refuses::Nothing,
-        Shape {
-            min: 1_048_576,
-            step: 1_048_576,
-        },
+        (1_048_576, 1_048_576),
         None,
     ),
     (
         &["workbench", "run", "--limit", "+5", "--min", "0000032"],
         Refuses::Past(5),
-        Shape {
-            min: 32,
-            step: 4096,
-        },
+        (32, 4096),
         None,
     ),
     (
         &["workbench", "run", "--fail", "3"],
         Refuses::Number(3),
-        DEFAULT_SHAPE,
+        DEFAULT,
         None,
     ),
     (
         &["workbench", "run", "--fail", "0"],
         Refuses::Number(0),
-        DEFAULT_SHAPE,
+        DEFAULT,
         None,
     ),
     (
         &["workbench", "run", "--fail=16777216"],
         Refuses::Number(16_777_216),
-        DEFAULT_SHAPE,
+        DEFAULT,
         None,
     ),
     (
         &["workbench", "run", "--fail", "2", "--also", "4"],
         Refuses::Pair(2, 4),
-        DEFAULT_SHAPE,
+        DEFAULT,
         None,
     ),
     (
         &["workbench", "run", "--also=16777216", "a.oom", "--fail=+1"],
         Refuses::Pair(1, 16_777_216),
-        DEFAULT_SHAPE,
+        DEFAULT,
         Some("a.oom"),
     ),
     (
         &["workbench", "run", "--fail=1", "--also=2", "--", "--also"],
         Refuses::Pair(1, 2),
-        DEFAULT_SHAPE,
+        DEFAULT,
         Some("--also"),
     ),
     (
         &["workbench", "run", "--every", "3"],
         Refuses::Every(3),
-        DEFAULT_SHAPE,
+        DEFAULT,
         None,
     ),
     (
         &["workbench", "run", "--every=0", "--", "--every"],
         Refuses::Every(0),
-        DEFAULT_SHAPE,
+        DEFAULT,
         Some("--every"),
     ),
     (
         &["workbench", "run", "a.oom", "--every", "+0016777216"],
         Refuses::Every(16_777_216),
-        DEFAULT_SHAPE,
+        DEFAULT,
         Some("a.oom"),
     ),
     (
         &["workbench", "run", "--min=32", "--fail", "2", "--step=16"],
         Refuses::Number(2),
-        Shape { min: 32, step: 16 },
+        (32, 16),
         None,
     ),
     (
@@ -267,7 +253,7 @@ static RUNS: [(&[&str], Refuses, Shape, Option<&str>); 25] = [
             "16",
         ],
         Refuses::Past(190),
-        Shape { min: 32, step: 16 },
+        (32, 16),
         Some("a.oom"),
     ),
 ];
@@ -304,11 +290,12 @@ static WITH_A_FLAG: [(&str, &str, Asks); 13] = [
 
 /// Whether the command has this task and these options.
 fn is_spelled(command: &Command, asks: Asks, spelled: Spelled) -> bool {
-    let (budget, shape, json, file) = spelled;
+    let (budget, (min, step), flags, file) = spelled;
+    let moving = matches!(flags, Flags::Moving | Flags::MovingAndJson);
     asks.is(&command.task)
         && command.budget == budget
-        && command.shape == shape
-        && command.json == json
+        && command.shape == Shape { min, step, moving }
+        && command.json == matches!(flags, Flags::Json | Flags::MovingAndJson)
         && command.file.as_ref().map(FileName::as_str) == file
 }
 
@@ -347,9 +334,9 @@ fn takes_flags_for_failures(rt: HostRuntime) -> Result<(), Fail> {
 
 #[test]
 fn takes_words_of_a_run(rt: HostRuntime) -> Result<(), Fail> {
-    for (index, (words, rule, shape, file)) in RUNS.iter().enumerate() {
+    for (index, (words, rule, lengths, file)) in RUNS.iter().enumerate() {
         let command = command(rt.alloc(), words)?;
-        let spelled = (10_000, *shape, false, *file);
+        let spelled = (10_000, *lengths, Flags::None, *file);
         assert!(rt;
             is_spelled(&command, Asks::Run(*rule), spelled),
             "row {index}"

@@ -1,0 +1,107 @@
+//! Runs, sweeps and reports where an attempt fails, and all after it do.
+
+use crate::failing::{
+    FALLBACK, SETS, SETS_NONE, THRICE, Wanted, are_answered, found_in, is_answered,
+};
+use crate::pairs::WAITS_FOR_ONE;
+use crate::rules::Refuses;
+use std::test::Fail;
+use wb_model::failures::{Failing, Failures};
+use wb_model::heap::Answer;
+use wb_model::heap::Answer::{Granted, Simulated};
+use wb_model::run::Why;
+use wb_sweep::fault::SweepFault;
+
+/// Scripts, rules, and how the attempts of the run are answered.
+static RUNS: [(&[u8], Refuses, &[Answer]); 8] = [
+    (FALLBACK, Refuses::From(0), &[Granted, Granted, Granted]),
+    (FALLBACK, Refuses::From(1), &[Simulated]),
+    (
+        FALLBACK,
+        Refuses::From(2),
+        &[Granted, Simulated, Simulated, Simulated],
+    ),
+    (FALLBACK, Refuses::From(3), &[Granted, Granted, Simulated]),
+    (FALLBACK, Refuses::From(4), &[Granted, Granted, Granted]),
+    (
+        THRICE,
+        Refuses::From(2),
+        &[Granted, Simulated, Simulated, Simulated],
+    ),
+    // The first number counts from attempt 1, and not from the setting's line. Before it the setting refuses one.
+    (
+        SETS,
+        Refuses::From(5),
+        &[
+            Granted, Granted, Granted, Simulated, Simulated, Simulated, Simulated, Simulated,
+        ],
+    ),
+    // The script can't end it.
+    (
+        SETS_NONE,
+        Refuses::From(3),
+        &[Granted, Granted, Simulated, Simulated],
+    ),
+];
+
+#[test]
+fn all_are_refused_from_one_on(rt: HostRuntime) -> Result<(), Fail> {
+    for (row, (script, rule, wanted)) in RUNS.iter().enumerate() {
+        assert!(rt;
+            are_answered(rt.alloc(), script, *rule, wanted)?,
+            "run {row}"
+        );
+    }
+    Ok(())
+}
+
+/// Scripts, failures, and what a sweep over them finds.
+static SWEEPS: [(&[u8], Failures, Result<Option<Failing>, SweepFault>); 5] = [
+    // Where attempt 2 fails, the next turn asks again, and a number or a rate grants that.
+    (THRICE, Failures::Single, Ok(None)),
+    (THRICE, Failures::Every, Ok(None)),
+    (THRICE, Failures::Persistent, Ok(Some(Failing::From(2)))),
+    (FALLBACK, Failures::Persistent, Ok(None)),
+    (
+        WAITS_FOR_ONE,
+        Failures::Persistent,
+        Err(SweepFault::Cut {
+            at: Failing::From(2),
+            why: Why::Budget,
+        }),
+    ),
+];
+
+#[test]
+fn a_sweep_finds_from_where_on_all_may_fail(rt: HostRuntime) -> Result<(), Fail> {
+    for (row, (script, failures, wanted)) in SWEEPS.iter().enumerate() {
+        let found = found_in(rt.alloc(), script, *failures)?;
+        assert_eq!(rt; found, *wanted, "sweep {row}");
+    }
+    Ok(())
+}
+
+/// What a sweep and a check write of the script with a fallback.
+static REPORTS: [Wanted; 2] = [
+    Wanted {
+        is_check: false,
+        failures: Failures::Persistent,
+        json: false,
+        report: "attempts 3\npersistent none\n",
+        status: 0,
+    },
+    Wanted {
+        is_check: true,
+        failures: Failures::Persistent,
+        json: true,
+        report: "{\"attempts\":3,\"kind\":\"persistent\",\"lines\":[\"required 448\",\"from 0 refuses 1\",\"from 144 refuses 2\",\"from 416 refuses 3\",\"enough from 448\",\"attempts 3\",\"persistent none\"],\"number\":\"none\",\"required\":448,\"rises\":[[1,144],[2,416],[3,448]],\"status\":0,\"version\":3}\n",
+        status: 0,
+    },
+];
+
+#[test]
+fn reports_of_persistent_failures(rt: HostRuntime) {
+    for (row, wanted) in REPORTS.iter().enumerate() {
+        assert!(rt; is_answered(rt.alloc(), wanted), "report {row}");
+    }
+}
