@@ -51,6 +51,22 @@ end
 end
 """
 
+GROWING = """
+proc main
+ptr p
+int bytes
+set bytes 60000
+alloc p 60000
+repeat 200
+add bytes 16
+realloc p p bytes
+end
+free p
+end
+"""
+# the bytes that the cells of `GROWING` hold before each growth, which are copied where it moves them
+GROWN_BYTES = sum(60_000 + 16 * turn for turn in range(200))
+
 BUFFERS = """
 proc main
 buf b 256
@@ -487,6 +503,9 @@ WORKLOADS = [
     Workload("destructors", "run", DESTRUCTORS, "step", steps),
     Workload("operations of items", "run", OPERATIONS, "step", steps),
     Workload("reallocation", "run", REALLOCATION, "step", steps),
+    Workload("reallocation where cells move", "run --moving", REALLOCATION, "step", steps),
+    Workload("cells of 60 KB that grow", "run", GROWING, "byte of them", lambda _: GROWN_BYTES),
+    Workload("cells of 60 KB that grow where cells move", "run --moving", GROWING, "byte of them", lambda _: GROWN_BYTES),
     Workload("texts of 256 units", "run", BUFFERS, "step", steps),
     Workload("reading 5,000 lines", "run", long_script(), "byte", lambda _: len(long_script())),
     Workload("sizing of allocation and release", "size", ALLOCATION, "attempt", lambda _: 1 + 3 * 142_857),

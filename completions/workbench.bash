@@ -23,23 +23,23 @@ _workbench()
     fi
     case ${COMP_WORDS[1]} in
         run)
-            options='--limit --fail --also --every --set --follow --follow-steps --budget --min --step --json --picture --help'
+            options='--limit --fail --also --every --set --follow --follow-steps --budget --min --step --moving --json --picture --help'
             values='--limit --fail --also --every --set --follow-steps --budget --min --step --picture'
             ;;
         size)
-            options='--budget --min --step --json --picture --help'
+            options='--budget --min --step --moving --json --picture --help'
             values='--budget --min --step --picture'
             ;;
         lengths)
-            options='--budget --min --step --json --picture --help'
+            options='--budget --min --step --moving --json --picture --help'
             values='--budget --min --step --picture'
             ;;
         sweep)
-            options='--every --pairs --all --failures --sets --states --from --to --budget --min --step --json --picture --help'
+            options='--every --pairs --all --failures --sets --states --from --to --budget --min --step --moving --json --picture --help'
             values='--failures --states --from --to --budget --min --step --picture'
             ;;
         check)
-            options='--every --pairs --all --failures --sets --states --budget --min --step --json --picture --help'
+            options='--every --pairs --all --failures --sets --states --budget --min --step --moving --json --picture --help'
             values='--failures --states --budget --min --step --picture'
             ;;
         help)

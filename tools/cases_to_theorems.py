@@ -36,7 +36,7 @@ def arguments_of(words: list[str]) -> tuple[argparse.Namespace, list[str]]:
     """The program's own arguments, and those that name files."""
     parser = argparse.ArgumentParser(exit_on_error=False, add_help=False, allow_abbrev=False)
     parser.add_argument("task")
-    defaults = {"limit": None, "fail": None, "also": None, "budget": 10000, "min": 4096, "step": 4096}
+    defaults = {"limit": None, "fail": None, "fail-from": None, "also": None, "budget": 10000, "min": 4096, "step": 4096}
     for name, default in defaults.items():
         parser.add_argument("--" + name, type=int, default=default)
     parser.add_argument("--set")
@@ -46,12 +46,14 @@ def arguments_of(words: list[str]) -> tuple[argparse.Namespace, list[str]]:
     else:
         parser.add_argument("--every", action="store_true")
     parser.add_argument("--pairs", action="store_true")
+    parser.add_argument("--persistent", action="store_true")
     parser.add_argument("--failures", type=int)
     parser.add_argument("--sets", action="store_true")
     parser.add_argument("--states", type=int)
     parser.add_argument("--all", action="store_true")
     parser.add_argument("--from", type=int, default=0, dest="first")
     parser.add_argument("--to", type=int, default=CEILING, dest="last")
+    parser.add_argument("--moving", action="store_true")
     parser.add_argument("--json", action="store_true")
     try:
         known, files = parser.parse_known_args(words)
@@ -76,6 +78,7 @@ def rule_of(a: argparse.Namespace) -> str:
         (a.also, f"R.Pair {a.fail} {a.also}"),
         (a.fail, f"R.Number {a.fail}"),
         (a.every, f"R.Every {a.every}"),
+        (a.fail_from, f"R.From {a.fail_from}"),
     ]
     return next((rule for value, rule in given if value is not None), "R.Unlimited")
 
@@ -110,7 +113,7 @@ def accepted_at(path: Path, most_steps: int) -> Accepted | str:
     script = (ROOT / files[0]).read_bytes() if files else case.script
     if a.failures is not None or a.sets:
         return "sets of failures"
-    version, told = "3" if a.task == "lengths" or a.all else "2", case.stdout.decode()
+    version, told = "3" if a.task == "lengths" or a.all or a.persistent else "2", case.stdout.decode()
     report = lines_of_object(told, version) if a.json else told.removesuffix("\n").split("\n")
     if a.task == "run" and int(report[-1].removeprefix("steps ")) > most_steps:
         return f"more than {most_steps} steps"
@@ -127,7 +130,10 @@ def is_part(a: argparse.Namespace) -> bool:
 
 
 # The failures that a sweep tries, by the word of the line that says that none was found.
-FAILURES = {"number": "Single", "every": "Every", "pair": "Pairs"}
+FAILURES = {"number": "Single", "every": "Every", "pair": "Pairs", "persistent": "Persistent"}
+
+# That word by the option that asks for these failures; without one of them it is "number".
+TRIED = (("every", "every"), ("pair", "pairs"), ("persistent", "persistent"))
 
 
 def size_claims(script: str, given: str, report: list[str]) -> list[str]:
@@ -238,7 +244,7 @@ def pair_claims(script: str, given: str, report: list[str]) -> list[str]:
 
 def tried_claims(script: str, given: str, report: list[str], a: argparse.Namespace) -> list[str]:
     """What a text of a sweep says, by the arguments."""
-    tried = "every" if a.every else "pair" if a.pairs else "number"
+    tried = next((word for word, given in TRIED if getattr(a, given)), "number")
     if a.all:
         return all_claims(script, given, report, tried, (a.first, a.last))
     if is_part(a):
@@ -273,7 +279,7 @@ LEFT_OUT = {
 def theorem(name: str, case: Accepted) -> str:
     """A case as antt text: its script, its claims and their proof."""
     a, script = case.arguments, "script_" + name
-    given = f"{a.budget} (shaped {a.min} {a.step})"
+    given = f"{a.budget} ({'shaped_moving' if a.moving else 'shaped'} {a.min} {a.step})"
     if a.task == "run":
         claims = run_claims(script, rule_of(a), given, case.report)
     elif a.task == "size":

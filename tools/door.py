@@ -26,6 +26,7 @@ COMMANDS = {
     "failures": "failures",
     "every-set": "every_set",
     "sets": "sets",
+    "moving": "moving",
     "parts": "parts",
     "lengths": "lengths",
     "followed": "followed",

@@ -408,6 +408,20 @@ def stepped(chance: random.Random, is_wrong: bool) -> list[str]:
     return remembered(chance, "*", f"repeat {9_200 if is_wrong else 20}; end", "repeat 900; end")
 
 
+def pushed_text(chance: random.Random, is_wrong: bool) -> list[str]:
+    """A text that grows; wrong: while it is on the cleanup stack, so that the item names the old cell where it moves."""
+    off, on = ("", "") if is_wrong else ("pop 1", "push name")
+    more = chance.choice((20, 40, 300))
+    return lines(f"ptr name; ptr grown; hnewl name 10; push name; hrealloc grown name {more}; leaveifnull grown; {off}; set name grown; {on}; popdestroy 1")
+
+
+def second_pointer(chance: random.Random, is_wrong: bool) -> list[str]:
+    """A cell with two pointers that grows; wrong: the other pointer is used afterwards."""
+    used, more = "other" if is_wrong else "cell", chance.choice((40, 100, 3000))
+    grow = f"set other cell; realloc grown cell {more}; if some grown; set cell grown; store {used} 0 7; end"
+    return lines(f"ptr cell; ptr other; ptr grown; alloc cell 16; if some cell; {grow}; free cell; end")
+
+
 # parts whose mistakes a single failure shows, and those whose mistakes take two, three, or four and more; what is named once more comes
 # twice as often
 Parts = tuple[Part, ...]
@@ -425,6 +439,8 @@ PARTS_THAT_REMEMBER: Parts = (
     *(counted, written, lengthened, buffered, viewed, shortened, pointed, owned, emptied, pushed_anew, marked, set_to_fail, turned, moved),
     *(stepped,),
 )
+# those whose mistakes show without any failure, but only where cells that grow move
+PARTS_THAT_MOVE: Parts = (pushed_text, second_pointer)
 PARTS_OF_FOUR: Parts = (fourth_try, many_turns, missed_turns, longest_wait)
 # the sorts of parts that scripts are made of, if nothing else is said
 SORTS = (PARTS, PARTS_OF_TWO)

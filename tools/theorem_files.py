@@ -10,13 +10,13 @@ from pathlib import Path
 TOP = "WorkedCases"
 COMMON = "Shorthands"
 
-# no line is longer, unless a single word is, and a file is begun anew before it has more lines
+# no line is longer, unless a single word is, and a file is begun anew before its theorems have more lines; its head comes on top of them
 WIDTH = 140
-LINES = 380
+LINES = 350
 
 # What is named from the crate's declared types.
 DECLARED = """
-failures.Failures.TheVariants.{Single, Every, Pairs};
+failures.Failures.TheVariants.{Single, Every, Pairs, Persistent};
 heap.Rule.TheVariants as R; heap.Panic.TheVariants as P; script.Holder.TheVariants as H;
 heap.Shape.{Shape}; heap.Answer.{Answer}; heap.Answer.TheVariants.{Granted, Simulated, Refused}; heap.Attempt.{Attempt};
 number_ends.NumberEnd.{NumberEnd}; part.Part.{Part}; run_end.RunEnd.{RunEnd};
@@ -67,7 +67,10 @@ abbrev pub leak : ℕ → ℕ → ℕ → Leak
 leak number length place = record { number = number; length = length; place = place }
 
 abbrev pub shaped : ℕ → ℕ → Shape
-shaped min step = record { min = min; step = step }
+shaped min step = record { min = min; step = step; moving = false }
+
+abbrev pub shaped_moving : ℕ → ℕ → Shape
+shaped_moving min step = record { min = min; step = step; moving = true }
 
 abbrev pub line : ℕ → ℕ → ℕ → Answer → Attempt
 line number length place answer = record { number = number; length = length; place = place; answer = answer }
@@ -89,7 +92,7 @@ def uses_of(crate: Path) -> list[str]:
     """The imports that a file may need."""
     specs = f"Rattle.{crate.name}.specs"
     return [
-        "Rattle.std.specs.Prelude.{◌≡◌, refl, ℕ, pos, negsuc, List, [], ◌∷◌, length, Option, Some, None, map}",
+        "Rattle.std.specs.Prelude.{◌≡◌, refl, ℕ, pos, negsuc, List, [], ◌∷◌, length, Option, Some, None, true, false, map}",
         "Rattle.std.specs.Fmt.{digits}",
         *(f"{specs}.declared.{use.strip()}" for use in DECLARED.split(";")),
         f"{specs}.runs.Run.{{run, required, rises}}",
@@ -114,7 +117,7 @@ def shorthands(crate: Path) -> str:
 
 def theorem_file(crate: Path, subject: str, theorems: list[str]) -> str:
     """A file of theorems, each line of which has at most so many characters."""
-    names = "everything, on, script, class_of, procedure, operation, body, result, leak, shaped, line, rise, ending, part"
+    names = "everything, on, script, class_of, procedure, operation, body, result, leak, shaped, shaped_moving, line, rise, ending, part"
     common = f"use Rattle.{crate.name}.proofs.{TOP}.{COMMON}.{{{names}}}"
     head = [f"-- Worked cases of `{subject}`, each by computing. {WRITTEN}", *(f"use {use}" for use in uses_of(crate)), common]
     text = "\n".join(head) + "\n\n" + "\n".join(theorems)

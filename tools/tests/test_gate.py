@@ -19,7 +19,7 @@ from tools.tool_runs import Outcome, ToolRun, ToolRuns
 
 # the commands that the gate runs on the program, and what some are given
 RUN = """
-cases, lost-messages, broken-streams, progress, forks, rates, pairs, failures, every-set, sets, parts, lengths, followed, mistakes,
+cases, lost-messages, broken-streams, progress, forks, rates, pairs, failures, every-set, sets, moving, parts, lengths, followed, mistakes,
 pictures, failing-allocations, failing-allocations --same, ci-examples, help-files --compare
 """
 
