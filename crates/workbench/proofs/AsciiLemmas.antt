@@ -29,7 +29,6 @@ use Rattle.wb_model.specs.declared.run_end.RunEnd.{RunEnd}
 use Rattle.wb_model.specs.declared.run_end.RunEnd.TheVariants as ends
 use Rattle.wb_model.specs.declared.size.Rise.{Rise}
 use Rattle.wb_model.specs.meaning.Printable.{IsPrintable, ArePrintable}
-use Rattle.wb_model.specs.runs.Run.{run}
 use Rattle.wb_model.specs.runs.AllNumbers.{bad_count}
 use Rattle.wb_model.proofs.PrintableLemmas.{is_printable, printable_by_test, decimal-printable, hexadecimal-printable, signed_decimal-printable}
 use Rattle.workbench.specs.Ascii.{IsPrintableText, IsTextByte}

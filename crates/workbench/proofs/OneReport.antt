@@ -1,5 +1,5 @@
 -- The report of a command on bytes is one: any two say the same.
-use Rattle.std.proofs.Common.{◌≡◌, ◌⊎◌, inl, inr, ℕ, ◌<◌, List, ◌++◌, refl, sym, ◌∙◌, ap, subst, Bool, true, false, None, le_refl}
+use Rattle.std.proofs.Common.{◌≡◌, ◌⊎◌, inl, inr, ℕ, ◌<◌, List, ◌++◌, sym, ◌∙◌, ap, subst, Bool, true, false, None, le_refl}
 use Rattle.std.specs.Prelude.{IsSome}
 use Rattle.std.proofs.lemmas.Bool.{cases_order, false≢true}
 use Rattle.wb_model.specs.declared.failures.Failing.TheVariants.{Number}

@@ -19,7 +19,7 @@ use Rattle.workbench.specs.declared.report_values.ReportValues.{ReportValues}
 use Rattle.workbench.specs.PartReport.{is_whole}
 use Rattle.workbench.specs.ReportValues.{cut_set_values, set_values, sweep_values}
 use Rattle.workbench.specs.SetsReport.{IsSetsReport, cut_set_line, found_set_text, no_set_line, sets_text, swept_status, swept_values}
-use Rattle.workbench.specs.TwoNumbers.{attempts_line, attempts_of}
+use Rattle.workbench.specs.TwoNumbers.{attempts_line}
 use Rattle.workbench.proofs.SetsOver.{cut-over, found-over, none-over}
 
 module _ (part : Part) (most : ℕ) (script : Script) (budget : ℕ) (shape : Shape) (allowed : budget ≤ LARGEST_BUDGET) where

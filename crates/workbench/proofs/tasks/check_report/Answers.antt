@@ -1,5 +1,5 @@
 -- Proof: check_report. The run without a limit is the run without failure, unless the ceiling cuts it.
-use Rattle.std.proofs.Common.{◌≡◌, ◌≢◌, ◌+◌, ◌≤◌, ◌++◌, arith, inl, refl, sym, ap, ◌∙◌, ℕ, List, length}
+use Rattle.std.proofs.Common.{◌≡◌, ◌≢◌, ◌++◌, arith, inl, refl, sym, ap, ◌∙◌, ℕ, List, length}
 use Rattle.wb_model.specs.declared.failures.Failures.{Failures}
 use Rattle.wb_model.specs.declared.heap.Rule.TheVariants.{Unlimited}
 use Rattle.wb_model.specs.declared.heap.Shape.{Shape}
