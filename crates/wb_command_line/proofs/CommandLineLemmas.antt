@@ -13,10 +13,11 @@ use Rattle.clap.specs.Takes.{level_passes, takes, turn_passes, walk_passes}
 use Rattle.clap.proofs.WalkLemmas.{walk_stopped}
 use Rattle.clap.proofs.FaultLemmas.{stopped_fault}
 use Rattle.wb_command_line.specs.CommandLine.{command_line, level_of}
-use Rattle.wb_command_line.specs.Subcommands.{Subcommand, check_subcommand, lengths_subcommand, run_subcommand, size_subcommand, subcommand_named, sweep_subcommand}
+use Rattle.wb_command_line.specs.Subcommands.{Subcommand, check_subcommand, check_task, lengths_subcommand, run_subcommand, size_subcommand, subcommand_named, sweep_subcommand}
 use Rattle.wb_command_line.specs.Fault.{AreDoubled}
 use Rattle.wb_command_line.specs.Passed.{RowsPass}
-use Rattle.wb_command_line.specs.Spelled.{gives_more_than_one, gives_no_list, gives_too_many, takes_rule}
+use Rattle.wb_command_line.specs.declared.command.Task.{Task}
+use Rattle.wb_command_line.specs.Spelled.{gives_more_than_one, gives_no_list, gives_too_many, rule_of, takes_rule, task_of, trial_of}
 use Rattle.wb_command_line.proofs.LevelLemmas.{level_name, level_once, level_single}
 use Rattle.wb_command_line.proofs.PassedWords.{level_passed}
 use Rattle.wb_command_line.proofs.RefusalLemmas.{Fails, and_true, has_kind, level_fails, stopped_passes, turn_first, turn_second, version_asks, word_fails}
@@ -172,6 +173,12 @@ last_doubled name rows some no_run no_size no_lengths no_sweep both =
       listed = ap (λ (o : Option Subcommand). option_map_or (λ s. takes_rule s.takes) o false && gives_no_list rows) last;
       doubled = ap (λ (o : Option Subcommand). option_map_or (λ s. gives_more_than_one s.takes rows) o false) last ∙ both;
     }
+
+-- and what it asks for is a check
+pub last_task : (name : Text) (rows : List Row) (task : Task) → IsSome (subcommand_named name) → name ≢ codes "run" → name ≢ codes "size" → name ≢ codes "lengths"
+    → name ≢ codes "sweep" → task ≡ check_task (trial_of rows) → task_of name rows ≡ Some task
+last_task name rows task some no_run no_size no_lengths no_sweep is =
+    ap (λ (o : Option Subcommand). option_map (λ s. s.task (rule_of rows) (trial_of rows)) o) (last_named name some no_run no_size no_lengths no_sweep) ∙ ap (λ t. Some t) (sym is)
 
 -- words that don't name a subcommand first are refused
 pub none_named_fails : (name word : Text) (rest : List Text) → subcommand_named word ≡ None → Fails (fault_of command_line (name ∷ word ∷ rest)) (takes command_line (name ∷ word ∷ rest))

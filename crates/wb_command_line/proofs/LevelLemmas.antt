@@ -4,7 +4,7 @@ use Rattle.std.specs.Prelude.{◌==◌}
 use Rattle.std.specs.Str.{bytes_eq}
 use Rattle.clap.specs.Simple.{filled}
 use Rattle.clap.specs.Walk.{Row, Rule, Text, arg_by_index, arg_by_long, arg_by_short}
-use Rattle.wb_command_line.specs.CommandLine.{all_flag, also_option, budget_option, every_option, fail_option, failures_option, follow_flag, follow_steps_option, from_option, joined_level, json_flag, level, limit_option, min_option, moving_flag, pairs_flag, rates_flag, sets_flag, states_option, step_option, to_option}
+use Rattle.wb_command_line.specs.CommandLine.{all_flag, also_option, budget_option, ends_flag, every_option, fail_from_option, fail_option, failures_option, follow_flag, follow_steps_option, from_option, joined_level, json_flag, level, limit_option, min_option, moving_flag, pairs_flag, persistent_flag, rates_flag, sets_flag, states_option, step_option, to_option}
 use Rattle.wb_command_line.specs.Passed.{IsIn, RowsPass}
 use Rattle.wb_command_line.specs.declared.command_line.parser.Takes.{Takes}
 use Rattle.wb_command_line.specs.declared.command_line.parser.Takes.TheVariants as taking
@@ -48,7 +48,8 @@ level_long called taking.Rule name e =
     let fail = first_false (bytes_eq (codes "fail") name) _ limit.1 in
     let also = first_false (bytes_eq (codes "also") name) _ fail.1 in
     let every = first_false (bytes_eq (codes "every") name) _ also.1 in
-    let set = first_false (bytes_eq (codes "set") name) _ every.1 in
+    let fail_from = first_false (bytes_eq (codes "fail-from") name) _ every.1 in
+    let set = first_false (bytes_eq (codes "set") name) _ fail_from.1 in
     let follow = first_false (bytes_eq (codes "follow") name) _ set.1 in
     let follow_steps = first_false (bytes_eq (codes "follow-steps") name) _ follow.1 in
     let budget = first_false (bytes_eq (codes "budget") name) _ follow_steps.1 in
@@ -57,12 +58,14 @@ level_long called taking.Rule name e =
     let moving = first_false (bytes_eq (codes "moving") name) _ step.1 in
     let json = first_false (bytes_eq (codes "json") name) _ moving.1 in
     let picture = first_false (bytes_eq (codes "picture") name) _ json.1 in
-    rw (limit.0, fail.0, also.0, every.0, set.0, follow.0, follow_steps.0, budget.0, min.0, step.0, moving.0, json.0, picture.0) (help_asks (bytes_eq (codes "help") name))
+    rw (limit.0, fail.0, also.0, every.0, fail_from.0, set.0, follow.0, follow_steps.0, budget.0, min.0, step.0, moving.0, json.0, picture.0) (help_asks (bytes_eq (codes "help") name))
 level_long called taking.Failures name e =
     let every = first_false (bytes_eq (codes "every") name) _ e in
-    let pairs = first_false (bytes_eq (codes "pairs") name) _ every.1 in
+    let persistent = first_false (bytes_eq (codes "persistent") name) _ every.1 in
+    let pairs = first_false (bytes_eq (codes "pairs") name) _ persistent.1 in
     let all = first_false (bytes_eq (codes "all") name) _ pairs.1 in
-    let failures = first_false (bytes_eq (codes "failures") name) _ all.1 in
+    let ends = first_false (bytes_eq (codes "ends") name) _ all.1 in
+    let failures = first_false (bytes_eq (codes "failures") name) _ ends.1 in
     let sets = first_false (bytes_eq (codes "sets") name) _ failures.1 in
     let states = first_false (bytes_eq (codes "states") name) _ sets.1 in
     let budget = first_false (bytes_eq (codes "budget") name) _ states.1 in
@@ -71,12 +74,14 @@ level_long called taking.Failures name e =
     let moving = first_false (bytes_eq (codes "moving") name) _ step.1 in
     let json = first_false (bytes_eq (codes "json") name) _ moving.1 in
     let picture = first_false (bytes_eq (codes "picture") name) _ json.1 in
-    rw (every.0, pairs.0, all.0, failures.0, sets.0, states.0, budget.0, min.0, step.0, moving.0, json.0, picture.0) (help_asks (bytes_eq (codes "help") name))
+    rw (every.0, persistent.0, pairs.0, all.0, ends.0, failures.0, sets.0, states.0, budget.0, min.0, step.0, moving.0, json.0, picture.0) (help_asks (bytes_eq (codes "help") name))
 level_long called taking.Part name e =
     let every = first_false (bytes_eq (codes "every") name) _ e in
-    let pairs = first_false (bytes_eq (codes "pairs") name) _ every.1 in
+    let persistent = first_false (bytes_eq (codes "persistent") name) _ every.1 in
+    let pairs = first_false (bytes_eq (codes "pairs") name) _ persistent.1 in
     let all = first_false (bytes_eq (codes "all") name) _ pairs.1 in
-    let failures = first_false (bytes_eq (codes "failures") name) _ all.1 in
+    let ends = first_false (bytes_eq (codes "ends") name) _ all.1 in
+    let failures = first_false (bytes_eq (codes "failures") name) _ ends.1 in
     let sets = first_false (bytes_eq (codes "sets") name) _ failures.1 in
     let states = first_false (bytes_eq (codes "states") name) _ sets.1 in
     let from = first_false (bytes_eq (codes "from") name) _ states.1 in
@@ -87,7 +92,7 @@ level_long called taking.Part name e =
     let moving = first_false (bytes_eq (codes "moving") name) _ step.1 in
     let json = first_false (bytes_eq (codes "json") name) _ moving.1 in
     let picture = first_false (bytes_eq (codes "picture") name) _ json.1 in
-    rw (every.0, pairs.0, all.0, failures.0, sets.0, states.0, from.0, to.0, budget.0, min.0, step.0, moving.0, json.0, picture.0) (help_asks (bytes_eq (codes "help") name))
+    rw (every.0, persistent.0, pairs.0, all.0, ends.0, failures.0, sets.0, states.0, from.0, to.0, budget.0, min.0, step.0, moving.0, json.0, picture.0) (help_asks (bytes_eq (codes "help") name))
 level_long called taking.Neither name e =
     let budget = first_false (bytes_eq (codes "budget") name) _ e in
     let min = first_false (bytes_eq (codes "min") name) _ budget.1 in
@@ -119,28 +124,31 @@ own_rule_in a (inr (inl limit)) = inr (inl limit)
 own_rule_in a (inr (inr (inl fail))) = inr (inr (inl fail))
 own_rule_in a (inr (inr (inr (inl also)))) = inr (inr (inr (inl also)))
 own_rule_in a (inr (inr (inr (inr (inl every))))) = inr (inr (inr (inr (inl every))))
-own_rule_in a (inr (inr (inr (inr (inr (inl set)))))) = inr (inr (inr (inr (inr (inl set)))))
-own_rule_in a (inr (inr (inr (inr (inr (inr (inl follow))))))) = inr (inr (inr (inr (inr (inr (inl follow))))))
-own_rule_in a (inr (inr (inr (inr (inr (inr (inr (inl steps)))))))) = inr (inr (inr (inr (inr (inr (inr (inl steps)))))))
-own_rule_in a (inr (inr (inr (inr (inr (inr (inr (inr shared)))))))) = inr (inr (inr (inr (inr (inr (inr (inr (inr (inr (inr (inr (inr (inr (inr (inr shared)))))))))))))))
+own_rule_in a (inr (inr (inr (inr (inr (inl first)))))) = inr (inr (inr (inr (inr (inl first)))))
+own_rule_in a (inr (inr (inr (inr (inr (inr (inl set))))))) = inr (inr (inr (inr (inr (inr (inl set))))))
+own_rule_in a (inr (inr (inr (inr (inr (inr (inr (inl follow)))))))) = inr (inr (inr (inr (inr (inr (inr (inl follow)))))))
+own_rule_in a (inr (inr (inr (inr (inr (inr (inr (inr (inl steps))))))))) = inr (inr (inr (inr (inr (inr (inr (inr (inl steps))))))))
+own_rule_in a (inr (inr (inr (inr (inr (inr (inr (inr (inr shared))))))))) = inr (inr (inr (inr (inr (inr (inr (inr (inr (inr (inr (inr (inr (inr (inr (inr (inr (inr (inr shared))))))))))))))))))
 
 part_in : (a : Rule) → IsIn a (level [] taking.Part).rules → IsIn a joined_level.rules
 part_in a (inl file) = inl file
-part_in a (inr rest) = inr (inr (inr (inr (inr (inr (inr (inr rest)))))))
+part_in a (inr rest) = inr (inr (inr (inr (inr (inr (inr (inr (inr rest))))))))
 
 failures_in : (a : Rule) → IsIn a (level [] taking.Failures).rules → IsIn a joined_level.rules
 failures_in a (inl file) = inl file
-failures_in a (inr (inl rates)) = inr (inr (inr (inr (inr (inr (inr (inr (inl rates))))))))
-failures_in a (inr (inr (inl pairs))) = inr (inr (inr (inr (inr (inr (inr (inr (inr (inl pairs)))))))))
-failures_in a (inr (inr (inr (inl all)))) = inr (inr (inr (inr (inr (inr (inr (inr (inr (inr (inl all))))))))))
-failures_in a (inr (inr (inr (inr (inl together))))) = inr (inr (inr (inr (inr (inr (inr (inr (inr (inr (inr (inl together)))))))))))
-failures_in a (inr (inr (inr (inr (inr (inl sets)))))) = inr (inr (inr (inr (inr (inr (inr (inr (inr (inr (inr (inr (inl sets))))))))))))
-failures_in a (inr (inr (inr (inr (inr (inr (inl states))))))) = inr (inr (inr (inr (inr (inr (inr (inr (inr (inr (inr (inr (inr (inl states)))))))))))))
-failures_in a (inr (inr (inr (inr (inr (inr (inr shared))))))) = inr (inr (inr (inr (inr (inr (inr (inr (inr (inr (inr (inr (inr (inr (inr (inr shared)))))))))))))))
+failures_in a (inr (inl rates)) = inr (inr (inr (inr (inr (inr (inr (inr (inr (inl rates)))))))))
+failures_in a (inr (inr (inl persistent))) = inr (inr (inr (inr (inr (inr (inr (inr (inr (inr (inl persistent))))))))))
+failures_in a (inr (inr (inr (inl pairs)))) = inr (inr (inr (inr (inr (inr (inr (inr (inr (inr (inr (inl pairs)))))))))))
+failures_in a (inr (inr (inr (inr (inl all))))) = inr (inr (inr (inr (inr (inr (inr (inr (inr (inr (inr (inr (inl all))))))))))))
+failures_in a (inr (inr (inr (inr (inr (inl ends)))))) = inr (inr (inr (inr (inr (inr (inr (inr (inr (inr (inr (inr (inr (inl ends)))))))))))))
+failures_in a (inr (inr (inr (inr (inr (inr (inl together))))))) = inr (inr (inr (inr (inr (inr (inr (inr (inr (inr (inr (inr (inr (inr (inl together))))))))))))))
+failures_in a (inr (inr (inr (inr (inr (inr (inr (inl sets)))))))) = inr (inr (inr (inr (inr (inr (inr (inr (inr (inr (inr (inr (inr (inr (inr (inl sets)))))))))))))))
+failures_in a (inr (inr (inr (inr (inr (inr (inr (inr (inl states))))))))) = inr (inr (inr (inr (inr (inr (inr (inr (inr (inr (inr (inr (inr (inr (inr (inr (inl states))))))))))))))))
+failures_in a (inr (inr (inr (inr (inr (inr (inr (inr (inr shared))))))))) = inr (inr (inr (inr (inr (inr (inr (inr (inr (inr (inr (inr (inr (inr (inr (inr (inr (inr (inr shared))))))))))))))))))
 
 shared_in : (a : Rule) → IsIn a (level [] taking.Neither).rules → IsIn a joined_level.rules
 shared_in a (inl file) = inl file
-shared_in a (inr shared) = inr (inr (inr (inr (inr (inr (inr (inr (inr (inr (inr (inr (inr (inr (inr (inr shared)))))))))))))))
+shared_in a (inr shared) = inr (inr (inr (inr (inr (inr (inr (inr (inr (inr (inr (inr (inr (inr (inr (inr (inr (inr (inr shared))))))))))))))))))
 
 wider_rows : (c d : List Rule) → ((a : Rule) → IsIn a c → IsIn a d) → (rows : List Row) → RowsPass c rows → RowsPass d rows
 wider_rows c d wide [] passed = tt
@@ -166,6 +174,9 @@ also_rule = filled also_option
 abbrev pub every_rule : Rule
 every_rule = filled every_option
 
+abbrev pub fail_from_rule : Rule
+fail_from_rule = filled fail_from_option
+
 abbrev pub follow_rule : Rule
 follow_rule = filled follow_flag
 
@@ -175,11 +186,17 @@ follow_steps_rule = filled follow_steps_option
 abbrev pub rates_rule : Rule
 rates_rule = filled rates_flag
 
+abbrev pub persistent_rule : Rule
+persistent_rule = filled persistent_flag
+
 abbrev pub pairs_rule : Rule
 pairs_rule = filled pairs_flag
 
 abbrev pub all_rule : Rule
 all_rule = filled all_flag
+
+abbrev pub ends_rule : Rule
+ends_rule = filled ends_flag
 
 abbrev pub failures_rule : Rule
 failures_rule = filled failures_option
@@ -224,6 +241,9 @@ only_also = only joined_level.rules (codes "also") also_rule refl
 pub only_every : IsOnly joined_level.rules (codes "every") every_rule
 only_every = only joined_level.rules (codes "every") every_rule refl
 
+pub only_fail_from : IsOnly joined_level.rules (codes "fail-from") fail_from_rule
+only_fail_from = only joined_level.rules (codes "fail-from") fail_from_rule refl
+
 pub only_follow : IsOnly joined_level.rules (codes "follow") follow_rule
 only_follow = only joined_level.rules (codes "follow") follow_rule refl
 
@@ -233,11 +253,17 @@ only_follow_steps = only joined_level.rules (codes "follow-steps") follow_steps_
 pub only_rates : IsOnly joined_level.rules (codes "rates") rates_rule
 only_rates = only joined_level.rules (codes "rates") rates_rule refl
 
+pub only_persistent : IsOnly joined_level.rules (codes "persistent") persistent_rule
+only_persistent = only joined_level.rules (codes "persistent") persistent_rule refl
+
 pub only_pairs : IsOnly joined_level.rules (codes "pairs") pairs_rule
 only_pairs = only joined_level.rules (codes "pairs") pairs_rule refl
 
 pub only_all : IsOnly joined_level.rules (codes "all") all_rule
 only_all = only joined_level.rules (codes "all") all_rule refl
+
+pub only_ends : IsOnly joined_level.rules (codes "ends") ends_rule
+only_ends = only joined_level.rules (codes "ends") ends_rule refl
 
 pub only_failures : IsOnly joined_level.rules (codes "failures") failures_rule
 only_failures = only joined_level.rules (codes "failures") failures_rule refl

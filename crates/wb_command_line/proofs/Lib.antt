@@ -16,5 +16,6 @@ pub mod WorkedFollowing
 pub mod WorkedMoving
 pub mod WorkedPairs
 pub mod WorkedParts
+pub mod WorkedPersistent
 pub mod WorkedSets
 pub mod WorkedWords

@@ -34,7 +34,7 @@ use Rattle.wb_command_line.specs.declared.command.CommandFault.{CommandFault}
 use Rattle.wb_command_line.specs.declared.command.CommandFault.TheVariants.{Usage, Both, Also, Range, NoMemory}
 use Rattle.wb_command_line.specs.declared.command.CommandFault.TheVariants as F
 use Rattle.wb_command_line.proofs.CommandLineLemmas.{one_is_met, text_is}
-use Rattle.wb_command_line.proofs.LevelLemmas.{all_rule, also_rule, budget_rule, every_rule, fail_rule, failures_rule, follow_rule, follow_steps_rule, from_rule, json_rule, level_wide, limit_rule, min_rule, moving_rule, only_all, only_also, only_budget, only_every, only_fail, only_failures, only_follow, only_follow_steps, only_from, only_json, only_limit, only_min, only_moving, only_pairs, only_rates, only_sets, only_states, only_step, only_to, pairs_rule, rates_rule, sets_rule, states_rule, step_rule, to_rule}
+use Rattle.wb_command_line.proofs.LevelLemmas.{all_rule, also_rule, budget_rule, ends_rule, every_rule, fail_from_rule, fail_rule, failures_rule, follow_rule, follow_steps_rule, from_rule, json_rule, level_wide, limit_rule, min_rule, moving_rule, only_all, only_also, only_budget, only_ends, only_every, only_fail, only_fail_from, only_failures, only_follow, only_follow_steps, only_from, only_json, only_limit, only_min, only_moving, only_pairs, only_persistent, only_rates, only_sets, only_states, only_step, only_to, pairs_rule, persistent_rule, rates_rule, sets_rule, states_rule, step_rule, to_rule}
 use Rattle.wb_command_line.specs.Passed.{RowsPass}
 use Rattle.wb_command_line.proofs.PassedValues.{IsOnly, PassedAs, first_passed}
 
@@ -135,11 +135,17 @@ pub record IsNumberOf (id : Text) (rows : List Row) (low high : ℕ) (r : Option
   pub is : r ≡ number_of id rows
   pub within : IfSome r (λ n. (low ≤ n) × (n ≤ high))
 
--- of the three that give a rule, without a second number
-pub record IsRuleRead (rows : List Row) (l n r : Option ℕ) : Type 0 where
+-- of the four that give a rule, without a second number
+pub record IsRuleRead (rows : List Row) (l n r f : Option ℕ) : Type 0 where
   pub limit : IsNumberOf (codes "limit") rows 0 CEILING l
   pub number : IsNumberOf (codes "fail") rows 0 CEILING n
   pub rate : IsNumberOf (codes "every") rows 0 CEILING r
+  pub first : IsNumberOf (codes "fail-from") rows 0 CEILING f
+
+-- and no greater than the greatest length of a heap
+pub low_enough : (id : Text) (rows : List Row) (r : Option ℕ) → IsNumberOf id rows 0 CEILING r → IfSome r (λ n. n ≤ CEILING)
+low_enough id rows None read = tt
+low_enough id rows (Some n) read = read.within.1
 
 module _ (E : Type 0) (G : List ℕ → Result ℕ E → Type 0) (parses : (u : List ℕ) (x : Result ℕ E) → G u x → ParsesUnsigned 32 10 u x) where
   read_is_decimal : (u : Text) (n : ℕ) → G u (Ok n) → n ≡ decimal u
@@ -187,6 +193,9 @@ module _ (E : Type 0) (G : List ℕ → Result ℕ E → Type 0) (parses : (u : 
   pub every_is : OptionRead (codes "every") 0 CEILING
   every_is f r passed = number_is joined_level.rules (codes "every") every_rule 0 CEILING f r refl (omega arith) only_every passed
 
+  pub fail_from_is : OptionRead (codes "fail-from") 0 CEILING
+  fail_from_is f r passed = number_is joined_level.rules (codes "fail-from") fail_from_rule 0 CEILING f r refl (omega arith) only_fail_from passed
+
   pub follow_steps_is : OptionRead (codes "follow-steps") 1 MOST_FOLLOWED
   follow_steps_is f r passed = number_is joined_level.rules (codes "follow-steps") follow_steps_rule 1 MOST_FOLLOWED f r refl (omega arith) only_follow_steps passed
 
@@ -212,24 +221,26 @@ module _ (E : Type 0) (G : List ℕ → Result ℕ E → Type 0) (parses : (u : 
   step_is f r passed = number_is joined_level.rules (codes "step") step_rule SMALLEST_STEP LARGEST_STEP f r refl (omega arith) only_step passed
 
   -- of the options that give a rule, without a second number
-  pub rule_read : (f : Found) (limit number rate : Option ℕ) → RowsPass joined_level.rules (rows_of f)
+  pub rule_read : (f : Found) (limit number rate first : Option ℕ) → RowsPass joined_level.rules (rows_of f)
       → (one_text f (codes "limit") ≡ None → limit ≡ None) → ((t : Text) → one_text f (codes "limit") ≡ Some t → ReadsOne G t limit)
       → (one_text f (codes "fail") ≡ None → number ≡ None) → ((t : Text) → one_text f (codes "fail") ≡ Some t → ReadsOne G t number)
       → (one_text f (codes "every") ≡ None → rate ≡ None) → ((t : Text) → one_text f (codes "every") ≡ Some t → ReadsOne G t rate)
-      → IsRuleRead (rows_of f) limit number rate
-  rule_read f limit number rate passed no_limit a_limit no_number a_number no_rate a_rate = record {
+      → (one_text f (codes "fail-from") ≡ None → first ≡ None) → ((t : Text) → one_text f (codes "fail-from") ≡ Some t → ReadsOne G t first)
+      → IsRuleRead (rows_of f) limit number rate first
+  rule_read f limit number rate first passed no_limit a_limit no_number a_number no_rate a_rate no_first a_first = record {
     limit = limit_is f limit passed no_limit a_limit;
     number = fail_is f number passed no_number a_number;
     rate = every_is f rate passed no_rate a_rate;
+    first = fail_from_is f first passed no_first a_first;
   }
 
--- the rule that is spelled, by what is there of the three, and whether more than one is
-module _ {rows : List Row} {limit number rate l n r : Option ℕ} (read : IsRuleRead rows limit number rate) (is_limit : limit ≡ l) (is_number : number ≡ n) (is_rate : rate ≡ r) where
-  pub rule_as : rule_by l n None r None ≡ numbered_rule_of rows
-  rule_as = λ i. rule_by ((sym is_limit ∙ read.limit.is) i) ((sym is_number ∙ read.number.is) i) None ((sym is_rate ∙ read.rate.is) i) None
+-- the rule that is spelled, by what was read of the four, and whether more than one was
+module _ {rows : List Row} {l n r f : Option ℕ} (read : IsRuleRead rows l n r f) where
+  pub rule_as : rule_by l n None r f None ≡ numbered_rule_of rows
+  rule_as = λ i. rule_by (read.limit.is i) (read.number.is i) None (read.rate.is i) (read.first.is i) None
 
-  pub several_as : gives_several_numbers rows ≡ are_several l n r
-  several_as = λ i. are_several ((sym read.limit.is ∙ is_limit) i) ((sym read.number.is ∙ is_number) i) ((sym read.rate.is ∙ is_rate) i)
+  pub several_as : are_several l n r f ≡ gives_several_numbers rows
+  several_as = λ i. are_several (read.limit.is i) (read.number.is i) (read.rate.is i) (read.first.is i)
 
 -- what stands for a flag is `true` or `false`, where anything does
 flag_is : (id : Text) (a : Rule) → IsOnly joined_level.rules id a → ((t : Text) → value_passes a t ≡ true → (bytes_eq t (codes "true") || bytes_eq t (codes "false")) ≡ true) → reading_by a ≡ reading_by json_rule
@@ -272,11 +283,17 @@ follow_is = flag_is (codes "follow") follow_rule only_follow (λ t passed. passe
 pub rates_is : FlagRead (codes "rates")
 rates_is = flag_is (codes "rates") rates_rule only_rates (λ t passed. passed) refl
 
+pub persistent_is : FlagRead (codes "persistent")
+persistent_is = flag_is (codes "persistent") persistent_rule only_persistent (λ t passed. passed) refl
+
 pub pairs_is : FlagRead (codes "pairs")
 pairs_is = flag_is (codes "pairs") pairs_rule only_pairs (λ t passed. passed) refl
 
 pub all_is : FlagRead (codes "all")
 all_is = flag_is (codes "all") all_rule only_all (λ t passed. passed) refl
+
+pub ends_is : FlagRead (codes "ends")
+ends_is = flag_is (codes "ends") ends_rule only_ends (λ t passed. passed) refl
 
 pub sets_is : FlagRead (codes "sets")
 sets_is = flag_is (codes "sets") sets_rule only_sets (λ t passed. passed) refl

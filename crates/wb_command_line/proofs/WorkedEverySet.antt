@@ -7,42 +7,43 @@ use Rattle.clap.specs.Walk.{bundle_met, walked}
 use Rattle.clap.specs.declared.error.kind.ErrorKind.TheVariants.{ArgumentConflict, InvalidValue, TooManyValues, UnknownArgument, ValueValidation}
 use Rattle.wb_model.specs.declared.failures.Failures.TheVariants.{Every, Single}
 use Rattle.wb_command_line.specs.Spelled.{whole}
-use Rattle.wb_command_line.specs.declared.command.Task.TheVariants.{CheckEverySet, EverySet, Sets, Sweep}
+use Rattle.wb_command_line.specs.declared.command.Search.TheVariants.{Least, Sets, EverySet}
+use Rattle.wb_command_line.specs.declared.command.Task.TheVariants.{Sweep, Check}
 use Rattle.wb_command_line.proofs.WorkedWords.{Double, Fail, Spell, command_with}
 
 -- ---- words that spell a command
 
-sweep-of-every-set : Spell (codes "sweep" ∷ codes "--sets" ∷ []) (command_with (EverySet 100000 whole) 10000 4096 4096 None)
+sweep-of-every-set : Spell (codes "sweep" ∷ codes "--sets" ∷ []) (command_with (Sweep (EverySet 100000) whole) 10000 4096 4096 None)
 unfolding walked walk_passes walk_fault defaults_fault
 sweep-of-every-set = record { taken = refl; faultless = refl; listed = refl; one_rule = refl; in_order = refl; meaning = refl }
 
-least-number-of-states : Spell (codes "sweep" ∷ codes "--states=1" ∷ codes "--sets" ∷ []) (command_with (EverySet 1 whole) 10000 4096 4096 None)
+least-number-of-states : Spell (codes "sweep" ∷ codes "--states=1" ∷ codes "--sets" ∷ []) (command_with (Sweep (EverySet 1) whole) 10000 4096 4096 None)
 unfolding walked walk_passes walk_fault defaults_fault
 least-number-of-states = record { taken = refl; faultless = refl; listed = refl; one_rule = refl; in_order = refl; meaning = refl }
 
-greatest-number-of-states : Spell (codes "check" ∷ codes "--sets" ∷ codes "--states" ∷ codes "10000000" ∷ codes "a.oom" ∷ []) (command_with (CheckEverySet 10000000) 10000 4096 4096 (Some (codes "a.oom")))
+greatest-number-of-states : Spell (codes "check" ∷ codes "--sets" ∷ codes "--states" ∷ codes "10000000" ∷ codes "a.oom" ∷ []) (command_with (Check (EverySet 10000000)) 10000 4096 4096 (Some (codes "a.oom")))
 unfolding walked walk_passes walk_fault defaults_fault
 greatest-number-of-states = record { taken = refl; faultless = refl; listed = refl; one_rule = refl; in_order = refl; meaning = refl }
 
-part-of-every-set : Spell (codes "sweep" ∷ codes "--to" ∷ codes "9" ∷ codes "--sets" ∷ codes "--from=3" ∷ []) (command_with (EverySet 100000 (record { from = 3; to = 9 })) 10000 4096 4096 None)
+part-of-every-set : Spell (codes "sweep" ∷ codes "--to" ∷ codes "9" ∷ codes "--sets" ∷ codes "--from=3" ∷ []) (command_with (Sweep (EverySet 100000) (record { from = 3; to = 9 })) 10000 4096 4096 None)
 unfolding walked walk_passes walk_fault defaults_fault
 part-of-every-set = record { taken = refl; faultless = refl; listed = refl; one_rule = refl; in_order = refl; meaning = refl }
 
-sets-as-a-file : Spell (codes "sweep" ∷ codes "--" ∷ codes "--sets" ∷ []) (command_with (Sweep Single whole) 10000 4096 4096 (Some (codes "--sets")))
+sets-as-a-file : Spell (codes "sweep" ∷ codes "--" ∷ codes "--sets" ∷ []) (command_with (Sweep (Least Single) whole) 10000 4096 4096 (Some (codes "--sets")))
 unfolding walked walk_passes walk_fault defaults_fault
 sets-as-a-file = record { taken = refl; faultless = refl; listed = refl; one_rule = refl; in_order = refl; meaning = refl }
 
 -- ---- a number of states makes no difference where not all sets are asked for
 
-states-of-single-attempts : Spell (codes "sweep" ∷ codes "--states" ∷ codes "5" ∷ []) (command_with (Sweep Single whole) 10000 4096 4096 None)
+states-of-single-attempts : Spell (codes "sweep" ∷ codes "--states" ∷ codes "5" ∷ []) (command_with (Sweep (Least Single) whole) 10000 4096 4096 None)
 unfolding walked walk_passes walk_fault defaults_fault
 states-of-single-attempts = record { taken = refl; faultless = refl; listed = refl; one_rule = refl; in_order = refl; meaning = refl }
 
-states-of-rates : Spell (codes "sweep" ∷ codes "--every" ∷ codes "--states=5" ∷ []) (command_with (Sweep Every whole) 10000 4096 4096 None)
+states-of-rates : Spell (codes "sweep" ∷ codes "--every" ∷ codes "--states=5" ∷ []) (command_with (Sweep (Least Every) whole) 10000 4096 4096 None)
 unfolding walked walk_passes walk_fault defaults_fault
 states-of-rates = record { taken = refl; faultless = refl; listed = refl; one_rule = refl; in_order = refl; meaning = refl }
 
-states-of-few-failures : Spell (codes "sweep" ∷ codes "--failures" ∷ codes "3" ∷ codes "--states=5" ∷ []) (command_with (Sets 3 whole) 10000 4096 4096 None)
+states-of-few-failures : Spell (codes "sweep" ∷ codes "--failures" ∷ codes "3" ∷ codes "--states=5" ∷ []) (command_with (Sweep (Sets 3) whole) 10000 4096 4096 None)
 unfolding walked walk_passes walk_fault defaults_fault
 states-of-few-failures = record { taken = refl; faultless = refl; listed = refl; one_rule = refl; in_order = refl; meaning = refl }
 

@@ -7,32 +7,33 @@ use Rattle.clap.specs.Walk.{bundle_met, walked}
 use Rattle.clap.specs.declared.error.kind.ErrorKind.TheVariants.{ArgumentConflict, InvalidValue, UnknownArgument, ValueValidation}
 use Rattle.wb_model.specs.declared.failures.Failures.TheVariants.{Single}
 use Rattle.wb_command_line.specs.Spelled.{whole}
-use Rattle.wb_command_line.specs.declared.command.Task.TheVariants.{Sweep, Sets, CheckSets}
+use Rattle.wb_command_line.specs.declared.command.Search.TheVariants.{Least, Sets}
+use Rattle.wb_command_line.specs.declared.command.Task.TheVariants.{Sweep, Check}
 use Rattle.wb_command_line.proofs.WorkedWords.{Double, Fail, Spell, command_with}
 
 -- ---- words that spell a command
 
-sweep-of-sets : Spell (codes "sweep" ∷ codes "--failures" ∷ codes "3" ∷ []) (command_with (Sets 3 whole) 10000 4096 4096 None)
+sweep-of-sets : Spell (codes "sweep" ∷ codes "--failures" ∷ codes "3" ∷ []) (command_with (Sweep (Sets 3) whole) 10000 4096 4096 None)
 unfolding walked walk_passes walk_fault defaults_fault
 sweep-of-sets = record { taken = refl; faultless = refl; listed = refl; one_rule = refl; in_order = refl; meaning = refl }
 
-least-number-of-failures : Spell (codes "sweep" ∷ codes "--failures=1" ∷ []) (command_with (Sets 1 whole) 10000 4096 4096 None)
+least-number-of-failures : Spell (codes "sweep" ∷ codes "--failures=1" ∷ []) (command_with (Sweep (Sets 1) whole) 10000 4096 4096 None)
 unfolding walked walk_passes walk_fault defaults_fault
 least-number-of-failures = record { taken = refl; faultless = refl; listed = refl; one_rule = refl; in_order = refl; meaning = refl }
 
-greatest-number-of-failures : Spell (codes "check" ∷ codes "--failures=+008" ∷ codes "a.oom" ∷ []) (command_with (CheckSets 8) 10000 4096 4096 (Some (codes "a.oom")))
+greatest-number-of-failures : Spell (codes "check" ∷ codes "--failures=+008" ∷ codes "a.oom" ∷ []) (command_with (Check (Sets 8)) 10000 4096 4096 (Some (codes "a.oom")))
 unfolding walked walk_passes walk_fault defaults_fault
 greatest-number-of-failures = record { taken = refl; faultless = refl; listed = refl; one_rule = refl; in_order = refl; meaning = refl }
 
-part-of-the-sets : Spell (codes "sweep" ∷ codes "--to" ∷ codes "9" ∷ codes "--failures" ∷ codes "2" ∷ codes "--from=3" ∷ []) (command_with (Sets 2 (record { from = 3; to = 9 })) 10000 4096 4096 None)
+part-of-the-sets : Spell (codes "sweep" ∷ codes "--to" ∷ codes "9" ∷ codes "--failures" ∷ codes "2" ∷ codes "--from=3" ∷ []) (command_with (Sweep (Sets 2) (record { from = 3; to = 9 })) 10000 4096 4096 None)
 unfolding walked walk_passes walk_fault defaults_fault
 part-of-the-sets = record { taken = refl; faultless = refl; listed = refl; one_rule = refl; in_order = refl; meaning = refl }
 
-check-of-sets-with-other-options : Spell (codes "check" ∷ codes "--budget=500" ∷ codes "a.oom" ∷ codes "--failures" ∷ codes "4" ∷ codes "--min" ∷ codes "0" ∷ codes "--step=32" ∷ []) (command_with (CheckSets 4) 500 0 32 (Some (codes "a.oom")))
+check-of-sets-with-other-options : Spell (codes "check" ∷ codes "--budget=500" ∷ codes "a.oom" ∷ codes "--failures" ∷ codes "4" ∷ codes "--min" ∷ codes "0" ∷ codes "--step=32" ∷ []) (command_with (Check (Sets 4)) 500 0 32 (Some (codes "a.oom")))
 unfolding walked walk_passes walk_fault defaults_fault
 check-of-sets-with-other-options = record { taken = refl; faultless = refl; listed = refl; one_rule = refl; in_order = refl; meaning = refl }
 
-failures-as-a-file : Spell (codes "sweep" ∷ codes "--" ∷ codes "--failures" ∷ []) (command_with (Sweep Single whole) 10000 4096 4096 (Some (codes "--failures")))
+failures-as-a-file : Spell (codes "sweep" ∷ codes "--" ∷ codes "--failures" ∷ []) (command_with (Sweep (Least Single) whole) 10000 4096 4096 (Some (codes "--failures")))
 unfolding walked walk_passes walk_fault defaults_fault
 failures-as-a-file = record { taken = refl; faultless = refl; listed = refl; one_rule = refl; in_order = refl; meaning = refl }
 

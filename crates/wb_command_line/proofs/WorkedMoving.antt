@@ -9,7 +9,8 @@ use Rattle.wb_model.specs.declared.failures.Failures.TheVariants.{Single}
 use Rattle.wb_model.specs.declared.heap.Rule.TheVariants.{Limit, Unlimited}
 use Rattle.wb_model.specs.declared.heap.Shape.{Shape}
 use Rattle.wb_command_line.specs.Spelled.{whole}
-use Rattle.wb_command_line.specs.declared.command.Task.TheVariants.{All, Size, Lengths, Check, CheckEverySet}
+use Rattle.wb_command_line.specs.declared.command.Search.TheVariants.{Least, All, EverySet}
+use Rattle.wb_command_line.specs.declared.command.Task.TheVariants.{Size, Lengths, Sweep, Check}
 use Rattle.wb_command_line.proofs.WorkedWords.{Double, Fail, Spell, command_with, run_with}
 
 -- a moving heap with this minimum length and step
@@ -39,17 +40,17 @@ unfolding walked walk_passes walk_fault defaults_fault
 flag-of-lengths = record { taken = refl; faultless = refl; listed = refl; one_rule = refl; in_order = refl; meaning = refl }
 
 flag-of-a-sweep : Spell (codes "sweep" ∷ codes "--moving" ∷ codes "--all" ∷ [])
-    (record (command_with (All Single whole) 10000 4096 4096 None) { shape = moving 4096 4096 })
+    (record (command_with (Sweep (All Single) whole) 10000 4096 4096 None) { shape = moving 4096 4096 })
 unfolding walked walk_passes walk_fault defaults_fault
 flag-of-a-sweep = record { taken = refl; faultless = refl; listed = refl; one_rule = refl; in_order = refl; meaning = refl }
 
 flag-of-a-check : Spell (codes "check" ∷ codes "--moving" ∷ [])
-    (record (command_with (Check Single) 10000 4096 4096 None) { shape = moving 4096 4096 })
+    (record (command_with (Check (Least Single)) 10000 4096 4096 None) { shape = moving 4096 4096 })
 unfolding walked walk_passes walk_fault defaults_fault
 flag-of-a-check = record { taken = refl; faultless = refl; listed = refl; one_rule = refl; in_order = refl; meaning = refl }
 
 flag-with-all-sets : Spell (codes "check" ∷ codes "--sets" ∷ codes "--moving" ∷ [])
-    (record (command_with (CheckEverySet 100000) 10000 4096 4096 None) { shape = moving 4096 4096 })
+    (record (command_with (Check (EverySet 100000)) 10000 4096 4096 None) { shape = moving 4096 4096 })
 unfolding walked walk_passes walk_fault defaults_fault
 flag-with-all-sets = record { taken = refl; faultless = refl; listed = refl; one_rule = refl; in_order = refl; meaning = refl }
 

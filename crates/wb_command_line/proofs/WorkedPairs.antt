@@ -8,6 +8,7 @@ use Rattle.clap.specs.declared.error.kind.ErrorKind.TheVariants.{ArgumentConflic
 use Rattle.wb_model.specs.declared.failures.Failures.TheVariants.{Pairs, Single}
 use Rattle.wb_model.specs.declared.heap.Rule.TheVariants.{Pair, Unlimited}
 use Rattle.wb_command_line.specs.Spelled.{whole}
+use Rattle.wb_command_line.specs.declared.command.Search.TheVariants.{Least}
 use Rattle.wb_command_line.specs.declared.command.Task.TheVariants.{Run, Sweep, Check}
 use Rattle.wb_command_line.proofs.WorkedWords.{Disorder, Double, Fail, Spell, command_with, run_with}
 
@@ -37,23 +38,23 @@ second-number-as-a-file : Spell (codes "run" ∷ codes "--" ∷ codes "--also" �
 unfolding walked walk_passes walk_fault defaults_fault
 second-number-as-a-file = record { taken = refl; faultless = refl; listed = refl; one_rule = refl; in_order = refl; meaning = refl }
 
-sweep-of-pairs : Spell (codes "sweep" ∷ codes "--pairs" ∷ []) (command_with (Sweep Pairs whole) 10000 4096 4096 None)
+sweep-of-pairs : Spell (codes "sweep" ∷ codes "--pairs" ∷ []) (command_with (Sweep (Least Pairs) whole) 10000 4096 4096 None)
 unfolding walked walk_passes walk_fault defaults_fault
 sweep-of-pairs = record { taken = refl; faultless = refl; listed = refl; one_rule = refl; in_order = refl; meaning = refl }
 
-check-of-pairs : Spell (codes "check" ∷ codes "--pairs" ∷ []) (command_with (Check Pairs) 10000 4096 4096 None)
+check-of-pairs : Spell (codes "check" ∷ codes "--pairs" ∷ []) (command_with (Check (Least Pairs)) 10000 4096 4096 None)
 unfolding walked walk_passes walk_fault defaults_fault
 check-of-pairs = record { taken = refl; faultless = refl; listed = refl; one_rule = refl; in_order = refl; meaning = refl }
 
-sweep-of-pairs-on-a-file : Spell (codes "sweep" ∷ codes "--pairs" ∷ codes "3" ∷ []) (command_with (Sweep Pairs whole) 10000 4096 4096 (Some (codes "3")))
+sweep-of-pairs-on-a-file : Spell (codes "sweep" ∷ codes "--pairs" ∷ codes "3" ∷ []) (command_with (Sweep (Least Pairs) whole) 10000 4096 4096 (Some (codes "3")))
 unfolding walked walk_passes walk_fault defaults_fault
 sweep-of-pairs-on-a-file = record { taken = refl; faultless = refl; listed = refl; one_rule = refl; in_order = refl; meaning = refl }
 
-check-of-pairs-with-all : Spell (codes "check" ∷ codes "--budget=500" ∷ codes "a.oom" ∷ codes "--pairs" ∷ codes "--min" ∷ codes "0" ∷ codes "--step=32" ∷ codes "--json" ∷ []) (record (command_with (Check Pairs) 500 0 32 (Some (codes "a.oom"))) { json = true })
+check-of-pairs-with-all : Spell (codes "check" ∷ codes "--budget=500" ∷ codes "a.oom" ∷ codes "--pairs" ∷ codes "--min" ∷ codes "0" ∷ codes "--step=32" ∷ codes "--json" ∷ []) (record (command_with (Check (Least Pairs)) 500 0 32 (Some (codes "a.oom"))) { json = true })
 unfolding walked walk_passes walk_fault defaults_fault
 check-of-pairs-with-all = record { taken = refl; faultless = refl; listed = refl; one_rule = refl; in_order = refl; meaning = refl }
 
-pairs-as-a-file : Spell (codes "sweep" ∷ codes "--" ∷ codes "--pairs" ∷ []) (command_with (Sweep Single whole) 10000 4096 4096 (Some (codes "--pairs")))
+pairs-as-a-file : Spell (codes "sweep" ∷ codes "--" ∷ codes "--pairs" ∷ []) (command_with (Sweep (Least Single) whole) 10000 4096 4096 (Some (codes "--pairs")))
 unfolding walked walk_passes walk_fault defaults_fault
 pairs-as-a-file = record { taken = refl; faultless = refl; listed = refl; one_rule = refl; in_order = refl; meaning = refl }
 

@@ -8,54 +8,55 @@ use Rattle.clap.specs.declared.error.kind.ErrorKind.TheVariants.{ArgumentConflic
 use Rattle.wb_model.specs.declared.failures.Failures.TheVariants.{Every, Pairs, Single}
 use Rattle.wb_command_line.specs.Command.{is_filled}
 use Rattle.wb_command_line.specs.Spelled.{whole}
-use Rattle.wb_command_line.specs.declared.command.Task.TheVariants.{Sweep, All, CheckAll}
+use Rattle.wb_command_line.specs.declared.command.Search.TheVariants.{Least, All}
+use Rattle.wb_command_line.specs.declared.command.Task.TheVariants.{Sweep, Check}
 use Rattle.wb_command_line.proofs.WorkedWords.{Double, Fail, Spell, command_with}
 
 -- ---- words that spell a command
 
-all-of-a-sweep : Spell (codes "sweep" ∷ codes "--all" ∷ []) (command_with (All Single whole) 10000 4096 4096 None)
+all-of-a-sweep : Spell (codes "sweep" ∷ codes "--all" ∷ []) (command_with (Sweep (All Single) whole) 10000 4096 4096 None)
 unfolding walked walk_passes walk_fault defaults_fault
 all-of-a-sweep = record { taken = refl; faultless = refl; listed = refl; one_rule = refl; in_order = refl; meaning = refl }
 
-all-rates-of-a-sweep : Spell (codes "sweep" ∷ codes "--all" ∷ codes "a.oom" ∷ codes "--every" ∷ []) (command_with (All Every whole) 10000 4096 4096 (Some (codes "a.oom")))
+all-rates-of-a-sweep : Spell (codes "sweep" ∷ codes "--all" ∷ codes "a.oom" ∷ codes "--every" ∷ []) (command_with (Sweep (All Every) whole) 10000 4096 4096 (Some (codes "a.oom")))
 unfolding walked walk_passes walk_fault defaults_fault
 all-rates-of-a-sweep = record { taken = refl; faultless = refl; listed = refl; one_rule = refl; in_order = refl; meaning = refl }
 
-all-of-a-check : Spell (codes "check" ∷ codes "--all" ∷ []) (command_with (CheckAll Single) 10000 4096 4096 None)
+all-of-a-check : Spell (codes "check" ∷ codes "--all" ∷ []) (command_with (Check (All Single)) 10000 4096 4096 None)
 unfolding walked walk_passes walk_fault defaults_fault
 all-of-a-check = record { taken = refl; faultless = refl; listed = refl; one_rule = refl; in_order = refl; meaning = refl }
 
-all-rates-of-a-check : Spell (codes "check" ∷ codes "--every" ∷ codes "--all" ∷ []) (command_with (CheckAll Every) 10000 4096 4096 None)
+all-rates-of-a-check : Spell (codes "check" ∷ codes "--every" ∷ codes "--all" ∷ []) (command_with (Check (All Every)) 10000 4096 4096 None)
 unfolding walked walk_passes walk_fault defaults_fault
 all-rates-of-a-check = record { taken = refl; faultless = refl; listed = refl; one_rule = refl; in_order = refl; meaning = refl }
 
-part-of-a-sweep : Spell (codes "sweep" ∷ codes "--from" ∷ codes "3" ∷ codes "--to" ∷ codes "5" ∷ []) (command_with (Sweep Single (record { from = 3; to = 5 })) 10000 4096 4096 None)
+part-of-a-sweep : Spell (codes "sweep" ∷ codes "--from" ∷ codes "3" ∷ codes "--to" ∷ codes "5" ∷ []) (command_with (Sweep (Least Single) (record { from = 3; to = 5 })) 10000 4096 4096 None)
 unfolding walked walk_passes walk_fault defaults_fault
 part-of-a-sweep = record { taken = refl; faultless = refl; listed = refl; one_rule = refl; in_order = refl; meaning = refl }
 
-part-without-its-end : Spell (codes "sweep" ∷ codes "--from=16777216" ∷ []) (command_with (Sweep Single (record { from = 16777216; to = 16777216 })) 10000 4096 4096 None)
+part-without-its-end : Spell (codes "sweep" ∷ codes "--from=16777216" ∷ []) (command_with (Sweep (Least Single) (record { from = 16777216; to = 16777216 })) 10000 4096 4096 None)
 unfolding walked walk_passes walk_fault defaults_fault
 part-without-its-end = record { taken = refl; faultless = refl; listed = refl; one_rule = refl; in_order = refl; meaning = refl }
 
-part-without-its-beginning : Spell (codes "sweep" ∷ codes "--to=0" ∷ codes "--pairs" ∷ []) (command_with (Sweep Pairs (record { from = 0; to = 0 })) 10000 4096 4096 None)
+part-without-its-beginning : Spell (codes "sweep" ∷ codes "--to=0" ∷ codes "--pairs" ∷ []) (command_with (Sweep (Least Pairs) (record { from = 0; to = 0 })) 10000 4096 4096 None)
 unfolding walked walk_passes walk_fault defaults_fault
 part-without-its-beginning = record { taken = refl; faultless = refl; listed = refl; one_rule = refl; in_order = refl; meaning = refl }
 
-all-of-a-part : Spell (codes "sweep" ∷ codes "--to" ∷ codes "9" ∷ codes "--every" ∷ codes "--all" ∷ codes "--from=+09" ∷ []) (command_with (All Every (record { from = 9; to = 9 })) 10000 4096 4096 None)
+all-of-a-part : Spell (codes "sweep" ∷ codes "--to" ∷ codes "9" ∷ codes "--every" ∷ codes "--all" ∷ codes "--from=+09" ∷ []) (command_with (Sweep (All Every) (record { from = 9; to = 9 })) 10000 4096 4096 None)
 unfolding walked walk_passes walk_fault defaults_fault
 all-of-a-part = record { taken = refl; faultless = refl; listed = refl; one_rule = refl; in_order = refl; meaning = refl }
 
-all-as-a-file : Spell (codes "sweep" ∷ codes "--" ∷ codes "--all" ∷ []) (command_with (Sweep Single whole) 10000 4096 4096 (Some (codes "--all")))
+all-as-a-file : Spell (codes "sweep" ∷ codes "--" ∷ codes "--all" ∷ []) (command_with (Sweep (Least Single) whole) 10000 4096 4096 (Some (codes "--all")))
 unfolding walked walk_passes walk_fault defaults_fault
 all-as-a-file = record { taken = refl; faultless = refl; listed = refl; one_rule = refl; in_order = refl; meaning = refl }
 
 -- ---- words that spell a part that ends before it begins
 
-reversed-part : Spell (codes "sweep" ∷ codes "--from" ∷ codes "3" ∷ codes "--to" ∷ codes "2" ∷ []) (command_with (Sweep Single (record { from = 3; to = 2 })) 10000 4096 4096 None)
+reversed-part : Spell (codes "sweep" ∷ codes "--from" ∷ codes "3" ∷ codes "--to" ∷ codes "2" ∷ []) (command_with (Sweep (Least Single) (record { from = 3; to = 2 })) 10000 4096 4096 None)
 unfolding walked walk_passes walk_fault defaults_fault
 reversed-part = record { taken = refl; faultless = refl; listed = refl; one_rule = refl; in_order = refl; meaning = refl }
 
-reversed-part-is-empty : is_filled (Sweep Single (record { from = 3; to = 2 })) ≡ false
+reversed-part-is-empty : is_filled (Sweep (Least Single) (record { from = 3; to = 2 })) ≡ false
 reversed-part-is-empty = refl
 
 -- ---- words that ask for pairs together with all that is found

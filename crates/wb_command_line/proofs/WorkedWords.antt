@@ -14,6 +14,7 @@ use Rattle.wb_command_line.specs.CommandLine.{command_line}
 use Rattle.wb_command_line.specs.Spelled.{spell_both, spell_disorder, spell_no_list, spelled, whole}
 use Rattle.wb_command_line.specs.declared.command.Command.{Command}
 use Rattle.wb_command_line.specs.declared.command.Task.{Task}
+use Rattle.wb_command_line.specs.declared.command.Search.TheVariants.{Least}
 use Rattle.wb_command_line.specs.declared.command.Task.TheVariants.{Run, Size, Lengths, Sweep, Check}
 
 -- the words after the program's name
@@ -132,15 +133,15 @@ lengths-with-all : Spell (codes "lengths" ∷ codes "--step=32" ∷ codes "--jso
 unfolding walked walk_passes walk_fault defaults_fault
 lengths-with-all = record { taken = refl; faultless = refl; listed = refl; one_rule = refl; in_order = refl; meaning = refl }
 
-sweep-with-a-budget : Spell (codes "sweep" ∷ codes "--budget" ∷ codes "+0500" ∷ []) (command_with (Sweep Single whole) 500 4096 4096 None)
+sweep-with-a-budget : Spell (codes "sweep" ∷ codes "--budget" ∷ codes "+0500" ∷ []) (command_with (Sweep (Least Single) whole) 500 4096 4096 None)
 unfolding walked walk_passes walk_fault defaults_fault
 sweep-with-a-budget = record { taken = refl; faultless = refl; listed = refl; one_rule = refl; in_order = refl; meaning = refl }
 
-check-with-a-shape : Spell (codes "check" ∷ codes "--min=256" ∷ codes "--step" ∷ codes "64" ∷ codes "--" ∷ codes "check" ∷ []) (command_with (Check Single) 10000 256 64 (Some (codes "check")))
+check-with-a-shape : Spell (codes "check" ∷ codes "--min=256" ∷ codes "--step" ∷ codes "64" ∷ codes "--" ∷ codes "check" ∷ []) (command_with (Check (Least Single)) 10000 256 64 (Some (codes "check")))
 unfolding walked walk_passes walk_fault defaults_fault
 check-with-a-shape = record { taken = refl; faultless = refl; listed = refl; one_rule = refl; in_order = refl; meaning = refl }
 
-json-alone : Spell (codes "check" ∷ codes "--json" ∷ []) (record (command_with (Check Single) 10000 4096 4096 None) { json = true })
+json-alone : Spell (codes "check" ∷ codes "--json" ∷ []) (record (command_with (Check (Least Single)) 10000 4096 4096 None) { json = true })
 unfolding walked walk_passes walk_fault defaults_fault
 json-alone = record { taken = refl; faultless = refl; listed = refl; one_rule = refl; in_order = refl; meaning = refl }
 
@@ -152,7 +153,7 @@ json-as-a-file : Spell (codes "size" ∷ codes "--" ∷ codes "--json" ∷ []) (
 unfolding walked walk_passes walk_fault defaults_fault
 json-as-a-file = record { taken = refl; faultless = refl; listed = refl; one_rule = refl; in_order = refl; meaning = refl }
 
-picture-alone : Spell (codes "check" ∷ codes "--picture" ∷ codes "a.svg" ∷ []) (record (command_with (Check Single) 10000 4096 4096 None) { picture = Some (codes "a.svg") })
+picture-alone : Spell (codes "check" ∷ codes "--picture" ∷ codes "a.svg" ∷ []) (record (command_with (Check (Least Single)) 10000 4096 4096 None) { picture = Some (codes "a.svg") })
 unfolding walked walk_passes walk_fault defaults_fault
 picture-alone = record { taken = refl; faultless = refl; listed = refl; one_rule = refl; in_order = refl; meaning = refl }
 
@@ -180,31 +181,31 @@ rate-around-a-file : Spell (codes "run" ∷ codes "--step=32" ∷ codes "a.oom" 
 unfolding walked walk_passes walk_fault defaults_fault
 rate-around-a-file = record { taken = refl; faultless = refl; listed = refl; one_rule = refl; in_order = refl; meaning = refl }
 
-sweep-of-one-attempt : Spell (codes "sweep" ∷ []) (command_with (Sweep Single whole) 10000 4096 4096 None)
+sweep-of-one-attempt : Spell (codes "sweep" ∷ []) (command_with (Sweep (Least Single) whole) 10000 4096 4096 None)
 unfolding walked walk_passes walk_fault defaults_fault
 sweep-of-one-attempt = record { taken = refl; faultless = refl; listed = refl; one_rule = refl; in_order = refl; meaning = refl }
 
-check-of-one-attempt : Spell (codes "check" ∷ []) (command_with (Check Single) 10000 4096 4096 None)
+check-of-one-attempt : Spell (codes "check" ∷ []) (command_with (Check (Least Single)) 10000 4096 4096 None)
 unfolding walked walk_passes walk_fault defaults_fault
 check-of-one-attempt = record { taken = refl; faultless = refl; listed = refl; one_rule = refl; in_order = refl; meaning = refl }
 
-sweep-of-rates : Spell (codes "sweep" ∷ codes "--every" ∷ []) (command_with (Sweep failures.Every whole) 10000 4096 4096 None)
+sweep-of-rates : Spell (codes "sweep" ∷ codes "--every" ∷ []) (command_with (Sweep (Least failures.Every) whole) 10000 4096 4096 None)
 unfolding walked walk_passes walk_fault defaults_fault
 sweep-of-rates = record { taken = refl; faultless = refl; listed = refl; one_rule = refl; in_order = refl; meaning = refl }
 
-check-of-rates : Spell (codes "check" ∷ codes "--every" ∷ []) (command_with (Check failures.Every) 10000 4096 4096 None)
+check-of-rates : Spell (codes "check" ∷ codes "--every" ∷ []) (command_with (Check (Least failures.Every)) 10000 4096 4096 None)
 unfolding walked walk_passes walk_fault defaults_fault
 check-of-rates = record { taken = refl; faultless = refl; listed = refl; one_rule = refl; in_order = refl; meaning = refl }
 
-sweep-of-rates-on-a-file : Spell (codes "sweep" ∷ codes "--every" ∷ codes "3" ∷ []) (command_with (Sweep failures.Every whole) 10000 4096 4096 (Some (codes "3")))
+sweep-of-rates-on-a-file : Spell (codes "sweep" ∷ codes "--every" ∷ codes "3" ∷ []) (command_with (Sweep (Least failures.Every) whole) 10000 4096 4096 (Some (codes "3")))
 unfolding walked walk_passes walk_fault defaults_fault
 sweep-of-rates-on-a-file = record { taken = refl; faultless = refl; listed = refl; one_rule = refl; in_order = refl; meaning = refl }
 
-check-of-rates-with-all : Spell (codes "check" ∷ codes "--budget=500" ∷ codes "a.oom" ∷ codes "--every" ∷ codes "--min" ∷ codes "0" ∷ codes "--step=32" ∷ []) (command_with (Check failures.Every) 500 0 32 (Some (codes "a.oom")))
+check-of-rates-with-all : Spell (codes "check" ∷ codes "--budget=500" ∷ codes "a.oom" ∷ codes "--every" ∷ codes "--min" ∷ codes "0" ∷ codes "--step=32" ∷ []) (command_with (Check (Least failures.Every)) 500 0 32 (Some (codes "a.oom")))
 unfolding walked walk_passes walk_fault defaults_fault
 check-of-rates-with-all = record { taken = refl; faultless = refl; listed = refl; one_rule = refl; in_order = refl; meaning = refl }
 
-rates-as-a-file : Spell (codes "sweep" ∷ codes "--" ∷ codes "--every" ∷ []) (command_with (Sweep Single whole) 10000 4096 4096 (Some (codes "--every")))
+rates-as-a-file : Spell (codes "sweep" ∷ codes "--" ∷ codes "--every" ∷ []) (command_with (Sweep (Least Single) whole) 10000 4096 4096 (Some (codes "--every")))
 unfolding walked walk_passes walk_fault defaults_fault
 rates-as-a-file = record { taken = refl; faultless = refl; listed = refl; one_rule = refl; in_order = refl; meaning = refl }
 

@@ -10,8 +10,10 @@ use Rattle.wb_model.specs.declared.part.Part.{Part}
 use Rattle.wb_command_line.specs.declared.command_line.following.TheConstants.{MOST_FOLLOWED}
 use Rattle.wb_command_line.specs.declared.command_line.sets.TheConstants.{MOST_STATES, MOST_TOGETHER}
 use Rattle.wb_command_line.specs.declared.command.Command.{Command}
+use Rattle.wb_command_line.specs.declared.command.Search.{Search}
+use Rattle.wb_command_line.specs.declared.command.Search.TheVariants.{Least, All, Ends, Sets, EverySet}
 use Rattle.wb_command_line.specs.declared.command.Task.{Task}
-use Rattle.wb_command_line.specs.declared.command.Task.TheVariants.{Run, Size, Lengths, Sweep, All, Sets, EverySet, Check, CheckAll, CheckSets, CheckEverySet}
+use Rattle.wb_command_line.specs.declared.command.Task.TheVariants.{Run, Size, Lengths, Sweep, Check}
 
 -- attempts count from 1, and the second comes after the first
 abbrev pub are_in_order : ℕ → ℕ → Bool
@@ -38,9 +40,16 @@ may_fail_together most = nat_le 1 most && nat_le most MOST_TOGETHER
 abbrev pub may_be_met : ℕ → Bool
 may_be_met states = nat_le 1 states && nat_le states MOST_STATES
 
+-- of the sets that are tried, as many attempts fail at most as may, or as many states are met at most
+abbrev pub is_search_in_range : Search → Bool
+is_search_in_range (Least failures) = true
+is_search_in_range (All failures) = true
+is_search_in_range (Ends failures) = true
+is_search_in_range (Sets most) = may_fail_together most
+is_search_in_range (EverySet states) = may_be_met states
+
 -- a limit, the number of an attempt, or a rate is no greater than the greatest length of a heap; of two attempts,
--- which are in order, the second is; of a set they all are; of a part its last number is; and of the sets that are tried, as many
--- attempts fail at most as may, or as many states are met at most
+-- which are in order, the second is; of a set they all are; and of a part its last number is
 abbrev pub is_in_range : Task → Bool
 is_in_range (Run Unlimited) = true
 is_in_range (Run (Limit l)) = nat_le l CEILING
@@ -51,14 +60,8 @@ is_in_range (Run (Pair i j)) = are_in_order i j && nat_le j CEILING
 is_in_range (Run (Set numbers)) = are_of_set numbers
 is_in_range Size = true
 is_in_range Lengths = true
-is_in_range (Sweep failures part) = nat_le part.to CEILING
-is_in_range (All failures part) = nat_le part.to CEILING
-is_in_range (Sets most part) = may_fail_together most && nat_le part.to CEILING
-is_in_range (EverySet states part) = may_be_met states && nat_le part.to CEILING
-is_in_range (Check failures) = true
-is_in_range (CheckAll failures) = true
-is_in_range (CheckSets most) = may_fail_together most
-is_in_range (CheckEverySet states) = may_be_met states
+is_in_range (Sweep search part) = is_search_in_range search && nat_le part.to CEILING
+is_in_range (Check search) = is_search_in_range search
 
 -- a part has a number
 abbrev pub has_number : Part → Bool
@@ -66,10 +69,7 @@ has_number part = nat_le part.from part.to
 
 -- the part that a task names, where it names one, has a number
 abbrev pub is_filled : Task → Bool
-is_filled (Sweep failures part) = has_number part
-is_filled (All failures part) = has_number part
-is_filled (Sets most part) = has_number part
-is_filled (EverySet states part) = has_number part
+is_filled (Sweep search part) = has_number part
 is_filled _ = true
 
 -- the minimum length and the step are multiples of 16

@@ -32,6 +32,9 @@ also_option = number_option (codes "also") 0 CEILING
 abbrev pub every_option : Rule
 every_option = number_option (codes "every") 0 CEILING
 
+abbrev pub fail_from_option : Rule
+fail_from_option = number_option (codes "fail-from") 0 CEILING
+
 -- `--set LIST`, where LIST is any text as far as clap knows
 abbrev pub set_option : Rule
 set_option = record (new_rule (codes "set")) { long = Some (codes "set"); value_names = 1 }
@@ -64,11 +67,17 @@ picture_option = record (new_rule (codes "picture")) { long = Some (codes "pictu
 abbrev pub rates_flag : Rule
 rates_flag = flag (codes "rates") (codes "every")
 
+abbrev pub persistent_flag : Rule
+persistent_flag = flag (codes "persistent") (codes "persistent")
+
 abbrev pub pairs_flag : Rule
 pairs_flag = flag (codes "pairs") (codes "pairs")
 
 abbrev pub all_flag : Rule
 all_flag = flag (codes "all") (codes "all")
+
+abbrev pub ends_flag : Rule
+ends_flag = flag (codes "ends") (codes "ends")
 
 abbrev pub from_option : Rule
 from_option = number_option (codes "from") 0 CEILING
@@ -98,13 +107,13 @@ abbrev pub set_options : List Rule
 set_options = failures_option ∷ sets_flag ∷ states_option ∷ []
 
 abbrev pub failure_options : List Rule
-failure_options = rates_flag ∷ pairs_flag ∷ all_flag ∷ set_options
+failure_options = rates_flag ∷ persistent_flag ∷ pairs_flag ∷ all_flag ∷ ends_flag ∷ set_options
 
 abbrev pub part_options : List Rule
 part_options = from_option ∷ to_option ∷ []
 
 abbrev pub rule_options : List Rule
-rule_options = limit_option ∷ fail_option ∷ also_option ∷ every_option ∷ set_option ∷ []
+rule_options = limit_option ∷ fail_option ∷ also_option ∷ every_option ∷ fail_from_option ∷ set_option ∷ []
 
 -- those that ask for the steps of a run
 abbrev pub following_options : List Rule
@@ -136,9 +145,9 @@ with_rules = fold with_rule
 abbrev pub line_with : Text → List Rule → App
 line_with name options = with_rules (new_app name) (file_argument ∷ options ++ shared_options)
 
--- `NAME [--limit L] [--fail N] [--also J] [--every N] [--set LIST] [--follow] [--follow-steps N] [--budget B] [--min M] [--step G] [--moving]
--- [--json] [--picture FILE] [FILE]`, the same with `--every`, `--pairs`, `--all`, `--failures K`, `--sets` and `--states N` in the place of a
--- rule and of the steps, with these and `[--from I] [--to J]`, or with none of them
+-- `NAME [--limit L] [--fail N] [--also J] [--every N] [--fail-from N] [--set LIST] [--follow] [--follow-steps N] [--budget B] [--min M]
+-- [--step G] [--moving] [--json] [--picture FILE] [FILE]`, the same with `--every`, `--persistent`, `--pairs`, `--all`, `--ends`,
+-- `--failures K`, `--sets` and `--states N` in the place of a rule and of the steps, with these and `[--from I] [--to J]`, or with none
 abbrev pub subcommand_line : Text → Takes → App
 subcommand_line name takes = line_with name (own_options takes)
 

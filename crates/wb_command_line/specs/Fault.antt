@@ -25,9 +25,8 @@ pub record IsMislisted (words : List Text) : Type 0 where
   pub faultless : fault_of command_line words ≡ []
   pub mislisted : spell_no_list words ≡ true
 
--- clap takes the words, and a set that they give is a list, but they give more than one of a limit, the number of an attempt, a rate and
--- a set; or ask for pairs together with rates or with all that is found, or for sets together with any of these, or for sets of so many
--- attempts together with all sets
+-- clap takes the words, and a set that they give is a list, but they give more than one of a limit, the number of an attempt, a rate, the
+-- number of the first attempt that fails and a set; or ask for more than goes together of what is to be tried
 pub record IsDoubled (words : List Text) : Type 0 where
   pub faultless : fault_of command_line words ≡ []
   pub listed : spell_no_list words ≡ false

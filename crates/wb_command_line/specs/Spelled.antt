@@ -8,7 +8,7 @@ use Rattle.clap.specs.Words.{Row, Text, fault_of, first_of, one_of, subcommand_o
 use Rattle.wb_model.specs.declared.failures.Failures.{Failures}
 use Rattle.wb_model.specs.declared.failures.Failures.TheVariants as failures
 use Rattle.wb_model.specs.declared.heap.Rule.{Rule}
-use Rattle.wb_model.specs.declared.heap.Rule.TheVariants.{Every, Limit, Number, Pair, Set, Unlimited}
+use Rattle.wb_model.specs.declared.heap.Rule.TheVariants.{Every, From, Limit, Number, Pair, Set, Unlimited}
 use Rattle.wb_model.specs.declared.heap.Shape.{Shape}
 use Rattle.wb_model.specs.declared.part.Part.{Part}
 use Rattle.wb_model.specs.declared.limits.TheConstants.{CEILING, DEFAULT_BUDGET, DEFAULT_MINIMUM, DEFAULT_STEP}
@@ -35,16 +35,19 @@ decimal text = digits_value 10 (without_leading_plus text)
 abbrev pub number_of : Text → List Row → Option ℕ
 number_of option rows = option_map decimal (one_of option rows)
 
--- more than one of three numbers is there, whatever they are
-abbrev pub are_several : Option ℕ → Option ℕ → Option ℕ → Bool
-are_several a b c =
-    (is_some a && is_some b) || ((is_some a && is_some c) || (is_some b && is_some c))
+-- one of three numbers is there, whichever that is
+abbrev pub is_any : Option ℕ → Option ℕ → Option ℕ → Bool
+is_any a b c = is_some a || (is_some b || is_some c)
 
--- more than one of a limit, the number of an attempt and a rate is given
+-- more than one of four is
+abbrev pub are_several : Option ℕ → Option ℕ → Option ℕ → Option ℕ → Bool
+are_several a b c d = (is_some a && is_any b c d) || ((is_some b && (is_some c || is_some d)) || (is_some c && is_some d))
+
+-- more than one of a limit, the number of an attempt, a rate, and the number of the first attempt that fails is given
 abbrev pub gives_several_numbers : List Row → Bool
 gives_several_numbers rows =
     are_several (number_of (codes "limit") rows) (number_of (codes "fail") rows)
-    (number_of (codes "every") rows)
+    (number_of (codes "every") rows) (number_of (codes "fail-from") rows)
 
 -- the text of a set was given, and it is no list
 abbrev pub gives_no_list : List Row → Bool
@@ -54,15 +57,15 @@ gives_no_list rows = option_map_or (λ text. not (is_list text)) (first_of (code
 abbrev pub set_of : List Row → Option (List ℕ)
 set_of rows = option_map numbers_in (first_of (codes "set") rows)
 
--- a rule is there: a limit, the number of an attempt, or a rate
-abbrev pub is_any : Option ℕ → Option ℕ → Option ℕ → Bool
-is_any a b c = is_some a || (is_some b || is_some c)
+-- one of the four is given
+abbrev pub gives_number : List Row → Bool
+gives_number rows =
+    is_some (number_of (codes "limit") rows)
+    || is_any (number_of (codes "fail") rows) (number_of (codes "every") rows) (number_of (codes "fail-from") rows)
 
--- more than one of a limit, the number of an attempt, a rate and a set is given
+-- more than one of these four and a set is given
 abbrev pub gives_several : List Row → Bool
-gives_several rows =
-    gives_several_numbers rows || (is_some (set_of rows)
-    && is_any (number_of (codes "limit") rows) (number_of (codes "fail") rows) (number_of (codes "every") rows))
+gives_several rows = gives_several_numbers rows || (is_some (set_of rows) && gives_number rows)
 
 -- a second number is there, and no first that it comes after
 abbrev pub are_disordered : Option ℕ → Option ℕ → Bool
@@ -77,29 +80,30 @@ gives_disorder rows = are_disordered (number_of (codes "fail") rows) (number_of 
 abbrev pub failing_rule : Option ℕ → ℕ → Rule
 failing_rule second first = option_map_or (Pair first) second (Number first)
 
--- the rule of what is there of a limit, a number, a rate and a set, where no more than one of them is, and a second number only
--- beside the first
-abbrev pub rule_by : Option ℕ → Option ℕ → Option ℕ → Option ℕ → Option (List ℕ) → Rule
-rule_by limit number second rate set =
+-- the rule of what is there of a limit, a number, a rate, the number of the first that fails and a set, where no more than one of them
+-- is, and a second number only beside the first
+abbrev pub rule_by : Option ℕ → Option ℕ → Option ℕ → Option ℕ → Option ℕ → Option (List ℕ) → Rule
+rule_by limit number second rate first set =
     option_map_or Limit limit
-    (option_map_or (failing_rule second) number (option_map_or Every rate (option_map_or Set set Unlimited)))
+    (option_map_or (failing_rule second) number
+    (option_map_or Every rate (option_map_or From first (option_map_or Set set Unlimited))))
+
+-- by what is given, beside such a second number and such a set
+abbrev pub rule_beside : Option ℕ → Option (List ℕ) → List Row → Rule
+rule_beside second set rows =
+    rule_by (number_of (codes "limit") rows) (number_of (codes "fail") rows) second
+    (number_of (codes "every") rows) (number_of (codes "fail-from") rows) set
 
 abbrev pub rule_of : List Row → Rule
-rule_of rows =
-    rule_by (number_of (codes "limit") rows) (number_of (codes "fail") rows)
-    (number_of (codes "also") rows) (number_of (codes "every") rows) (set_of rows)
+rule_of rows = rule_beside (number_of (codes "also") rows) (set_of rows) rows
 
 -- the rule of the others, whatever second number is given
 abbrev pub first_rule_of : List Row → Rule
-first_rule_of rows =
-    rule_by (number_of (codes "limit") rows) (number_of (codes "fail") rows) None
-    (number_of (codes "every") rows) (set_of rows)
+first_rule_of rows = rule_beside None (set_of rows) rows
 
 -- and whatever set
 abbrev pub numbered_rule_of : List Row → Rule
-numbered_rule_of rows =
-    rule_by (number_of (codes "limit") rows) (number_of (codes "fail") rows) None
-    (number_of (codes "every") rows) None
+numbered_rule_of rows = rule_beside None None rows
 
 -- the rule lets one attempt fail, and the other comes after it
 abbrev pub comes_before : Rule → ℕ → Bool
@@ -140,27 +144,30 @@ met_of rows = unwrap_or (number_of (codes "states") rows) DEFAULT_STATES
 abbrev pub states_of : List Row → Option ℕ
 states_of rows = if flag_of (codes "sets") rows then Some (met_of rows) else None
 
--- pairs are asked for together with rates, or with all that is found; or sets together with any of these
-abbrev pub are_both_sorts : Bool → Bool → Bool → Bool → Bool
-are_both_sorts rates pairs all sets = (pairs && (rates || all)) || (sets && (rates || (pairs || all)))
+-- more than one is asked for of rates, failures that persist, pairs and sets; or a list of numbers together with pairs or sets
+abbrev pub are_both_sorts : Bool → Bool → Bool → Bool → Bool → Bool
+are_both_sorts rates persistent pairs listed sets =
+    (rates && persistent) || ((pairs && (rates || (persistent || listed))) || (sets && (rates || (persistent || (pairs || listed)))))
 
--- so are they where sets of so many attempts are asked for, or all sets; or both of these are
-abbrev pub are_too_many : Bool → Bool → Bool → Bool → Bool → Bool
-are_too_many rates pairs all few every_set = (few && every_set) || are_both_sorts rates pairs all (few || every_set)
+-- so are they where all that is found is asked for, or each number's end, and sets of so many attempts, or all sets; or both of these are
+abbrev pub are_too_many : Bool → Bool → Bool → Bool → Bool → Bool → Bool → Bool
+are_too_many rates persistent pairs all ends few every_set =
+    (few && every_set) || ((all && ends) || are_both_sorts rates persistent pairs (all || ends) (few || every_set))
 
 -- the options of a subcommand that tries failures ask for that
 abbrev pub gives_too_many : List Row → Bool
 gives_too_many rows =
-    are_too_many (flag_of (codes "rates") rows) (flag_of (codes "pairs") rows) (flag_of (codes "all") rows) (is_some (most_of rows)) (is_some (states_of rows))
+    are_too_many (flag_of (codes "rates") rows) (flag_of (codes "persistent") rows) (flag_of (codes "pairs") rows)
+    (flag_of (codes "all") rows) (flag_of (codes "ends") rows) (is_some (most_of rows)) (is_some (states_of rows))
 
--- the failures that are to be tried: rates with the flag `--every`, pairs of attempts with `--pairs`, and single attempts
--- with neither
-abbrev pub failures_by : Bool → Bool → Failures
-failures_by rates pairs =
-    if rates then failures.Every else if pairs then failures.Pairs else failures.Single
+-- the failures that are to be tried: rates with the flag `--every`, those that persist with `--persistent`, pairs of attempts with
+-- `--pairs`, and single attempts with none of them
+abbrev pub failures_by : Bool → Bool → Bool → Failures
+failures_by rates persistent pairs =
+    if rates then failures.Every else if persistent then failures.Persistent else if pairs then failures.Pairs else failures.Single
 
 abbrev pub failures_of : List Row → Failures
-failures_of rows = failures_by (flag_of (codes "rates") rows) (flag_of (codes "pairs") rows)
+failures_of rows = failures_by (flag_of (codes "rates") rows) (flag_of (codes "persistent") rows) (flag_of (codes "pairs") rows)
 
 -- all numbers
 abbrev pub whole : Part
@@ -174,7 +181,7 @@ part_of rows = record {
 }
 
 abbrev pub trial_of : List Row → Trial
-trial_of rows = record { failures = failures_of rows; part = part_of rows; all = flag_of (codes "all") rows; most = most_of rows; states = states_of rows }
+trial_of rows = record { failures = failures_of rows; part = part_of rows; all = flag_of (codes "all") rows; ends = flag_of (codes "ends") rows; most = most_of rows; states = states_of rows }
 
 -- what a subcommand asks for, by its name and matches
 abbrev pub task_of : Text → List Row → Option Task
@@ -218,8 +225,8 @@ gives_more_than_one taking.Failures rows = gives_too_many rows
 gives_more_than_one taking.Part rows = gives_too_many rows
 gives_more_than_one taking.Neither rows = false
 
--- the subcommand takes a rule, and more than one of a limit, a number, a rate and a set is given to it; or failures, and pairs are
--- asked for together with rates or with all that is found, or sets with any of these, or sets of so many attempts with all sets
+-- the subcommand takes a rule, and more than one of a limit, a number, a rate, a first number and a set is given to it; or failures, and
+-- more is asked for than goes together (`are_too_many`)
 abbrev pub doubles : Text → List Row → Bool
 doubles name rows =
     option_map_or (λ s. gives_more_than_one s.takes rows) (subcommand_named name) false
@@ -250,7 +257,7 @@ spelled words = option_and_then command_of (subcommand_of command_line words)
 abbrev pub spell_no_list : List Text → Bool
 spell_no_list words = option_map_or (λ p. mislists p.0 p.1) (subcommand_of command_line words) false
 
--- they give more than one of a limit, a number, a rate and a set, or flags that don't go together
+-- they give more than one of a limit, a number, a rate, a first number and a set, or flags that don't go together
 abbrev pub spell_both : List Text → Bool
 spell_both words = option_map_or (λ p. doubles p.0 p.1) (subcommand_of command_line words) false
 

@@ -6,30 +6,41 @@ use Rattle.clap.specs.Words.{Text}
 use Rattle.wb_model.specs.declared.failures.Failures.{Failures}
 use Rattle.wb_model.specs.declared.heap.Rule.{Rule}
 use Rattle.wb_model.specs.declared.part.Part.{Part}
+use Rattle.wb_command_line.specs.declared.command.Search.{Search}
+use Rattle.wb_command_line.specs.declared.command.Search.TheVariants.{Least, All, Ends, Sets, EverySet}
 use Rattle.wb_command_line.specs.declared.command.Task.{Task}
-use Rattle.wb_command_line.specs.declared.command.Task.TheVariants.{Run, Size, Lengths, Sweep, All, Sets, EverySet, Check, CheckAll, CheckSets, CheckEverySet}
+use Rattle.wb_command_line.specs.declared.command.Task.TheVariants.{Run, Size, Lengths, Sweep, Check}
 use Rattle.wb_command_line.specs.declared.command_line.parser.Takes.{Takes}
 use Rattle.wb_command_line.specs.declared.command_line.parser.Takes.TheVariants as taking
 
--- what is to be tried: which failures, which of their numbers, and whether the run under each is told of, or the least alone that
--- leaks or panics; how many attempts fail together at most, where sets of so many are tried; and how many states are met at most, where
--- all sets are
+-- what is to be tried: which failures, which of their numbers, and whether each is listed whose run leaks, panics or is cut, or every
+-- one, or the least alone is found; how many attempts fail together at most, where sets of so many are tried; and how many states are met
+-- at most, where all sets are
 pub record Trial : Type 0 where
   pub failures : Failures
   pub part : Part
   pub all : Bool
+  pub ends : Bool
   pub most : Option ℕ
   pub states : Option ℕ
 
+-- what is searched for among single failures: a list of them, or the least
+abbrev pub search_listed : Bool → Bool → Failures → Search
+search_listed all ends failures = if ends then Ends failures else if all then All failures else Least failures
+
+-- and among sets, where these are asked for
+abbrev pub search_by : Option ℕ → Option ℕ → Search → Search
+search_by states most single = option_map_or EverySet states (option_map_or Sets most single)
+
+abbrev pub search_of : Trial → Search
+search_of trial = search_by trial.states trial.most (search_listed trial.all trial.ends trial.failures)
+
 abbrev pub sweep_task : Trial → Task
-sweep_task trial =
-    option_map_or (λ states. EverySet states trial.part) trial.states
-    (option_map_or (λ most. Sets most trial.part) trial.most (if trial.all then All trial.failures trial.part else Sweep trial.failures trial.part))
+sweep_task trial = Sweep (search_of trial) trial.part
 
 -- of all their numbers
 abbrev pub check_task : Trial → Task
-check_task trial =
-    option_map_or CheckEverySet trial.states (option_map_or CheckSets trial.most (if trial.all then CheckAll trial.failures else Check trial.failures))
+check_task trial = Check (search_of trial)
 
 pub record Subcommand : Type 0 where
   pub name : Text

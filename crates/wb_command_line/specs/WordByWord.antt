@@ -29,11 +29,16 @@ is_flag _ = false
 abbrev pub shared_names : List Text
 shared_names = codes "budget" ∷ codes "min" ∷ codes "step" ∷ codes "moving" ∷ codes "json" ∷ codes "picture" ∷ []
 
+-- those that say which failures are tried
+abbrev pub failure_names : List Text
+failure_names =
+    codes "every" ∷ codes "persistent" ∷ codes "pairs" ∷ codes "all" ∷ codes "ends" ∷ codes "failures" ∷ codes "sets" ∷ codes "states" ∷ []
+
 -- those that a subcommand has beside them
 abbrev pub own_names : Takes → List Text
-own_names taking.Rule = codes "limit" ∷ codes "fail" ∷ codes "also" ∷ codes "every" ∷ codes "set" ∷ codes "follow" ∷ codes "follow-steps" ∷ []
-own_names taking.Failures = codes "every" ∷ codes "pairs" ∷ codes "all" ∷ codes "failures" ∷ codes "sets" ∷ codes "states" ∷ []
-own_names taking.Part = codes "every" ∷ codes "pairs" ∷ codes "all" ∷ codes "failures" ∷ codes "sets" ∷ codes "states" ∷ codes "from" ∷ codes "to" ∷ []
+own_names taking.Rule = codes "limit" ∷ codes "fail" ∷ codes "also" ∷ codes "every" ∷ codes "fail-from" ∷ codes "set" ∷ codes "follow" ∷ codes "follow-steps" ∷ []
+own_names taking.Failures = failure_names
+own_names taking.Part = failure_names ++ codes "from" ∷ codes "to" ∷ []
 own_names taking.Neither = []
 
 -- the options of a subcommand, by what it takes
@@ -63,7 +68,7 @@ file_named _ = None
 
 -- one attempt at a time is tried, of all that there are
 abbrev pub plain_trial : Trial
-plain_trial = record { failures = Single; part = whole; all = false; most = None; states = None }
+plain_trial = record { failures = Single; part = whole; all = false; ends = false; most = None; states = None }
 
 -- a task on the file, or on standard input, with the default budget and shape, as lines, without a picture, and no step is followed
 abbrev pub plain_command : Task → Option Text → Command

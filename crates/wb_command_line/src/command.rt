@@ -12,6 +12,24 @@ use wb_model::failures::Failures;
 use wb_model::heap::{Rule, Shape};
 use wb_model::part::Part;
 
+/// What a sweep looks for among failures.
+#[derive(Clone, Copy, Debug, PartialEq, Eq)]
+pub enum Search {
+    /// The least of these failures whose run leaks or panics, and that run. A failure is an attempt that fails, a rate at which
+    /// attempts fail, an attempt from which on all fail, or two attempts that fail.
+    Least(Failures),
+    /// How the run ends under each of these failures where it leaks, panics or is cut, and the run under the least that leaks
+    /// or panics.
+    All(Failures),
+    /// The same under every one of these failures, also where the run is fine.
+    Ends(Failures),
+    /// The least set of at most so many attempts, from 1 to 8, whose run leaks or panics if they fail together, and that run.
+    Sets(u32),
+    /// The least set of attempts, however many, whose run leaks or panics if they fail together, and that run. At most so many
+    /// states are met on the way, from 1 to 10,000,000.
+    EverySet(u32),
+}
+
 /// What is to be done with the script.
 #[derive(Debug, Drop)]
 pub enum Task {
@@ -21,26 +39,10 @@ pub enum Task {
     Size,
     /// How the run ends in a heap of every length, and the least length whose run leaks or panics.
     Lengths,
-    /// The least of these failures that leaks or panics, and the run in which it does: the number of an attempt that
-    /// fails, the rate at which attempts fail, or the numbers of two that do. Those are tried that the part has.
-    Sweep(Failures, Part),
-    /// How the run ends under each of these failures, of those that the part has, where it leaks, panics or is cut; and the
-    /// run under the least that leaks or panics.
-    All(Failures, Part),
-    /// The least set of at most so many attempts that leaks or panics if they fail together, and the run in which it does: from 1
-    /// to 8. Those sets are tried whose least number the part has.
-    Sets(u32, Part),
-    /// The least set of attempts, however many, that leaks or panics if they fail together, and the run in which it does. At most so
-    /// many states are met on the way, from 1 to 10,000,000. Those sets are tried whose least number the part has.
-    EverySet(u32, Part),
-    /// `Size`, and then `Sweep` with all these failures.
-    Check(Failures),
-    /// `Size`, and then `All` with all these failures.
-    CheckAll(Failures),
-    /// `Size`, and then `Sets` with all numbers.
-    CheckSets(u32),
-    /// `Size`, and then `EverySet` with all numbers.
-    CheckEverySet(u32),
+    /// A search among the failures whose number the part has. That of a set is its least number.
+    Sweep(Search, Part),
+    /// `Size`, and then a search among all failures.
+    Check(Search),
 }
 
 /// A command: what is to be done, and with what.
@@ -68,9 +70,9 @@ pub enum CommandFault {
     /// user.
     #[error("{0}")]
     Usage(clap::Error),
-    /// `clap` takes the words, but they give more than one of a limit, the number of an attempt, a rate and a set; or ask for
-    /// pairs to be tried and for rates, or for each failure to be told of; or for sets to be tried and for any of these; or for sets
-    /// of at most so many attempts and for all sets. It comes before `Also`.
+    /// `clap` takes the words, but they give more than one of a limit, the number of an attempt, that of the first that fails, a
+    /// rate and a set; or ask for more than one of rates, failures that persist, pairs, sets of at most so many attempts and all
+    /// sets; or for a list of numbers together with pairs or sets, or for both lists. It comes before `Also`.
     #[error("error: two of these options don't go together\n")]
     Both,
     /// `clap` takes the words, but they give the number of a second attempt that fails, and not that of a first, or a first

@@ -1,10 +1,9 @@
-//! How the words of a command line are read: `workbench run [--limit L | --fail N [--also J] | --every N | --set LIST] [--follow]
-//! [--follow-steps N] [--budget B] [--min M] [--step G] [--moving] [--json] [--picture FILE] [FILE]`, the same with `--every`, `--pairs`,
-//! `--all`, `--failures K`, `--sets` and `--states N` in the place of a rule after `sweep` and `check`, after `sweep` with `[--from I]
-//! [--to J]` too, and with none of them after `size` and `lengths`. Nothing is opened or run here.
+//! How the words of a command line are read: `workbench run [--limit L | --fail N [--also J] | --every N | --fail-from N | --set LIST]
+//! [--follow] [--follow-steps N] [--budget B] [--min M] [--step G] [--moving] [--json] [--picture FILE] [FILE]`, the same with `--every`,
+//! `--persistent`, `--pairs`, `--all`, `--ends`, `--failures K`, `--sets` and `--states N` in the place of a rule after `sweep` and
+//! `check`, after `sweep` with `[--from I] [--to J]` too, and with none of them after `size` and `lengths`. Nothing is opened or run here.
 ghost use Rattle.std.specs.Prelude.{◌≡◌, ◌≤◌, All, IfErr, IfOk, IsSome, IsTrue, List, Some, OnErr, OnOk, codes, false};
-ghost use Rattle.std.specs.Prelude.{◌&&◌, ◌||◌, IfSome, if◌then◌else◌, is_some, map, true};
-ghost use Rattle.std.specs.Option.{option_map_or};
+ghost use Rattle.std.specs.Prelude.{map, true};
 ghost use Rattle.std.specs.Str.{IsUtf8};
 ghost use Rattle.clap.specs.Words.{Text, first_of, found_of, rows_of, takes};
 ghost use Rattle.wb_model.specs.heap.Space.{is_shape};
@@ -12,10 +11,8 @@ ghost use Rattle.wb_command_line.specs.Command.{has_number, is_answerable, is_fi
 ghost use Rattle.wb_command_line.specs.CommandLine.{command_line, joined_level};
 ghost use Rattle.wb_command_line.specs.Fault.{IsAfterUsage, IsFaultOf, IsFaultOfOptions, IsFaultOfTask};
 ghost use Rattle.wb_command_line.specs.Passed.{RowsPass};
-ghost use Rattle.wb_command_line.specs.Spelled.{IsMeantBy, IsSpelledBy, are_both_sorts, are_too_many};
-ghost use Rattle.wb_command_line.specs.Spelled.{budget_of as spelled_budget, states_of};
-ghost use Rattle.wb_command_line.specs.Spelled.{disorders, doubles, failures_by, failures_of as spelled_failures};
-ghost use Rattle.wb_command_line.specs.Spelled.{flag_of, gives_too_many, mislists, most_of, part_of as spelled_part};
+ghost use Rattle.wb_command_line.specs.Spelled.{IsMeantBy, IsSpelledBy, budget_of as spelled_budget, disorders, doubles};
+ghost use Rattle.wb_command_line.specs.Spelled.{flag_of, gives_too_many, mislists, part_of as spelled_part};
 ghost use Rattle.wb_command_line.specs.Spelled.{shape_of as spelled_shape, spell_no_list};
 ghost use Rattle.wb_command_line.specs.Spelled.{task_of, trial_of as spelled_trial};
 ghost use Rattle.wb_command_line.specs.Subcommands.{check_task, subcommand_named, sweep_task};
@@ -27,6 +24,7 @@ mod long_help;
 mod number_help;
 mod parser;
 mod rules;
+mod searches;
 mod set_list;
 mod sets;
 
@@ -35,13 +33,12 @@ use crate::command_line::following::follow_in;
 use crate::command_line::number_help::NumberHelp;
 use crate::command_line::parser::parser;
 use crate::command_line::rules::rule_in;
+use crate::command_line::searches::search_in;
 pub use crate::command_line::sets::MOST_STATES;
-use crate::command_line::sets::{MOST_TOGETHER, most_in, states_in};
 use crate::file_name::FileName;
 use clap::ArgMatches;
 use std::alloc::{AllocError, Global};
 use std::convert::AsStr;
-use wb_model::failures::Failures;
 use wb_model::heap::Shape;
 use wb_model::limits::{CEILING, DEFAULT_BUDGET, DEFAULT_MINIMUM, DEFAULT_STEP, LARGEST_BUDGET};
 use wb_model::part::Part;
@@ -53,9 +50,9 @@ const GRANULE: u32 = 16;
 /// words don't say has its default, and the numbers are in their ranges.
 ///
 /// Words that `clap` doesn't take, and calls for help or the version, are `Usage`. Where it takes them, a set whose text is no
-/// list is `Usage` too. Else more than one of a limit, the number of an attempt, a rate and a set is `Both`, and so are pairs
-/// together with rates or with all that is found, and sets with any of these, and sets of so many attempts with all sets. Else the number of a second attempt is `Also` where that of a first is
-/// missing, 0 or not less; else a minimum length or a step that is no multiple of 16 is `Shape`; and else a part that ends
+/// list is `Usage` too. Else more than one of a limit, the number of an attempt, that of the first that fails, a rate and a set is
+/// `Both`; and so is more than one of rates, failures that persist, pairs, sets of so many attempts and all sets, and a list of numbers
+/// together with pairs or sets, or with the other list. Else the number of a second attempt is `Also` where that of a first is missing, 0 or not less; else a minimum length or a step that is no multiple of 16 is `Shape`; and else a part that ends
 /// before it begins is `Range`. `NoMemory` comes where a growth was refused, of the workbench or of `clap`, and says nothing of
 /// the words.
 pub fn command<'a, S: AsStr>(alloc: Global, words: &'a [S]) -> Result<Command, CommandFault>
@@ -96,7 +93,7 @@ fn command_in(alloc: Global, name: &str, options: &ArgMatches) -> Result<Command
 }
 
 /// What a subcommand asks for, or `Usage`, `Both` or `Also`.
-#[tactic(auto, using(crate::proofs::CommandLineLemmas::last_doubled))]
+#[tactic(auto, using(crate::proofs::CommandLineLemmas::last_doubled, crate::proofs::CommandLineLemmas::last_task))]
 fn task_in(alloc: Global, name: &str, options: &ArgMatches) -> Result<Task, CommandFault>
     requires named { IsSome (subcommand_named name.now) }
     requires passed { RowsPass joined_level.rules (rows_of (found_of options.now)) }
@@ -125,11 +122,8 @@ fn check_part_of(task: &Task) -> Result<(), CommandFault>
     ensures empty { OnErr result (is_filled task.now ≡ false) }
 {
     match task {
-        Task::Sweep(_, part) | Task::All(_, part) => check_part(*part),
-        Task::Sets(_, part) | Task::EverySet(_, part) => check_part(*part),
-        Task::Run(_) | Task::Size | Task::Lengths => Ok(()),
-        Task::Check(_) | Task::CheckAll(_) => Ok(()),
-        Task::CheckSets(_) | Task::CheckEverySet(_) => Ok(()),
+        Task::Sweep(_, part) => check_part(*part),
+        Task::Run(_) | Task::Size | Task::Lengths | Task::Check(_) => Ok(()),
     }
 }
 
@@ -156,36 +150,8 @@ fn sweep_in(options: &ArgMatches) -> Result<Task, CommandFault>
     ensures fault { IfErr result (λ fault. fault ≡ CommandFault.Both) }
     ensures both { OnErr result (gives_too_many (rows_of (found_of options.now)) ≡ true) }
 {
-    let most = most_in(options);
-    let states = states_in(options);
-    let failures = failures_in(options, most.is_some(), states.is_some())?;
-    let (part, all) = (part_in(options), all_in(options));
-    Ok(sweep_by(failures, part, all, most, states))
-}
-
-/// A sweep over the numbers of a part, of the least failure or of all that are found; or over sets of at most so many attempts, or over
-/// all sets, for which so many states are met at most.
-fn sweep_by(
-    failures: Failures,
-    part: Part,
-    all: bool,
-    most: Option<u32>,
-    states: Option<u32>,
-) -> Task
-    requires part { part.to ≤ CEILING }
-    requires most { IfSome most (λ k. (1 ≤ k) × (k ≤ MOST_TOGETHER)) }
-    requires states { IfSome states (λ n. (1 ≤ n) × (n ≤ MOST_STATES)) }
-    ensures is { result ≡ option_map_or (λ n. Task.EverySet n part) states
-        (option_map_or (λ k. Task.Sets k part) most
-        (if all then Task.All failures part else Task.Sweep failures part)) }
-    ensures range { IsTrue (is_in_range result) }
-{
-    match (states, most) {
-        (Some(states), _) => Task::EverySet(states, part),
-        (None, Some(most)) => Task::Sets(most, part),
-        (None, None) if all => Task::All(failures, part),
-        (None, None) => Task::Sweep(failures, part),
-    }
+    let search = search_in(options)?;
+    Ok(Task::Sweep(search, part_in(options)))
 }
 
 /// What the options of `check` ask for, or `Both`.
@@ -198,94 +164,7 @@ fn check_in(options: &ArgMatches) -> Result<Task, CommandFault>
     ensures fault { IfErr result (λ fault. fault ≡ CommandFault.Both) }
     ensures both { OnErr result (gives_too_many (rows_of (found_of options.now)) ≡ true) }
 {
-    let most = most_in(options);
-    let states = states_in(options);
-    let failures = failures_in(options, most.is_some(), states.is_some())?;
-    Ok(check_by(failures, all_in(options), most, states))
-}
-
-/// A check of the least failure, or of all that are found; or of sets of at most so many attempts, or of all sets.
-fn check_by(failures: Failures, all: bool, most: Option<u32>, states: Option<u32>) -> Task
-    requires most { IfSome most (λ k. (1 ≤ k) × (k ≤ MOST_TOGETHER)) }
-    requires states { IfSome states (λ n. (1 ≤ n) × (n ≤ MOST_STATES)) }
-    ensures is { result ≡ option_map_or Task.CheckEverySet states
-        (option_map_or Task.CheckSets most
-        (if all then Task.CheckAll failures else Task.Check failures)) }
-    ensures range { IsTrue (is_in_range result) }
-{
-    match (states, most) {
-        (Some(states), _) => Task::CheckEverySet(states),
-        (None, Some(most)) => Task::CheckSets(most),
-        (None, None) if all => Task::CheckAll(failures),
-        (None, None) => Task::Check(failures),
-    }
-}
-
-/// The failures that the options of `sweep` and `check` ask to be tried, which ask for sets of so many attempts or not, and for all
-/// sets or not; or `Both`.
-fn failures_in(
-    options: &ArgMatches,
-    is_of_few: bool,
-    is_of_every_set: bool,
-) -> Result<Failures, CommandFault>
-    requires passed { RowsPass joined_level.rules (rows_of (found_of options.now)) }
-    requires few { is_of_few ≡ is_some (most_of (rows_of (found_of options.now))) }
-    requires every { is_of_every_set ≡ is_some (states_of (rows_of (found_of options.now))) }
-    ensures ok { IfOk result
-        (λ failures. failures ≡ spelled_failures (rows_of (found_of options.now))) }
-    ensures alone { OnOk result (gives_too_many (rows_of (found_of options.now)) ≡ false) }
-    ensures fault { IfErr result (λ fault. fault ≡ CommandFault.Both) }
-    ensures both { OnErr result (gives_too_many (rows_of (found_of options.now)) ≡ true) }
-{
-    let rates = options.get_flag("rates");
-    let pairs = options.get_flag("pairs");
-    let all = options.get_flag("all");
-    failures_or_sets(rates, pairs, all, is_of_few, is_of_every_set)
-}
-
-/// The failures that these flags ask to be tried, or `Both`: sets of so many attempts don't go together with all sets.
-fn failures_or_sets(
-    rates: bool,
-    pairs: bool,
-    all: bool,
-    is_of_few: bool,
-    is_of_every_set: bool,
-) -> Result<Failures, CommandFault>
-    ensures ok { IfOk result (λ failures. failures ≡ failures_by rates pairs) }
-    ensures alone { OnOk result (are_too_many rates pairs all is_of_few is_of_every_set ≡ false) }
-    ensures fault { IfErr result (λ fault. fault ≡ CommandFault.Both) }
-    ensures both { OnErr result (are_too_many rates pairs all is_of_few is_of_every_set ≡ true) }
-{
-    if is_of_few && is_of_every_set {
-        Err(CommandFault::Both)
-    } else {
-        failures_by(rates, pairs, all, is_of_few || is_of_every_set)
-    }
-}
-
-/// The failures that these flags ask to be tried, with sets or without; or `Both`. Sets are tried after single failures.
-fn failures_by(
-    rates: bool,
-    pairs: bool,
-    all: bool,
-    is_of_sets: bool,
-) -> Result<Failures, CommandFault>
-    ensures ok { IfOk result (λ failures. failures ≡ failures_by rates pairs) }
-    ensures alone { OnOk result (are_both_sorts rates pairs all is_of_sets ≡ false) }
-    ensures fault { IfErr result (λ fault. fault ≡ CommandFault.Both) }
-    ensures both { OnErr result (are_both_sorts rates pairs all is_of_sets ≡ true) }
-{
-    match (rates, pairs, all, is_of_sets) {
-        (false, false, false, _) => Ok(Failures::Single),
-        (false, false, true, false) => Ok(Failures::Single),
-        (true, false, _, false) => Ok(Failures::Every),
-        (false, true, false, false) => Ok(Failures::Pairs),
-        (false, false, true, true) => Err(CommandFault::Both),
-        (false, true, true, false) => Err(CommandFault::Both),
-        (false, true, _, true) => Err(CommandFault::Both),
-        (true, true, _, false) => Err(CommandFault::Both),
-        (true, _, _, true) => Err(CommandFault::Both),
-    }
+    Ok(Task::Check(search_in(options)?))
 }
 
 /// The numbers that the options ask to be tried.
@@ -297,14 +176,6 @@ fn part_in(options: &ArgMatches) -> Part
     let from = options.get_one("from").unwrap_or(Part::WHOLE.from);
     let to = options.get_one("to").unwrap_or(Part::WHOLE.to);
     Part { from, to }
-}
-
-/// Whether they ask for all that is found.
-fn all_in(options: &ArgMatches) -> bool
-    requires { RowsPass joined_level.rules (rows_of (found_of options.now)) }
-    ensures { result ≡ flag_of (codes "all") (rows_of (found_of options.now)) }
-{
-    options.get_flag("all")
 }
 
 /// The greatest number of steps that the options spell.

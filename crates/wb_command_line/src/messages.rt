@@ -23,10 +23,7 @@ pub fn message_of<S: AsStr>(
                 None => Ok(text),
             }
         }
-        CommandFault::Both => String::from_str(
-            alloc,
-            too_many(word_at(words, 1), asked_for(words)),
-        ),
+        CommandFault::Both => String::from_str(alloc, too_many(words)),
         _ => format!(in alloc; "{fault}"),
     }
 }
@@ -39,41 +36,36 @@ fn without_usage(alloc: Global, text: String) -> Result<String, AllocError> {
     }
 }
 
-/// Which sets words ask for.
-#[derive(Clone, Copy)]
-enum Asked {
-    None,
-    Few,
-    All,
+/// Which options of a subcommand don't go together, of words that give some that don't.
+fn too_many<S: AsStr>(words: &[S]) -> &'static str {
+    if word_at(words, 1) == "run" {
+        return "error: give one of '--limit', '--fail', '--every', '--fail-from' and '--set'\n";
+    }
+    let is_of_sets = has(words, "--pairs") || has(words, "--failures") || has(words, "--sets");
+    if has(words, "--ends") && (is_of_sets || has(words, "--all")) {
+        return "error: give '--ends' without '--all', '--pairs', '--failures' and '--sets'\n";
+    }
+    if has(words, "--persistent") && (is_of_sets || has(words, "--every")) {
+        return "error: give '--persistent' without '--every', '--pairs', '--failures' and '--sets'\n";
+    }
+    if has(words, "--sets") {
+        return "error: give '--sets' without '--every', '--pairs', '--failures' and '--all'\n";
+    }
+    if has(words, "--failures") {
+        return "error: give '--failures' without '--every', '--pairs' and '--all'\n";
+    }
+    "error: give '--pairs' without '--every' and without '--all'\n"
 }
 
-/// Which options of a subcommand don't go together, if they ask for such sets.
-fn too_many(subcommand: &str, asked: Asked) -> &'static str {
-    if subcommand == "run" {
-        return "error: give one of '--limit', '--fail', '--every' and '--set'\n";
-    }
-    match asked {
-        Asked::None => "error: give '--pairs' without '--every' and without '--all'\n",
-        Asked::Few => "error: give '--failures' without '--every', '--pairs' and '--all'\n",
-        Asked::All => {
-            "error: give '--sets' without '--every', '--pairs', '--failures' and '--all'\n"
-        }
-    }
-}
-
-/// Which sets words ask for: all, if one of them does.
-fn asked_for<S: AsStr>(words: &[S]) -> Asked {
-    let mut asked = Asked::None;
-    for word in words {
+/// Whether an option is one of the words, with its value or without.
+fn has<S: AsStr>(words: &[S], option: &str) -> bool {
+    words.iter().any(|word| {
         let word = word.as_str();
-        if word == "--sets" {
-            return Asked::All;
+        match word.strip_prefix(option) {
+            Some(rest) => rest.is_empty() || rest.starts_with('='),
+            None => false,
         }
-        if word == "--failures" || word.starts_with("--failures=") {
-            asked = Asked::Few;
-        }
-    }
-    asked
+    })
 }
 
 /// The text of an error of `clap`, with this tip in the place of its own.
@@ -169,9 +161,10 @@ fn argument_tip<S: AsStr>(
 /// The subcommands that have an option which some have and others don't; empty if there is no such option.
 fn subcommands_with(name: &str) -> &'static str {
     match name {
-        "limit" | "fail" | "also" | "set" | "follow" | "follow-steps" => "run",
+        "limit" | "fail" | "also" | "fail-from" | "set" | "follow" | "follow-steps" => "run",
         "every" => "run, sweep and check",
-        "pairs" | "all" | "failures" | "sets" | "states" => "sweep and check",
+        "persistent" | "pairs" | "all" | "ends" => "sweep and check",
+        "failures" | "sets" | "states" => "sweep and check",
         "from" | "to" => "sweep",
         _ => "",
     }

@@ -3,9 +3,6 @@
 //!
 //! What happened in a run, and at which lines, is known from its history (`wb_history`).
 
-ghost use Rattle.std.specs.Prelude.{◌≤◌, IsTrue};
-ghost use Rattle.wb_model.specs.language.Sound.{is_script};
-
 mod attempts;
 mod blame;
 mod counts;
@@ -29,30 +26,33 @@ mod refusals;
 mod script_page;
 mod sentences;
 mod sets;
+mod shell_words;
 mod spread;
 mod states;
 mod stories;
 mod told;
+mod unasked;
 
 use crate::runs::ends::put_findings;
-use crate::runs::heaps::{put_heaps, put_warning};
+use crate::runs::heaps::put_heaps;
 use crate::runs::lengths::put_lengths;
 use crate::runs::numbers::put_numbers;
 use crate::runs::script_page::ScriptPage;
+use crate::runs::shell_words::RuleOption;
 use crate::runs::states::put_many_states;
+use crate::runs::unasked::{put_nothing_else, put_shown, put_undecided};
 pub use heaps::greatest_bad;
 pub use lengths::last_named;
 pub use numbers::last_bad;
+pub use shell_words::{ShellFile, ShellOptions};
 pub use states::ManyStates;
 use std::alloc::{AllocError, Global};
+pub use unasked::{Question, Shown};
 use wb_history::{Attempts, ScriptLines, WatchedRun};
 use wb_model::failures::Failures;
-use wb_model::heap::Shape;
+use wb_model::heap::Rule;
 use wb_model::lengths::LengthRange;
-use wb_model::limits::LARGEST_BUDGET;
-use wb_model::memory::NoMemory;
 use wb_model::number_ends::NumberEnd;
-use wb_model::script::Script;
 use wb_model::size::Rise;
 
 /// What a run found, by its lines; empty where there is nothing to say. The only error is that memory ran out.
@@ -119,20 +119,49 @@ pub fn states_found(
     page.whole_text()
 }
 
-/// Returns in which heaps a script leaks or panics in which a sweep found nothing; empty where it does so in none. All lengths are
-/// tried, unless that takes more than a million steps, which it says. The only error is that memory ran out.
-pub fn heaps_warning(
+/// Returns what a check that found nothing found unasked, and the command that shows it. The only error is that memory ran out.
+pub fn unasked_found(
     alloc: Global,
     lines: &ScriptLines<'_>,
-    script: &Script,
-    budget: u32,
-    shape: Shape,
-) -> Result<String, NoMemory>
-    requires script { IsTrue (is_script script.now) }
-    requires least { 1 ≤ budget }
-    requires greatest { budget ≤ LARGEST_BUDGET }
-{
+    shown: Shown<'_>,
+    options: ShellOptions,
+) -> Result<String, AllocError> {
     let mut page = ScriptPage::new(alloc, lines);
-    put_warning(&mut page, alloc, script, budget, shape)?;
-    Ok(page.whole_text()?)
+    put_shown(&mut page, shown, options);
+    page.whole_text()
+}
+
+/// Returns which question wasn't decided, and how to ask it. The only error is that memory ran out.
+pub fn undecided(
+    alloc: Global,
+    lines: &ScriptLines<'_>,
+    question: Question,
+    options: ShellOptions,
+) -> Result<String, AllocError> {
+    let mut page = ScriptPage::new(alloc, lines);
+    put_undecided(&mut page, question, options);
+    page.whole_text()
+}
+
+/// Returns that nothing else shows a leak or a panic. The only error is that memory ran out.
+pub fn nothing_else(alloc: Global, lines: &ScriptLines<'_>) -> Result<String, AllocError> {
+    let mut page = ScriptPage::new(alloc, lines);
+    put_nothing_else(&mut page);
+    page.whole_text()
+}
+
+/// Returns the command that shows a run step by step, of a script with this name. The only error is that memory ran out.
+pub fn steps_shown(
+    alloc: Global,
+    lines: &ScriptLines<'_>,
+    rule: &Rule,
+    options: ShellOptions,
+    file: ShellFile<'_>,
+) -> Result<String, AllocError> {
+    let mut page = ScriptPage::new(alloc, lines);
+    let rule = RuleOption(rule);
+    page.page.write_help(format_args!(
+        "see it step by step: `workbench run{rule}{options} --follow{file}`"
+    ));
+    page.whole_text()
 }

@@ -11,7 +11,7 @@ use wb_model::lengths::LengthTable;
 use wb_model::limits::LARGEST_BUDGET;
 use wb_model::memory::NoMemory;
 use workbench::findings::Findings;
-use workbench::{Command, FileName, Task};
+use workbench::{Command, FileName, Search, Task};
 
 /// How standard input is called before the number of a line.
 const INPUT: &str = "<stdin>";
@@ -66,11 +66,19 @@ pub fn rule_named(findings: &Findings) -> Result<Option<Rule>, NoMemory> {
     }
 }
 
+/// Returns what a task searches for among failures; `None` if it is no sweep and no check.
+pub fn search_of(task: &Task) -> Option<Search> {
+    match task {
+        Task::Sweep(search, _) | Task::Check(search) => Some(*search),
+        Task::Run(_) | Task::Size | Task::Lengths => None,
+    }
+}
+
 /// Returns what is known of a search that met more states than the command allows; `None` if the report isn't that of one.
 pub fn many_states(command: &Command, findings: &Findings) -> Option<ManyStates> {
     let fine = findings.fine?;
-    let most = match &command.task {
-        Task::EverySet(states, _) | Task::CheckEverySet(states) => *states,
+    let most = match search_of(&command.task)? {
+        Search::EverySet(states) => states,
         _ => return None,
     };
     Some(ManyStates {

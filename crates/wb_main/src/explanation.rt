@@ -3,14 +3,15 @@
 ghost use Rattle.std.specs.Prelude.{IsTrue};
 ghost use Rattle.wb_model.specs.language.Sound.{is_script};
 
-use crate::asked::{budget_of, many_states, parameters_of, source_name};
+use crate::asked::{budget_of, many_states, parameters_of, search_of, source_name};
+use crate::further::explain_unasked;
 use crate::recorded::FirstFault;
+use crate::run_shown::explain_run;
 use crate::runs::{Answer, Runs, has_run_to_explain, plain_run};
 use std::alloc::Global;
 use wb_explain::files::{Deed, file_fault};
 use wb_explain::runs::{
-    greatest_bad, heaps_found, heaps_warning, last_bad, last_named, lengths_found, numbers_found,
-    run_found, states_found,
+    greatest_bad, heaps_found, last_bad, last_named, lengths_found, numbers_found, states_found,
 };
 use wb_history::{Attempts, ScriptLines, Until, watch_attempts};
 use wb_model::failures::Failures;
@@ -23,18 +24,13 @@ use wb_model::script::Script;
 use wb_model::size::Rise;
 use workbench::exit_status::NOTHING_FOUND;
 use workbench::findings::Findings;
-use workbench::{Command, Task};
+use workbench::{Command, Search, Task};
 
 /// Returns whether there is nothing to say of a report: nothing was found, no attempt was to fail, and no length is reported.
 pub fn has_nothing_to_say(answer: Answer<'_>) -> bool {
-    let task = &answer.command.task;
-    match task {
-        Task::Size | Task::Check(_) | Task::CheckAll(_) => false,
-        Task::CheckSets(_) | Task::CheckEverySet(_) => false,
-        Task::Run(_) | Task::Lengths => is_found_nothing(answer),
-        Task::Sweep(..) | Task::All(..) | Task::Sets(..) | Task::EverySet(..) => {
-            is_found_nothing(answer)
-        }
+    match &answer.command.task {
+        Task::Size | Task::Check(_) => false,
+        Task::Run(_) | Task::Lengths | Task::Sweep(..) => is_found_nothing(answer),
     }
 }
 
@@ -72,26 +68,18 @@ pub fn explain_runs(
     let command = answer.command;
     let mut said = explain_all(alloc, answer, script, lines, runs)?;
     if let Some(run) = &runs.found {
-        let found = run_found(alloc, lines, run)?;
+        let found = explain_run(alloc, command, lines, run)?;
         said.push_str(found.as_str())?;
     }
     if let Some(met) = many_states(command, answer.findings) {
         let states = states_found(alloc, lines, met)?;
         said.push_str(states.as_str())?;
     }
-    if is_check(&command.task) && answer.status == NOTHING_FOUND {
-        let warning = heaps_warning(alloc, lines, script, budget_of(command), command.shape)?;
-        said.push_str(warning.as_str())?;
+    if matches!(&command.task, Task::Check(_)) && answer.status == NOTHING_FOUND {
+        let more = explain_unasked(alloc, command, script, lines)?;
+        said.push_str(more.as_str())?;
     }
     Ok(said)
-}
-
-/// Whether a task is a size and a sweep.
-fn is_check(task: &Task) -> bool {
-    matches!(
-        task,
-        Task::Check(_) | Task::CheckAll(_) | Task::CheckSets(_) | Task::CheckEverySet(_)
-    )
 }
 
 /// What shorter heaps refuse first, what heaps of every length show, and what all numbers show; empty if the report says none of
@@ -181,9 +169,9 @@ fn numbers_to_explain<'a>(
     task: &Task,
     findings: &'a Findings,
 ) -> Option<(Failures, &'a [NumberEnd])> {
-    let failures = match task {
-        Task::All(failures, _) | Task::CheckAll(failures) => *failures,
-        _ => return None,
+    let failures = match search_of(task)? {
+        Search::All(failures) | Search::Ends(failures) => failures,
+        Search::Least(_) | Search::Sets(_) | Search::EverySet(_) => return None,
     };
     let ends = findings.all.as_ref()?.as_slice();
     if has_two_bad(ends) {

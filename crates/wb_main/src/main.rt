@@ -6,14 +6,17 @@
 mod asked;
 mod explanation;
 mod following;
+mod further;
 mod messages;
 mod picture;
 mod picture_file;
 mod progress_line;
 mod recorded;
+mod run_shown;
 mod runs;
 mod set_work;
 mod told;
+mod unasked;
 mod work;
 
 use crate::following::put_steps;

@@ -91,10 +91,7 @@ fn rule_to_watch(
         Task::Run(Rule::Unlimited) if status == NOTHING_FOUND && !is_drawn => None,
         Task::Run(rule) => Some(rule.try_copy()?),
         Task::Lengths => length_to_explain(findings).map(Rule::Limit),
-        Task::Size | Task::Sweep(..) | Task::All(..) => rule_named(findings)?,
-        Task::Sets(..) | Task::EverySet(..) => rule_named(findings)?,
-        Task::Check(_) | Task::CheckAll(_) => rule_named(findings)?,
-        Task::CheckSets(_) | Task::CheckEverySet(_) => rule_named(findings)?,
+        Task::Size | Task::Sweep(..) | Task::Check(_) => rule_named(findings)?,
     })
 }
 

@@ -145,8 +145,7 @@ fn shown_runs<'a>(runs: &'a Runs<'a>) -> Option<ShownRuns<'a>> {
 /// What is at the side of a picture.
 fn table_of<'a>(task: &Task, findings: &'a Findings) -> Table<'a> {
     match (task, &findings.ranges) {
-        (Task::Size | Task::Check(_) | Task::CheckAll(_), _) => Table::Refusals,
-        (Task::CheckSets(_) | Task::CheckEverySet(_), _) => Table::Refusals,
+        (Task::Size | Task::Check(_), _) => Table::Refusals,
         (Task::Lengths, Some(ranges)) => Table::Lengths(ranges.as_slice()),
         _ => Table::Nothing,
     }

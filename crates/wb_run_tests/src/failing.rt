@@ -14,7 +14,7 @@ use wb_script::read;
 use wb_sweep::fault::SweepFault;
 use wb_sweep::sweeping::sweep;
 use workbench::answer::answer;
-use workbench::{Command, Silent, Task};
+use workbench::{Command, Search, Silent, Task};
 
 pub(crate) const SHAPE: Shape = Shape {
     min: 4096,
@@ -89,9 +89,9 @@ fn command_of(wanted: &Wanted) -> Command
     let failures = wanted.failures;
     Command {
         task: if wanted.is_check {
-            Task::Check(failures)
+            Task::Check(Search::Least(failures))
         } else {
-            Task::Sweep(failures, Part::WHOLE)
+            Task::Sweep(Search::Least(failures), Part::WHOLE)
         },
         file: None,
         budget: 10_000,

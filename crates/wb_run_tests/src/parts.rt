@@ -11,7 +11,7 @@ use wb_model::run::Why;
 use wb_model::run_end::RunEnd;
 use wb_script::read;
 use wb_sweep::fault::SweepFault;
-use wb_sweep::{sweep_all, sweep_part};
+use wb_sweep::{Listing, sweep_all, sweep_part};
 
 const SHAPE: Shape = Shape {
     min: 4096,
@@ -243,6 +243,7 @@ fn each_number_is_told(rt: HostRuntime) -> Result<(), Fail> {
         let told = sweep_all(
             rt.alloc(),
             &script,
+            Listing::Unfine,
             *failures,
             part,
             DEFAULT_BUDGET,
@@ -260,12 +261,66 @@ fn each_number_is_told(rt: HostRuntime) -> Result<(), Fail> {
     Ok(())
 }
 
+/// How the run ends without failure, under the number of the attempt for which it waits, and under that of its third attempt, in a
+/// script whose second attempt waits for memory, and whose third leaks.
+const FINE: NumberEnd = NumberEnd {
+    number: 0,
+    end: RunEnd::Plain,
+};
+
+const FIRST: NumberEnd = NumberEnd {
+    number: 1,
+    end: RunEnd::NoCleanup,
+};
+
+const SECOND: NumberEnd = NumberEnd {
+    number: 2,
+    end: RunEnd::Cut(Why::Budget),
+};
+
+const THIRD: NumberEnd = NumberEnd {
+    number: 3,
+    end: RunEnd::Leaked(1),
+};
+
+/// Parts of the numbers of that script, from one to another, and what is listed of them.
+static LISTED: [(u32, u32, &[NumberEnd]); 4] = [
+    (0, CEILING, &[FINE, FIRST, SECOND, THIRD]),
+    (1, 2, &[FIRST, SECOND]),
+    (3, 3, &[THIRD]),
+    (2, 7, &[SECOND, THIRD]),
+];
+
+#[test]
+fn every_number_is_listed(rt: HostRuntime) -> Result<(), Fail> {
+    let script = read(rt.alloc(), WAITS_AND_LEAKS)?;
+    for (row, (from, to, ends)) in LISTED.iter().enumerate() {
+        let part = Part {
+            from: *from,
+            to: *to,
+        };
+        let listed = sweep_all(
+            rt.alloc(),
+            &script,
+            Listing::Every,
+            Failures::Single,
+            part,
+            DEFAULT_BUDGET,
+            SHAPE,
+            &mut Silent,
+        )?;
+        assert!(rt; listed.ends.as_slice() == *ends, "ends {row}");
+    }
+    Ok(())
+}
+
 #[test]
 fn a_run_that_is_cut_tells_nothing(rt: HostRuntime) -> Result<(), Fail> {
     let script = read(rt.alloc(), WAITS)?;
     let told = sweep_all(
         rt.alloc(),
         &script,
+        Listing::Unfine,
         Failures::Single,
         Part::WHOLE,
         DEFAULT_BUDGET,

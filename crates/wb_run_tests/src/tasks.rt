@@ -1,10 +1,9 @@
 //! Tasks as rows of tables name them.
 
 use crate::rules::Refuses;
-use wb_model::failures::Failures;
 use wb_model::heap::Rule;
 use wb_model::part::Part;
-use workbench::Task;
+use workbench::{Search, Task};
 
 /// What is asked for.
 #[derive(Clone, Copy)]
@@ -12,14 +11,8 @@ pub(crate) enum Asks {
     Run(Refuses),
     Size,
     Lengths,
-    Sweep(Failures, Part),
-    All(Failures, Part),
-    Sets(u32, Part),
-    EverySet(u32, Part),
-    Check(Failures),
-    CheckAll(Failures),
-    CheckSets(u32),
-    CheckEverySet(u32),
+    Sweep(Search, Part),
+    Check(Search),
 }
 
 impl Asks {
@@ -29,20 +22,10 @@ impl Asks {
             (Asks::Run(wanted), Task::Run(rule)) => is_same(rule, &wanted.rule()),
             (Asks::Size, Task::Size) => true,
             (Asks::Lengths, Task::Lengths) => true,
-            (Asks::Sweep(wanted, of), Task::Sweep(failures, part)) => {
-                *failures == wanted && *part == of
+            (Asks::Sweep(wanted, of), Task::Sweep(search, part)) => {
+                *search == wanted && *part == of
             }
-            (Asks::All(wanted, of), Task::All(failures, part)) => {
-                *failures == wanted && *part == of
-            }
-            (Asks::Sets(wanted, of), Task::Sets(most, part)) => *most == wanted && *part == of,
-            (Asks::EverySet(wanted, of), Task::EverySet(states, part)) => {
-                *states == wanted && *part == of
-            }
-            (Asks::Check(wanted), Task::Check(failures)) => *failures == wanted,
-            (Asks::CheckAll(wanted), Task::CheckAll(failures)) => *failures == wanted,
-            (Asks::CheckSets(wanted), Task::CheckSets(most)) => *most == wanted,
-            (Asks::CheckEverySet(wanted), Task::CheckEverySet(states)) => *states == wanted,
+            (Asks::Check(wanted), Task::Check(search)) => *search == wanted,
             _ => false,
         }
     }

@@ -7,7 +7,7 @@ use std::test::Fail;
 use wb_model::failures::Failures;
 use wb_model::heap::Shape;
 use wb_model::part::Part;
-use workbench::{Command, CommandFault, FileName, command};
+use workbench::{Command, CommandFault, FileName, Search, command};
 
 /// The minimum length and the step of a heap, in bytes.
 type Lengths = (u32, u32);
@@ -28,8 +28,11 @@ static SUBCOMMANDS: [(&str, Asks); 5] = [
     ("run", Asks::Run(Refuses::Nothing)),
     ("size", Asks::Size),
     ("lengths", Asks::Lengths),
-    ("sweep", Asks::Sweep(Failures::Single, Part::WHOLE)),
-    ("check", Asks::Check(Failures::Single)),
+    (
+        "sweep",
+        Asks::Sweep(Search::Least(Failures::Single), Part::WHOLE),
+    ),
+    ("check", Asks::Check(Search::Least(Failures::Single))),
 ];
 
 /// The budget, the heap's lengths, the flags, and the file.
@@ -96,7 +99,7 @@ static AFTER_EACH: [(&[&str], Spelled); 20] = [
 ];
 
 /// Words that spell a run of the default budget without these flags, its rule, its heap's lengths and its file.
-static RUNS: [(&[&str], Refuses, Lengths, Option<&str>); 25] = [
+static RUNS: [(&[&str], Refuses, Lengths, Option<&str>); 28] = [
     (
         &["workbench", "run", "a.oom"],
         Refuses::Nothing,
@@ -236,6 +239,24 @@ static RUNS: [(&[&str], Refuses, Lengths, Option<&str>); 25] = [
         Some("a.oom"),
     ),
     (
+        &["workbench", "run", "--fail-from", "3"],
+        Refuses::From(3),
+        DEFAULT,
+        None,
+    ),
+    (
+        &["workbench", "run", "--fail-from=0", "--", "--fail-from"],
+        Refuses::From(0),
+        DEFAULT,
+        Some("--fail-from"),
+    ),
+    (
+        &["workbench", "run", "a.oom", "--fail-from", "+0016777216"],
+        Refuses::From(16_777_216),
+        DEFAULT,
+        Some("a.oom"),
+    ),
+    (
         &["workbench", "run", "--min=32", "--fail", "2", "--step=16"],
         Refuses::Number(2),
         (32, 16),
@@ -258,34 +279,29 @@ static RUNS: [(&[&str], Refuses, Lengths, Option<&str>); 25] = [
     ),
 ];
 
-/// The subcommands that take the flags `--every`, `--pairs`, `--all` and `--sets`, `--failures` and `--states`, and what each asks for with
-/// one of them.
-static WITH_A_FLAG: [(&str, &str, Asks); 13] = [
-    ("sweep", "--all", Asks::All(Failures::Single, Part::WHOLE)),
-    ("check", "--all", Asks::CheckAll(Failures::Single)),
+/// The flags of `sweep` and `check` that say what is searched for, and what each asks for.
+static WITH_FLAGS: [(&[&str], Search); 15] = [
+    (&["--all"], Search::All(Failures::Single)),
+    (&["--ends"], Search::Ends(Failures::Single)),
+    (&["--every"], Search::Least(Failures::Every)),
+    (&["--every", "--all"], Search::All(Failures::Every)),
+    (&["--ends", "--every"], Search::Ends(Failures::Every)),
+    (&["--persistent"], Search::Least(Failures::Persistent)),
     (
-        "sweep",
-        "--every",
-        Asks::Sweep(Failures::Every, Part::WHOLE),
+        &["--all", "--persistent"],
+        Search::All(Failures::Persistent),
     ),
-    ("check", "--every", Asks::Check(Failures::Every)),
     (
-        "sweep",
-        "--pairs",
-        Asks::Sweep(Failures::Pairs, Part::WHOLE),
+        &["--persistent", "--ends"],
+        Search::Ends(Failures::Persistent),
     ),
-    ("check", "--pairs", Asks::Check(Failures::Pairs)),
-    ("sweep", "--failures=1", Asks::Sets(1, Part::WHOLE)),
-    ("sweep", "--failures=8", Asks::Sets(8, Part::WHOLE)),
-    ("check", "--failures=+03", Asks::CheckSets(3)),
-    ("sweep", "--sets", Asks::EverySet(100_000, Part::WHOLE)),
-    ("check", "--sets", Asks::CheckEverySet(100_000)),
-    (
-        "sweep",
-        "--states=1",
-        Asks::Sweep(Failures::Single, Part::WHOLE),
-    ),
-    ("check", "--states=+07", Asks::Check(Failures::Single)),
+    (&["--pairs"], Search::Least(Failures::Pairs)),
+    (&["--failures=1"], Search::Sets(1)),
+    (&["--failures=8"], Search::Sets(8)),
+    (&["--failures=+03"], Search::Sets(3)),
+    (&["--sets"], Search::EverySet(100_000)),
+    (&["--states=1"], Search::Least(Failures::Single)),
+    (&["--states=+07"], Search::Least(Failures::Single)),
 ];
 
 /// Whether the command has this task and these options.
@@ -318,14 +334,21 @@ fn takes_words_after_each_subcommand(rt: HostRuntime) -> Result<(), Fail> {
 /// The flag comes first, before all that every subcommand takes, so that a word after it is no number of its own.
 #[test]
 fn takes_flags_for_failures(rt: HostRuntime) -> Result<(), Fail> {
-    for (name, flag, asks) in &WITH_A_FLAG {
+    for (row, (flags, search)) in WITH_FLAGS.iter().enumerate() {
         for (index, (rest, spelled)) in AFTER_EACH.iter().enumerate() {
-            let mut words = vec![in rt.alloc(); "workbench", name, flag]?;
+            let mut words = vec![in rt.alloc(); "workbench", "sweep"]?;
+            words.extend_from_slice(flags)?;
             words.extend_from_slice(rest)?;
-            let command = command(rt.alloc(), words.as_slice())?;
+            let swept = command(rt.alloc(), words.as_slice())?;
             assert!(rt;
-                is_spelled(&command, *asks, *spelled),
-                "{name} {flag}, row {index}"
+                is_spelled(&swept, Asks::Sweep(*search, Part::WHOLE), *spelled),
+                "sweep, flags {row}, row {index}"
+            );
+            words.as_mut_slice()[1] = "check";
+            let checked = command(rt.alloc(), words.as_slice())?;
+            assert!(rt;
+                is_spelled(&checked, Asks::Check(*search), *spelled),
+                "check, flags {row}, row {index}"
             );
         }
     }

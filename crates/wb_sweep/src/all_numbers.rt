@@ -1,21 +1,22 @@
-//! A sweep that looks at each number of a part: how its run ended, unless that is fine, and the least whose run leaks or panics.
+//! A sweep that looks at each number of a part: how the run of each that is listed ended, and the least whose run leaks or panics.
 
-ghost use Rattle.std.specs.Prelude.{◌≡◌, ◌≢◌, ◌↔◌, ◌||◌, ◌++◌, ◌+◌, ◌-◌, ◌<◌, ◌≤◌, true, false, IfOk, IfSome, IsTrue, OnOk};
+ghost use Rattle.std.specs.Prelude.{◌≡◌, ◌≢◌, ◌↔◌, ◌++◌, ◌+◌, ◌-◌, ◌<◌, ◌≤◌, true, false, IfOk, IfSome, IsTrue, OnOk};
 ghost use Rattle.wb_model.specs.language.Sound.{is_script};
 ghost use Rattle.wb_model.specs.heap.Space.{is_shape};
-ghost use Rattle.wb_model.specs.runs.AllNumbers.{bad_count, first_bad, unfine_in, unfine_numbers};
+ghost use Rattle.wb_model.specs.runs.AllNumbers.{bad_count, first_bad};
 ghost use Rattle.wb_model.specs.runs.Parts.{last_attempt, IsCutWithout};
-ghost use Rattle.wb_model.specs.runs.RunEnds.{end_of, is_bad_end, is_cut_end};
+ghost use Rattle.wb_model.specs.runs.RunEnds.{end_of};
 ghost use Rattle.wb_model.specs.runs.Sweeps.{is_cut_outcome, rule_of, runs_of};
 ghost use Rattle.wb_model.specs.declared.run.Outcome.TheVariants as outcomes;
 ghost use Rattle.wb_model.specs.declared.run.RunResult.{RunResult};
 ghost use Rattle.wb_model.specs.declared.run.Why.{Why};
 ghost use Rattle.wb_sweep.specs.Meetings.{ForkedSays, IsAhead};
-ghost use Rattle.wb_sweep.specs.AllOfAPart.{line_if_told, line_of, AreAllNumbers, IsFoundAsFirst};
+ghost use Rattle.wb_sweep.specs.AllOfAPart.{is_listed_end, line_if_told, line_of, listed_in, listed_numbers};
+ghost use Rattle.wb_sweep.specs.AllOfAPart.{AreAllNumbers, IsFoundAsFirst};
 
 use crate::fault::SweepFault;
 use crate::followed::{Forked, follow_next};
-use crate::found::{AllNumbers, Found};
+use crate::found::{AllNumbers, Found, Listing};
 use crate::scout::{Meeting, Scout, scout_beside};
 use crate::walk::attempts_in;
 use std::alloc::Global;
@@ -32,18 +33,21 @@ use wb_model::run::{Outcome, RunResult, Why};
 use wb_model::run_end::RunEnd;
 use wb_model::script::Script;
 
-/// Whether a number is told whose run ended so.
-fn is_told(end: RunEnd) -> bool
-    ensures { result ≡ (is_bad_end end || is_cut_end end) }
+/// Whether a number is listed whose run ended so.
+fn is_listed(listing: Listing, end: RunEnd) -> bool
+    ensures { result ≡ is_listed_end listing end }
 {
-    end.is_bad() || end.is_cut()
+    match listing {
+        Listing::Unfine => end.is_bad() || end.is_cut(),
+        Listing::Every => true,
+    }
 }
 
-/// Adds what is told of a number whose run ended so: nothing where that is fine.
-fn tell(ends: &mut NumberEnds, number: u32, end: RunEnd) -> Result<(), NoMemory>
-    ensures { OnOk result (ends.new ≡ ends.old ++ line_if_told number end) }
+/// Adds what is told of a number whose run ended so: nothing if it isn't listed.
+fn tell(ends: &mut NumberEnds, listing: Listing, number: u32, end: RunEnd) -> Result<(), NoMemory>
+    ensures { OnOk result (ends.new ≡ ends.old ++ line_if_told listing number end) }
 {
-    if is_told(end) {
+    if is_listed(listing, end) {
         ends.push(NumberEnd { number, end })?;
     }
     Ok(())
@@ -67,11 +71,13 @@ fn end_of_fork(forked: &Forked, first: RunEnd) -> RunEnd
 #[tactic(auto, using(crate::proofs::TellLemmas::line_by_end))]
 fn tell_first(
     ends: &mut NumberEnds,
+    listing: Listing,
     part: Part,
     at: Failing,
     first: &RunResult,
 ) -> Result<(), SweepFault>
-    ensures told { OnOk result (part.from ≡ 0 → ends.new ≡ ends.old ++ line_of 0 first.now) }
+    ensures told { OnOk result
+        (part.from ≡ 0 → ends.new ≡ ends.old ++ line_of listing 0 first.now) }
     ensures later { OnOk result (1 ≤ part.from → ends.new ≡ ends.old) }
     ensures uncut { OnOk result (is_cut_outcome first.now.outcome ≡ false) }
     ensures cut { (other : Failing) (why : Why) → result ≡ Err (SweepFault.Cut other why) →
@@ -82,7 +88,7 @@ fn tell_first(
         return Err(SweepFault::Cut { at, why: *why });
     }
     if part.from == 0 {
-        tell(ends, 0, RunEnd::of(&first.outcome))?;
+        tell(ends, listing, 0, RunEnd::of(&first.outcome))?;
     }
     Ok(())
 }
@@ -92,6 +98,7 @@ fn tell_first(
 /// Its copy takes the spare memory, and leaves its own. The run without failure ends as is given.
 fn tell_next<P: Progress>(
     ends: &mut NumberEnds,
+    listing: Listing,
     lead: &Machine,
     first: RunEnd,
     failures: Failures,
@@ -111,7 +118,7 @@ fn tell_next<P: Progress>(
     ensures scout { OnOk result (IfSome scout.new
         (IsAhead failures lead.now.script lead.now.budget lead.now.shape)) }
     ensures told { OnOk result (lead.now.asks ≡ true → from ≤ number → ends.new ≡ ends.old
-        ++ line_of number
+        ++ line_of listing number
         (runs_of failures lead.now.script lead.now.budget lead.now.shape number)) }
     ensures unasked { OnOk result (lead.now.asks ≡ false → ends.new ≡ ends.old) }
     ensures before { OnOk result (number < from → ends.new ≡ ends.old) }
@@ -125,13 +132,14 @@ fn tell_next<P: Progress>(
     let failing = failures.at(number);
     progress.begin_failure(failing);
     let forked = follow_next(lead, failures, number, scout, spare)?;
-    tell(ends, number, end_of_fork(&forked, first))
+    tell(ends, listing, number, end_of_fork(&forked, first))
 }
 
 /// Adds what is told of the numbers from `from` to `last`, which is no greater than the last attempt of the run without failure.
 /// The lead is that run, which ends as is given, and begins; what is told of number 0 is there, where that is one of them.
 fn tell_along<P: Progress>(
     ends: &mut NumberEnds,
+    listing: Listing,
     lead: &mut Machine,
     first: RunEnd,
     failures: Failures,
@@ -150,9 +158,9 @@ fn tell_along<P: Progress>(
         (runs_of failures lead.old.script lead.old.budget lead.old.shape 0).outcome }
     requires scout { IfSome scout.old
         (IsAhead failures lead.old.script lead.old.budget lead.old.shape) }
-    requires told { ends.old ≡ unfine_numbers
+    requires told { ends.old ≡ listed_numbers listing
         (runs_of failures lead.old.script lead.old.budget lead.old.shape) from (1 - from) }
-    ensures { OnOk result (ends.new ≡ unfine_numbers
+    ensures { OnOk result (ends.new ≡ listed_numbers listing
         (runs_of failures lead.old.script lead.old.budget lead.old.shape) from (last + 1 - from)) }
 {
     let mut spare = None;
@@ -160,6 +168,7 @@ fn tell_along<P: Progress>(
     while made < last {
         tell_next(
             ends,
+            listing,
             lead,
             first,
             failures,
@@ -227,6 +236,7 @@ fn find_first(
 /// and takes so many steps. What is told of number 0 is there, where it is the part's.
 fn tell_later<P: Progress>(
     ends: &mut NumberEnds,
+    listing: Listing,
     alloc: Global,
     script: &Script,
     failures: Failures,
@@ -245,17 +255,17 @@ fn tell_later<P: Progress>(
     requires uncut { is_cut_outcome (runs_of failures script.now budget shape 0).outcome ≡ false }
     requires end { first ≡ end_of (runs_of failures script.now budget shape 0).outcome }
     requires steps { steps ≡ (runs_of failures script.now budget shape 0).steps }
-    requires told { ends.old ≡
-        unfine_numbers (runs_of failures script.now budget shape) part.from (1 - part.from) }
+    requires told { ends.old ≡ listed_numbers listing
+        (runs_of failures script.now budget shape) part.from (1 - part.from) }
     ensures told { OnOk result
-        (ends.new ≡ unfine_in (runs_of failures script.now budget shape) part) }
+        (ends.new ≡ listed_in listing (runs_of failures script.now budget shape) part) }
     ensures shape { result ≡ Err RunFault.BadShape → is_shape shape ≡ false }
 {
     let mut lead = Machine::new(alloc, script, failures.at(0).rule(), budget, shape)?;
     let mut scout = scout_beside(&lead, failures, Some(steps), budget)?;
     let end = part.to.min(last);
     tell_along(
-        ends, &mut lead, first, failures, part.from, end, &mut scout, progress,
+        ends, listing, &mut lead, first, failures, part.from, end, &mut scout, progress,
     )?;
     Ok(())
 }
@@ -264,6 +274,7 @@ fn tell_later<P: Progress>(
 fn tell_all<P: Progress>(
     alloc: Global,
     script: &Script,
+    listing: Listing,
     failures: Failures,
     part: Part,
     budget: u32,
@@ -273,7 +284,7 @@ fn tell_all<P: Progress>(
     requires script { IsTrue (is_script script.now) }
     requires least { 1 ≤ budget }
     requires greatest { budget ≤ LARGEST_BUDGET }
-    ensures told { IfOk result (AreAllNumbers failures part script.now budget shape) }
+    ensures told { IfOk result (AreAllNumbers listing failures part script.now budget shape) }
     ensures cut { (at : Failing) (why : Why) → result ≡ Err (SweepFault.Cut at why) →
         IsCutWithout failures script.now budget shape at why }
     ensures shape { (result ≡ Err SweepFault.BadShape) ↔ (is_shape shape ≡ false) }
@@ -284,10 +295,11 @@ fn tell_all<P: Progress>(
     let end = RunEnd::of(&first.outcome);
     let steps = first.steps;
     let mut ends = Items::new(alloc);
-    tell_first(&mut ends, part, none, &first)?;
+    tell_first(&mut ends, listing, part, none, &first)?;
     progress.begin_failures(part.to.min(attempts));
     tell_later(
-        &mut ends, alloc, script, failures, part, budget, shape, attempts, end, steps, progress,
+        &mut ends, listing, alloc, script, failures, part, budget, shape, attempts, end, steps,
+        progress,
     )?;
     let found = find_first(alloc, script, failures, budget, shape, &ends)?;
     Ok(AllNumbers {
@@ -298,14 +310,15 @@ fn tell_all<P: Progress>(
     })
 }
 
-/// What is told of each number of a part, up to the last attempt of the run without failure: of those whose run leaks, panics or is
-/// cut how it ended, and of the least whose run leaks or panics that run. Of pairs only the single numbers are looked at.
+/// What is told of each number of a part, up to the last attempt of the run without failure: of those that are listed how their run
+/// ended, and of the least whose run leaks or panics that run. Of pairs only the single numbers are looked at.
 ///
 /// `Cut` comes exactly where the run without failure is cut. That run is told of only where the part has number 0. `BadShape` comes
 /// exactly where the shape is none that a heap may have. `progress` is notified as by `sweep`.
 pub fn sweep_all<P: Progress>(
     alloc: Global,
     script: &Script,
+    listing: Listing,
     failures: Failures,
     part: Part,
     budget: u32,
@@ -315,13 +328,15 @@ pub fn sweep_all<P: Progress>(
     requires script { IsTrue (is_script script.now) }
     requires least { 1 ≤ budget }
     requires greatest { budget ≤ LARGEST_BUDGET }
-    ensures told { IfOk result (AreAllNumbers failures part script.now budget shape) }
+    ensures told { IfOk result (AreAllNumbers listing failures part script.now budget shape) }
     ensures cut { (at : Failing) (why : Why) → result ≡ Err (SweepFault.Cut at why) →
         IsCutWithout failures script.now budget shape at why }
     ensures shape { (result ≡ Err SweepFault.BadShape) ↔ (is_shape shape ≡ false) }
 {
     progress.begin();
-    let told = tell_all(alloc, script, failures, part, budget, shape, progress);
+    let told = tell_all(
+        alloc, script, listing, failures, part, budget, shape, progress,
+    );
     progress.end();
     told
 }

@@ -18,12 +18,21 @@ pub struct Sweep {
     pub found: Option<Found>,
 }
 
+/// Which numbers a sweep lists that looks at each of a part.
+#[derive(Clone, Copy, Debug, PartialEq, Eq)]
+pub enum Listing {
+    /// Those whose run leaks, panics or is cut.
+    Unfine,
+    /// Every one, also where its run is fine.
+    Every,
+}
+
 /// What a sweep tells that looks at each number of a part, up to the last attempt of the run without failure.
 #[derive(Debug, Drop)]
 pub struct AllNumbers {
     /// How many attempts the run without failure makes.
     pub attempts: u32,
-    /// The numbers whose run leaks, panics or is cut, each with the end of its run.
+    /// The numbers that are listed, each with the end of its run.
     pub ends: NumberEnds,
     /// How many of them leak or panic.
     pub bad: usize,

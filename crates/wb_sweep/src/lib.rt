@@ -1,5 +1,5 @@
 //! The least number of an attempt, alone or as the first of all that fail, the least rate, or the least pair of attempts, whose failure
-//! shows a panic or a leak, of all or of a part; and what the failure of each number shows.
+//! shows a panic or a leak, of all or of a part; and how the run under each number ends.
 #![tactic(auto)]
 
 mod all_numbers;
@@ -27,7 +27,7 @@ pub use every_set::sweep_every_set;
 pub use every_set_answer::EverySetFault;
 pub use fault::SweepFault;
 pub use fork::result_under;
-pub use found::{AllNumbers, Found, Sweep};
+pub use found::{AllNumbers, Found, Listing, Sweep};
 pub use set_answer::{FoundSet, SetFault, SetSweep};
 pub use set_sweep::sweep_sets;
 pub use sweeping::{sweep, sweep_part};

@@ -12,28 +12,29 @@ use Rattle.wb_model.specs.runs.AllNumbers.{bad_count}
 use Rattle.wb_model.specs.runs.Parts.{IsCutWithout}
 use Rattle.wb_sweep.specs.declared.found.AllNumbers.{AllNumbers}
 use Rattle.wb_sweep.specs.declared.found.Found.{Found}
+use Rattle.wb_sweep.specs.declared.found.Listing.{Listing}
 use Rattle.wb_sweep.specs.AllOfAPart.{AreAllNumbers}
 use Rattle.workbench.specs.declared.report.Report.{Report}
 use Rattle.workbench.specs.declared.report_values.FailingNumber.TheVariants.{At, Never}
 use Rattle.workbench.specs.declared.report_values.ReportValues.{ReportValues}
-use Rattle.workbench.specs.AllReport.{IsAllReport, IsUntold, all_lines, all_text, fine_status, told_of, told_status, told_text, told_values}
+use Rattle.workbench.specs.AllReport.{IsListReport, IsUntold, all_lines, all_text, fine_status, told_of, told_status, told_text, told_values}
 use Rattle.workbench.specs.ReportValues.{all_values, cut_values}
 use Rattle.workbench.specs.RunText.{run_text}
 use Rattle.workbench.specs.TwoNumbers.{attempts_of, cut_at_line}
 
-module _ (failures : Failures) (part : Part) (script : Script) (budget : ℕ) (shape : Shape) where
+module _ (listing : Listing) (failures : Failures) (part : Part) (script : Script) (budget : ℕ) (shape : Shape) where
   -- what the sweep tells is what the report says
-  pub told_is : (all : AllNumbers) (text : List ℕ) (values : ReportValues) (status : ℕ) → AreAllNumbers failures part script budget shape all
-      → text ≡ told_text failures all → values ≡ told_values all → status ≡ told_status all → IsAllReport failures part script budget shape text values status
+  pub told_is : (all : AllNumbers) (text : List ℕ) (values : ReportValues) (status : ℕ) → AreAllNumbers listing failures part script budget shape all
+      → text ≡ told_text failures all → values ≡ told_values all → status ≡ told_status all → IsListReport listing failures part script budget shape text values status
   told_is all text values status are text_is values_are status_is = go all.found refl
     where
-      bad : all.bad ≡ bad_count (told_of failures part script budget shape)
+      bad : all.bad ≡ bad_count (told_of listing failures part script budget shape)
       bad = are.bad ∙ ap bad_count are.ends
 
-      lines : all_lines failures all.attempts all.ends all.bad ≡ all_text failures (attempts_of failures script budget shape) (told_of failures part script budget shape)
+      lines : all_lines failures all.attempts all.ends all.bad ≡ all_text failures (attempts_of failures script budget shape) (told_of listing failures part script budget shape)
       lines = λ i. all_lines failures (are.attempts i) (are.ends i) (bad i)
 
-      go : (found : Option Found) → all.found ≡ found → IsAllReport failures part script budget shape text values status
+      go : (found : Option Found) → all.found ≡ found → IsListReport listing failures part script budget shape text values status
       go None is = inr (inl (record {
         uncut = are.uncut;
         later = are.later;
@@ -57,9 +58,9 @@ module _ (failures : Failures) (part : Part) (script : Script) (budget : ℕ) (s
             rw is at status_is,
           )
 
-  pub if_told : (made : Result Report NoMemory) (all : AllNumbers) → AreAllNumbers failures part script budget shape all
+  pub if_told : (made : Result Report NoMemory) (all : AllNumbers) → AreAllNumbers listing failures part script budget shape all
       → IfOk made (λ r. r.text.items ≡ told_text failures all) → IfOk made (λ r. r.values ≡ told_values all) → IfOk made (λ r. r.status ≡ told_status all)
-      → IfOk made (λ r. IsAllReport failures part script budget shape r.text.items r.values r.status)
+      → IfOk made (λ r. IsListReport listing failures part script budget shape r.text.items r.values r.status)
   if_told (Ok r) all are text_is values_are status_is = told_is all r.text.items r.values r.status are text_is values_are status_is
   if_told (Err fault) all are text_is values_are status_is = tt
 

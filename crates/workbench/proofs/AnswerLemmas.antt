@@ -1,6 +1,7 @@
 -- What an answer is by its status, whatever failed.
-use Rattle.std.proofs.Common.{◌≡◌, ◌+◌, ◌<◌, ◌≤◌, ℕ, List, [], ◌∷◌, Bool, true, false, Option, Some, None, inl, inr, arith, length, take_all, le_refl, lit≤, sym, subst}
+use Rattle.std.proofs.Common.{◌≡◌, ◌+◌, ◌<◌, ◌≤◌, ℕ, List, [], ◌∷◌, Bool, true, false, Option, Some, None, inl, inr, arith, length, take_all, le_refl, lit≤, sym, subst, cond}
 use Rattle.std.specs.Io.KnownBytes.{Appends}
+use Rattle.std.specs.List.{list_any}
 use Rattle.wb_model.specs.declared.run.Outcome.{Outcome}
 use Rattle.wb_model.specs.declared.run.Outcome.TheVariants.{Ended, Panicked, NoCleanup, Cut}
 use Rattle.wb_model.specs.declared.failures.Failures.{Failures}
@@ -10,24 +11,30 @@ use Rattle.wb_model.specs.declared.part.Part.{Part}
 use Rattle.wb_model.specs.declared.script.Script.{Script}
 use Rattle.wb_model.specs.declared.limits.TheConstants.{LONGEST_SCRIPT}
 use Rattle.wb_model.specs.runs.Run.{run}
+use Rattle.wb_model.specs.runs.RunEnds.{is_cut_end}
 use Rattle.wb_command_line.specs.declared.command.Command.{Command}
+use Rattle.wb_command_line.specs.declared.command.Search.{Search}
+use Rattle.wb_command_line.specs.declared.command.Search.TheVariants as S
 use Rattle.wb_command_line.specs.declared.command.Task.{Task}
 use Rattle.wb_command_line.specs.declared.command.Task.TheVariants as T
+use Rattle.wb_sweep.specs.declared.found.Listing.{Listing}
+use Rattle.wb_sweep.specs.declared.found.Listing.TheVariants.{Unfine, Every}
 use Rattle.workbench.specs.declared.findings.Findings.{Findings}
 use Rattle.workbench.specs.declared.answer.Answered.{Answered}
 use Rattle.workbench.specs.declared.report_values.ReportValues.{ReportValues}
 use Rattle.workbench.specs.Answer.{AreFindings, AreFirst, IsAnswer, IsAnyMessage, IsMessage, IsPartWritten, IsReportOf, IsReported, IsReportWritten, IsSaid}
 use Rattle.wb_command_line.specs.Spelled.{whole}
-use Rattle.workbench.specs.AllReport.{IsAllReport, IsCheckAllReport, fine_status}
-use Rattle.workbench.specs.EverySetReport.{IsCheckEverySetReport, IsEverySetReport}
+use Rattle.workbench.specs.AllReport.{IsListReport, fine_status, told_of}
+use Rattle.workbench.specs.EverySetReport.{IsEverySetReport}
 use Rattle.workbench.specs.JsonReport.{laid_out}
 use Rattle.workbench.specs.PartReport.{IsReportOver, is_whole}
 use Rattle.workbench.specs.Report.{IsReport, IsTaskReport, no_memory}
 use Rattle.workbench.specs.LengthsReport.{IsFineStatus, IsLengthsReport}
 use Rattle.workbench.specs.RunText.{outcome_status}
-use Rattle.workbench.specs.SetsReport.{IsCheckSetsReport, IsSetsReport}
+use Rattle.workbench.specs.SearchReport.{IsSearchReport}
+use Rattle.workbench.specs.SetsReport.{IsSetsReport}
 use Rattle.wb_streams.specs.Streams.{AppendsFirst, Came}
-use Rattle.workbench.specs.TwoNumbers.{IsCheckReport, IsSizeReport, IsSweepReport}
+use Rattle.workbench.specs.TwoNumbers.{IsSizeReport, IsSweepReport}
 
 -- ---- a report's status is at most 3
 
@@ -56,25 +63,17 @@ part_status_le false failures part script budget shape text values status (inr (
 part_status_le false failures part script budget shape text values status (inr (inr r)) = omega (arith, r.1)
 
 fine_status_le : (ends : List NumberEnd) → fine_status ends ≤ 3
-fine_status_le [] = lit≤ tt
-fine_status_le (told ∷ ends) = lit≤ tt
+fine_status_le ends = by (list_any (λ told. is_cut_end told.end) ends)
+  where
+    by : (cut : Bool) → cond cut 3 0 ≤ 3
+    by true = lit≤ tt
+    by false = lit≤ tt
 
-all_status_le : (failures : Failures) (part : Part) (script : Script) (budget : ℕ) (shape : Shape) (text : List ℕ) (values : ReportValues)
-    (status : ℕ) → IsAllReport failures part script budget shape text values status → status ≤ 3
-all_status_le failures part script budget shape text values status (inl r) = omega (arith, r.1)
-all_status_le failures part script budget shape text values status (inr (inl r)) = subst (λ n. n ≤ 3) (sym r.status_is) (fine_status_le _)
-all_status_le failures part script budget shape text values status (inr (inr r)) = omega (arith, r.1)
-
-check_all_status_le : (failures : Failures) (script : Script) (budget : ℕ) (shape : Shape) (text : List ℕ) (values : ReportValues)
-    (status : ℕ) → IsCheckAllReport failures script budget shape text values status → status ≤ 3
-check_all_status_le failures script budget shape text values status (inl r) = all_status_le failures whole script budget shape r.second r.sweep status r.told
-check_all_status_le failures script budget shape text values status (inr r) = omega (arith, r.1)
-
-check_status_le : (failures : Failures) (script : Script) (budget : ℕ) (shape : Shape) (text : List ℕ) (values : ReportValues)
-    (status : ℕ) → IsCheckReport failures script budget shape text values status → status ≤ 3
-check_status_le failures script budget shape text values status (inl r) =
-    sweep_status_le failures script budget shape r.second r.sweep status r.swept
-check_status_le failures script budget shape text values status (inr r) = omega (arith, r.1)
+list_status_le : (listing : Listing) (failures : Failures) (part : Part) (script : Script) (budget : ℕ) (shape : Shape) (text : List ℕ) (values : ReportValues)
+    (status : ℕ) → IsListReport listing failures part script budget shape text values status → status ≤ 3
+list_status_le listing failures part script budget shape text values status (inl r) = omega (arith, r.1)
+list_status_le listing failures part script budget shape text values status (inr (inl r)) = subst (λ n. n ≤ 3) (sym r.status_is) (fine_status_le (told_of listing failures part script budget shape))
+list_status_le listing failures part script budget shape text values status (inr (inr r)) = omega (arith, r.1)
 
 sets_status_le : (part : Part) (most : ℕ) (script : Script) (budget : ℕ) (shape : Shape) (text : List ℕ) (values : ReportValues)
     (status : ℕ) → IsSetsReport part most script budget shape text values status → status ≤ 3
@@ -82,22 +81,12 @@ sets_status_le part most script budget shape text values status (inl r) = omega 
 sets_status_le part most script budget shape text values status (inr (inl r)) = omega (arith, r.1)
 sets_status_le part most script budget shape text values status (inr (inr r)) = omega (arith, r.1)
 
-check_sets_status_le : (most : ℕ) (script : Script) (budget : ℕ) (shape : Shape) (text : List ℕ) (values : ReportValues)
-    (status : ℕ) → IsCheckSetsReport most script budget shape text values status → status ≤ 3
-check_sets_status_le most script budget shape text values status (inl r) = sets_status_le whole most script budget shape r.second r.sweep status r.tried
-check_sets_status_le most script budget shape text values status (inr r) = omega (arith, r.1)
-
 every_set_status_le : (part : Part) (script : Script) (budget : ℕ) (shape : Shape) (text : List ℕ) (values : ReportValues) (status : ℕ)
     → IsEverySetReport part script budget shape text values status → status ≤ 3
 every_set_status_le part script budget shape text values status (inl r) = omega (arith, r.1)
 every_set_status_le part script budget shape text values status (inr (inl r)) = omega (arith, r.1)
 every_set_status_le part script budget shape text values status (inr (inr (inl r))) = omega (arith, r.1)
 every_set_status_le part script budget shape text values status (inr (inr (inr r))) = omega (arith, r.1)
-
-check_every_set_status_le : (script : Script) (budget : ℕ) (shape : Shape) (text : List ℕ) (values : ReportValues) (status : ℕ)
-    → IsCheckEverySetReport script budget shape text values status → status ≤ 3
-check_every_set_status_le script budget shape text values status (inl r) = every_set_status_le whole script budget shape r.second r.sweep status r.searched
-check_every_set_status_le script budget shape text values status (inr r) = omega (arith, r.1)
 
 lengths_status_le : (script : Script) (budget : ℕ) (shape : Shape) (text : List ℕ) (values : ReportValues) (status : ℕ) → IsLengthsReport script budget shape text values status → status ≤ 3
 lengths_status_le script budget shape text values status (inl r) = omega (arith, r.1)
@@ -107,26 +96,28 @@ lengths_status_le script budget shape text values status (inr r) = by r.status_i
     by (inl cut) = omega (arith, cut.0)
     by (inr fine) = omega (arith, fine.0)
 
+search_status_le : (search : Search) (part : Part) (script : Script) (budget : ℕ) (shape : Shape) (text : List ℕ) (values : ReportValues)
+    (status : ℕ) → IsSearchReport search part script budget shape text values status → status ≤ 3
+search_status_le (S.Least failures) part script budget shape text values status r =
+    part_status_le (is_whole part) failures part script budget shape text values status r
+search_status_le (S.All failures) part script budget shape text values status r =
+    list_status_le Unfine failures part script budget shape text values status r
+search_status_le (S.Ends failures) part script budget shape text values status r =
+    list_status_le Every failures part script budget shape text values status r
+search_status_le (S.Sets most) part script budget shape text values status r =
+    sets_status_le part most script budget shape text values status r
+search_status_le (S.EverySet states) part script budget shape text values status r =
+    every_set_status_le part script budget shape text values status r
+
 task_status_le : (task : Task) (script : Script) (budget : ℕ) (shape : Shape) (text : List ℕ) (values : ReportValues) (status : ℕ) → IsTaskReport task script budget shape text values status → status ≤ 3
 task_status_le (T.Run rule) script budget shape text values status r = subst (λ n. n ≤ 3) (sym r.status_is) (outcome_status_le (run script rule budget shape).outcome)
 task_status_le T.Size script budget shape text values status r = size_status_le script budget shape text values status r
 task_status_le T.Lengths script budget shape text values status r = lengths_status_le script budget shape text values status r
-task_status_le (T.Sweep failures part) script budget shape text values status r =
-    part_status_le (is_whole part) failures part script budget shape text values status r
-task_status_le (T.All failures part) script budget shape text values status r =
-    all_status_le failures part script budget shape text values status r
-task_status_le (T.Sets most part) script budget shape text values status r =
-    sets_status_le part most script budget shape text values status r
-task_status_le (T.EverySet states part) script budget shape text values status r =
-    every_set_status_le part script budget shape text values status r
-task_status_le (T.CheckEverySet states) script budget shape text values status r =
-    check_every_set_status_le script budget shape text values status r
-task_status_le (T.CheckSets most) script budget shape text values status r =
-    check_sets_status_le most script budget shape text values status r
-task_status_le (T.CheckAll failures) script budget shape text values status r =
-    check_all_status_le failures script budget shape text values status r
-task_status_le (T.Check failures) script budget shape text values status r =
-    check_status_le failures script budget shape text values status r
+task_status_le (T.Sweep search part) script budget shape text values status r =
+    search_status_le search part script budget shape text values status r
+task_status_le (T.Check search) script budget shape text values status (inl r) =
+    search_status_le search whole script budget shape r.second r.sweep status r.searched
+task_status_le (T.Check search) script budget shape text values status (inr r) = omega (arith, r.1)
 
 report_status_le : (command : Command) (bytes text : List ℕ) (values : ReportValues) (status : ℕ) → IsReport command bytes text values status → status ≤ 3
 report_status_le command bytes text values status (inl r) = task_status_le command.task r.script command.budget command.shape text values status r.task_report

@@ -4,6 +4,7 @@ use Rattle.std.specs.Prelude.{◌==◌}
 use Rattle.serde_json.specs.Data.{Data}
 use Rattle.serde_json.specs.View.{items_of}
 use Rattle.serde_json.specs.Written.{has_float, items_have_float}
+use Rattle.wb_command_line.specs.declared.command.Search.TheVariants as S
 use Rattle.wb_command_line.specs.declared.command.Task.{Task}
 use Rattle.wb_command_line.specs.declared.command.Task.TheVariants as T
 use Rattle.wb_model.specs.declared.failures.Failing.TheVariants.{Number, Pair}
@@ -80,7 +81,7 @@ report_has_none (T.Run rule) text values status =
     rw (count_has_none values.attempts, lines_have_none text, number_has_none values.number values.set, count_has_none values.required, rises_have_none values.rises) refl
 report_has_none T.Size text values status =
     rw (count_has_none values.attempts, lines_have_none text, number_has_none values.number values.set, count_has_none values.required, rises_have_none values.rises) refl
-report_has_none (T.Sweep failures part) text values status =
+report_has_none (T.Sweep (S.Least failures) part) text values status =
     rw (
       count_has_none values.attempts,
       failures_have_none failures,
@@ -89,7 +90,7 @@ report_has_none (T.Sweep failures part) text values status =
       count_has_none values.required,
       rises_have_none values.rises,
     ) refl
-report_has_none (T.All failures part) text values status =
+report_has_none (T.Sweep (S.All failures) part) text values status =
     rw (
       told_have_none values.all,
       count_has_none values.attempts,
@@ -99,24 +100,7 @@ report_has_none (T.All failures part) text values status =
       count_has_none values.required,
       rises_have_none values.rises,
     ) refl
-report_has_none (T.Sets most part) text values status =
-    rw (
-      count_has_none values.attempts,
-      lines_have_none text,
-      number_has_none values.number values.set,
-      count_has_none values.required,
-      rises_have_none values.rises,
-    ) refl
-report_has_none (T.Check failures) text values status =
-    rw (
-      count_has_none values.attempts,
-      failures_have_none failures,
-      lines_have_none text,
-      number_has_none values.number values.set,
-      count_has_none values.required,
-      rises_have_none values.rises,
-    ) refl
-report_has_none (T.CheckAll failures) text values status =
+report_has_none (T.Sweep (S.Ends failures) part) text values status =
     rw (
       told_have_none values.all,
       count_has_none values.attempts,
@@ -126,7 +110,7 @@ report_has_none (T.CheckAll failures) text values status =
       count_has_none values.required,
       rises_have_none values.rises,
     ) refl
-report_has_none (T.CheckSets most) text values status =
+report_has_none (T.Sweep (S.Sets most) part) text values status =
     rw (
       count_has_none values.attempts,
       lines_have_none text,
@@ -134,7 +118,7 @@ report_has_none (T.CheckSets most) text values status =
       count_has_none values.required,
       rises_have_none values.rises,
     ) refl
-report_has_none (T.EverySet states part) text values status =
+report_has_none (T.Sweep (S.EverySet states) part) text values status =
     rw (
       count_has_none values.attempts,
       lines_have_none text,
@@ -142,7 +126,44 @@ report_has_none (T.EverySet states part) text values status =
       count_has_none values.required,
       rises_have_none values.rises,
     ) refl
-report_has_none (T.CheckEverySet states) text values status =
+report_has_none (T.Check (S.Least failures)) text values status =
+    rw (
+      count_has_none values.attempts,
+      failures_have_none failures,
+      lines_have_none text,
+      number_has_none values.number values.set,
+      count_has_none values.required,
+      rises_have_none values.rises,
+    ) refl
+report_has_none (T.Check (S.All failures)) text values status =
+    rw (
+      told_have_none values.all,
+      count_has_none values.attempts,
+      failures_have_none failures,
+      lines_have_none text,
+      number_has_none values.number values.set,
+      count_has_none values.required,
+      rises_have_none values.rises,
+    ) refl
+report_has_none (T.Check (S.Ends failures)) text values status =
+    rw (
+      told_have_none values.all,
+      count_has_none values.attempts,
+      failures_have_none failures,
+      lines_have_none text,
+      number_has_none values.number values.set,
+      count_has_none values.required,
+      rises_have_none values.rises,
+    ) refl
+report_has_none (T.Check (S.Sets most)) text values status =
+    rw (
+      count_has_none values.attempts,
+      lines_have_none text,
+      number_has_none values.number values.set,
+      count_has_none values.required,
+      rises_have_none values.rises,
+    ) refl
+report_has_none (T.Check (S.EverySet states)) text values status =
     rw (
       count_has_none values.attempts,
       lines_have_none text,

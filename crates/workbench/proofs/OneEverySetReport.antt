@@ -9,19 +9,22 @@ use Rattle.wb_model.specs.runs.SetAnswers.{SetAnswer, found, cut, none}
 use Rattle.wb_model.proofs.EverySetAnswers.{once-of-every-set}
 use Rattle.wb_command_line.specs.Spelled.{whole}
 use Rattle.wb_command_line.specs.declared.command.Command.{Command}
+use Rattle.wb_command_line.specs.declared.command.Search.{Search}
+use Rattle.wb_command_line.specs.declared.command.Search.TheVariants as S
 use Rattle.wb_command_line.specs.declared.command.Task.{Task}
 use Rattle.wb_command_line.specs.declared.command.Task.TheVariants as T
 use Rattle.wb_script.proofs.one_script.FaultLaws.{no_fault}
 use Rattle.wb_script.proofs.one_script.ScriptLaws.{script_once}
 use Rattle.workbench.specs.declared.report_values.FailingNumber.TheVariants.{Never}
 use Rattle.workbench.specs.declared.report_values.ReportValues.{ReportValues}
-use Rattle.workbench.specs.EverySetReport.{IsCheckEverySetReport, IsEverySetReport, IsSizedAndSearched, no_set_at_all_line}
+use Rattle.workbench.specs.EverySetReport.{IsEverySetReport, no_set_at_all_line}
 use Rattle.workbench.specs.PartReport.{is_whole}
 use Rattle.workbench.specs.Report.{IsReport, IsReportOfScript, IsTaskReport}
-use Rattle.workbench.specs.ReportValues.{both_values, cut_set_values, set_values, sweep_values}
+use Rattle.workbench.specs.ReportValues.{cut_set_values, set_values, sweep_values}
+use Rattle.workbench.specs.SearchReport.{IsCheckReport, IsSearchReport}
 use Rattle.workbench.specs.SetsReport.{cut_set_line, found_set_text}
 use Rattle.workbench.specs.TwoNumbers.{attempts_line, attempts_of}
-use Rattle.workbench.proofs.OneReport.{Alike, never_both, of_fault, one_cut, one_size, one_task}
+use Rattle.workbench.proofs.OneReport.{Alike, after-size, never_both, of_fault, one_cut, one_search, one_task}
 use Rattle.workbench.proofs.SetsOver.{least-cut-in, least-found-in, none-of-any-size-in, part_over}
 
 -- ---- what is told of an answer
@@ -83,48 +86,45 @@ module _ (part : Part) (script : Script) (budget : ℕ) (shape : Shape) where
         s.status_is ∙ ap told_status same ∙ sym t.status_is,
       )
 
--- ---- after a size
+-- ---- by what is searched for
 
-module _ (script : Script) (budget : ℕ) (shape : Shape) where
-  one_sized_and_searched : (text text' : List ℕ) (values figures' : ReportValues) (status status' : ℕ) → values.fine ≡ None → figures'.fine ≡ None
-      → IsSizedAndSearched script budget shape text values status → IsSizedAndSearched script budget shape text' figures' status'
+module _ (search : Search) (script : Script) (budget : ℕ) (shape : Shape) where
+  -- of each search that isn't cut by its states
+  one_ended_search : (part : Part) (text text' : List ℕ) (values figures' : ReportValues) (status status' : ℕ) → values.fine ≡ None → figures'.fine ≡ None
+      → IsSearchReport search part script budget shape text values status → IsSearchReport search part script budget shape text' figures' status'
       → Alike text values text' figures' × (status ≡ status')
-  one_sized_and_searched text text' values figures' status status' ends ends' s t =
-      let (first, size) = one_size script budget shape s.first t.first s.size t.size s.sized t.sized in
+  one_ended_search part text text' values figures' status status' ends ends' s t = by search s t
+    where
+      by : (search : Search) → IsSearchReport search part script budget shape text values status → IsSearchReport search part script budget shape text' figures' status'
+          → Alike text values text' figures' × (status ≡ status')
+      by (S.EverySet states) s t = one_every_set part script budget shape text text' values figures' status status' ends ends' s t
+      by (S.Least failures) s t = one_search (S.Least failures) script budget shape part refl text text' values figures' status status' s t
+      by (S.All failures) s t = one_search (S.All failures) script budget shape part refl text text' values figures' status status' s t
+      by (S.Ends failures) s t = one_search (S.Ends failures) script budget shape part refl text text' values figures' status status' s t
+      by (S.Sets most) s t = one_search (S.Sets most) script budget shape part refl text text' values figures' status status' s t
+
+  one_ended_check : (text text' : List ℕ) (values figures' : ReportValues) (status status' : ℕ) → values.fine ≡ None → figures'.fine ≡ None
+      → IsCheckReport search script budget shape text values status → IsCheckReport search script budget shape text' figures' status'
+      → Alike text values text' figures' × (status ≡ status')
+  one_ended_check text text' values figures' status status' ends ends' (inl s) (inl t) =
       let here : s.sweep.fine ≡ None = sym (ap (λ (v : ReportValues). v.fine) s.values_are) ∙ ends in
       let there : t.sweep.fine ≡ None = sym (ap (λ (v : ReportValues). v.fine) t.values_are) ∙ ends' in
-      let ((second, sweep), same) = one_every_set whole script budget shape s.second t.second s.sweep t.sweep status status' here there s.searched t.searched in (
-        (
-          s.text_is ∙ ap (λ l. l ++ s.second) first ∙ ap (λ l. t.first ++ l) second ∙ sym t.text_is,
-          s.values_are ∙ ap (λ f. both_values f s.sweep) size ∙ ap (both_values t.size) sweep ∙ sym t.values_are,
-        ),
-        same,
-      )
-
-  one_check_every_set : (text text' : List ℕ) (values figures' : ReportValues) (status status' : ℕ) → values.fine ≡ None → figures'.fine ≡ None
-      → IsCheckEverySetReport script budget shape text values status → IsCheckEverySetReport script budget shape text' figures' status'
-      → Alike text values text' figures' × (status ≡ status')
-  one_check_every_set text text' values figures' status status' ends ends' (inl s) (inl t) = one_sized_and_searched text text' values figures' status status' ends ends' s t
-  one_check_every_set text text' values figures' status status' ends ends' (inl s) (inr (t, f)) = absurd (never_both script budget shape s.first text' s.size figures' s.sized t)
-  one_check_every_set text text' values figures' status status' ends ends' (inr (s, e)) (inl t) = absurd (never_both script budget shape t.first text t.size values t.sized s)
-  one_check_every_set text text' values figures' status status' ends ends' (inr (s, e)) (inr (t, f)) = (one_cut script budget shape text text' values figures' s t, e ∙ sym f)
+      after-size search script budget shape text text' values figures' status status' s t
+      (one_ended_search whole s.second t.second s.sweep t.sweep status status' here there s.searched t.searched)
+  one_ended_check text text' values figures' status status' ends ends' (inl s) (inr (t, f)) = absurd (never_both script budget shape s.first text' s.size figures' s.sized t)
+  one_ended_check text text' values figures' status status' ends ends' (inr (s, e)) (inl t) = absurd (never_both script budget shape t.first text t.size values t.sized s)
+  one_ended_check text text' values figures' status status' ends ends' (inr (s, e)) (inr (t, f)) = (one_cut script budget shape text text' values figures' s t, e ∙ sym f)
 
 -- ---- by the task
 
 module _ (script : Script) (budget : ℕ) (shape : Shape) (text text' : List ℕ) (values figures' : ReportValues) (status status' : ℕ) (ends : values.fine ≡ None) (ends' : figures'.fine ≡ None) where
   one_ended_task : (task : Task) → IsTaskReport task script budget shape text values status → IsTaskReport task script budget shape text' figures' status'
       → Alike text values text' figures' × (status ≡ status')
-  one_ended_task (T.EverySet states part) s t = one_every_set part script budget shape text text' values figures' status status' ends ends' s t
-  one_ended_task (T.CheckEverySet states) s t = one_check_every_set script budget shape text text' values figures' status status' ends ends' s t
+  one_ended_task (T.Sweep search part) s t = one_ended_search search script budget shape part text text' values figures' status status' ends ends' s t
+  one_ended_task (T.Check search) s t = one_ended_check search script budget shape text text' values figures' status status' ends ends' s t
   one_ended_task (T.Run rule) s t = one_task script budget shape (T.Run rule) refl text text' values figures' status status' s t
   one_ended_task T.Size s t = one_task script budget shape T.Size refl text text' values figures' status status' s t
   one_ended_task T.Lengths s t = one_task script budget shape T.Lengths refl text text' values figures' status status' s t
-  one_ended_task (T.Sweep failures part) s t = one_task script budget shape (T.Sweep failures part) refl text text' values figures' status status' s t
-  one_ended_task (T.All failures part) s t = one_task script budget shape (T.All failures part) refl text text' values figures' status status' s t
-  one_ended_task (T.Sets most part) s t = one_task script budget shape (T.Sets most part) refl text text' values figures' status status' s t
-  one_ended_task (T.Check failures) s t = one_task script budget shape (T.Check failures) refl text text' values figures' status status' s t
-  one_ended_task (T.CheckAll failures) s t = one_task script budget shape (T.CheckAll failures) refl text text' values figures' status status' s t
-  one_ended_task (T.CheckSets most) s t = one_task script budget shape (T.CheckSets most) refl text text' values figures' status status' s t
 
 -- ---- of a script, or of a fault
 

@@ -24,22 +24,26 @@ use Rattle.wb_model.proofs.LengthTables.{one-table}
 use Rattle.wb_model.proofs.OnceFound.{cut-some, found-some, found-uncut, once-cut, once-found}
 use Rattle.wb_model.proofs.OnceInPart.{cut_or_uncut, cut-some-in, found-some-in, found-uncut-in, least-bad-some, once-cut-in, once-found-in, once-least-bad}
 use Rattle.wb_command_line.specs.declared.command.Command.{Command}
+use Rattle.wb_command_line.specs.declared.command.Search.{Search}
+use Rattle.wb_command_line.specs.declared.command.Search.TheVariants as S
 use Rattle.wb_command_line.specs.declared.command.Task.{Task}
 use Rattle.wb_command_line.specs.declared.command.Task.TheVariants as T
 use Rattle.wb_command_line.specs.Spelled.{whole}
+use Rattle.wb_sweep.specs.declared.found.Listing.{Listing}
+use Rattle.wb_sweep.specs.declared.found.Listing.TheVariants.{Unfine, Every}
 use Rattle.wb_script.proofs.one_script.FaultLaws.{fault_once, no_fault}
 use Rattle.wb_script.proofs.one_script.ScriptLaws.{script_once}
 use Rattle.workbench.specs.declared.report_values.ReportValues.{ReportValues}
 use Rattle.workbench.specs.declared.report_values.FailingNumber.TheVariants.{At, Length, Never}
-use Rattle.workbench.specs.AllReport.{IsAllReport, IsCheckAllReport, IsSizedAndTold, IsToldWithBad, all_text, told_of}
-use Rattle.workbench.specs.EverySetReport.{tries_every_set}
+use Rattle.workbench.specs.AllReport.{IsListReport, IsToldWithBad, all_text, told_of}
+use Rattle.workbench.specs.EverySetReport.{is_of_every_set, tries_every_set}
 use Rattle.workbench.specs.LengthsReport.{IsBadLengthFound, IsFineStatus, IsLengthsReport, IsNoBadLengthFound, bad_length_text, found_length_text, table_lines}
 use Rattle.workbench.specs.PartReport.{IsFailingIn, IsPartReport, IsReportOver, IsUnsweptIn, is_whole}
 use Rattle.workbench.specs.RunText.{run_text}
-use Rattle.workbench.specs.SetsReport.{IsCheckSetsReport, IsSizedAndTried}
+use Rattle.workbench.specs.SearchReport.{IsCheckReport, IsSearchReport, IsSizedAndSearched}
 use Rattle.workbench.specs.ReportValues.{all_values, both_values, cut_values, lengths_values, size_values, sweep_values}
 use Rattle.workbench.specs.Report.{IsReport, IsReportOfFault, IsReportOfScript, IsTaskReport, fault_line}
-use Rattle.workbench.specs.TwoNumbers.{IsBoth, IsCheckReport, IsFailing, IsSized, IsSizeReport, IsSweepReport, IsUnsized, IsUnswept, attempts_line, attempts_of, cut_at_line, found_text, size_text}
+use Rattle.workbench.specs.TwoNumbers.{IsFailing, IsSized, IsSizeReport, IsSweepReport, IsUnsized, IsUnswept, attempts_line, attempts_of, cut_at_line, found_text, size_text}
 use Rattle.workbench.proofs.OneSetReport.{one_sets}
 
 -- the same text and the same values
@@ -176,93 +180,31 @@ module _ (failures : Failures) (script : Script) (budget : ℕ) (shape : Shape) 
     one_over true text text' values figures' status status' s t = one_sweep text text' values figures' status status' s t
     one_over false text text' values figures' status status' s t = one_part text text' values figures' status status' s t
 
-    -- ---- all numbers
+    -- ---- lists of numbers
 
-    one_told : (text text' : List ℕ) (values figures' : ReportValues) → IsToldWithBad failures part script budget shape text values
-        → IsToldWithBad failures part script budget shape text' figures' → Alike text values text' figures'
-    one_told text text' values figures' s t =
+    one_told : (listing : Listing) (text text' : List ℕ) (values figures' : ReportValues) → IsToldWithBad listing failures part script budget shape text values
+        → IsToldWithBad listing failures part script budget shape text' figures' → Alike text values text' figures'
+    one_told listing text text' values figures' s t =
         let (same, results) = once-least-bad failures part script budget shape s.number t.number s.result t.result s.least t.least in
         let attempts : ℕ = attempts_of failures script budget shape in
-        let ends : List NumberEnd = told_of failures part script budget shape in (
+        let ends : List NumberEnd = told_of listing failures part script budget shape in (
           s.text_is ∙ ap (λ r. all_text failures attempts ends ++ run_text r) results ∙ sym t.text_is,
           s.values_are ∙ ap (λ n. all_values attempts ends (At (failing_at failures n))) same ∙ sym t.values_are,
         )
 
-    one_all : (text text' : List ℕ) (values figures' : ReportValues) (status status' : ℕ) → IsAllReport failures part script budget shape text values status
-        → IsAllReport failures part script budget shape text' figures' status' → Alike text values text' figures' × (status ≡ status')
-    one_all text text' values figures' status status' (inl (s, e)) (inl (t, f)) = (one_told text text' values figures' s t, e ∙ sym f)
-    one_all text text' values figures' status status' (inl (s, e)) (inr (inl t)) = absurd (least-bad-some failures part script budget shape s.number s.result s.least t.none)
-    one_all text text' values figures' status status' (inl (s, e)) (inr (inr (t, f))) = absurd (cut_or_uncut failures part script budget shape t.why t.cut s.uncut)
-    one_all text text' values figures' status status' (inr (inl s)) (inl (t, f)) = absurd (least-bad-some failures part script budget shape t.number t.result t.least s.none)
-    one_all text text' values figures' status status' (inr (inl s)) (inr (inl t)) = ((s.text_is ∙ sym t.text_is, s.values_are ∙ sym t.values_are), s.status_is ∙ sym t.status_is)
-    one_all text text' values figures' status status' (inr (inl s)) (inr (inr (t, f))) = absurd (cut_or_uncut failures part script budget shape t.why t.cut s.uncut)
-    one_all text text' values figures' status status' (inr (inr (s, e))) (inl (t, f)) = absurd (cut_or_uncut failures part script budget shape s.why s.cut t.uncut)
-    one_all text text' values figures' status status' (inr (inr (s, e))) (inr (inl t)) = absurd (cut_or_uncut failures part script budget shape s.why s.cut t.uncut)
-    one_all text text' values figures' status status' (inr (inr (s, e))) (inr (inr (t, f))) =
+    one_list : (listing : Listing) (text text' : List ℕ) (values figures' : ReportValues) (status status' : ℕ) → IsListReport listing failures part script budget shape text values status
+        → IsListReport listing failures part script budget shape text' figures' status' → Alike text values text' figures' × (status ≡ status')
+    one_list listing text text' values figures' status status' (inl (s, e)) (inl (t, f)) = (one_told listing text text' values figures' s t, e ∙ sym f)
+    one_list listing text text' values figures' status status' (inl (s, e)) (inr (inl t)) = absurd (least-bad-some failures part script budget shape s.number s.result s.least t.none)
+    one_list listing text text' values figures' status status' (inl (s, e)) (inr (inr (t, f))) = absurd (cut_or_uncut failures part script budget shape t.why t.cut s.uncut)
+    one_list listing text text' values figures' status status' (inr (inl s)) (inl (t, f)) = absurd (least-bad-some failures part script budget shape t.number t.result t.least s.none)
+    one_list listing text text' values figures' status status' (inr (inl s)) (inr (inl t)) = ((s.text_is ∙ sym t.text_is, s.values_are ∙ sym t.values_are), s.status_is ∙ sym t.status_is)
+    one_list listing text text' values figures' status status' (inr (inl s)) (inr (inr (t, f))) = absurd (cut_or_uncut failures part script budget shape t.why t.cut s.uncut)
+    one_list listing text text' values figures' status status' (inr (inr (s, e))) (inl (t, f)) = absurd (cut_or_uncut failures part script budget shape s.why s.cut t.uncut)
+    one_list listing text text' values figures' status status' (inr (inr (s, e))) (inr (inl t)) = absurd (cut_or_uncut failures part script budget shape s.why s.cut t.uncut)
+    one_list listing text text' values figures' status status' (inr (inr (s, e))) (inr (inr (t, f))) =
         let why = one_why s.why t.why _ s.cut t.cut in
         ((s.text_is ∙ ap (cut_at_line (failing_at failures 0)) why ∙ sym t.text_is, s.values_are ∙ sym t.values_are), e ∙ sym f)
-
-  -- ---- both
-
-  one_sized_and_told : (text text' : List ℕ) (values figures' : ReportValues) (status status' : ℕ) → IsSizedAndTold failures script budget shape text values status
-      → IsSizedAndTold failures script budget shape text' figures' status' → Alike text values text' figures' × (status ≡ status')
-  one_sized_and_told text text' values figures' status status' s t =
-      let (first, size) = one_size script budget shape s.first t.first s.size t.size s.sized t.sized in
-      let ((second, sweep), same) = one_all whole s.second t.second s.sweep t.sweep status status' s.told t.told in (
-        (
-          s.text_is ∙ ap (λ l. l ++ s.second) first ∙ ap (λ l. t.first ++ l) second ∙ sym t.text_is,
-          s.values_are ∙ ap (λ f. both_values f s.sweep) size ∙ ap (both_values t.size) sweep ∙ sym t.values_are,
-        ),
-        same,
-      )
-
-  one_check_all : (text text' : List ℕ) (values figures' : ReportValues) (status status' : ℕ) → IsCheckAllReport failures script budget shape text values status
-      → IsCheckAllReport failures script budget shape text' figures' status' → Alike text values text' figures' × (status ≡ status')
-  one_check_all text text' values figures' status status' (inl s) (inl t) = one_sized_and_told text text' values figures' status status' s t
-  one_check_all text text' values figures' status status' (inl s) (inr (t, f)) = absurd (never_both script budget shape s.first text' s.size figures' s.sized t)
-  one_check_all text text' values figures' status status' (inr (s, e)) (inl t) = absurd (never_both script budget shape t.first text t.size values t.sized s)
-  one_check_all text text' values figures' status status' (inr (s, e)) (inr (t, f)) = (one_cut script budget shape text text' values figures' s t, e ∙ sym f)
-
-  one_both : (text text' : List ℕ) (values figures' : ReportValues) (status status' : ℕ) → IsBoth failures script budget shape text values status
-      → IsBoth failures script budget shape text' figures' status' → Alike text values text' figures' × (status ≡ status')
-  one_both text text' values figures' status status' s t =
-      let (first, size) = one_size script budget shape s.first t.first s.size t.size s.sized t.sized in
-      let ((second, sweep), same) = one_sweep s.second t.second s.sweep t.sweep status status' s.swept t.swept in (
-        (
-          s.text_is ∙ ap (λ l. l ++ s.second) first ∙ ap (λ l. t.first ++ l) second ∙ sym t.text_is,
-          s.values_are ∙ ap (λ f. both_values f s.sweep) size ∙ ap (both_values t.size) sweep ∙ sym t.values_are,
-        ),
-        same,
-      )
-
-  one_check : (text text' : List ℕ) (values figures' : ReportValues) (status status' : ℕ) → IsCheckReport failures script budget shape text values status
-      → IsCheckReport failures script budget shape text' figures' status' → Alike text values text' figures' × (status ≡ status')
-  one_check text text' values figures' status status' (inl s) (inl t) = one_both text text' values figures' status status' s t
-  one_check text text' values figures' status status' (inl s) (inr (t, f)) = absurd (never_both script budget shape s.first text' s.size figures' s.sized t)
-  one_check text text' values figures' status status' (inr (s, e)) (inl t) = absurd (never_both script budget shape t.first text t.size values t.sized s)
-  one_check text text' values figures' status status' (inr (s, e)) (inr (t, f)) = (one_cut script budget shape text text' values figures' s t, e ∙ sym f)
-
--- ---- both, of sets
-
-module _ (most : ℕ) (script : Script) (budget : ℕ) (shape : Shape) where
-  one_sized_and_tried : (text text' : List ℕ) (values figures' : ReportValues) (status status' : ℕ) → IsSizedAndTried most script budget shape text values status
-      → IsSizedAndTried most script budget shape text' figures' status' → Alike text values text' figures' × (status ≡ status')
-  one_sized_and_tried text text' values figures' status status' s t =
-      let (first, size) = one_size script budget shape s.first t.first s.size t.size s.sized t.sized in
-      let ((second, sweep), same) = one_sets whole most script budget shape s.second t.second s.sweep t.sweep status status' s.tried t.tried in (
-        (
-          s.text_is ∙ ap (λ l. l ++ s.second) first ∙ ap (λ l. t.first ++ l) second ∙ sym t.text_is,
-          s.values_are ∙ ap (λ f. both_values f s.sweep) size ∙ ap (both_values t.size) sweep ∙ sym t.values_are,
-        ),
-        same,
-      )
-
-  one_check_sets : (text text' : List ℕ) (values figures' : ReportValues) (status status' : ℕ) → IsCheckSetsReport most script budget shape text values status
-      → IsCheckSetsReport most script budget shape text' figures' status' → Alike text values text' figures' × (status ≡ status')
-  one_check_sets text text' values figures' status status' (inl s) (inl t) = one_sized_and_tried text text' values figures' status status' s t
-  one_check_sets text text' values figures' status status' (inl s) (inr (t, f)) = absurd (never_both script budget shape s.first text' s.size figures' s.sized t)
-  one_check_sets text text' values figures' status status' (inr (s, e)) (inl t) = absurd (never_both script budget shape t.first text t.size values t.sized s)
-  one_check_sets text text' values figures' status status' (inr (s, e)) (inr (t, f)) = (one_cut script budget shape text text' values figures' s t, e ∙ sym f)
 
 -- ---- all lengths
 
@@ -305,6 +247,47 @@ module _ (script : Script) (budget : ℕ) (shape : Shape) where
   one_lengths text text' values figures' status status' (inr s) (inl (t, f)) = absurd (bad-length-some script budget shape t.length t.result t.least s.none)
   one_lengths text text' values figures' status status' (inr s) (inr t) = one_fine_table text text' values figures' status status' s t
 
+-- ---- by what is searched for
+
+module _ (search : Search) (script : Script) (budget : ℕ) (shape : Shape) where
+  -- of each search but that among all sets
+  pub one_search : (part : Part) → is_of_every_set search ≡ false → (text text' : List ℕ) (values figures' : ReportValues) (status status' : ℕ)
+      → IsSearchReport search part script budget shape text values status
+      → IsSearchReport search part script budget shape text' figures' status' → Alike text values text' figures' × (status ≡ status')
+  one_search part old text text' values figures' status status' s t = by search old s t
+    where
+      by : (search : Search) → is_of_every_set search ≡ false → IsSearchReport search part script budget shape text values status
+          → IsSearchReport search part script budget shape text' figures' status' → Alike text values text' figures' × (status ≡ status')
+      by (S.Least failures) old s t = one_over failures script budget shape part (is_whole part) text text' values figures' status status' s t
+      by (S.All failures) old s t = one_list failures script budget shape part Unfine text text' values figures' status status' s t
+      by (S.Ends failures) old s t = one_list failures script budget shape part Every text text' values figures' status status' s t
+      by (S.Sets most) old s t = one_sets part most script budget shape text text' values figures' status status' s t
+      by (S.EverySet states) old s t = absurd (false≢true (sym old))
+
+  -- the search comes after a size
+  pub after-size : (text text' : List ℕ) (values figures' : ReportValues) (status status' : ℕ) (s : IsSizedAndSearched search script budget shape text values status)
+      (t : IsSizedAndSearched search script budget shape text' figures' status') → Alike s.second s.sweep t.second t.sweep × (status ≡ status')
+      → Alike text values text' figures' × (status ≡ status')
+  after-size text text' values figures' status status' s t found =
+      let (first, size) = one_size script budget shape s.first t.first s.size t.size s.sized t.sized in
+      let ((second, sweep), same) = found in (
+        (
+          s.text_is ∙ ap (λ l. l ++ s.second) first ∙ ap (λ l. t.first ++ l) second ∙ sym t.text_is,
+          s.values_are ∙ ap (λ f. both_values f s.sweep) size ∙ ap (both_values t.size) sweep ∙ sym t.values_are,
+        ),
+        same,
+      )
+
+  one_check : is_of_every_set search ≡ false → (text text' : List ℕ) (values figures' : ReportValues) (status status' : ℕ)
+      → IsCheckReport search script budget shape text values status
+      → IsCheckReport search script budget shape text' figures' status' → Alike text values text' figures' × (status ≡ status')
+  one_check old text text' values figures' status status' (inl s) (inl t) =
+      after-size text text' values figures' status status' s t
+      (one_search whole old s.second t.second s.sweep t.sweep status status' s.searched t.searched)
+  one_check old text text' values figures' status status' (inl s) (inr (t, f)) = absurd (never_both script budget shape s.first text' s.size figures' s.sized t)
+  one_check old text text' values figures' status status' (inr (s, e)) (inl t) = absurd (never_both script budget shape t.first text t.size values t.sized s)
+  one_check old text text' values figures' status status' (inr (s, e)) (inr (t, f)) = (one_cut script budget shape text text' values figures' s t, e ∙ sym f)
+
 -- ---- by the task
 
 module _ (script : Script) (budget : ℕ) (shape : Shape) where
@@ -316,20 +299,10 @@ module _ (script : Script) (budget : ℕ) (shape : Shape) where
       one_sizing script budget shape text text' values figures' status status' s t
   one_task T.Lengths old text text' values figures' status status' s t =
       one_lengths script budget shape text text' values figures' status status' s t
-  one_task (T.Sweep failures part) old text text' values figures' status status' s t =
-      one_over failures script budget shape part (is_whole part) text text' values figures' status status' s t
-  one_task (T.All failures part) old text text' values figures' status status' s t =
-      one_all failures script budget shape part text text' values figures' status status' s t
-  one_task (T.Check failures) old text text' values figures' status status' s t =
-      one_check failures script budget shape text text' values figures' status status' s t
-  one_task (T.Sets most part) old text text' values figures' status status' s t =
-      one_sets part most script budget shape text text' values figures' status status' s t
-  one_task (T.CheckSets most) old text text' values figures' status status' s t =
-      one_check_sets most script budget shape text text' values figures' status status' s t
-  one_task (T.CheckAll failures) old text text' values figures' status status' s t =
-      one_check_all failures script budget shape text text' values figures' status status' s t
-  one_task (T.EverySet states part) old text text' values figures' status status' s t = absurd (false≢true (sym old))
-  one_task (T.CheckEverySet states) old text text' values figures' status status' s t = absurd (false≢true (sym old))
+  one_task (T.Sweep search part) old text text' values figures' status status' s t =
+      one_search search script budget shape part old text text' values figures' status status' s t
+  one_task (T.Check search) old text text' values figures' status status' s t =
+      one_check search script budget shape old text text' values figures' status status' s t
 
 -- ---- of a script, or of a fault
 

@@ -2,6 +2,7 @@
 use Rattle.std.proofs.Common.{◌≡◌, [], ◌∷◌, Some, None, codes, refl}
 use Rattle.std.specs.Fmt.{digits}
 use Rattle.serde_json.proofs.OnLiterals.{serde_json_on_literals}
+use Rattle.wb_command_line.specs.declared.command.Search.TheVariants as S
 use Rattle.wb_command_line.specs.declared.command.Task.TheVariants as T
 use Rattle.wb_model.specs.declared.heap.Answer.TheVariants.{Granted, Simulated}
 use Rattle.wb_model.specs.declared.run.Outcome.TheVariants.{Ended}
@@ -36,28 +37,28 @@ many-text : many_states_text 6 1 ≡ codes "attempts 6\nset none to 1\ncut state
 unfolding digits
 many-text = refl
 
-found-json : json_text (T.EverySet 100000 whole) [] (set_values 3 (3 ∷ 4 ∷ 5 ∷ [])) 1
+found-json : json_text (T.Sweep (S.EverySet 100000) whole) [] (set_values 3 (3 ∷ 4 ∷ 5 ∷ [])) 1
     ≡ codes "{\"attempts\":3,\"kind\":\"sets\",\"lines\":[],\"most\":null,\"number\":[3,4,5],\"required\":null,\"rises\":null,\"status\":1,\"version\":3}\n"
 unfolding serde_json_on_literals digits report_object common_members
 found-json = refl
 
-check_every_set-json : json_text (T.CheckEverySet 5) [] (both_values (size_values 144 (record { number = 1; top = 144 } ∷ [])) (sweep_values 1 Never)) 0
+check_every_set-json : json_text (T.Check (S.EverySet 5)) [] (both_values (size_values 144 (record { number = 1; top = 144 } ∷ [])) (sweep_values 1 Never)) 0
     ≡ codes "{\"attempts\":1,\"kind\":\"sets\",\"lines\":[],\"most\":null,\"number\":\"none\",\"required\":144,\"rises\":[[1,144]],\"status\":0,\"version\":3}\n"
 unfolding serde_json_on_literals digits report_object common_members
 check_every_set-json = refl
 
-cut-json : json_text (T.EverySet 1 whole) [] (cut_set_values (2 ∷ 3 ∷ [])) 3
+cut-json : json_text (T.Sweep (S.EverySet 1) whole) [] (cut_set_values (2 ∷ 3 ∷ [])) 3
     ≡ codes "{\"attempts\":null,\"kind\":\"sets\",\"lines\":[],\"most\":null,\"number\":null,\"required\":null,\"rises\":null,\"status\":3,\"version\":3}\n"
 unfolding serde_json_on_literals digits report_object common_members
 cut-json = refl
 
 -- a search that met too many states has no value of its own, either
-many-json : json_text (T.EverySet 1 whole) [] (many_states_values 1) 3
+many-json : json_text (T.Sweep (S.EverySet 1) whole) [] (many_states_values 1) 3
     ≡ codes "{\"attempts\":null,\"kind\":\"sets\",\"lines\":[],\"most\":null,\"number\":null,\"required\":null,\"rises\":null,\"status\":3,\"version\":3}\n"
 unfolding serde_json_on_literals digits report_object common_members
 many-json = refl
 
-refused-json : json_text (T.CheckEverySet 1) [] no_values 2
+refused-json : json_text (T.Check (S.EverySet 1)) [] no_values 2
     ≡ codes "{\"attempts\":null,\"kind\":\"sets\",\"lines\":[],\"most\":null,\"number\":null,\"required\":null,\"rises\":null,\"status\":2,\"version\":3}\n"
 unfolding serde_json_on_literals digits report_object common_members
 refused-json = refl

@@ -5,6 +5,7 @@ use Rattle.std.specs.Prelude.{map}
 use Rattle.serde_json.proofs.OnLiterals.{serde_json_on_literals}
 use Rattle.serde_json.specs.Data.{array}
 use Rattle.serde_json.specs.View.{items_of}
+use Rattle.wb_command_line.specs.declared.command.Search.TheVariants as S
 use Rattle.wb_command_line.specs.declared.command.Task.TheVariants as T
 use Rattle.wb_model.specs.declared.failures.Failing.TheVariants as failings
 use Rattle.wb_model.specs.declared.failures.Failures.TheVariants.{Single, Every, Pairs, Persistent}
@@ -182,29 +183,29 @@ text-lines : line_strings (codes "print \"a\"\nprint \n\nsteps 2\n") ≡ array (
 text-lines = refl
 
 -- the values of a check whose sweep found nothing, beside no lines
-check-json : json_text (T.Check Single) [] (both_values (size_values 176 (record { number = 1; top = 144 } ∷ record { number = 2; top = 176 } ∷ [])) (sweep_values 2 Never)) 0
+check-json : json_text (T.Check (S.Least Single)) [] (both_values (size_values 176 (record { number = 1; top = 144 } ∷ record { number = 2; top = 176 } ∷ [])) (sweep_values 2 Never)) 0
     ≡ codes "{\"attempts\":2,\"kind\":\"single\",\"lines\":[],\"number\":\"none\",\"required\":176,\"rises\":[[1,144],[2,176]],\"status\":0,\"version\":2}\n"
 unfolding serde_json_on_literals digits report_object common_members
 check-json = refl
 
 -- those of sweeps that found a number and a rate
-sweep-json : json_text (T.Sweep Single whole) [] (sweep_values 3 (At (failings.Number 0))) 1
+sweep-json : json_text (T.Sweep (S.Least Single) whole) [] (sweep_values 3 (At (failings.Number 0))) 1
     ≡ codes "{\"attempts\":3,\"kind\":\"single\",\"lines\":[],\"number\":0,\"required\":null,\"rises\":null,\"status\":1,\"version\":2}\n"
 unfolding serde_json_on_literals digits report_object common_members
 sweep-json = refl
 
-rate-json : json_text (T.Sweep Every whole) [] (sweep_values 4 (At (failings.Every 2))) 1
+rate-json : json_text (T.Sweep (S.Least Every) whole) [] (sweep_values 4 (At (failings.Every 2))) 1
     ≡ codes "{\"attempts\":4,\"kind\":\"every\",\"lines\":[],\"number\":2,\"required\":null,\"rises\":null,\"status\":1,\"version\":2}\n"
 unfolding serde_json_on_literals digits report_object common_members
 rate-json = refl
 
-pair-json : json_text (T.Sweep Pairs whole) [] (sweep_values 4 (At (failings.Pair 2 4))) 1
+pair-json : json_text (T.Sweep (S.Least Pairs) whole) [] (sweep_values 4 (At (failings.Pair 2 4))) 1
     ≡ codes "{\"attempts\":4,\"kind\":\"pairs\",\"lines\":[],\"number\":[2,4],\"required\":null,\"rises\":null,\"status\":1,\"version\":2}\n"
 unfolding serde_json_on_literals digits report_object common_members
 pair-json = refl
 
 -- where all attempts fail from one on, the version is a later one
-persistent-json : json_text (T.Sweep Persistent whole) [] (sweep_values 4 (At (failings.From 2))) 1
+persistent-json : json_text (T.Sweep (S.Least Persistent) whole) [] (sweep_values 4 (At (failings.From 2))) 1
     ≡ codes "{\"attempts\":4,\"kind\":\"persistent\",\"lines\":[],\"number\":2,\"required\":null,\"rises\":null,\"status\":1,\"version\":3}\n"
 unfolding serde_json_on_literals digits report_object common_members
 persistent-json = refl
@@ -215,7 +216,7 @@ plain-json : json_text (T.Run Unlimited) [] no_values 2
 unfolding serde_json_on_literals digits report_object common_members
 plain-json = refl
 
-cut-json : json_text (T.Check Every) [] (cut_values (failings.Every 2)) 3
+cut-json : json_text (T.Check (S.Least Every)) [] (cut_values (failings.Every 2)) 3
     ≡ codes "{\"attempts\":null,\"kind\":\"every\",\"lines\":[],\"number\":null,\"required\":null,\"rises\":null,\"status\":3,\"version\":2}\n"
 unfolding serde_json_on_literals digits report_object common_members
 cut-json = refl
@@ -243,21 +244,35 @@ nothing-text : all_text Single 1 [] ≡ codes "attempts 1\nbad 0\n"
 unfolding digits note_line attempt_line leak_line told_line
 nothing-text = refl
 
+-- a number that is listed though its run is fine makes no status 3
 told-statuses : (fine_status [] ≡ 0) × (fine_status (record { number = 2; end = ends.Cut Budget } ∷ []) ≡ 3)
-told-statuses = (refl, refl)
+    × (fine_status (record { number = 0; end = ends.Plain } ∷ record { number = 1; end = ends.NoCleanup } ∷ []) ≡ 0)
+    × (fine_status (record { number = 0; end = ends.Plain } ∷ record { number = 1; end = ends.Cut Ceiling } ∷ []) ≡ 3)
+told-statuses = (refl, refl, refl, refl)
+
+-- of every number its end is listed
+ends-text : all_text Every 2 (record { number = 0; end = ends.Plain } ∷ record { number = 1; end = ends.NoCleanup } ∷ record { number = 2; end = ends.Left (negsuc 3) } ∷ [])
+    ≡ codes "attempts 2\nevery 0 ended\nevery 1 nocleanup\nevery 2 left -4\nbad 0\n"
+unfolding digits note_line attempt_line leak_line told_line
+ends-text = refl
 
 -- their key comes first, and the version is a later one, whatever was found
-all-json : json_text (T.All Single whole) [] (all_values 12 three_ends (At (failings.Number 3))) 1
+all-json : json_text (T.Sweep (S.All Single) whole) [] (all_values 12 three_ends (At (failings.Number 3))) 1
     ≡ codes "{\"all\":[[2,\"cut ceiling\"],[3,\"leaks 2\"],[12,\"panic USER 42\"]],\"attempts\":12,\"kind\":\"single\",\"lines\":[],\"number\":3,\"required\":null,\"rises\":null,\"status\":1,\"version\":3}\n"
 unfolding serde_json_on_literals digits report_object common_members
 all-json = refl
 
-check_all-json : json_text (T.CheckAll Every) [] (both_values (size_values 144 (record { number = 1; top = 144 } ∷ [])) (all_values 1 [] Never)) 0
+check_all-json : json_text (T.Check (S.All Every)) [] (both_values (size_values 144 (record { number = 1; top = 144 } ∷ [])) (all_values 1 [] Never)) 0
     ≡ codes "{\"all\":[],\"attempts\":1,\"kind\":\"every\",\"lines\":[],\"number\":\"none\",\"required\":144,\"rises\":[[1,144]],\"status\":0,\"version\":3}\n"
 unfolding serde_json_on_literals digits report_object common_members
 check_all-json = refl
 
-untold-json : json_text (T.All Every whole) [] (cut_values (failings.Every 0)) 3
+ends-json : json_text (T.Sweep (S.Ends Persistent) whole) [] (all_values 1 (record { number = 0; end = ends.Plain } ∷ record { number = 1; end = ends.NoCleanup } ∷ []) Never) 0
+    ≡ codes "{\"all\":[[0,\"ended\"],[1,\"nocleanup\"]],\"attempts\":1,\"kind\":\"persistent\",\"lines\":[],\"number\":\"none\",\"required\":null,\"rises\":null,\"status\":0,\"version\":3}\n"
+unfolding serde_json_on_literals digits report_object common_members
+ends-json = refl
+
+untold-json : json_text (T.Sweep (S.All Every) whole) [] (cut_values (failings.Every 0)) 3
     ≡ codes "{\"all\":null,\"attempts\":null,\"kind\":\"every\",\"lines\":[],\"number\":null,\"required\":null,\"rises\":null,\"status\":3,\"version\":3}\n"
 unfolding serde_json_on_literals digits report_object common_members
 untold-json = refl

@@ -2,6 +2,7 @@
 use Rattle.std.proofs.Common.{◌≡◌, [], ◌∷◌, Some, None, codes, refl}
 use Rattle.std.specs.Fmt.{digits}
 use Rattle.serde_json.proofs.OnLiterals.{serde_json_on_literals}
+use Rattle.wb_command_line.specs.declared.command.Search.TheVariants as S
 use Rattle.wb_command_line.specs.declared.command.Task.TheVariants as T
 use Rattle.wb_model.specs.declared.heap.Answer.TheVariants.{Granted, Simulated}
 use Rattle.wb_model.specs.declared.run.Outcome.TheVariants.{Ended}
@@ -42,27 +43,27 @@ cut-lines : (cut_set_line [] Budget ≡ codes "cut 0 budget\n") × (cut_set_line
 unfolding digits
 cut-lines = (refl, refl, refl)
 
-found-json : json_text (T.Sets 4 whole) [] (set_values 3 (3 ∷ 4 ∷ 5 ∷ [])) 1
+found-json : json_text (T.Sweep (S.Sets 4) whole) [] (set_values 3 (3 ∷ 4 ∷ 5 ∷ [])) 1
     ≡ codes "{\"attempts\":3,\"kind\":\"sets\",\"lines\":[],\"most\":4,\"number\":[3,4,5],\"required\":null,\"rises\":null,\"status\":1,\"version\":3}\n"
 unfolding serde_json_on_literals digits report_object common_members
 found-json = refl
 
-single-json : json_text (T.Sets 3 whole) [] (set_values 3 (2 ∷ [])) 1
+single-json : json_text (T.Sweep (S.Sets 3) whole) [] (set_values 3 (2 ∷ [])) 1
     ≡ codes "{\"attempts\":3,\"kind\":\"sets\",\"lines\":[],\"most\":3,\"number\":2,\"required\":null,\"rises\":null,\"status\":1,\"version\":3}\n"
 unfolding serde_json_on_literals digits report_object common_members
 single-json = refl
 
-check_sets-json : json_text (T.CheckSets 2) [] (both_values (size_values 144 (record { number = 1; top = 144 } ∷ [])) (sweep_values 1 Never)) 0
+check_sets-json : json_text (T.Check (S.Sets 2)) [] (both_values (size_values 144 (record { number = 1; top = 144 } ∷ [])) (sweep_values 1 Never)) 0
     ≡ codes "{\"attempts\":1,\"kind\":\"sets\",\"lines\":[],\"most\":2,\"number\":\"none\",\"required\":144,\"rises\":[[1,144]],\"status\":0,\"version\":3}\n"
 unfolding serde_json_on_literals digits report_object common_members
 check_sets-json = refl
 
-cut-json : json_text (T.Sets 8 whole) [] (cut_set_values (2 ∷ 3 ∷ [])) 3
+cut-json : json_text (T.Sweep (S.Sets 8) whole) [] (cut_set_values (2 ∷ 3 ∷ [])) 3
     ≡ codes "{\"attempts\":null,\"kind\":\"sets\",\"lines\":[],\"most\":8,\"number\":null,\"required\":null,\"rises\":null,\"status\":3,\"version\":3}\n"
 unfolding serde_json_on_literals digits report_object common_members
 cut-json = refl
 
-refused-json : json_text (T.CheckSets 1) [] no_values 2
+refused-json : json_text (T.Check (S.Sets 1)) [] no_values 2
     ≡ codes "{\"attempts\":null,\"kind\":\"sets\",\"lines\":[],\"most\":1,\"number\":null,\"required\":null,\"rises\":null,\"status\":2,\"version\":3}\n"
 unfolding serde_json_on_literals digits report_object common_members
 refused-json = refl

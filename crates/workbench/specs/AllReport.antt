@@ -1,8 +1,8 @@
--- What `--all` says, as lines and as values, and what that means of runs: the numbers of a part up to the last attempt of the run
--- without failure whose run leaks, panics or is cut, each with its run's end.
-use Rattle.std.specs.Prelude.{◌≡◌, ◌⊎◌, ℕ, ◌<◌, List, [], ◌∷◌, ◌++◌, codes}
+-- What `--all` and `--ends` say, as lines and as values, and what that means of runs: the numbers of a part up to the last attempt of the
+-- run without failure, each with its run's end; with `--all` those whose run leaks, panics or is cut, with `--ends` every one.
+use Rattle.std.specs.Prelude.{◌≡◌, ◌⊎◌, ℕ, ◌<◌, List, ◌++◌, codes, if◌then◌else◌}
 use Rattle.std.specs.Fmt.{decimal}
-use Rattle.std.specs.List.{flat_map}
+use Rattle.std.specs.List.{flat_map, list_any}
 use Rattle.std.specs.Option.{option_map_or}
 use Rattle.wb_model.specs.declared.failures.Failures.{Failures}
 use Rattle.wb_model.specs.declared.failures.Failures.TheVariants.{Single, Every, Pairs, Persistent}
@@ -13,17 +13,19 @@ use Rattle.wb_model.specs.declared.run.Outcome.TheVariants.{Cut}
 use Rattle.wb_model.specs.declared.run.RunResult.{RunResult}
 use Rattle.wb_model.specs.declared.run.Why.{Why}
 use Rattle.wb_model.specs.declared.script.Script.{Script}
-use Rattle.wb_model.specs.runs.AllNumbers.{IsLeastBadOf, IsNoBadOf, bad_count, unfine_in}
+use Rattle.wb_model.specs.runs.AllNumbers.{IsLeastBadOf, IsNoBadOf, bad_count}
 use Rattle.wb_model.specs.runs.Parts.{IsUncut}
+use Rattle.wb_model.specs.runs.RunEnds.{is_cut_end}
 use Rattle.wb_model.specs.runs.Sweeps.{failing_at, runs_of}
-use Rattle.wb_command_line.specs.Spelled.{whole}
+use Rattle.wb_sweep.specs.AllOfAPart.{listed_in}
 use Rattle.wb_sweep.specs.declared.found.AllNumbers.{AllNumbers}
+use Rattle.wb_sweep.specs.declared.found.Listing.{Listing}
 use Rattle.workbench.specs.declared.report_values.FailingNumber.TheVariants.{At, Never}
 use Rattle.workbench.specs.declared.report_values.ReportValues.{ReportValues}
-use Rattle.workbench.specs.ReportValues.{all_values, both_values, cut_values}
+use Rattle.workbench.specs.ReportValues.{all_values, cut_values}
 use Rattle.workbench.specs.EndWords.{end_words}
 use Rattle.workbench.specs.RunText.{line, run_text}
-use Rattle.workbench.specs.TwoNumbers.{IsSized, IsUnsized, attempts_line, attempts_of, cut_at_line}
+use Rattle.workbench.specs.TwoNumbers.{attempts_line, attempts_of, cut_at_line}
 
 -- ---- the lines
 
@@ -53,10 +55,9 @@ all_lines failures attempts ends bad = attempts_line attempts ++ told_lines fail
 abbrev pub all_text : Failures → ℕ → List NumberEnd → List ℕ
 all_text failures attempts ends = all_lines failures attempts ends (bad_count ends)
 
--- the status where no run leaks or panics: 3 where one is told of, which is cut
+-- the status where no run leaks or panics: 3 where one is told of that is cut
 abbrev pub fine_status : List NumberEnd → ℕ
-fine_status [] = 0
-fine_status (told ∷ ends) = 3
+fine_status ends = if list_any (λ told. is_cut_end told.end) ends then 3 else 0
 
 -- what a sweep tells, as it is printed; its values and the status
 abbrev pub told_text : Failures → AllNumbers → List ℕ
@@ -73,17 +74,17 @@ told_status all = option_map_or (λ bad. 1) all.found (fine_status all.ends)
 -- ---- what they mean
 
 -- how the run ends under each failure of the part that is told of
-abbrev pub told_of : Failures → Part → Script → ℕ → Shape → List NumberEnd
-told_of failures part script budget shape = unfine_in (runs_of failures script budget shape) part
+abbrev pub told_of : Listing → Failures → Part → Script → ℕ → Shape → List NumberEnd
+told_of listing failures part script budget shape = listed_in listing (runs_of failures script budget shape) part
 
 -- each number past the last attempt gives the run without failure, so that none is left out
 abbrev pub AreLaterAsNone : Failures → Script → ℕ → Shape → Type 0
 AreLaterAsNone failures script budget shape =
     (n : ℕ) → attempts_of failures script budget shape < n → runs_of failures script budget shape n ≡ runs_of failures script budget shape 0
 
--- Exactly the numbers of the part up to the last attempt are told of whose run leaks, panics or is cut. Some run leaks or panics,
--- and that of the least such number is printed.
-pub record IsToldWithBad (failures : Failures) (part : Part) (script : Script) (budget : ℕ) (shape : Shape)
+-- Exactly the numbers of the part up to the last attempt are told of that are listed. Some run leaks or panics, and that of the least
+-- such number is printed.
+pub record IsToldWithBad (listing : Listing) (failures : Failures) (part : Part) (script : Script) (budget : ℕ) (shape : Shape)
     (text : List ℕ) (values : ReportValues) : Type 0 where
   pub uncut : IsUncut failures script budget shape
   pub later : AreLaterAsNone failures script budget shape
@@ -91,19 +92,19 @@ pub record IsToldWithBad (failures : Failures) (part : Part) (script : Script) (
   pub result : RunResult
   pub least : IsLeastBadOf (runs_of failures script budget shape) part number result
   pub text_is :
-      text ≡ all_text failures (attempts_of failures script budget shape) (told_of failures part script budget shape) ++ run_text result
+      text ≡ all_text failures (attempts_of failures script budget shape) (told_of listing failures part script budget shape) ++ run_text result
   pub values_are :
-      values ≡ all_values (attempts_of failures script budget shape) (told_of failures part script budget shape) (At (failing_at failures number))
+      values ≡ all_values (attempts_of failures script budget shape) (told_of listing failures part script budget shape) (At (failing_at failures number))
 
 -- the same numbers are told of, and no run leaks or panics
-pub record IsToldWithoutBad (failures : Failures) (part : Part) (script : Script) (budget : ℕ) (shape : Shape)
+pub record IsToldWithoutBad (listing : Listing) (failures : Failures) (part : Part) (script : Script) (budget : ℕ) (shape : Shape)
     (text : List ℕ) (values : ReportValues) (status : ℕ) : Type 0 where
   pub uncut : IsUncut failures script budget shape
   pub later : AreLaterAsNone failures script budget shape
   pub none : IsNoBadOf (runs_of failures script budget shape) part
-  pub text_is : text ≡ all_text failures (attempts_of failures script budget shape) (told_of failures part script budget shape)
-  pub values_are : values ≡ all_values (attempts_of failures script budget shape) (told_of failures part script budget shape) Never
-  pub status_is : status ≡ fine_status (told_of failures part script budget shape)
+  pub text_is : text ≡ all_text failures (attempts_of failures script budget shape) (told_of listing failures part script budget shape)
+  pub values_are : values ≡ all_values (attempts_of failures script budget shape) (told_of listing failures part script budget shape) Never
+  pub status_is : status ≡ fine_status (told_of listing failures part script budget shape)
 
 -- nothing is told of: the run without failure is cut
 pub record IsUntold (failures : Failures) (script : Script) (budget : ℕ) (shape : Shape) (text : List ℕ) (values : ReportValues) : Type 0 where
@@ -112,29 +113,9 @@ pub record IsUntold (failures : Failures) (script : Script) (budget : ℕ) (shap
   pub text_is : text ≡ cut_at_line (failing_at failures 0) why
   pub values_are : values ≡ cut_values (failing_at failures 0)
 
--- the report of `sweep --all`
-abbrev pub IsAllReport : Failures → Part → Script → ℕ → Shape → List ℕ → ReportValues → ℕ → Type 0
-IsAllReport failures part script budget shape text values status =
-    (IsToldWithBad failures part script budget shape text values × (status ≡ 1))
-    ⊎ (IsToldWithoutBad failures part script budget shape text values status
+-- the report of `sweep --all`, and of `sweep --ends`
+abbrev pub IsListReport : Listing → Failures → Part → Script → ℕ → Shape → List ℕ → ReportValues → ℕ → Type 0
+IsListReport listing failures part script budget shape text values status =
+    (IsToldWithBad listing failures part script budget shape text values × (status ≡ 1))
+    ⊎ (IsToldWithoutBad listing failures part script budget shape text values status
     ⊎ (IsUntold failures script budget shape text values × (status ≡ 3)))
-
--- ---- after a size
-
--- the length, and then all that is found
-pub record IsSizedAndTold (failures : Failures) (script : Script) (budget : ℕ) (shape : Shape)
-    (text : List ℕ) (values : ReportValues) (status : ℕ) : Type 0 where
-  pub first : List ℕ
-  pub second : List ℕ
-  pub size : ReportValues
-  pub sweep : ReportValues
-  pub sized : IsSized script budget shape first size
-  pub told : IsAllReport failures whole script budget shape second sweep status
-  pub text_is : text ≡ first ++ second
-  pub values_are : values ≡ both_values size sweep
-
--- the report of `check --all`; where there is no length, the sweep isn't made
-abbrev pub IsCheckAllReport : Failures → Script → ℕ → Shape → List ℕ → ReportValues → ℕ → Type 0
-IsCheckAllReport failures script budget shape text values status =
-    IsSizedAndTold failures script budget shape text values status
-    ⊎ (IsUnsized script budget shape text values × (status ≡ 3))

@@ -12,16 +12,17 @@ use Rattle.wb_model.specs.declared.script.Script.{Script}
 use Rattle.wb_model.specs.runs.EverySet.{IsLeastSetCutIn, IsLeastSetFoundIn, IsNoSetOfAnySizeIn}
 use Rattle.wb_model.specs.runs.Sets.{AreAllSetsFine, IsLeastBadSet, IsLeastCutSet}
 use Rattle.wb_sweep.specs.declared.set_answer.SetSweep.{SetSweep}
-use Rattle.wb_command_line.specs.Spelled.{whole}
+use Rattle.wb_command_line.specs.declared.command.Search.{Search}
+use Rattle.wb_command_line.specs.declared.command.Search.TheVariants.{EverySet}
 use Rattle.wb_command_line.specs.declared.command.Task.{Task}
 use Rattle.wb_command_line.specs.declared.command.Task.TheVariants as T
 use Rattle.workbench.specs.declared.report_values.FailingNumber.TheVariants.{Never}
 use Rattle.workbench.specs.declared.report_values.ReportValues.{ReportValues}
 use Rattle.workbench.specs.PartReport.{is_whole}
-use Rattle.workbench.specs.ReportValues.{both_values, cut_set_values, many_states_values, set_values, sweep_values}
+use Rattle.workbench.specs.ReportValues.{cut_set_values, many_states_values, set_values, sweep_values}
 use Rattle.workbench.specs.RunText.{line}
 use Rattle.workbench.specs.SetsReport.{IsNoSetOver, cut_set_line, found_set_text, no_set_line}
-use Rattle.workbench.specs.TwoNumbers.{IsSized, IsUnsized, attempts_line, attempts_of}
+use Rattle.workbench.specs.TwoNumbers.{attempts_line, attempts_of}
 
 -- ---- the lines
 
@@ -102,27 +103,13 @@ IsEverySetReport part script budget shape text values status =
     ⊎ ((IsUnsweptEverySet part script budget shape text values × (status ≡ 3))
     ⊎ (IsCutByStates part script budget shape text values × (status ≡ 3))))
 
--- ---- after a size
+-- the search is among all sets, so that its report may be that of one with too many states
+abbrev pub is_of_every_set : Search → Bool
+is_of_every_set (EverySet states) = true
+is_of_every_set _ = false
 
--- the length, and then the set that is found, or that there is none
-pub record IsSizedAndSearched (script : Script) (budget : ℕ) (shape : Shape) (text : List ℕ) (values : ReportValues) (status : ℕ) : Type 0 where
-  pub first : List ℕ
-  pub second : List ℕ
-  pub size : ReportValues
-  pub sweep : ReportValues
-  pub sized : IsSized script budget shape first size
-  pub searched : IsEverySetReport whole script budget shape second sweep status
-  pub text_is : text ≡ first ++ second
-  pub values_are : values ≡ both_values size sweep
-
--- the report of `check --sets`; where there is no length, the sweep isn't made
-abbrev pub IsCheckEverySetReport : Script → ℕ → Shape → List ℕ → ReportValues → ℕ → Type 0
-IsCheckEverySetReport script budget shape text values status =
-    IsSizedAndSearched script budget shape text values status
-    ⊎ (IsUnsized script budget shape text values × (status ≡ 3))
-
--- the task tries all sets, so that its report may be that of a search with too many states
+-- so is that of a task
 abbrev pub tries_every_set : Task → Bool
-tries_every_set (T.EverySet states part) = true
-tries_every_set (T.CheckEverySet states) = true
+tries_every_set (T.Sweep search part) = is_of_every_set search
+tries_every_set (T.Check search) = is_of_every_set search
 tries_every_set _ = false

@@ -6,6 +6,8 @@ use Rattle.serde_json.specs.Data.{Data, Members, null, number, string, array, ob
 use Rattle.serde_json.specs.View.{items_of}
 use Rattle.serde_json.specs.Written.{compact_text}
 use Rattle.wb_command_line.specs.declared.command.Command.{Command}
+use Rattle.wb_command_line.specs.declared.command.Search.{Search}
+use Rattle.wb_command_line.specs.declared.command.Search.TheVariants.{Least, All, Ends, Sets, EverySet}
 use Rattle.wb_command_line.specs.declared.command.Task.{Task}
 use Rattle.wb_command_line.specs.declared.command.Task.TheVariants as T
 use Rattle.wb_model.specs.declared.failures.Failing.{Failing}
@@ -42,19 +44,21 @@ failures_kind Every = string (codes "every")
 failures_kind Pairs = string (codes "pairs")
 failures_kind Persistent = string (codes "persistent")
 
--- which failures a task tries, or that it tries sets or all lengths, whatever its report says; `null` where it tries none
+-- which failures a search tries, or that it tries sets
+abbrev pub search_kind : Search → Data
+search_kind (Least failures) = failures_kind failures
+search_kind (All failures) = failures_kind failures
+search_kind (Ends failures) = failures_kind failures
+search_kind (Sets most) = string (codes "sets")
+search_kind (EverySet states) = string (codes "sets")
+
+-- so does a task, or it tries all lengths, whatever its report says; `null` where it tries none
 abbrev pub kind_of : Task → Data
 kind_of (T.Run rule) = null
 kind_of T.Size = null
 kind_of T.Lengths = string (codes "lengths")
-kind_of (T.Sweep failures part) = failures_kind failures
-kind_of (T.All failures part) = failures_kind failures
-kind_of (T.Sets most part) = string (codes "sets")
-kind_of (T.EverySet states part) = string (codes "sets")
-kind_of (T.Check failures) = failures_kind failures
-kind_of (T.CheckAll failures) = failures_kind failures
-kind_of (T.CheckSets most) = string (codes "sets")
-kind_of (T.CheckEverySet states) = string (codes "sets")
+kind_of (T.Sweep search part) = search_kind search
+kind_of (T.Check search) = search_kind search
 
 abbrev pub line_string : List ℕ → Data
 line_string text = string text
@@ -115,20 +119,30 @@ abbrev pub told_pairs : Option (List NumberEnd) → Data
 told_pairs None = null
 told_pairs (Some ends) = array (items_of (map told_pair ends))
 
--- the reports of all that a sweep finds alone have them; by its letters their key comes first
+-- what a task searches for among failures
+abbrev pub searched : Task → Option Search
+searched (T.Sweep search part) = Some search
+searched (T.Check search) = Some search
+searched _ = None
+
+-- the reports of lists alone have them; by its letters their key comes first
+abbrev pub with_list : Option Search → Option (List NumberEnd) → Members → Members
+with_list (Some (All failures)) ends members = put (codes "all") (told_pairs ends) members
+with_list (Some (Ends failures)) ends members = put (codes "all") (told_pairs ends) members
+with_list _ ends members = members
+
 abbrev pub with_all : Task → Option (List NumberEnd) → Members → Members
-with_all (T.All failures part) ends members = put (codes "all") (told_pairs ends) members
-with_all (T.CheckAll failures) ends members = put (codes "all") (told_pairs ends) members
-with_all _ ends members = members
+with_all task ends members = with_list (searched task) ends members
 
 -- the reports of sets alone have it: how many attempts fail together at most, `null` where there is no such number; by its letters their
 -- key comes after `lines`
+abbrev pub with_greatest : Option Search → Members → Members
+with_greatest (Some (Sets most)) members = put (codes "most") (count most) members
+with_greatest (Some (EverySet states)) members = put (codes "most") null members
+with_greatest _ members = members
+
 abbrev pub with_most : Task → Members → Members
-with_most (T.Sets most part) members = put (codes "most") (count most) members
-with_most (T.CheckSets most) members = put (codes "most") (count most) members
-with_most (T.EverySet states part) members = put (codes "most") null members
-with_most (T.CheckEverySet states) members = put (codes "most") null members
-with_most _ members = members
+with_most task members = with_greatest (searched task) members
 
 -- that of a sweep over such failures which tells of the least alone; version 2 has no kind `persistent`
 abbrev pub failures_version : Failures → ℕ
@@ -137,16 +151,14 @@ failures_version Every = 2
 failures_version Pairs = 2
 failures_version Persistent = 3
 
+abbrev pub search_version : Search → ℕ
+search_version (Least failures) = failures_version failures
+search_version _ = 3
+
 abbrev pub version_of : Task → ℕ
 version_of T.Lengths = 3
-version_of (T.All failures part) = 3
-version_of (T.CheckAll failures) = 3
-version_of (T.Sets most part) = 3
-version_of (T.CheckSets most) = 3
-version_of (T.EverySet states part) = 3
-version_of (T.CheckEverySet states) = 3
-version_of (T.Sweep failures part) = failures_version failures
-version_of (T.Check failures) = failures_version failures
+version_of (T.Sweep search part) = search_version search
+version_of (T.Check search) = search_version search
 version_of _ = 2
 
 -- what each object has, by the task, the text report, its values and its status

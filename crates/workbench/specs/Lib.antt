@@ -11,5 +11,6 @@ pub mod Program
 pub mod Report
 pub mod Rises
 pub mod RunText
+pub mod SearchReport
 pub mod SetsReport
 pub mod TwoNumbers

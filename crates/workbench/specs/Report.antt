@@ -13,14 +13,11 @@ use Rattle.wb_command_line.specs.declared.command.Command.{Command}
 use Rattle.wb_command_line.specs.declared.command.Task.{Task}
 use Rattle.wb_command_line.specs.declared.command.Task.TheVariants as T
 use Rattle.workbench.specs.declared.report_values.ReportValues.{ReportValues}
-use Rattle.workbench.specs.AllReport.{IsAllReport, IsCheckAllReport}
-use Rattle.workbench.specs.EverySetReport.{IsCheckEverySetReport, IsEverySetReport}
 use Rattle.workbench.specs.LengthsReport.{IsLengthsReport}
-use Rattle.workbench.specs.PartReport.{IsReportOver, is_whole}
 use Rattle.workbench.specs.ReportValues.{no_values, run_values}
 use Rattle.workbench.specs.RunText.{line, run_text, run_status}
-use Rattle.workbench.specs.SetsReport.{IsCheckSetsReport, IsSetsReport}
-use Rattle.workbench.specs.TwoNumbers.{IsSizeReport, IsCheckReport}
+use Rattle.workbench.specs.SearchReport.{IsCheckReport, IsSearchReport}
+use Rattle.workbench.specs.TwoNumbers.{IsSizeReport}
 
 abbrev pub refused : ℕ → List ℕ
 refused fault = line (codes "refused " ++ decimal fault)
@@ -63,22 +60,10 @@ IsTaskReport T.Size script budget shape text values status =
     IsSizeReport script budget shape text values status
 IsTaskReport T.Lengths script budget shape text values status =
     IsLengthsReport script budget shape text values status
-IsTaskReport (T.Sweep failures part) script budget shape text values status =
-    IsReportOver (is_whole part) failures part script budget shape text values status
-IsTaskReport (T.All failures part) script budget shape text values status =
-    IsAllReport failures part script budget shape text values status
-IsTaskReport (T.Sets most part) script budget shape text values status =
-    IsSetsReport part most script budget shape text values status
-IsTaskReport (T.EverySet states part) script budget shape text values status =
-    IsEverySetReport part script budget shape text values status
-IsTaskReport (T.Check failures) script budget shape text values status =
-    IsCheckReport failures script budget shape text values status
-IsTaskReport (T.CheckAll failures) script budget shape text values status =
-    IsCheckAllReport failures script budget shape text values status
-IsTaskReport (T.CheckSets most) script budget shape text values status =
-    IsCheckSetsReport most script budget shape text values status
-IsTaskReport (T.CheckEverySet states) script budget shape text values status =
-    IsCheckEverySetReport script budget shape text values status
+IsTaskReport (T.Sweep search part) script budget shape text values status =
+    IsSearchReport search part script budget shape text values status
+IsTaskReport (T.Check search) script budget shape text values status =
+    IsCheckReport search script budget shape text values status
 
 -- the bytes spell a script, and this is what the command's task comes to on it
 pub record IsReportOfScript (command : Command) (bytes text : List ℕ) (values : ReportValues) (status : ℕ) : Type 0 where

@@ -15,14 +15,13 @@ use Rattle.wb_model.specs.declared.run.Why.TheVariants.{Budget, Ceiling}
 use Rattle.wb_model.specs.declared.script.Script.{Script}
 use Rattle.wb_model.specs.runs.SetParts.{IsNoSetIn, IsSetCutIn, IsSetFoundIn}
 use Rattle.wb_model.specs.runs.Sets.{AreSetsFine, IsLeastBadSet, IsLeastCutSet}
-use Rattle.wb_command_line.specs.Spelled.{whole}
 use Rattle.wb_sweep.specs.declared.set_answer.SetSweep.{SetSweep}
 use Rattle.workbench.specs.declared.report_values.FailingNumber.TheVariants.{Never}
 use Rattle.workbench.specs.declared.report_values.ReportValues.{ReportValues}
 use Rattle.workbench.specs.PartReport.{is_whole}
-use Rattle.workbench.specs.ReportValues.{both_values, cut_set_values, set_values, single_of, sweep_values}
+use Rattle.workbench.specs.ReportValues.{cut_set_values, set_values, single_of, sweep_values}
 use Rattle.workbench.specs.RunText.{line, run_text}
-use Rattle.workbench.specs.TwoNumbers.{IsSized, IsUnsized, attempts_line, attempts_of, cut_at_line, failing_line}
+use Rattle.workbench.specs.TwoNumbers.{attempts_line, attempts_of, cut_at_line, failing_line}
 
 -- ---- the lines
 
@@ -122,23 +121,3 @@ IsSetsReport part most script budget shape text values status =
     (IsFailingSet part most script budget shape text values × (status ≡ 1))
     ⊎ ((IsNoFailingSet part most script budget shape text values × (status ≡ 0))
     ⊎ (IsUnsweptSet part most script budget shape text values × (status ≡ 3)))
-
--- ---- after a size
-
--- the length, and then the set that is found, or that there is none
-pub record IsSizedAndTried (most : ℕ) (script : Script) (budget : ℕ) (shape : Shape)
-    (text : List ℕ) (values : ReportValues) (status : ℕ) : Type 0 where
-  pub first : List ℕ
-  pub second : List ℕ
-  pub size : ReportValues
-  pub sweep : ReportValues
-  pub sized : IsSized script budget shape first size
-  pub tried : IsSetsReport whole most script budget shape second sweep status
-  pub text_is : text ≡ first ++ second
-  pub values_are : values ≡ both_values size sweep
-
--- the report of `check --failures`; where there is no length, the sweep isn't made
-abbrev pub IsCheckSetsReport : ℕ → Script → ℕ → Shape → List ℕ → ReportValues → ℕ → Type 0
-IsCheckSetsReport most script budget shape text values status =
-    IsSizedAndTried most script budget shape text values status
-    ⊎ (IsUnsized script budget shape text values × (status ≡ 3))

@@ -25,7 +25,7 @@ use Rattle.wb_model.specs.runs.Sweeps.{runs_of}
 use Rattle.wb_sweep.specs.declared.found.Sweep.{Sweep}
 use Rattle.workbench.specs.declared.report_values.FailingNumber.TheVariants.{At, Never}
 use Rattle.workbench.specs.declared.report_values.ReportValues.{ReportValues}
-use Rattle.workbench.specs.ReportValues.{both_values, cut_values, size_values, sweep_values}
+use Rattle.workbench.specs.ReportValues.{cut_values, size_values, sweep_values}
 use Rattle.workbench.specs.RunText.{line, run_text}
 
 -- ---- how long the heap must be
@@ -144,23 +144,3 @@ IsSweepReport failures script budget shape text values status =
     (IsFailing failures script budget shape text values × (status ≡ 1))
     ⊎ ((IsNeverFailing failures script budget shape text values × (status ≡ 0))
     ⊎ (IsUnswept failures script budget shape text values × (status ≡ 3)))
-
--- ---- both
-
--- the length, and then the failure that was found, or that there is none
-pub record IsBoth (failures : Failures) (script : Script) (budget : ℕ) (shape : Shape)
-    (text : List ℕ) (values : ReportValues) (status : ℕ) : Type 0 where
-  pub first : List ℕ
-  pub second : List ℕ
-  pub size : ReportValues
-  pub sweep : ReportValues
-  pub sized : IsSized script budget shape first size
-  pub swept : IsSweepReport failures script budget shape second sweep status
-  pub text_is : text ≡ first ++ second
-  pub values_are : values ≡ both_values size sweep
-
--- the report of `check`; where there is no length, the sweep isn't made
-abbrev pub IsCheckReport : Failures → Script → ℕ → Shape → List ℕ → ReportValues → ℕ → Type 0
-IsCheckReport failures script budget shape text values status =
-    IsBoth failures script budget shape text values status
-    ⊎ (IsUnsized script budget shape text values × (status ≡ 3))

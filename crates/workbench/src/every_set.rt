@@ -4,8 +4,7 @@ ghost use Rattle.std.specs.Prelude.{◌≡◌, ◌≤◌, IfOk, IsTrue};
 ghost use Rattle.wb_model.specs.language.Sound.{is_script};
 ghost use Rattle.wb_model.specs.heap.Space.{is_shape};
 ghost use Rattle.wb_model.specs.declared.failures.Failures.TheVariants.{Single};
-ghost use Rattle.workbench.specs.EverySetReport.{IsCheckEverySetReport, IsEverySetReport, every_set_text};
-ghost use Rattle.workbench.specs.EverySetReport.{many_states_text};
+ghost use Rattle.workbench.specs.EverySetReport.{IsEverySetReport, every_set_text, many_states_text};
 ghost use Rattle.workbench.specs.ReportValues.{many_states_values};
 ghost use Rattle.workbench.specs.SetsReport.{swept_status, swept_values};
 ghost use Rattle.workbench.specs.TwoNumbers.{attempts_of};
@@ -15,7 +14,6 @@ use crate::exit_status::CUT;
 use crate::report::Report;
 use crate::report_values::ReportValues;
 use crate::sets::{cut_set_report, report_with};
-use crate::tasks::size_report;
 use std::alloc::Global;
 use wb_machine::RunFault;
 use wb_model::heap::{Rule, Shape};
@@ -108,32 +106,4 @@ fn attempts_made(alloc: Global, script: &Script, budget: u32, shape: Shape) -> R
         Err(RunFault::BadShape) => unreachable!(),
         Err(RunFault::NoMemory) => Err(NoMemory),
     }
-}
-
-/// Both, the size first; where the script wasn't sized, the line of the cut alone.
-pub fn check_every_set_report<P: Progress>(
-    alloc: Global,
-    script: &Script,
-    states: u32,
-    budget: u32,
-    shape: Shape,
-    progress: &mut P,
-) -> Result<Report, NoMemory>
-    requires script { IsTrue (is_script script.now) }
-    requires least { 1 ≤ budget }
-    requires greatest { budget ≤ LARGEST_BUDGET }
-    requires shape { IsTrue (is_shape shape) }
-    requires states { 1 ≤ states }
-    ensures { IfOk result (λ r. IsCheckEverySetReport script.now budget shape
-        r.text.items r.values r.status) }
-{
-    let mut report = size_report(alloc, script, budget, shape)?;
-    if report.status == CUT {
-        return Ok(report);
-    }
-    let swept = every_set_report(alloc, script, Part::WHOLE, states, budget, shape, progress)?;
-    report.text.extend_from_slice(swept.text.as_slice())?;
-    report.values = ReportValues::of_both(report.values, swept.values);
-    report.status = swept.status;
-    Ok(report)
 }

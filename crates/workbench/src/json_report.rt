@@ -8,7 +8,8 @@ ghost use Rattle.workbench.specs.Ascii.{HasPrintableLines};
 ghost use Rattle.workbench.specs.JsonReport.{common_members, count, count_or_null, count_pair, failing_number};
 ghost use Rattle.workbench.specs.JsonReport.{failing_value, failures_kind, failures_version};
 ghost use Rattle.workbench.specs.JsonReport.{json_text, kind_of, line_string, line_strings, range_pair, range_pairs};
-ghost use Rattle.workbench.specs.JsonReport.{report_object, rise_pair, rise_pairs, set_value, told_pair, told_pairs};
+ghost use Rattle.workbench.specs.JsonReport.{report_object, rise_pair, rise_pairs, search_kind, search_version, searched};
+ghost use Rattle.workbench.specs.JsonReport.{set_value, told_pair, told_pairs};
 ghost use Rattle.workbench.specs.JsonReport.{version_of, with_all, with_most, with_ranges, words_pair};
 
 use crate::end_text::put_end_words;
@@ -16,7 +17,7 @@ use crate::report::Report;
 use crate::report_values::FailingNumber;
 use serde_json::{Map, Value, put};
 use std::alloc::{AllocError, Global};
-use wb_command_line::command::Task;
+use wb_command_line::command::{Search, Task};
 use wb_lengths::{LengthRange, LengthTable};
 use wb_model::failures::{Failing, Failures};
 use wb_model::heap::Numbers;
@@ -109,14 +110,21 @@ fn put_ranges(
             let pairs = range_pairs(alloc, ranges)?;
             put(members, alloc, "ranges", pairs)
         }
-        Task::Run(_) | Task::Size => Ok(()),
-        Task::Sweep(..) | Task::All(..) | Task::Sets(..) | Task::EverySet(..) => Ok(()),
-        Task::Check(_) | Task::CheckAll(_) => Ok(()),
-        Task::CheckSets(_) | Task::CheckEverySet(_) => Ok(()),
+        Task::Run(_) | Task::Size | Task::Sweep(..) | Task::Check(_) => Ok(()),
     }
 }
 
-/// Puts all that a sweep found in its place, where the task's report has it.
+/// What a task searches for; `None` if it searches for nothing among failures.
+fn search_of(task: &Task) -> Option<Search>
+    ensures { result ≡ searched task.now }
+{
+    match task {
+        Task::Sweep(search, _) | Task::Check(search) => Some(*search),
+        Task::Run(_) | Task::Size | Task::Lengths => None,
+    }
+}
+
+/// Puts the list of a sweep in its place, where the task's report has one.
 fn put_told(
     members: &mut Map<String, Value>,
     alloc: Global,
@@ -126,14 +134,12 @@ fn put_told(
     ensures { OnOk result (members_view members.new.entries
         ≡ with_all task.now ends.now (members_view members.old.entries)) }
 {
-    match task {
-        Task::All(..) | Task::CheckAll(_) => {
+    match search_of(task) {
+        Some(Search::All(_) | Search::Ends(_)) => {
             let pairs = told_pairs(alloc, ends)?;
             put(members, alloc, "all", pairs)
         }
-        Task::Run(_) | Task::Size | Task::Lengths => Ok(()),
-        Task::Sweep(..) | Task::Sets(..) | Task::EverySet(..) => Ok(()),
-        Task::Check(_) | Task::CheckSets(_) | Task::CheckEverySet(_) => Ok(()),
+        Some(Search::Least(_) | Search::Sets(_) | Search::EverySet(_)) | None => Ok(()),
     }
 }
 
@@ -142,13 +148,10 @@ fn put_most(members: &mut Map<String, Value>, alloc: Global, task: &Task) -> Res
     ensures { OnOk result (members_view members.new.entries
         ≡ with_most task.now (members_view members.old.entries)) }
 {
-    match task {
-        Task::Sets(most, _) | Task::CheckSets(most) => {
-            put(members, alloc, "most", Value::from(*most))
-        }
-        Task::EverySet(..) | Task::CheckEverySet(_) => put(members, alloc, "most", Value::Null),
-        Task::Run(_) | Task::Size | Task::Lengths => Ok(()),
-        Task::Sweep(..) | Task::All(..) | Task::Check(_) | Task::CheckAll(_) => Ok(()),
+    match search_of(task) {
+        Some(Search::Sets(most)) => put(members, alloc, "most", Value::from(most)),
+        Some(Search::EverySet(_)) => put(members, alloc, "most", Value::Null),
+        Some(Search::Least(_) | Search::All(_) | Search::Ends(_)) | None => Ok(()),
     }
 }
 
@@ -157,11 +160,19 @@ fn version_of(task: &Task) -> u32
     ensures { result ≡ version_of task.now }
 {
     match task {
-        Task::Lengths | Task::All(..) | Task::CheckAll(_) => LATER_VERSION,
-        Task::Sets(..) | Task::CheckSets(_) => LATER_VERSION,
-        Task::EverySet(..) | Task::CheckEverySet(_) => LATER_VERSION,
-        Task::Sweep(failures, _) | Task::Check(failures) => failures_version(*failures),
+        Task::Sweep(search, _) | Task::Check(search) => search_version(*search),
+        Task::Lengths => LATER_VERSION,
         Task::Run(_) | Task::Size => VERSION,
+    }
+}
+
+/// That of a search.
+fn search_version(search: Search) -> u32
+    ensures { result ≡ search_version search }
+{
+    match search {
+        Search::Least(failures) => failures_version(failures),
+        Search::All(_) | Search::Ends(_) | Search::Sets(_) | Search::EverySet(_) => LATER_VERSION,
     }
 }
 
@@ -180,12 +191,20 @@ fn kind_of(alloc: Global, task: &Task) -> Result<Value, AllocError>
     ensures { IfOk result (λ value. view value ≡ kind_of task.now) }
 {
     match task {
-        Task::Sweep(failures, _) | Task::All(failures, _) => failures_kind(alloc, *failures),
-        Task::Check(failures) | Task::CheckAll(failures) => failures_kind(alloc, *failures),
-        Task::Sets(..) | Task::CheckSets(_) => Value::try_from_str(alloc, "sets"),
-        Task::EverySet(..) | Task::CheckEverySet(_) => Value::try_from_str(alloc, "sets"),
+        Task::Sweep(search, _) | Task::Check(search) => search_kind(alloc, *search),
         Task::Lengths => Value::try_from_str(alloc, "lengths"),
         Task::Run(_) | Task::Size => Ok(Value::Null),
+    }
+}
+
+fn search_kind(alloc: Global, search: Search) -> Result<Value, AllocError>
+    ensures { IfOk result (λ value. view value ≡ search_kind search) }
+{
+    match search {
+        Search::Least(failures) | Search::All(failures) | Search::Ends(failures) => {
+            failures_kind(alloc, failures)
+        }
+        Search::Sets(_) | Search::EverySet(_) => Value::try_from_str(alloc, "sets"),
     }
 }
 

@@ -22,11 +22,12 @@ pub mod program;
 mod report;
 mod report_values;
 pub mod run_text;
+mod searches;
 mod sets;
 mod sets_text;
 mod tasks;
 
-pub use wb_command_line::command::{Command, CommandFault, Task};
+pub use wb_command_line::command::{Command, CommandFault, Search, Task};
 pub use wb_command_line::command_line::command;
 pub use wb_command_line::file_name::FileName;
 pub use wb_model::failures::Failures;

@@ -1,11 +1,10 @@
-//! What a sweep over a part of its numbers comes to, and one that tells of all that it finds: the text, its values, and the exit
+//! What a sweep over a part of its numbers comes to, and one that lists numbers: the text, its values, and the exit
 //! status. Nothing is read or written here.
 
 ghost use Rattle.std.specs.Prelude.{◌≡◌, ◌≤◌, IfOk, IsTrue};
 ghost use Rattle.wb_model.specs.language.Sound.{is_script};
 ghost use Rattle.wb_model.specs.heap.Space.{is_shape};
-ghost use Rattle.workbench.specs.AllReport.{IsAllReport, IsCheckAllReport, fine_status, told_status, told_text};
-ghost use Rattle.workbench.specs.AllReport.{told_values};
+ghost use Rattle.workbench.specs.AllReport.{IsListReport, fine_status, told_status, told_text, told_values};
 ghost use Rattle.workbench.specs.PartReport.{IsPartReport, IsReportOver, is_whole};
 
 use crate::all_text::put_all;
@@ -13,7 +12,7 @@ use crate::exit_status::{CUT, FOUND, NOTHING_FOUND};
 use crate::numbers_text::{put_cut_at, put_sweep};
 use crate::report::Report;
 use crate::report_values::{FailingNumber, ReportValues};
-use crate::tasks::{cut_report, size_report, sweep_report};
+use crate::tasks::{cut_report, sweep_report};
 use std::alloc::Global;
 use wb_model::failures::Failures;
 use wb_model::heap::Shape;
@@ -22,7 +21,7 @@ use wb_model::memory::NoMemory;
 use wb_model::number_ends::NumberEnd;
 use wb_model::part::Part;
 use wb_model::script::Script;
-use wb_sweep::{AllNumbers, Progress, SweepFault, sweep_all, sweep_part};
+use wb_sweep::{AllNumbers, Listing, Progress, SweepFault, sweep_all, sweep_part};
 
 /// Which of these failures leaks or panics, of those that the part has, or the line of a run that was cut.
 pub fn report_over<P: Progress>(
@@ -96,11 +95,12 @@ fn part_report<P: Progress>(
     }
 }
 
-/// How the run ends under each number of the part where it leaks, panics or is cut, and the run under the least that leaks or
-/// panics; or the line of the run without failure, if that was cut.
-pub fn all_report<P: Progress>(
+/// How the run ends under each number of the part that is listed, and the run under the least that leaks or panics; or the line of the
+/// run without failure, if that was cut.
+pub fn list_report<P: Progress>(
     alloc: Global,
     script: &Script,
+    listing: Listing,
     failures: Failures,
     part: Part,
     budget: u32,
@@ -111,10 +111,12 @@ pub fn all_report<P: Progress>(
     requires least { 1 ≤ budget }
     requires greatest { budget ≤ LARGEST_BUDGET }
     requires shape { IsTrue (is_shape shape) }
-    ensures { IfOk result (λ r. IsAllReport failures part script.now budget shape
+    ensures { IfOk result (λ r. IsListReport listing failures part script.now budget shape
         r.text.items r.values r.status) }
 {
-    match sweep_all(alloc, script, failures, part, budget, shape, progress) {
+    match sweep_all(
+        alloc, script, listing, failures, part, budget, shape, progress,
+    ) {
         Ok(all) => told_report(alloc, failures, all),
         Err(SweepFault::Cut { at, why }) => {
             let mut text = Vec::new(alloc);
@@ -146,44 +148,14 @@ fn told_report(alloc: Global, failures: Failures, all: AllNumbers) -> Result<Rep
     })
 }
 
-/// The status where no run leaks or panics: 3 if one is told of, which was cut.
+/// The status where no run leaks or panics: 3 if one is told of that was cut.
 fn fine_status(ends: &[NumberEnd]) -> u8
     ensures { result ≡ fine_status ends.now }
 {
-    if ends.is_empty() { NOTHING_FOUND } else { CUT }
-}
-
-/// Both, the size first; where the script wasn't sized, the line of the cut alone.
-pub fn check_all_report<P: Progress>(
-    alloc: Global,
-    script: &Script,
-    failures: Failures,
-    budget: u32,
-    shape: Shape,
-    progress: &mut P,
-) -> Result<Report, NoMemory>
-    requires script { IsTrue (is_script script.now) }
-    requires least { 1 ≤ budget }
-    requires greatest { budget ≤ LARGEST_BUDGET }
-    requires shape { IsTrue (is_shape shape) }
-    ensures { IfOk result (λ r. IsCheckAllReport failures script.now budget shape
-        r.text.items r.values r.status) }
-{
-    let mut report = size_report(alloc, script, budget, shape)?;
-    if report.status == CUT {
-        return Ok(report);
+    for told in ends {
+        if told.end.is_cut() {
+            return CUT;
+        }
     }
-    let told = all_report(
-        alloc,
-        script,
-        failures,
-        Part::WHOLE,
-        budget,
-        shape,
-        progress,
-    )?;
-    report.text.extend_from_slice(told.text.as_slice())?;
-    report.values = ReportValues::of_both(report.values, told.values);
-    report.status = told.status;
-    Ok(report)
+    NOTHING_FOUND
 }

@@ -4,14 +4,12 @@ ghost use Rattle.std.specs.Prelude.{◌≡◌, ◌≤◌, IfOk, IsTrue};
 ghost use Rattle.wb_model.specs.language.Sound.{is_script};
 ghost use Rattle.wb_model.specs.heap.Space.{is_shape};
 ghost use Rattle.workbench.specs.ReportValues.{cut_set_values};
-ghost use Rattle.workbench.specs.SetsReport.{IsCheckSetsReport, IsSetsReport, cut_set_line, sets_text, swept_status};
-ghost use Rattle.workbench.specs.SetsReport.{swept_values};
+ghost use Rattle.workbench.specs.SetsReport.{IsSetsReport, cut_set_line, sets_text, swept_status, swept_values};
 
 use crate::exit_status::{CUT, FOUND, NOTHING_FOUND};
 use crate::report::Report;
 use crate::report_values::{FailingNumber, ReportValues};
 use crate::sets_text::{put_cut_set, put_sets};
-use crate::tasks::size_report;
 use std::alloc::Global;
 use wb_model::heap::{Numbers, Shape};
 use wb_model::limits::LARGEST_BUDGET;
@@ -94,32 +92,4 @@ pub fn cut_set_report(alloc: Global, numbers: Numbers, why: Why) -> Result<Repor
         values: ReportValues::of_cut_set(numbers),
         status: CUT,
     })
-}
-
-/// Both, the size first; where the script wasn't sized, the line of the cut alone.
-pub fn check_sets_report<P: Progress>(
-    alloc: Global,
-    script: &Script,
-    most: u32,
-    budget: u32,
-    shape: Shape,
-    progress: &mut P,
-) -> Result<Report, NoMemory>
-    requires script { IsTrue (is_script script.now) }
-    requires least { 1 ≤ budget }
-    requires greatest { budget ≤ LARGEST_BUDGET }
-    requires shape { IsTrue (is_shape shape) }
-    requires most { 1 ≤ most }
-    ensures { IfOk result (λ r. IsCheckSetsReport most script.now budget shape
-        r.text.items r.values r.status) }
-{
-    let mut report = size_report(alloc, script, budget, shape)?;
-    if report.status == CUT {
-        return Ok(report);
-    }
-    let swept = sets_report(alloc, script, Part::WHOLE, most, budget, shape, progress)?;
-    report.text.extend_from_slice(swept.text.as_slice())?;
-    report.values = ReportValues::of_both(report.values, swept.values);
-    report.status = swept.status;
-    Ok(report)
 }

@@ -1,5 +1,5 @@
-//! What each task comes to on a script: the text, its values, and the exit status. Nothing is read or written here. Sweeps over
-//! parts, and those that tell of all that they find, are in `parts`, those over sets in `sets`, and those over all sets in `every_set`.
+//! What each task comes to on a script: the text, its values, and the exit status. Nothing is read or written here. What `sweep` and
+//! `check` search for is told apart in `searches`.
 
 ghost use Rattle.std.specs.Prelude.{◌≡◌, ◌≢◌, ◌≤◌, ℕ, IfOk, IsTrue, if◌then◌else◌};
 ghost use Rattle.wb_model.specs.declared.failures.Failing.TheVariants.{Number};
@@ -15,17 +15,14 @@ ghost use Rattle.workbench.specs.ReportValues.{cut_values, size_values};
 ghost use Rattle.workbench.specs.Report.{IsRunReport, IsTaskReport};
 ghost use Rattle.workbench.specs.RunText.{outcome_status};
 ghost use Rattle.workbench.specs.TwoNumbers.{cut_at_line, size_text, IsSizeReport, IsSweepReport};
-ghost use Rattle.workbench.specs.TwoNumbers.{IsCheckReport};
 
-use crate::every_set::{check_every_set_report, every_set_report};
 use crate::exit_status::{CUT, FOUND, NOTHING_FOUND};
 use crate::lengths_text::put_lengths;
 use crate::numbers_text::{put_cut_at, put_sizing, put_sweep};
-use crate::parts::{all_report, check_all_report, report_over};
 use crate::report::Report;
 use crate::report_values::{FailingNumber, ReportValues};
 use crate::run_text::put_run;
-use crate::sets::{check_sets_report, sets_report};
+use crate::searches::{check_report, search_report};
 use std::alloc::Global;
 use wb_command_line::command::{Command, Task};
 use wb_lengths::lengths;
@@ -36,10 +33,8 @@ use wb_model::limits::LARGEST_BUDGET;
 use wb_model::memory::NoMemory;
 use wb_model::run::Outcome;
 use wb_model::script::Script;
-use wb_size::sized_run::{SizedRun, size_by_run};
 use wb_size::sizing::Sizing;
 use wb_size::{SizeFault, size};
-use wb_sweep::run_known::sweep_beside_known;
 use wb_sweep::{Progress, Sweep, SweepFault, sweep};
 
 /// What the command's task comes to on a script. The only error is that memory ran out. `progress` is notified of a sweep, and of the
@@ -60,26 +55,10 @@ pub fn carry_out<P: Progress>(
         Task::Run(rule) => run_report(alloc, script, rule.try_copy()?, budget, shape),
         Task::Size => size_report(alloc, script, budget, shape),
         Task::Lengths => lengths_report(alloc, script, budget, shape, progress),
-        Task::Sweep(failures, part) => {
-            report_over(alloc, script, *failures, *part, budget, shape, progress)
+        Task::Sweep(search, part) => {
+            search_report(alloc, script, *search, *part, budget, shape, progress)
         }
-        Task::All(failures, part) => {
-            all_report(alloc, script, *failures, *part, budget, shape, progress)
-        }
-        Task::Sets(most, part) => {
-            sets_report(alloc, script, *part, *most, budget, shape, progress)
-        }
-        Task::EverySet(states, part) => {
-            every_set_report(alloc, script, *part, *states, budget, shape, progress)
-        }
-        Task::Check(failures) => check_report(alloc, script, *failures, budget, shape, progress),
-        Task::CheckAll(failures) => {
-            check_all_report(alloc, script, *failures, budget, shape, progress)
-        }
-        Task::CheckSets(most) => check_sets_report(alloc, script, *most, budget, shape, progress),
-        Task::CheckEverySet(states) => {
-            check_every_set_report(alloc, script, *states, budget, shape, progress)
-        }
+        Task::Check(search) => check_report(alloc, script, *search, budget, shape, progress),
     }
 }
 
@@ -147,7 +126,7 @@ pub fn size_report(
 }
 
 /// The report of a length and of what shorter heaps refuse.
-fn report_of_size(alloc: Global, sizing: Sizing) -> Result<Report, NoMemory>
+pub fn report_of_size(alloc: Global, sizing: Sizing) -> Result<Report, NoMemory>
     ensures { IfOk result (λ r. (r.text.items ≡ size_text sizing.required sizing.rises)
         × (r.values ≡ size_values sizing.required sizing.rises) × (r.status ≡ 0)) }
 {
@@ -161,7 +140,7 @@ fn report_of_size(alloc: Global, sizing: Sizing) -> Result<Report, NoMemory>
 }
 
 /// The report of a script that wasn't sized, whose text is the line of the run that was cut.
-fn report_of_size_fault(alloc: Global, fault: SizeFault) -> Result<Report, NoMemory>
+pub fn report_of_size_fault(alloc: Global, fault: SizeFault) -> Result<Report, NoMemory>
     requires shape { fault ≢ SizeFault.BadShape }
     ensures { IfOk result (λ r. (number : ℕ) × (why : Why) × (fault ≡ SizeFault.Cut number why)
         × (r.text.items ≡ cut_at_line (Number number) why)
@@ -241,7 +220,7 @@ pub fn sweep_report<P: Progress>(
 }
 
 /// The report of what a sweep over these failures came to.
-fn report_of_sweep(
+pub fn report_of_sweep(
     alloc: Global,
     failures: Failures,
     swept: Result<Sweep, SweepFault>,
@@ -288,42 +267,4 @@ pub fn cut_report(text: Vec<u8>, at: Failing) -> Report
         values: ReportValues::of_cut(at),
         status: CUT,
     }
-}
-
-/// Both, the size first; where the script wasn't sized, the line of the cut alone. The run that it is sized by is the sweep's run
-/// without failure.
-fn check_report<P: Progress>(
-    alloc: Global,
-    script: &Script,
-    failures: Failures,
-    budget: u32,
-    shape: Shape,
-    progress: &mut P,
-) -> Result<Report, NoMemory>
-    requires script { IsTrue (is_script script.now) }
-    requires least { 1 ≤ budget }
-    requires greatest { budget ≤ LARGEST_BUDGET }
-    requires shape { IsTrue (is_shape shape) }
-    ensures { IfOk result (λ r. IsCheckReport failures script.now budget shape
-        r.text.items r.values r.status) }
-{
-    let sized = match size_by_run(alloc, script, budget, shape) {
-        Ok(sized) => sized,
-        Err(fault) => return report_of_size_fault(alloc, fault),
-    };
-    let SizedRun {
-        sizing,
-        outcome,
-        attempts,
-        steps,
-    } = sized;
-    let mut report = report_of_size(alloc, sizing)?;
-    let swept = sweep_beside_known(
-        alloc, script, failures, budget, shape, &outcome, attempts, steps, progress,
-    );
-    let sweep = report_of_sweep(alloc, failures, swept)?;
-    report.text.extend_from_slice(sweep.text.as_slice())?;
-    report.values = ReportValues::of_both(report.values, sweep.values);
-    report.status = sweep.status;
-    Ok(report)
 }

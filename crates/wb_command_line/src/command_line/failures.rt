@@ -1,10 +1,11 @@
-//! The options of `sweep` and `check` that say which failures are tried, and whether all that are found are told of. Those that ask
+//! The options of `sweep` and `check` that say which failures are tried, and whether a list of them is told of. Those that ask
 //! for sets of attempts are in `sets`.
 
 ghost use Rattle.std.specs.Prelude.{◌≡◌, IfOk, false};
 ghost use Rattle.clap.specs.Words.{app_of, rule_of};
 ghost use Rattle.clap.specs.declared.builder.command.Command.TheViews.{out-Command as fields_of};
-ghost use Rattle.wb_command_line.specs.CommandLine.{all_flag, failure_options, pairs_flag, rates_flag, with_rules};
+ghost use Rattle.wb_command_line.specs.CommandLine.{all_flag, ends_flag, failure_options, pairs_flag, persistent_flag};
+ghost use Rattle.wb_command_line.specs.CommandLine.{rates_flag, with_rules};
 
 use crate::command_line::number_help::NumberHelp;
 use crate::command_line::parser::with_argument;
@@ -12,7 +13,7 @@ use crate::command_line::sets::with_sets;
 use clap::{Arg, ArgAction};
 use std::alloc::{AllocError, Global};
 
-/// The subcommand with the options that say which failures are tried, and whether all that are found are told of.
+/// The subcommand with the options that say which failures are tried, and whether a list of them is told of.
 pub(super) fn with_failures<'a>(
     alloc: Global,
     line: clap::Command<'a>,
@@ -24,8 +25,10 @@ pub(super) fn with_failures<'a>(
         (λ more. (fields_of more).has_globals ≡ (fields_of line.entry).has_globals) }
 {
     let line = with_argument(line, rates(alloc))?;
+    let line = with_argument(line, persistent(alloc))?;
     let line = with_argument(line, pairs(alloc))?;
     let line = with_argument(line, all(alloc))?;
+    let line = with_argument(line, ends(alloc))?;
     with_sets(alloc, line, help)
 }
 
@@ -39,6 +42,19 @@ fn rates<'a>(alloc: Global) -> Arg<'a>
         .action(ArgAction::SetTrue)
         .help(
             "Makes every n-th attempt fail, and finds the least n for which the script leaks or panics",
+        )
+}
+
+/// The flag that asks for failures that persist to be tried.
+fn persistent<'a>(alloc: Global) -> Arg<'a>
+    ensures rule { rule_of result ≡ persistent_flag }
+    ensures own { result.global ≡ false }
+{
+    Arg::new(alloc, "persistent")
+        .long("persistent")
+        .action(ArgAction::SetTrue)
+        .help(
+            "Makes all attempts fail from one on, and finds the first for which the script leaks or panics",
         )
 }
 
@@ -64,4 +80,15 @@ fn all<'a>(alloc: Global) -> Arg<'a>
         .long("all")
         .action(ArgAction::SetTrue)
         .help("Tells of every number whose run leaks, panics or is cut, and not of the least alone")
+}
+
+/// The flag that asks for each number's end.
+fn ends<'a>(alloc: Global) -> Arg<'a>
+    ensures rule { rule_of result ≡ ends_flag }
+    ensures own { result.global ≡ false }
+{
+    Arg::new(alloc, "ends")
+        .long("ends")
+        .action(ArgAction::SetTrue)
+        .help("Tells of every number how its run ends, also where it is fine")
 }

@@ -21,6 +21,7 @@ pub(crate) struct NumberHelp {
     pub fail: String,
     pub also: String,
     pub every: String,
+    pub fail_from: String,
     pub set: String,
     pub follow_steps: String,
     pub failures: String,
@@ -46,6 +47,9 @@ impl NumberHelp {
             )?,
             every: format!(in alloc;
                 "Makes every N-th attempt fail, N from 0 to {CEILING}; with 0 none fails"
+            )?,
+            fail_from: format!(in alloc;
+                "Makes attempt N and all later ones fail, N from 0 to {CEILING}; with 0 none fails"
             )?,
             set: format!(in alloc;
                 "Makes the attempts of LIST fail: 1 to {MOST_NUMBERS} ascending numbers from 1 to {CEILING}, as in 2,3,5"

@@ -20,11 +20,11 @@ use wb_model::limits::{CEILING, LARGEST_BUDGET, LARGEST_MINIMUM, LARGEST_STEP, S
 /// Which options a subcommand has beside those of all.
 #[derive(Clone, Copy)]
 enum Takes {
-    /// Those that give a rule: a limit, the number of an attempt and of a second one, a rate, or a set; and those that ask for the
-    /// steps.
+    /// Those that give a rule: a limit, the number of an attempt and of a second one, a rate, the number of the first attempt that
+    /// fails, or a set; and those that ask for the steps.
     Rule,
-    /// The flags that ask for rates to be tried, or pairs of attempts, and not single attempts alone, and that which asks for
-    /// all that is found; and how many attempts fail together at most.
+    /// The flags that ask for rates to be tried, failures that persist, or pairs of attempts, and not single attempts alone, and
+    /// those that ask for a list; and how many attempts fail together at most.
     Failures,
     /// The same, and the first and the last number that is tried.
     Part,
@@ -65,7 +65,7 @@ impl<'a> NumberOption<'a> {
 }
 
 /// The version of the program.
-const VERSION: &str = "0.4.0";
+const VERSION: &str = "0.5.0";
 
 /// The words that `clap` is to read.
 pub(super) fn parser<'a>(
@@ -185,6 +185,7 @@ fn with_rule_options<'a>(
             NumberOption::up_to_ceiling("fail", "N", help.fail.as_str()),
             NumberOption::up_to_ceiling("also", "J", help.also.as_str()),
             NumberOption::up_to_ceiling("every", "N", help.every.as_str()),
+            NumberOption::up_to_ceiling("fail-from", "N", help.fail_from.as_str()),
         ],
     )?;
     with_argument(line, set_argument(alloc, help.set.as_str()))

@@ -1,13 +1,13 @@
 //! The rule that the options of `run` spell.
 
-ghost use Rattle.std.specs.Prelude.{◌≡◌, ◌≢◌, IfErr, IfOk, IsTrue, OnErr, OnOk, false, true};
+ghost use Rattle.std.specs.Prelude.{◌≡◌, ◌≢◌, ◌≤◌, IfErr, IfOk, IfSome, IsTrue, None, OnErr, OnOk, false, true};
 ghost use Rattle.clap.specs.Words.{found_of, rows_of};
 ghost use Rattle.wb_command_line.specs.Command.{is_in_range};
 ghost use Rattle.wb_command_line.specs.CommandLine.{joined_level};
 ghost use Rattle.wb_command_line.specs.Fault.{IsFaultOfRule};
 ghost use Rattle.wb_command_line.specs.Passed.{RowsPass};
 ghost use Rattle.wb_command_line.specs.Spelled.{IsPairOf, comes_before, first_rule_of, gives_disorder, gives_no_list};
-ghost use Rattle.wb_command_line.specs.Spelled.{gives_several, gives_several_numbers, numbered_rule_of};
+ghost use Rattle.wb_command_line.specs.Spelled.{are_several, gives_several, gives_several_numbers, numbered_rule_of, rule_by};
 ghost use Rattle.wb_command_line.specs.Spelled.{rule_of as spelled_rule};
 
 use crate::command::{CommandFault, Task};
@@ -15,6 +15,7 @@ use crate::command_line::set_list::set_in;
 use clap::ArgMatches;
 use std::alloc::Global;
 use wb_model::heap::{Numbers, Rule};
+use wb_model::limits::CEILING;
 
 /// The rule that the options of `run` spell, or `Usage`, `Both` or `Also`.
 pub(super) fn rule_in(alloc: Global, options: &ArgMatches) -> Result<Rule, CommandFault>
@@ -72,18 +73,42 @@ fn numbered_rule_in(options: &ArgMatches) -> Result<Rule, CommandFault>
     ensures fault { IfErr result (λ fault. fault ≡ CommandFault.Both) }
     ensures both { OnErr result (gives_several_numbers (rows_of (found_of options.now)) ≡ true) }
 {
-    match (
-        options.get_one::<u32>("limit"),
-        options.get_one::<u32>("fail"),
-        options.get_one::<u32>("every"),
-    ) {
-        (None, None, None) => Ok(Rule::Unlimited),
-        (Some(limit), None, None) => Ok(Rule::Limit(limit)),
-        (None, Some(number), None) => Ok(Rule::Number(number)),
-        (None, None, Some(rate)) => Ok(Rule::Every(rate)),
-        (Some(_), Some(_), _) => Err(CommandFault::Both),
-        (Some(_), None, Some(_)) => Err(CommandFault::Both),
-        (None, Some(_), Some(_)) => Err(CommandFault::Both),
+    let limit = options.get_one::<u32>("limit");
+    let number = options.get_one::<u32>("fail");
+    let rate = options.get_one::<u32>("every");
+    let first = options.get_one::<u32>("fail-from");
+    rule_by(limit, number, rate, first)
+}
+
+/// The rule of one of these numbers, or `Both` if there are several.
+fn rule_by(
+    limit: Option<u32>,
+    number: Option<u32>,
+    rate: Option<u32>,
+    first: Option<u32>,
+) -> Result<Rule, CommandFault>
+    requires limit { IfSome limit (λ n. n ≤ CEILING) }
+    requires number { IfSome number (λ n. n ≤ CEILING) }
+    requires rate { IfSome rate (λ n. n ≤ CEILING) }
+    requires first { IfSome first (λ n. n ≤ CEILING) }
+    ensures ok { IfOk result (λ rule. rule ≡ rule_by limit number None rate first None) }
+    ensures range { IfOk result (λ rule. IsTrue (is_in_range (Task.Run rule))) }
+    ensures alone { OnOk result (are_several limit number rate first ≡ false) }
+    ensures fault { IfErr result (λ fault. fault ≡ CommandFault.Both) }
+    ensures both { OnErr result (are_several limit number rate first ≡ true) }
+{
+    match (limit, number, rate, first) {
+        (None, None, None, None) => Ok(Rule::Unlimited),
+        (Some(limit), None, None, None) => Ok(Rule::Limit(limit)),
+        (None, Some(number), None, None) => Ok(Rule::Number(number)),
+        (None, None, Some(rate), None) => Ok(Rule::Every(rate)),
+        (None, None, None, Some(first)) => Ok(Rule::From(first)),
+        (Some(_), Some(_), _, _) => Err(CommandFault::Both),
+        (Some(_), None, Some(_), _) => Err(CommandFault::Both),
+        (Some(_), None, None, Some(_)) => Err(CommandFault::Both),
+        (None, Some(_), Some(_), _) => Err(CommandFault::Both),
+        (None, Some(_), None, Some(_)) => Err(CommandFault::Both),
+        (None, None, Some(_), Some(_)) => Err(CommandFault::Both),
     }
 }
 

@@ -1,8 +1,5 @@
 //! What is said of a table of how a script's runs end in heaps of every length: which line's attempt is refused first where they
-//! leak or panic, in which heaps they are cut, and, of a check that found nothing, that heaps of some lengths show more.
-
-ghost use Rattle.std.specs.Prelude.{◌≤◌, IsTrue};
-ghost use Rattle.wb_model.specs.language.Sound.{is_script};
+//! leak or panic, and in which heaps they are cut.
 
 use crate::runs::counts::Many;
 use crate::runs::cuts::put_budget_help;
@@ -13,16 +10,7 @@ use crate::runs::spread::{Spread, lengths_of};
 use crate::runs::stories::{Stories, Story, stories_of};
 use std::alloc::Global;
 use wb_history::Attempts;
-use wb_lengths::lengths_within;
-use wb_machine::RunFault;
-use wb_model::heap::Shape;
 use wb_model::lengths::LengthRange;
-use wb_model::limits::LARGEST_BUDGET;
-use wb_model::memory::NoMemory;
-use wb_model::script::Script;
-
-/// The most steps that runs in heaps of all lengths take for a check, all together.
-const MOST_STEPS: u32 = 1_000_000;
 
 /// Returns the greatest length whose run leaks or panics, in bytes; `None` if none does.
 pub fn greatest_bad(ranges: &[LengthRange]) -> Option<u32> {
@@ -51,59 +39,6 @@ pub fn put_heaps(
     }
     put_cut_heaps(page, budget, ranges);
     Ok(())
-}
-
-/// Says of a script in which a check found nothing what it does in the shortest heaps in which it leaks or panics, if there are any.
-pub fn put_warning(
-    page: &mut ScriptPage<'_>,
-    alloc: Global,
-    script: &Script,
-    budget: u32,
-    shape: Shape,
-) -> Result<(), NoMemory>
-    requires script { IsTrue (is_script script.now) }
-    requires least { 1 ≤ budget }
-    requires greatest { budget ≤ LARGEST_BUDGET }
-{
-    match lengths_within(alloc, script, budget, shape, MOST_STEPS) {
-        Ok(Some(table)) => put_least_bad(page, table.as_slice()),
-        Ok(None) => page.page.write_file_message(format_args!(
-            "heaps of every length take more than {MOST_STEPS} steps, so they were not tried; workbench lengths tries them"
-        )),
-        Err(RunFault::BadShape) => {}
-        Err(RunFault::NoMemory) => return Err(NoMemory),
-    }
-    Ok(())
-}
-
-/// The first range from an index on whose runs leak or panic, by its index.
-fn bad_from(ranges: &[LengthRange], first: usize) -> Option<usize> {
-    for index in first..ranges.len() {
-        if let Some(range) = ranges.get(index)
-            && range.end.is_bad()
-        {
-            return Some(index);
-        }
-    }
-    None
-}
-
-/// The first range whose runs leak or panic, and that there are others.
-fn put_least_bad(page: &mut ScriptPage<'_>, ranges: &[LengthRange]) {
-    let Some(index) = bad_from(ranges, 0) else {
-        return;
-    };
-    let (Some(range), Some(spread)) = (ranges.get(index), lengths_of(ranges, index)) else {
-        return;
-    };
-    let end = EndInWords(range.end);
-    let others = match bad_from(ranges, index.saturating_add(1)) {
-        Some(_) => ", and in longer ones it leaks or panics too",
-        None => "",
-    };
-    page.page.write_file_message(format_args!(
-        "in a heap of {spread} this script {end}{others}; workbench lengths shows every length"
-    ));
 }
 
 /// The stories of these lengths, row by row, and how many ranges have others.

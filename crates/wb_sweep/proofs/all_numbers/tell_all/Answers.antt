@@ -33,8 +33,8 @@ tell_later-requires-clause-told g c =
     let rule : c.rule.result ≡ rule_of c.args.failures 0 = c.rule.ensures ∙ ap rule_for c.at-none.ensures in
     let ran : c.in_ok-first.first ≡ runs 0 = c.in_ok-first.ensures.ran ∙ ap (λ (r : Rule). run c.args.script.now r c.args.budget c.args.shape) rule in
     let first = c.in_ok-tell_first.ensures in
-    first-lines runs c.args.part.from c.tell_first.new.ends
-    (λ start. first.told start ∙ ap (λ ends. ends ++ line_of 0 c.in_ok-first.first) c.new-ends.ensures ∙ ap (line_of 0) ran)
+    first-lines c.args.listing runs c.args.part.from c.tell_first.new.ends
+    (λ start. first.told start ∙ ap (λ ends. ends ++ line_of c.args.listing 0 c.in_ok-first.first) c.new-ends.ensures ∙ ap (line_of c.args.listing 0) ran)
     (λ later. first.later later ∙ c.new-ends.ensures)
 
 pub tell_later-requires-clause-uncut : goal.tell_later-requires-clause-uncut
@@ -76,8 +76,8 @@ returns-clause-told g c =
       attempts = c.attempts_in-attempts.ensures ∙ ap length (c.as_slice.ensures ∙ ap (λ r. r.trace) ran);
       ends = told;
       bad = c.bad_count.ensures;
-      found = found-first-bad failures part script budget shape ends told found is;
-      none = none-is-bad failures part script budget shape ends told found is;
+      found = found-first-bad c.args.listing failures part script budget shape ends told found is;
+      none = none-is-bad c.args.listing failures part script budget shape ends told found is;
       later = λ n later. past_the_last failures script budget shape n (uncut-of (runs_of failures script budget shape 0)
           (ap (λ (r : RunResult). is_cut_outcome r.outcome) (sym ran) ∙ c.in_ok-tell_first.ensures.uncut)) later;
     }

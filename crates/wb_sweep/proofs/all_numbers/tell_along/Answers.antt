@@ -4,11 +4,10 @@ use Rattle.wb_model.specs.declared.heap.Rule.{Rule}
 use Rattle.wb_model.specs.declared.heap.Shape.{Shape}
 use Rattle.wb_model.specs.declared.run.RunResult.{RunResult}
 use Rattle.wb_model.specs.declared.script.Script.{Script}
-use Rattle.wb_model.specs.runs.AllNumbers.{unfine_numbers}
 use Rattle.wb_model.specs.runs.Run.{run}
 use Rattle.wb_model.specs.runs.RunEnds.{end_of}
 use Rattle.wb_model.specs.runs.Sweeps.{rule_of, runs_of}
-use Rattle.wb_sweep.specs.AllOfAPart.{line_of}
+use Rattle.wb_sweep.specs.AllOfAPart.{line_of, listed_numbers}
 use Rattle.wb_sweep.specs.Meetings.{IsAhead}
 use Rattle.wb_sweep.proofs.Further.{IsOfSameRun, of-same, same-runs, to-same}
 use Rattle.wb_sweep.proofs.TellLemmas.{lines-further, made-further}
@@ -40,8 +39,8 @@ loop-made-preserved g c =
     let le : last ≤ next = omega (arith, all, c.requires.last) in le in
     let more : next ≤ made + 1 = omega (arith, so_far, after.more, before.made) in
     let here : made + 1 ≡ lead.attempts + 1 = ap (λ n. n + 1) before.made in
-    let line : line_of (made + 1) (runs_of failures lead.script lead.budget lead.shape (made + 1)) ≡ line_of (made + 1) (runs (made + 1)) =
-    ap (line_of (made + 1)) (same-runs failures old lead (made + 1) same) in
+    let line : line_of c.args.listing (made + 1) (runs_of failures lead.script lead.budget lead.shape (made + 1)) ≡ line_of c.args.listing (made + 1) (runs (made + 1)) =
+    ap (line_of c.args.listing (made + 1)) (same-runs failures old lead (made + 1) same) in
     record {
       script = script;
       rule = rule;
@@ -54,7 +53,7 @@ loop-made-preserved g c =
       made = so_far;
       most = omega (arith, more, c.loop-made-test.true);
       ended = ended;
-      told = lines-further runs c.args.from made next lead.asks c.loop-made.ends c.tell_next.new.ends before.told
+      told = lines-further c.args.listing runs c.args.from made next lead.asks c.loop-made.ends c.tell_next.new.ends before.told
           (λ e. so_far ∙ after.turned.made.unasked e ∙ sym before.made)
           (λ e. made-further new.met_ceiling new.over made next last (λ met. so_far ∙ after.turned.made.asked e met ∙ sym here) after.turned.ceiling ended c.loop-made-test.true more)
           (λ e begun. c.in_ok-tell_next.ensures.told e begun ∙ ap (λ more. c.loop-made.ends ++ more) line)
@@ -79,4 +78,4 @@ returns g c =
     let old = c.args.lead.now in
     let before = c.loop-made.invariant in
     let made : c.loop-made.made ≡ c.args.last = omega (arith, before.most, c.loop-made-test.false) in
-    before.told ∙ ap (λ (n : ℕ). unfine_numbers (runs_of c.args.failures old.script old.budget old.shape) c.args.from (n + 1 - c.args.from)) made
+    before.told ∙ ap (λ (n : ℕ). listed_numbers c.args.listing (runs_of c.args.failures old.script old.budget old.shape) c.args.from (n + 1 - c.args.from)) made

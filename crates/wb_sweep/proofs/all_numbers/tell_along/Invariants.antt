@@ -1,7 +1,7 @@
 use Rattle.std.proofs.Common.{◌≡◌, ◌+◌, ◌-◌, ◌≤◌, false, true, cond, IfSome}
-use Rattle.wb_model.specs.runs.AllNumbers.{unfine_numbers}
 use Rattle.wb_model.specs.runs.Sweeps.{rule_of, runs_of}
 use Rattle.wb_sweep.specs.Meetings.{IsAhead}
+use Rattle.wb_sweep.specs.AllOfAPart.{listed_numbers}
 use Rattle.wb_sweep.proofs.all_numbers.tell_along.Given as goal
 
 -- the run is the same, without failure, and what is told is of the numbers up to the attempts that were made
@@ -19,7 +19,7 @@ invariant-loop-made g l =
       made : l.made ≡ l.lead.attempts;
       most : l.made ≤ l.fn.last;
       ended : l.lead.over ≡ true → l.fn.last ≤ l.made;
-      told : l.ends ≡ unfine_numbers (runs_of l.fn.failures l.fn.lead.script l.fn.lead.budget l.fn.lead.shape) l.fn.from (l.made + 1 - l.fn.from);
+      told : l.ends ≡ listed_numbers l.fn.listing (runs_of l.fn.failures l.fn.lead.script l.fn.lead.budget l.fn.lead.shape) l.fn.from (l.made + 1 - l.fn.from);
       scout : IfSome l.scout (IsAhead l.fn.failures l.fn.lead.script l.fn.lead.budget l.fn.lead.shape);
     }
 

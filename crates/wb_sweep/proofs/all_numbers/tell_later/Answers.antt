@@ -2,10 +2,10 @@
 use Rattle.std.proofs.Common.{◌≡◌, ◌+◌, ◌-◌, ◌≤◌, ℕ, arith, min, ap, ◌∙◌, sym, subst}
 use Rattle.std.proofs.Math.Nat.{min-le_right}
 use Rattle.wb_machine.specs.Seen.{Seen}
-use Rattle.wb_model.specs.runs.AllNumbers.{unfine_numbers}
 use Rattle.wb_model.specs.runs.Parts.{last_attempt}
 use Rattle.wb_model.specs.runs.RunEnds.{end_of}
 use Rattle.wb_model.specs.runs.Sweeps.{runs_of}
+use Rattle.wb_sweep.specs.AllOfAPart.{listed_numbers}
 use Rattle.wb_sweep.proofs.all_numbers.tell_later.Goals as goal
 
 pub tell_along-requires-clause-last : goal.tell_along-requires-clause-last
@@ -22,13 +22,13 @@ tell_along-requires-clause-end g c =
 pub tell_along-requires-clause-told : goal.tell_along-requires-clause-told
 tell_along-requires-clause-told g c =
     let from = c.args.part.from in
-    subst (λ (s : Seen). c.args.ends.now ≡ unfine_numbers (runs_of c.args.failures s.script s.budget s.shape) from (1 - from)) (sym c.in_ok-lead.ensures.seen) c.requires.told
+    subst (λ (s : Seen). c.args.ends.now ≡ listed_numbers c.args.listing (runs_of c.args.failures s.script s.budget s.shape) from (1 - from)) (sym c.in_ok-lead.ensures.seen) c.requires.told
 
 pub returns-clause-told : goal.returns-clause-told
 returns-clause-told g c =
     let from = c.args.part.from in
     let last = last_attempt c.args.failures c.args.script.now c.args.budget c.args.shape in
     let end : c.min-end.result ≡ min c.args.part.to last = c.min-end.ensures ∙ ap (min c.args.part.to) c.requires.last in
-    let told = subst (λ (s : Seen). c.tell_along.new.ends ≡ unfine_numbers (runs_of c.args.failures s.script s.budget s.shape) from (c.min-end.result + 1 - from))
+    let told = subst (λ (s : Seen). c.tell_along.new.ends ≡ listed_numbers c.args.listing (runs_of c.args.failures s.script s.budget s.shape) from (c.min-end.result + 1 - from))
     c.in_ok-lead.ensures.seen c.in_ok-tell_along.ensures in
-    told ∙ ap (λ (n : ℕ). unfine_numbers (runs_of c.args.failures c.args.script.now c.args.budget c.args.shape) from (n + 1 - from)) end
+    told ∙ ap (λ (n : ℕ). listed_numbers c.args.listing (runs_of c.args.failures c.args.script.now c.args.budget c.args.shape) from (n + 1 - from)) end

@@ -16,5 +16,5 @@ returns-clause-told g c =
     let next = lead.attempts + 1 in
     let end : c.end_of_fork.result ≡ end_of (runs next).outcome = c.end_of_fork.ensures (runs 0) (runs next) c.in_ok-forked.ensures.known c.requires.end in
     map_ok c.tell.result (λ _ told asks begun.
-    told ∙ ap (λ e. ends ++ line_if_told number e) end ∙ ap (λ line. ends ++ line) (line_by_end number (runs next))
-    ∙ ap (λ n. ends ++ line_of number (runs n)) (sym c.requires.number)) c.tell.ensures
+    told ∙ ap (λ e. ends ++ line_if_told c.args.listing number e) end ∙ ap (λ line. ends ++ line) (line_by_end c.args.listing number (runs next))
+    ∙ ap (λ n. ends ++ line_of c.args.listing number (runs n)) (sym c.requires.number)) c.tell.ensures

@@ -1,107 +1,52 @@
-use Rattle.std.proofs.Common.{refl}
-use Rattle.std.proofs.lemmas.Bool.{le-leb}
+-- Proof: numbered_rule_in. What was read of the four options is what they were given, in their ranges.
+use Rattle.std.proofs.Common.{◌≡◌, Bool, subst, true, false}
+use Rattle.std.specs.Prelude.{IfOk, OnErr, OnOk}
 use Rattle.std.specs.Str.Parse.{ExplainsUnsignedError, HasUnsignedDigitsIfOk, ParsesUnsigned}
-use Rattle.clap.specs.Words.{found_of}
-use Rattle.wb_command_line.proofs.MatchesLemmas.{rule_as, rule_read, several_as}
+use Rattle.clap.specs.Words.{found_of, rows_of}
+use Rattle.wb_model.specs.declared.heap.Rule.{Rule}
+use Rattle.wb_command_line.proofs.MatchesLemmas.{every_is, fail_from_is, fail_is, limit_is, low_enough, rule_as, rule_read, several_as}
 use Rattle.wb_command_line.proofs.command_line.rules.numbered_rule_in.Goals as goal
 
-pub returns-in-None-None-None-clause-ok : goal.returns-in-None-None-None-clause-ok
-returns-in-None-None-None-clause-ok c =
-    let read = rule_read _ (λ bs r. ParsesUnsigned 32 10 bs r × ExplainsUnsignedError 10 bs r × HasUnsignedDigitsIfOk bs r) (λ u x g. g.0) (found_of c.args.options.now)
-    c.get_one.result c.get_one-2.result c.get_one-3.result c.requires c.get_one.ensures.none c.get_one.ensures.value
-    c.get_one-2.ensures.none c.get_one-2.ensures.value c.get_one-3.ensures.none c.get_one-3.ensures.value in
-    rule_as read c.in-None-None-None.is-0 c.in-None-None-None.is-1 c.in-None-None-None.is-2
+pub rule_by-requires-clause-limit : goal.rule_by-requires-clause-limit
+rule_by-requires-clause-limit c =
+    low_enough _ _ c.get_one-limit.result (limit_is _ (λ bs r. ParsesUnsigned 32 10 bs r × ExplainsUnsignedError 10 bs r × HasUnsignedDigitsIfOk bs r) (λ u x g. g.0)
+    (found_of c.args.options.now) c.get_one-limit.result c.requires c.get_one-limit.ensures.none c.get_one-limit.ensures.value)
 
-pub returns-in-None-None-None-clause-alone : goal.returns-in-None-None-None-clause-alone
-returns-in-None-None-None-clause-alone c =
-    let read = rule_read _ (λ bs r. ParsesUnsigned 32 10 bs r × ExplainsUnsignedError 10 bs r × HasUnsignedDigitsIfOk bs r) (λ u x g. g.0) (found_of c.args.options.now)
-    c.get_one.result c.get_one-2.result c.get_one-3.result c.requires c.get_one.ensures.none c.get_one.ensures.value
-    c.get_one-2.ensures.none c.get_one-2.ensures.value c.get_one-3.ensures.none c.get_one-3.ensures.value in
-    several_as read c.in-None-None-None.is-0 c.in-None-None-None.is-1 c.in-None-None-None.is-2
+pub rule_by-requires-clause-number : goal.rule_by-requires-clause-number
+rule_by-requires-clause-number c =
+    low_enough _ _ c.get_one-number.result (fail_is _ (λ bs r. ParsesUnsigned 32 10 bs r × ExplainsUnsignedError 10 bs r × HasUnsignedDigitsIfOk bs r) (λ u x g. g.0)
+    (found_of c.args.options.now) c.get_one-number.result c.requires c.get_one-number.ensures.none c.get_one-number.ensures.value)
 
-pub returns-in-Some-None-None-clause-ok : goal.returns-in-Some-None-None-clause-ok
-returns-in-Some-None-None-clause-ok c =
-    let read = rule_read _ (λ bs r. ParsesUnsigned 32 10 bs r × ExplainsUnsignedError 10 bs r × HasUnsignedDigitsIfOk bs r) (λ u x g. g.0) (found_of c.args.options.now)
-    c.get_one.result c.get_one-2.result c.get_one-3.result c.requires c.get_one.ensures.none c.get_one.ensures.value
-    c.get_one-2.ensures.none c.get_one-2.ensures.value c.get_one-3.ensures.none c.get_one-3.ensures.value in
-    rule_as read c.in-Some-None-None.is-0 c.in-Some-None-None.is-1 c.in-Some-None-None.is-2
+pub rule_by-requires-clause-rate : goal.rule_by-requires-clause-rate
+rule_by-requires-clause-rate c =
+    low_enough _ _ c.get_one-rate.result (every_is _ (λ bs r. ParsesUnsigned 32 10 bs r × ExplainsUnsignedError 10 bs r × HasUnsignedDigitsIfOk bs r) (λ u x g. g.0)
+    (found_of c.args.options.now) c.get_one-rate.result c.requires c.get_one-rate.ensures.none c.get_one-rate.ensures.value)
 
-pub returns-in-Some-None-None-clause-range : goal.returns-in-Some-None-None-clause-range
-returns-in-Some-None-None-clause-range c =
-    let read = rule_read _ (λ bs r. ParsesUnsigned 32 10 bs r × ExplainsUnsignedError 10 bs r × HasUnsignedDigitsIfOk bs r) (λ u x g. g.0) (found_of c.args.options.now)
-    c.get_one.result c.get_one-2.result c.get_one-3.result c.requires c.get_one.ensures.none c.get_one.ensures.value
-    c.get_one-2.ensures.none c.get_one-2.ensures.value c.get_one-3.ensures.none c.get_one-3.ensures.value in
-    let within = rw c.in-Some-None-None.is-0 at read.limit.within in
-    search (le-leb, within)
+pub rule_by-requires-clause-first : goal.rule_by-requires-clause-first
+rule_by-requires-clause-first c =
+    low_enough _ _ c.get_one-first.result (fail_from_is _ (λ bs r. ParsesUnsigned 32 10 bs r × ExplainsUnsignedError 10 bs r × HasUnsignedDigitsIfOk bs r) (λ u x g. g.0)
+    (found_of c.args.options.now) c.get_one-first.result c.requires c.get_one-first.ensures.none c.get_one-first.ensures.value)
 
-pub returns-in-Some-None-None-clause-alone : goal.returns-in-Some-None-None-clause-alone
-returns-in-Some-None-None-clause-alone c =
+pub returns-clause-ok : goal.returns-clause-ok
+returns-clause-ok c =
     let read = rule_read _ (λ bs r. ParsesUnsigned 32 10 bs r × ExplainsUnsignedError 10 bs r × HasUnsignedDigitsIfOk bs r) (λ u x g. g.0) (found_of c.args.options.now)
-    c.get_one.result c.get_one-2.result c.get_one-3.result c.requires c.get_one.ensures.none c.get_one.ensures.value
-    c.get_one-2.ensures.none c.get_one-2.ensures.value c.get_one-3.ensures.none c.get_one-3.ensures.value in
-    several_as read c.in-Some-None-None.is-0 c.in-Some-None-None.is-1 c.in-Some-None-None.is-2
+    c.get_one-limit.result c.get_one-number.result c.get_one-rate.result c.get_one-first.result c.requires
+    c.get_one-limit.ensures.none c.get_one-limit.ensures.value c.get_one-number.ensures.none c.get_one-number.ensures.value
+    c.get_one-rate.ensures.none c.get_one-rate.ensures.value c.get_one-first.ensures.none c.get_one-first.ensures.value in
+    subst (λ (is : Rule). IfOk c.rule_by.result (λ rule. rule ≡ is)) (rule_as read) c.rule_by.ensures.ok
 
-pub returns-in-None-Some-None-clause-ok : goal.returns-in-None-Some-None-clause-ok
-returns-in-None-Some-None-clause-ok c =
+pub returns-clause-alone : goal.returns-clause-alone
+returns-clause-alone c =
     let read = rule_read _ (λ bs r. ParsesUnsigned 32 10 bs r × ExplainsUnsignedError 10 bs r × HasUnsignedDigitsIfOk bs r) (λ u x g. g.0) (found_of c.args.options.now)
-    c.get_one.result c.get_one-2.result c.get_one-3.result c.requires c.get_one.ensures.none c.get_one.ensures.value
-    c.get_one-2.ensures.none c.get_one-2.ensures.value c.get_one-3.ensures.none c.get_one-3.ensures.value in
-    rule_as read c.in-None-Some-None.is-0 c.in-None-Some-None.is-1 c.in-None-Some-None.is-2
+    c.get_one-limit.result c.get_one-number.result c.get_one-rate.result c.get_one-first.result c.requires
+    c.get_one-limit.ensures.none c.get_one-limit.ensures.value c.get_one-number.ensures.none c.get_one-number.ensures.value
+    c.get_one-rate.ensures.none c.get_one-rate.ensures.value c.get_one-first.ensures.none c.get_one-first.ensures.value in
+    subst (λ (b : Bool). OnOk c.rule_by.result (b ≡ false)) (several_as read) c.rule_by.ensures.alone
 
-pub returns-in-None-Some-None-clause-range : goal.returns-in-None-Some-None-clause-range
-returns-in-None-Some-None-clause-range c =
+pub returns-clause-both : goal.returns-clause-both
+returns-clause-both c =
     let read = rule_read _ (λ bs r. ParsesUnsigned 32 10 bs r × ExplainsUnsignedError 10 bs r × HasUnsignedDigitsIfOk bs r) (λ u x g. g.0) (found_of c.args.options.now)
-    c.get_one.result c.get_one-2.result c.get_one-3.result c.requires c.get_one.ensures.none c.get_one.ensures.value
-    c.get_one-2.ensures.none c.get_one-2.ensures.value c.get_one-3.ensures.none c.get_one-3.ensures.value in
-    let within = rw c.in-None-Some-None.is-1 at read.number.within in
-    search (le-leb, within)
-
-pub returns-in-None-Some-None-clause-alone : goal.returns-in-None-Some-None-clause-alone
-returns-in-None-Some-None-clause-alone c =
-    let read = rule_read _ (λ bs r. ParsesUnsigned 32 10 bs r × ExplainsUnsignedError 10 bs r × HasUnsignedDigitsIfOk bs r) (λ u x g. g.0) (found_of c.args.options.now)
-    c.get_one.result c.get_one-2.result c.get_one-3.result c.requires c.get_one.ensures.none c.get_one.ensures.value
-    c.get_one-2.ensures.none c.get_one-2.ensures.value c.get_one-3.ensures.none c.get_one-3.ensures.value in
-    several_as read c.in-None-Some-None.is-0 c.in-None-Some-None.is-1 c.in-None-Some-None.is-2
-
-pub returns-in-None-None-Some-clause-ok : goal.returns-in-None-None-Some-clause-ok
-returns-in-None-None-Some-clause-ok c =
-    let read = rule_read _ (λ bs r. ParsesUnsigned 32 10 bs r × ExplainsUnsignedError 10 bs r × HasUnsignedDigitsIfOk bs r) (λ u x g. g.0) (found_of c.args.options.now)
-    c.get_one.result c.get_one-2.result c.get_one-3.result c.requires c.get_one.ensures.none c.get_one.ensures.value
-    c.get_one-2.ensures.none c.get_one-2.ensures.value c.get_one-3.ensures.none c.get_one-3.ensures.value in
-    rule_as read c.in-None-None-Some.is-0 c.in-None-None-Some.is-1 c.in-None-None-Some.is-2
-
-pub returns-in-None-None-Some-clause-range : goal.returns-in-None-None-Some-clause-range
-returns-in-None-None-Some-clause-range c =
-    let read = rule_read _ (λ bs r. ParsesUnsigned 32 10 bs r × ExplainsUnsignedError 10 bs r × HasUnsignedDigitsIfOk bs r) (λ u x g. g.0) (found_of c.args.options.now)
-    c.get_one.result c.get_one-2.result c.get_one-3.result c.requires c.get_one.ensures.none c.get_one.ensures.value
-    c.get_one-2.ensures.none c.get_one-2.ensures.value c.get_one-3.ensures.none c.get_one-3.ensures.value in
-    let within = rw c.in-None-None-Some.is-2 at read.rate.within in
-    search (le-leb, within)
-
-pub returns-in-None-None-Some-clause-alone : goal.returns-in-None-None-Some-clause-alone
-returns-in-None-None-Some-clause-alone c =
-    let read = rule_read _ (λ bs r. ParsesUnsigned 32 10 bs r × ExplainsUnsignedError 10 bs r × HasUnsignedDigitsIfOk bs r) (λ u x g. g.0) (found_of c.args.options.now)
-    c.get_one.result c.get_one-2.result c.get_one-3.result c.requires c.get_one.ensures.none c.get_one.ensures.value
-    c.get_one-2.ensures.none c.get_one-2.ensures.value c.get_one-3.ensures.none c.get_one-3.ensures.value in
-    several_as read c.in-None-None-Some.is-0 c.in-None-None-Some.is-1 c.in-None-None-Some.is-2
-
-pub returns-in-Some-Some-default-clause-both : goal.returns-in-Some-Some-default-clause-both
-returns-in-Some-Some-default-clause-both c =
-    let read = rule_read _ (λ bs r. ParsesUnsigned 32 10 bs r × ExplainsUnsignedError 10 bs r × HasUnsignedDigitsIfOk bs r) (λ u x g. g.0) (found_of c.args.options.now)
-    c.get_one.result c.get_one-2.result c.get_one-3.result c.requires c.get_one.ensures.none c.get_one.ensures.value
-    c.get_one-2.ensures.none c.get_one-2.ensures.value c.get_one-3.ensures.none c.get_one-3.ensures.value in
-    several_as read c.in-Some-Some-default.is-0 c.in-Some-Some-default.is-1 (refl {a = c.get_one-3.result})
-
-pub returns-in-Some-None-Some-clause-both : goal.returns-in-Some-None-Some-clause-both
-returns-in-Some-None-Some-clause-both c =
-    let read = rule_read _ (λ bs r. ParsesUnsigned 32 10 bs r × ExplainsUnsignedError 10 bs r × HasUnsignedDigitsIfOk bs r) (λ u x g. g.0) (found_of c.args.options.now)
-    c.get_one.result c.get_one-2.result c.get_one-3.result c.requires c.get_one.ensures.none c.get_one.ensures.value
-    c.get_one-2.ensures.none c.get_one-2.ensures.value c.get_one-3.ensures.none c.get_one-3.ensures.value in
-    several_as read c.in-Some-None-Some.is-0 c.in-Some-None-Some.is-1 c.in-Some-None-Some.is-2
-
-pub returns-in-None-Some-Some-clause-both : goal.returns-in-None-Some-Some-clause-both
-returns-in-None-Some-Some-clause-both c =
-    let read = rule_read _ (λ bs r. ParsesUnsigned 32 10 bs r × ExplainsUnsignedError 10 bs r × HasUnsignedDigitsIfOk bs r) (λ u x g. g.0) (found_of c.args.options.now)
-    c.get_one.result c.get_one-2.result c.get_one-3.result c.requires c.get_one.ensures.none c.get_one.ensures.value
-    c.get_one-2.ensures.none c.get_one-2.ensures.value c.get_one-3.ensures.none c.get_one-3.ensures.value in
-    several_as read c.in-None-Some-Some.is-0 c.in-None-Some-Some.is-1 c.in-None-Some-Some.is-2
+    c.get_one-limit.result c.get_one-number.result c.get_one-rate.result c.get_one-first.result c.requires
+    c.get_one-limit.ensures.none c.get_one-limit.ensures.value c.get_one-number.ensures.none c.get_one-number.ensures.value
+    c.get_one-rate.ensures.none c.get_one-rate.ensures.value c.get_one-first.ensures.none c.get_one-first.ensures.value in
+    subst (λ (b : Bool). OnErr c.rule_by.result (b ≡ true)) (several_as read) c.rule_by.ensures.both

@@ -1,4 +1,4 @@
--- Proof: check_report. The run without a limit is the run without failure, unless the ceiling cuts it.
+-- Proof: check_least. The run without a limit is the run without failure, unless the ceiling cuts it.
 use Rattle.std.proofs.Common.{◌≡◌, ◌≢◌, ◌++◌, arith, inl, refl, sym, ap, ◌∙◌, ℕ, List, length}
 use Rattle.wb_model.specs.declared.failures.Failures.{Failures}
 use Rattle.wb_model.specs.declared.heap.Rule.TheVariants.{Unlimited}
@@ -16,7 +16,7 @@ use Rattle.wb_model.proofs.SameRuns.{same_run}
 use Rattle.wb_model.proofs.SizeLemmas.{unlimited_least}
 use Rattle.wb_model.proofs.TraceLemmas.{run-numbered}
 use Rattle.workbench.specs.TwoNumbers.{IsSized}
-use Rattle.workbench.proofs.tasks.check_report.Goals as goal
+use Rattle.workbench.proofs.searches.check_least.Goals as goal
 
 same_first : (failures : Failures) (script : Script) (budget : ℕ) (shape : Shape) → (run script Unlimited budget shape).outcome ≢ Cut Ceiling →
     runs_of failures script budget shape 0 ≡ run script Unlimited budget shape
@@ -63,7 +63,7 @@ returns g c =
       size = report.values;
       sweep = sweep.values;
       sized = size;
-      swept = c.in_ok-sweep.ensures c.args.script.now c.args.budget c.args.shape c.sweep_beside_known-swept.ensures.swept c.sweep_beside_known-swept.ensures.cut;
+      searched = c.in_ok-sweep.ensures c.args.script.now c.args.budget c.args.shape c.sweep_beside_known-swept.ensures.swept c.sweep_beside_known-swept.ensures.cut;
       text_is = c.in_ok-extend_from_slice.ensures.items ∙ ap (λ (more : List ℕ). report.text.items ++ more) c.as_slice.ensures.value;
       values_are = c.of_both.ensures;
     })

@@ -1,6 +1,6 @@
 use Rattle.clap.specs.Words.{found_of}
 use Rattle.wb_command_line.proofs.MatchesLemmas.{all_is}
-use Rattle.wb_command_line.proofs.command_line.all_in.Goals as goal
+use Rattle.wb_command_line.proofs.command_line.searches.all_in.Goals as goal
 
 pub returns : goal.returns
 returns c = all_is (found_of c.args.options.now) c.get_flag.result c.requires c.get_flag.ensures.none c.get_flag.ensures.value c.get_flag.ensures.other

@@ -1,0 +1,133 @@
+//! What is said of a check that found nothing, and of what it tried unasked: the first that shows a leak or a panic, what wasn't decided,
+//! or that nothing else shows anything. What is tried, and how long, is decided elsewhere.
+
+use crate::runs::end_words::EndInWords;
+use crate::runs::number_lists::put_list;
+use crate::runs::script_page::ScriptPage;
+use crate::runs::shell_words::ShellOptions;
+use crate::runs::spread::lengths_of;
+use wb_model::lengths::LengthRange;
+use wb_model::run_end::RunEnd;
+
+/// What a check asks unasked.
+#[derive(Clone, Copy, Debug, PartialEq, Eq)]
+pub enum Question {
+    /// Whether all attempts may fail from one on.
+    Persistent,
+    /// Whether the heap may be of any length.
+    Lengths,
+    /// Whether any set of attempts may fail in a heap in which each cell that grows moves.
+    Sets,
+}
+
+impl Question {
+    /// The command that asks it.
+    fn command(self) -> &'static str {
+        match self {
+            Question::Persistent => "workbench check --persistent",
+            Question::Lengths => "workbench lengths",
+            Question::Sets => "workbench check --sets",
+        }
+    }
+}
+
+/// What shows a leak or a panic where a check found none.
+#[derive(Clone, Copy)]
+pub enum Shown<'a> {
+    /// The failure of this attempt and of all later ones, and how the run ends.
+    Persistent(u32, RunEnd),
+    /// The table of all lengths, some of which do.
+    Lengths(&'a [LengthRange]),
+    /// The failure of these attempts in a heap in which each cell that grows moves, and how the run ends.
+    Sets(&'a [u32], RunEnd),
+}
+
+/// Says what was found, and the command that shows it.
+pub fn put_shown(page: &mut ScriptPage<'_>, shown: Shown<'_>, options: ShellOptions) {
+    match shown {
+        Shown::Persistent(first, end) => {
+            let command = Question::Persistent.command();
+            page.page.write_file_message(format_args!(
+                "where attempt {first} and all later ones fail, this script {}; `{command}{options}` shows it",
+                EndInWords(end)
+            ));
+        }
+        Shown::Lengths(ranges) => put_least_bad(page, ranges, options),
+        Shown::Sets(numbers, end) => put_set(page, numbers, end, options),
+    }
+}
+
+/// The set that was found; the empty one is the run without failure.
+fn put_set(page: &mut ScriptPage<'_>, numbers: &[u32], end: RunEnd, options: ShellOptions) {
+    page.page.begin_file_message();
+    match numbers.len() {
+        0 => {}
+        1 => page.page.write_text("where attempt "),
+        _ => page.page.write_text("where attempts "),
+    }
+    put_list(page, numbers, numbers.len());
+    match numbers.len() {
+        0 => page.page.write_text("where each cell that grows moves"),
+        1 => page
+            .page
+            .write_text(" fails and each cell that grows moves"),
+        _ => page.page.write_text(" fail and each cell that grows moves"),
+    }
+    let command = Question::Sets.command();
+    page.page.write(format_args!(
+        ", this script {}; `{command}{options}` shows it",
+        EndInWords(end)
+    ));
+    page.page.end_line();
+}
+
+/// The first range whose runs leak or panic, and that there are others.
+fn put_least_bad(page: &mut ScriptPage<'_>, ranges: &[LengthRange], options: ShellOptions) {
+    let Some(index) = bad_from(ranges, 0) else {
+        return;
+    };
+    let (Some(range), Some(spread)) = (ranges.get(index), lengths_of(ranges, index)) else {
+        return;
+    };
+    let end = EndInWords(range.end);
+    let others = match bad_from(ranges, index.saturating_add(1)) {
+        Some(_) => ", and in longer ones it leaks or panics too",
+        None => "",
+    };
+    let command = Question::Lengths.command();
+    page.page.write_file_message(format_args!(
+        "in a heap of {spread} this script {end}{others}; `{command}{options}` shows every length"
+    ));
+}
+
+/// The first range from an index on whose runs leak or panic, by its index.
+fn bad_from(ranges: &[LengthRange], first: usize) -> Option<usize> {
+    for index in first..ranges.len() {
+        if let Some(range) = ranges.get(index)
+            && range.end.is_bad()
+        {
+            return Some(index);
+        }
+    }
+    None
+}
+
+/// Says of a question that it wasn't decided, and how to ask it.
+pub fn put_undecided(page: &mut ScriptPage<'_>, question: Question, options: ShellOptions) {
+    let what = match question {
+        Question::Persistent => "failures that persist",
+        Question::Lengths => "heaps of every length",
+        Question::Sets => "all sets of attempts where each cell that grows moves",
+    };
+    let command = question.command();
+    page.page.write_file_message(format_args!(
+        "{what} take more than is tried unasked; `{command}{options}` tries them"
+    ));
+}
+
+/// Says that nothing else shows a leak or a panic.
+pub fn put_nothing_else(page: &mut ScriptPage<'_>) {
+    page.page.write_file_text(
+        "whatever attempts fail, and wherever cells lie, this script neither leaks nor panics",
+    );
+}

@@ -1,0 +1,104 @@
+//! What is said of what `check` asks unasked, where it found nothing. What is asked, and how far, is in `unasked`.
+
+ghost use Rattle.std.specs.Prelude.{IsTrue};
+ghost use Rattle.wb_model.specs.language.Sound.{is_script};
+
+use crate::asked::{budget_of, parameters_of};
+use crate::run_shown::explain_run;
+use crate::unasked::{Verdict, ask, is_open};
+use std::alloc::Global;
+use wb_explain::runs::{Question, ShellOptions, nothing_else, unasked_found, undecided};
+use wb_history::{Keep, RunParameters, ScriptLines, watch_run};
+use wb_model::heap::{Numbers, Rule, Shape};
+use wb_model::memory::NoMemory;
+use wb_model::script::Script;
+use workbench::Command;
+
+/// The questions that are asked unasked, in their order.
+const QUESTIONS: [Question; 3] = [Question::Persistent, Question::Lengths, Question::Sets];
+
+/// Returns what a check that found nothing finds unasked: the first question that shows a leak or a panic, with its run, and those before it that
+/// weren't decided; or that nothing does. The only error is that memory ran out.
+pub fn explain_unasked(
+    alloc: Global,
+    command: &Command,
+    script: &Script,
+    lines: &ScriptLines<'_>,
+) -> Result<String, NoMemory>
+    requires { IsTrue (is_script script.now) }
+{
+    let mut said = String::new(alloc);
+    let (mut asked, mut all_fine) = (false, true);
+    for question in QUESTIONS {
+        if !is_open(command, question) {
+            continue;
+        }
+        asked = true;
+        let options = options_for(command, question);
+        let verdict = ask(alloc, command, script, question);
+        if let Some(shown) = verdict.shown() {
+            let found = unasked_found(alloc, lines, shown, options)?;
+            said.push_str(found.as_str())?;
+            let run = explain_verdict(alloc, command, script, lines, &verdict)?;
+            said.push_str(run.as_str())?;
+            return Ok(said);
+        }
+        if let Verdict::Undecided = verdict {
+            all_fine = false;
+            let open = undecided(alloc, lines, question, options)?;
+            said.push_str(open.as_str())?;
+        }
+    }
+    if asked && all_fine {
+        let nothing = nothing_else(alloc, lines)?;
+        said.push_str(nothing.as_str())?;
+    }
+    Ok(said)
+}
+
+/// The options of the command that asks a question, beside the command's own name.
+fn options_for(command: &Command, question: Question) -> ShellOptions {
+    let moving = command.shape.moving || question == Question::Sets;
+    ShellOptions {
+        budget: budget_of(command),
+        shape: Shape {
+            moving,
+            ..command.shape
+        },
+    }
+}
+
+/// The run that a verdict is about; nothing if it shows nothing.
+fn explain_verdict(
+    alloc: Global,
+    command: &Command,
+    script: &Script,
+    lines: &ScriptLines<'_>,
+    verdict: &Verdict,
+) -> Result<String, NoMemory>
+    requires { IsTrue (is_script script.now) }
+{
+    let (rule, question) = match verdict {
+        Verdict::Fine | Verdict::Undecided => return Ok(String::new(alloc)),
+        Verdict::From(first, _) => (Rule::From(*first), Question::Persistent),
+        Verdict::Length(_, length) => (Rule::Limit(*length), Question::Lengths),
+        Verdict::Set(numbers, _) => (rule_of_set(numbers)?, Question::Sets),
+    };
+    let parameters = RunParameters {
+        shape: options_for(command, question).shape,
+        ..parameters_of(command, rule)
+    };
+    match watch_run(alloc, script, parameters, Keep::Named)? {
+        Some(run) => explain_run(alloc, command, lines, &run),
+        None => Ok(String::new(alloc)),
+    }
+}
+
+/// The rule by which the attempts of a set fail; of one or none it is that of its number.
+fn rule_of_set(numbers: &Numbers) -> Result<Rule, NoMemory> {
+    Ok(match numbers.as_slice() {
+        [] => Rule::Number(0),
+        [number] => Rule::Number(*number),
+        _ => Rule::Set(numbers.try_copy()?),
+    })
+}

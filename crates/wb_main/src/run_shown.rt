@@ -1,0 +1,34 @@
+//! What is said of a run that leaks or panics: what it found, and the command that shows it step by step.
+
+use std::alloc::Global;
+use wb_explain::runs::{ShellFile, ShellOptions, run_found, steps_shown};
+use wb_history::{RunParameters, ScriptLines, WatchedRun};
+use wb_model::memory::NoMemory;
+use wb_model::run_end::RunEnd;
+use workbench::{Command, FileName};
+
+/// Returns what a run found, and the command that shows it step by step, if it leaks or panics and isn't shown so anyway. The only
+/// error is that memory ran out.
+pub fn explain_run(
+    alloc: Global,
+    command: &Command,
+    lines: &ScriptLines<'_>,
+    run: &WatchedRun<'_>,
+) -> Result<String, NoMemory> {
+    let mut said = run_found(alloc, lines, run)?;
+    if RunEnd::of(&run.outcome).is_bad() && command.follow.is_none() {
+        let RunParameters {
+            rule,
+            budget,
+            shape,
+        } = &run.parameters;
+        let options = ShellOptions {
+            budget: *budget,
+            shape: *shape,
+        };
+        let file = ShellFile(command.file.as_ref().map(FileName::as_str));
+        let steps = steps_shown(alloc, lines, rule, options, file)?;
+        said.push_str(steps.as_str())?;
+    }
+    Ok(said)
+}

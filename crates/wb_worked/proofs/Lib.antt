@@ -1,0 +1,4 @@
+pub mod FineSets
+pub mod WorkedRuns
+pub mod WorkedOrder
+pub mod WorkedSweeps

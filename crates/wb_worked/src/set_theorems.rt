@@ -1,0 +1,69 @@
+//! What runs under sets, the order of sets and sweeps over sets come to, of two small scripts. Each theorem is stated in `specs`,
+//! with a line that says what it shows. The functions do nothing: their contracts gather the theorems, so that the gate proves them.
+
+ghost use Rattle.wb_worked.specs.WorkedOrder.{EmptyFirst, FirstOfThree, FirstOfTwo};
+ghost use Rattle.wb_worked.specs.WorkedOrder.{NoNumberTells, NotBeforeItself, OneBeforeTwo};
+ghost use Rattle.wb_worked.specs.WorkedOrder.{OneNumber, SecondOfThree, SecondOfTwo};
+ghost use Rattle.wb_worked.specs.WorkedOrder.{ThirdOfThree, TwoBeforeThree};
+ghost use Rattle.wb_worked.specs.WorkedRuns.{FirstFails, LimitIsSet, NoneFails, NumbersAscend};
+ghost use Rattle.wb_worked.specs.WorkedRuns.{OneFails, OneIsNumber, PersistentIsSet, ThreeFail};
+ghost use Rattle.wb_worked.specs.WorkedRuns.{TwoArePair, TwoFail, UnmadeAfterAnother, UnmadeAlone};
+ghost use Rattle.wb_worked.specs.WorkedSweeps.{FoundAtThree, FoundAtTwo, FoundFromThree};
+ghost use Rattle.wb_worked.specs.WorkedSweeps.{LargerIsFine, LesserIsFine, NoneBelow, NonePast};
+ghost use Rattle.wb_worked.specs.WorkedSweeps.{NoPairAtThree, NoPairAtTwo, ShorterIsLess};
+ghost use Rattle.wb_worked.specs.WorkedSweeps.{ThreeAreMade, ThreeIsLeast, ThreeShowIt};
+ghost use Rattle.wb_worked.specs.WorkedSweeps.{TwoShowNothing, WholeFindsShorter};
+
+/// Under a set, those of its attempts fail that the run makes, and no others.
+pub fn a_set_makes_its_attempts_fail()
+    ensures none { NoneFails }
+    ensures one { OneFails }
+    ensures two { TwoFail }
+    ensures three { ThreeFail }
+    ensures first { FirstFails }
+    ensures unmade { UnmadeAlone }
+    ensures unmade_after { UnmadeAfterAnother }
+    ensures as_number { OneIsNumber }
+    ensures as_pair { TwoArePair }
+    ensures persistent { PersistentIsSet }
+    ensures limited { LimitIsSet }
+    ensures ascend { NumbersAscend }
+{}
+
+/// Shorter sets come before longer ones, and of two that are as long the one with the lesser number where they first differ.
+pub fn sets_are_in_order()
+    ensures empty { EmptyFirst }
+    ensures one { OneNumber }
+    ensures first_of_two { FirstOfTwo }
+    ensures second_of_two { SecondOfTwo }
+    ensures first_of_three { FirstOfThree }
+    ensures second_of_three { SecondOfThree }
+    ensures third_of_three { ThirdOfThree }
+    ensures one_before_two { OneBeforeTwo }
+    ensures two_before_three { TwoBeforeThree }
+    ensures itself { NotBeforeItself }
+    ensures no_number { NoNumberTells }
+{}
+
+/// Three failures show what fewer don't, and only those three: lesser sets are fine, and a larger one may be.
+pub fn three_failures_show_what_two_do_not()
+    ensures least { ThreeIsLeast }
+    ensures made { ThreeAreMade }
+    ensures lesser { LesserIsFine }
+    ensures larger { LargerIsFine }
+    ensures none_to_two { TwoShowNothing }
+    ensures not_to_three { ThreeShowIt }
+{}
+
+/// A part finds the least set whose least number is the part's, and the lesser of what two parts find is what both together find.
+pub fn parts_find_their_sets()
+    ensures none_below { NoneBelow }
+    ensures at_three { FoundAtThree }
+    ensures no_pair_at_three { NoPairAtThree }
+    ensures none_past { NonePast }
+    ensures at_two { FoundAtTwo }
+    ensures no_pair_at_two { NoPairAtTwo }
+    ensures from_three { FoundFromThree }
+    ensures shorter { ShorterIsLess }
+    ensures whole { WholeFindsShorter }
+{}
