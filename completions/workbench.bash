@@ -1,4 +1,4 @@
-# What bash completes of the words of workbench. Made by `./tools/dev help-files` from the program's own help.
+# What bash completes of the words of workbench. `./tools/dev help-files` compares it with the program's own help.
 
 # completes files that fit a pattern, and folders
 _workbench_files()
@@ -23,8 +23,8 @@ _workbench()
     fi
     case ${COMP_WORDS[1]} in
         run)
-            options='--limit --fail --also --every --set --follow --follow-steps --budget --min --step --moving --json --picture --help'
-            values='--limit --fail --also --every --set --follow-steps --budget --min --step --picture'
+            options='--limit --fail --also --every --fail-from --set --follow --follow-steps --budget --min --step --moving --json --picture --help'
+            values='--limit --fail --also --every --fail-from --set --follow-steps --budget --min --step --picture'
             ;;
         size)
             options='--budget --min --step --moving --json --picture --help'
@@ -35,11 +35,11 @@ _workbench()
             values='--budget --min --step --picture'
             ;;
         sweep)
-            options='--every --pairs --all --failures --sets --states --from --to --budget --min --step --moving --json --picture --help'
+            options='--every --persistent --pairs --all --ends --failures --sets --states --from --to --budget --min --step --moving --json --picture --help'
             values='--failures --states --from --to --budget --min --step --picture'
             ;;
         check)
-            options='--every --pairs --all --failures --sets --states --budget --min --step --moving --json --picture --help'
+            options='--every --persistent --pairs --all --ends --failures --sets --states --budget --min --step --moving --json --picture --help'
             values='--failures --states --budget --min --step --picture'
             ;;
         help)

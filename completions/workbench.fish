@@ -1,4 +1,4 @@
-# What fish completes of the words of workbench. Made by `./tools/dev help-files` from the program's own help.
+# What fish completes of the words of workbench. `./tools/dev help-files` compares it with the program's own help.
 complete -c workbench -f
 complete -c workbench -n '__fish_use_subcommand' -s h -l help -d 'Print help (see a summary with \'-h\')'
 complete -c workbench -n '__fish_use_subcommand' -s V -l version -d 'Print version'
@@ -14,6 +14,7 @@ complete -c workbench -n '__fish_seen_subcommand_from run' -l limit -x -d 'Limit
 complete -c workbench -n '__fish_seen_subcommand_from run' -l fail -x -d 'Makes attempt N fail, from 0 to 16777216; there is no attempt 0'
 complete -c workbench -n '__fish_seen_subcommand_from run' -l also -x -d 'Makes attempt J fail too, after that of --fail; J from 2 to 16777216'
 complete -c workbench -n '__fish_seen_subcommand_from run' -l every -x -d 'Makes every N-th attempt fail, N from 0 to 16777216; with 0 none fails'
+complete -c workbench -n '__fish_seen_subcommand_from run' -l fail-from -x -d 'Makes attempt N and all later ones fail, N from 0 to 16777216; with 0 none fails'
 complete -c workbench -n '__fish_seen_subcommand_from run' -l set -x -d 'Makes the attempts of LIST fail: 1 to 256 ascending numbers from 1 to 16777216, as in 2,3,5'
 complete -c workbench -n '__fish_seen_subcommand_from run' -l follow -d 'Writes each step of the run to standard error, with what it does'
 complete -c workbench -n '__fish_seen_subcommand_from run' -l follow-steps -x -d 'With --follow: writes the first N steps and the last N, N from 1 to 1000000 [default: 1000]'
@@ -39,8 +40,10 @@ complete -c workbench -n '__fish_seen_subcommand_from lengths' -l json -d 'Write
 complete -c workbench -n '__fish_seen_subcommand_from lengths' -l picture -r -k -a '(__fish_complete_suffix .svg)' -d 'Also writes a picture of the heap over time to FILE, as SVG'
 complete -c workbench -n '__fish_seen_subcommand_from lengths' -s h -l help -d 'Print help (see a summary with \'-h\')'
 complete -c workbench -n '__fish_seen_subcommand_from sweep' -l every -d 'Makes every n-th attempt fail, and finds the least n for which the script leaks or panics'
+complete -c workbench -n '__fish_seen_subcommand_from sweep' -l persistent -d 'Makes all attempts fail from one on, and finds the first for which the script leaks or panics'
 complete -c workbench -n '__fish_seen_subcommand_from sweep' -l pairs -d 'If no single failure leaks or panics, makes two attempts fail, and finds the least pair that does'
 complete -c workbench -n '__fish_seen_subcommand_from sweep' -l all -d 'Tells of every number whose run leaks, panics or is cut, and not of the least alone'
+complete -c workbench -n '__fish_seen_subcommand_from sweep' -l ends -d 'Tells of every number how its run ends, also where it is fine'
 complete -c workbench -n '__fish_seen_subcommand_from sweep' -l failures -x -d 'If no single failure leaks or panics, makes two attempts fail, then three, up to K, from 1 to 8, and finds the least set that does'
 complete -c workbench -n '__fish_seen_subcommand_from sweep' -l sets -d 'If no single failure leaks or panics, makes any number of attempts fail, and finds the least set that does'
 complete -c workbench -n '__fish_seen_subcommand_from sweep' -l states -x -d 'With --sets: most states that may be met, N from 1 to 10000000 [default: 100000]'
@@ -54,8 +57,10 @@ complete -c workbench -n '__fish_seen_subcommand_from sweep' -l json -d 'Writes 
 complete -c workbench -n '__fish_seen_subcommand_from sweep' -l picture -r -k -a '(__fish_complete_suffix .svg)' -d 'Also writes a picture of the heap over time to FILE, as SVG'
 complete -c workbench -n '__fish_seen_subcommand_from sweep' -s h -l help -d 'Print help (see a summary with \'-h\')'
 complete -c workbench -n '__fish_seen_subcommand_from check' -l every -d 'Makes every n-th attempt fail, and finds the least n for which the script leaks or panics'
+complete -c workbench -n '__fish_seen_subcommand_from check' -l persistent -d 'Makes all attempts fail from one on, and finds the first for which the script leaks or panics'
 complete -c workbench -n '__fish_seen_subcommand_from check' -l pairs -d 'If no single failure leaks or panics, makes two attempts fail, and finds the least pair that does'
 complete -c workbench -n '__fish_seen_subcommand_from check' -l all -d 'Tells of every number whose run leaks, panics or is cut, and not of the least alone'
+complete -c workbench -n '__fish_seen_subcommand_from check' -l ends -d 'Tells of every number how its run ends, also where it is fine'
 complete -c workbench -n '__fish_seen_subcommand_from check' -l failures -x -d 'If no single failure leaks or panics, makes two attempts fail, then three, up to K, from 1 to 8, and finds the least set that does'
 complete -c workbench -n '__fish_seen_subcommand_from check' -l sets -d 'If no single failure leaks or panics, makes any number of attempts fail, and finds the least set that does'
 complete -c workbench -n '__fish_seen_subcommand_from check' -l states -x -d 'With --sets: most states that may be met, N from 1 to 10000000 [default: 100000]'

@@ -11,60 +11,55 @@ import subprocess
 import tempfile
 import threading
 import time
-from collections.abc import Callable
+from collections.abc import Iterator
 from pathlib import Path
-from typing import Any
+from typing import Any, NamedTuple
 
-from tools.program import COMMAND_LINE_FAULT, FOUND, READ_OR_WRITE_FAULT, REFUSED, Answer, NoAnswer, Word, answer_of, program_parser
+from tools.program import COMMAND_LINE_FAULT, FOUND, READ_OR_WRITE_FAULT, REFUSED, NoAnswer, Word, answer_of, program_parser
 from tools.tally import Tally
 
 SCRIPT = b"proc main\nptr a\nalloc a 16\nend\n"
 ATTEMPTS = b"attempt 1 length 144 place 0 granted\nattempt 2 length 32 place 144 granted\n"
 REPORT = ATTEMPTS + b"ended\nleaks 1\nleak 2 length 32 place 144\nsteps 1\n"
-# the lengths, and then the same run
-LENGTHS = b"from 0 nocleanup\nfrom 144 ended\nfrom 176 leaks 1\nlength 176\n" + REPORT
-READ_FAULT = b"read fault\n", READ_OR_WRITE_FAULT
-UNWRITTEN = b"", READ_OR_WRITE_FAULT
-NO_COMMAND = b"", COMMAND_LINE_FAULT
-# how long a run may take, in seconds
-LIMIT = 5
-
 # what is looked at of an answer: one of its streams, nothing where that isn't read, and the status
 Told = tuple[bytes, int]
 
+FOUND_RUN, NOTHING = (REPORT, FOUND), (b"refused 8\n", REFUSED)
+# the lengths, and then the same run
+FOUND_LENGTH = b"from 0 nocleanup\nfrom 144 ended\nfrom 176 leaks 1\nlength 176\n" + REPORT, FOUND
+READ_FAULT, UNWRITTEN = (b"read fault\n", READ_OR_WRITE_FAULT), (b"", READ_OR_WRITE_FAULT)
+NO_COMMAND, EARLY = (b"", COMMAND_LINE_FAULT), (b"refused 3 line 3\n", REFUSED)
+# how long a run may take, in seconds
+LIMIT = 5
 
-class Runs:
-    """Runs of a program, in a folder of their own."""
+# scripts that come through a pipe in pieces
+PIPES: list[tuple[str, Told, str, list[bytes]]] = [
+    ("a pipe that comes in pieces", FOUND_RUN, "run", [SCRIPT[:3], SCRIPT[3:20], SCRIPT[20:]]),
+    ("a pipe that ends early", EARLY, "run", [SCRIPT[:3], SCRIPT[3:18]]),
+    ("lengths of a pipe that comes in pieces", FOUND_LENGTH, "lengths", [SCRIPT[:3], SCRIPT[3:]]),
+    ("lengths of a pipe that ends early", EARLY, "lengths", [SCRIPT[:18]]),
+]
+# words that are broken
+WORDS: list[tuple[str, Told, list[Word]]] = [
+    ("no such file", READ_FAULT, ["run", "/none/at/all"]),
+    ("an empty name", READ_FAULT, ["run", ""]),
+    ("a name of 60,000 bytes", READ_FAULT, ["run", "x" * 60_000]),
+    ("100,000 words", NO_COMMAND, ["run"] * 100_001),
+    ("an option 50,000 times", NO_COMMAND, ["run", *["--budget", "5"] * 50_000]),
+    ("a word that is no UTF-8", NO_COMMAND, ["run", b"\xff"]),
+    ("an option that is no UTF-8", NO_COMMAND, ["run", b"--budget=\xff"]),
+    ("an option of another command 50,000 times", NO_COMMAND, ["lengths", *["--limit", "5"] * 50_000]),
+]
 
-    def __init__(self, program: Path, room: Path) -> None:
-        self.program, self.room, self.tally = program, room, Tally()
 
-    def answer(self, *words: Word, **streams: Any) -> Answer:
-        """What a run with these words and streams answers."""
-        return answer_of(self.program, *words, script=SCRIPT, seconds=LIMIT, **streams)
+class Trial(NamedTuple):
+    """A run, and what it must come to: on standard output, or on standard error where that is asked for."""
 
-    def run(self, *words: Word, **streams: Any) -> Told:
-        """What a run writes to standard output, and its status."""
-        answer = self.answer(*words, **streams)
-        return answer.output, answer.status
-
-    def messages(self, *words: Word, output: str) -> Told:
-        """What a run says on standard error, and its status, where its output goes to a file."""
-        with open(output, "wb") as given:
-            answer = self.answer(*words, stdout=given)
-        return answer.messages, answer.status
-
-    def file(self, name: str) -> str:
-        """The path of a file in the room."""
-        return str(self.room / name)
-
-    def check(self, what: str, wanted: Told, run: Callable[[], Told]) -> None:
-        """Counts whether a run answers as it must."""
-        try:
-            told: Told | NoAnswer = run()
-        except NoAnswer as late:
-            told = late
-        self.tally.check(told == wanted, f"{what}: wanted {wanted}, got {told}")
+    what: str
+    wanted: Told
+    words: list[Word]
+    streams: dict[str, Any]
+    of_messages: bool = False
 
 
 def fed(path: str | int, pieces: list[bytes]) -> threading.Thread:
@@ -81,100 +76,65 @@ def fed(path: str | int, pieces: list[bytes]) -> threading.Thread:
     return writer
 
 
-def from_pipe(runs: Runs, pieces: list[bytes], command: str = "run") -> Told:
-    """What a script that comes in pieces is answered with."""
-    reader, writer = os.pipe()
-    thread = fed(writer, pieces)
-    with open(reader, "rb") as given:
-        answer = runs.run(command, stdin=given)
-    thread.join()
-    return answer
+def inputs(room: Path) -> Iterator[Trial]:
+    """Input that is broken."""
+    big, fifo, directory = room / "big", room / "fifo", os.open(room, os.O_RDONLY)
+    with big.open("wb") as file:
+        file.truncate(4 << 30)
+    for command, name in (("run", ""), ("lengths", "lengths of ")):
+        closed = {"stdin": None, "preexec_fn": lambda: os.close(0)}
+        yield Trial(f"{name}a directory", READ_FAULT, [command, room], {})
+        yield Trial(f"{name}closed standard input", READ_FAULT, [command], closed)
+        yield Trial(f"{name}nothing", NOTHING, [command], {"stdin": subprocess.DEVNULL})
+    yield Trial("a directory as standard input", READ_FAULT, ["run"], {"stdin": directory})
+    yield Trial("a file of 4 GiB", (b"refused 1\n", REFUSED), ["run", big], {})
+    for what, wanted, command, pieces in PIPES:
+        reader, end = os.pipe()
+        writer = fed(end, pieces)
+        with open(reader, "rb") as given:
+            yield Trial(what, wanted, [command], {"stdin": given})
+        writer.join()
+    os.mkfifo(fifo)
+    writer = fed(str(fifo), [SCRIPT])
+    yield Trial("a FIFO", FOUND_RUN, ["run", fifo], {})
+    writer.join()
+    yield from (Trial(what, wanted, words, {}) for what, wanted, words in WORDS)
 
 
-def from_fifo(runs: Runs) -> Told:
-    """What the script is answered with where it is read from a FIFO."""
-    os.mkfifo(runs.file("fifo"))
-    thread = fed(runs.file("fifo"), [SCRIPT])
-    answer = runs.run("run", runs.file("fifo"))
-    thread.join()
-    return answer
-
-
-def to_nobody(runs: Runs, *words: str, restore: bool) -> Told:
-    """What comes of a report that goes to a pipe without a reader, with SIGPIPE as it is by default or ignored."""
+def outputs() -> Iterator[Trial]:
+    """Output that is broken, of two reports, each in both forms; with SIGPIPE as it is by default, or ignored."""
     reader, writer = os.pipe()
     os.close(reader)
-    with open(writer, "wb") as output:
-        return runs.run(*words, stdout=output, restore_signals=restore)
+    with open("/dev/full", "wb") as full, open(writer, "wb") as unread:
+        for words in (["run"], ["run", "--json"], ["lengths"], ["lengths", "--json"]):
+            yield Trial(f"closed standard output {words}", UNWRITTEN, [*words], {"stdout": None, "preexec_fn": lambda: os.close(1)})
+            yield Trial(f"a full device {words}", UNWRITTEN, [*words], {"stdout": full})
+            for restore in (True, False):
+                streams = {"stdout": unread, "restore_signals": restore}
+                yield Trial(f"a pipe without a reader {words}, with SIGPIPE {restore}", UNWRITTEN, [*words], streams)
 
 
-def to_full_device(runs: Runs, *words: str) -> Told:
-    """What comes of a report for which there is no room."""
-    with open("/dev/full", "wb") as output:
-        return runs.run(*words, stdout=output)
-
-
-def inputs(runs: Runs) -> None:
-    """Input that is broken."""
-    with open(runs.file("big"), "wb") as big:
-        big.truncate(4 << 30)
-    runs.check("a directory", READ_FAULT, lambda: runs.run("run", str(runs.room)))
-    directory = os.open(runs.room, os.O_RDONLY)
-    runs.check("a directory as standard input", READ_FAULT, lambda: runs.run("run", stdin=directory))
-    runs.check("closed standard input", READ_FAULT, lambda: runs.run("run", preexec_fn=lambda: os.close(0)))
-    runs.check("nothing", (b"refused 8\n", REFUSED), lambda: runs.run("run", stdin=subprocess.DEVNULL))
-    runs.check("a pipe that comes in pieces", (REPORT, FOUND), lambda: from_pipe(runs, [SCRIPT[:3], SCRIPT[3:20], SCRIPT[20:]]))
-    runs.check("a pipe that ends early", (b"refused 3 line 3\n", REFUSED), lambda: from_pipe(runs, [SCRIPT[:3], SCRIPT[3:18]]))
-    runs.check("lengths of a pipe that comes in pieces", (LENGTHS, FOUND), lambda: from_pipe(runs, [SCRIPT[:3], SCRIPT[3:]], "lengths"))
-    runs.check("lengths of a pipe that ends early", (b"refused 3 line 3\n", REFUSED), lambda: from_pipe(runs, [SCRIPT[:18]], "lengths"))
-    runs.check("lengths of a directory", READ_FAULT, lambda: runs.run("lengths", str(runs.room)))
-    runs.check("lengths of closed standard input", READ_FAULT, lambda: runs.run("lengths", preexec_fn=lambda: os.close(0)))
-    runs.check("lengths of nothing", (b"refused 8\n", REFUSED), lambda: runs.run("lengths", stdin=subprocess.DEVNULL))
-    runs.check("a FIFO", (REPORT, FOUND), lambda: from_fifo(runs))
-    runs.check("a file of 4 GiB", (b"refused 1\n", REFUSED), lambda: runs.run("run", runs.file("big")))
-    runs.check("no such file", READ_FAULT, lambda: runs.run("run", runs.file("none")))
-    runs.check("an empty name", READ_FAULT, lambda: runs.run("run", ""))
-    runs.check("a name of 60,000 bytes", READ_FAULT, lambda: runs.run("run", "x" * 60_000))
-
-
-def outputs(runs: Runs) -> None:
-    """Output that is broken, of two reports, each in both forms."""
-    for words in (("run",), ("run", "--json"), ("lengths",), ("lengths", "--json")):
-        closed = {"stdout": None, "preexec_fn": lambda: os.close(1)}
-        runs.check(f"closed standard output {words}", UNWRITTEN, lambda: runs.run(*words, **closed))
-        runs.check(f"a full device {words}", UNWRITTEN, lambda: to_full_device(runs, *words))
-        runs.check(f"a pipe without a reader {words}", UNWRITTEN, lambda: to_nobody(runs, *words, restore=True))
-        runs.check(f"the same with SIGPIPE ignored {words}", UNWRITTEN, lambda: to_nobody(runs, *words, restore=False))
-
-
-def faults(runs: Runs) -> None:
+def faults(missing: Path) -> Iterator[Trial]:
     """Which fault is named: the first of what was read and written."""
-    missing, full = runs.file("none"), "/dev/full"
-    of_missing = f"workbench: {missing}: no such file\n".encode()
-    of_full = b"workbench: standard output: no space is left on the device\n"
-    runs.check("no such file, named", (of_missing, READ_OR_WRITE_FAULT), lambda: runs.messages("run", missing, output=os.devnull))
-    runs.check("a full device, named", (of_full, READ_OR_WRITE_FAULT), lambda: runs.messages("run", output=full))
-    for json in ((), ("--json",)):
-        both = f"no such file and a full device {json}"
-        runs.check(both, (of_missing, READ_OR_WRITE_FAULT), lambda: runs.messages("run", *json, missing, output=full))
-
-
-def command_words(runs: Runs) -> None:
-    """Words that are broken."""
-    runs.check("100,000 words", NO_COMMAND, lambda: runs.run(*["run"] * 100_000))
-    runs.check("an option 50,000 times", NO_COMMAND, lambda: runs.run("run", *["--budget", "5"] * 50_000))
-    runs.check("a word that is no UTF-8", NO_COMMAND, lambda: runs.run("run", b"\xff"))
-    runs.check("an option that is no UTF-8", NO_COMMAND, lambda: runs.run("run", b"--budget=\xff"))
-    runs.check("an option of another command 50,000 times", NO_COMMAND, lambda: runs.run("lengths", *["--limit", "5"] * 50_000))
+    of_missing = f"workbench: {missing}: no such file\n".encode(), READ_OR_WRITE_FAULT
+    of_full = b"workbench: standard output: no space is left on the device\n", READ_OR_WRITE_FAULT
+    with open("/dev/full", "wb") as full:
+        yield Trial("no such file, named", of_missing, ["run", missing], {"stdout": subprocess.DEVNULL}, True)
+        yield Trial("a full device, named", of_full, ["run"], {"stdout": full}, True)
+        yield Trial("no such file and a full device", of_missing, ["run", missing], {"stdout": full}, True)
+        yield Trial("the same as JSON", of_missing, ["run", "--json", missing], {"stdout": full}, True)
 
 
 def main(words: list[str]) -> int:
     """Makes the runs, and prints the totals."""
-    program = program_parser(__doc__).parse_args(words).program
+    program, tally = program_parser(__doc__).parse_args(words).program, Tally()
     with tempfile.TemporaryDirectory() as folder:
-        runs = Runs(program, Path(folder))
-        inputs(runs)
-        outputs(runs)
-        faults(runs)
-        command_words(runs)
-    return runs.tally.end()
+        for trials in (inputs(Path(folder)), outputs(), faults(Path(folder, "none"))):
+            for it in trials:
+                try:
+                    answer = answer_of(program, *it.words, script=SCRIPT, seconds=LIMIT, **it.streams)
+                    told: object = (answer.messages if it.of_messages else answer.output, answer.status)
+                except NoAnswer as late:
+                    told = late
+                tally.check(told == it.wanted, f"{it.what}: wanted {it.wanted}, got {told}")
+    return tally.end()

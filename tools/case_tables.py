@@ -7,15 +7,14 @@ import re
 from pathlib import Path
 from typing import NamedTuple
 
-from tools.case_file import CaseError
-from tools.program import CUT, FINE, FOUND, REFUSED
+from tools.case_texts import CaseError, meaning
+from tools.program import CUT, FINE, FOUND, REFUSED, Answer
 
-SUFFIX = ".table"
-# what a table says of the rows behind it, and what holds where it doesn't say it
+# what a table says of the rows below it, and what holds where it doesn't say it
 SETTINGS = {"words": "run", "rows": "scripts", "before": "", "behind": "", "script": "", "byte": "", "messages": "", "answer": ""}
+FORMS = {"rows": "scripts|words|cuts|bytes", "answer": r"accepted|refused \d+( line \d+)?|\d+( .+)?"}
 ROW = "    "
-ESCAPES = {"n": "\n", "t": "\t", "r": "\r", "\\": "\\", "e": ""}
-ACCEPTED = (FINE, FOUND, CUT)
+SPAN = re.compile(r"(\d+)(?:\.\.(\d+))?")
 
 
 class Row(NamedTuple):
@@ -28,64 +27,42 @@ class Row(NamedTuple):
     messages: str
 
 
-def unescaped(text: str, place: str) -> str:
-    """The text that escapes of a table stand for."""
-
-    def meant(escape: re.Match[str]) -> str:
-        code = escape[1]
-        if code[:1] == "x" and len(code) == 3:
-            return chr(int(code[1:], 16))
-        if code not in ESCAPES:
-            raise CaseError(f"{place}: \\{code} is no escape")
-        return ESCAPES[code]
-
-    return re.sub(r"\\(x[0-9a-f]{2}|.?)", meant, text)
-
-
-def row_of(place: str, text: str, told: dict[str, str]) -> Row:
-    """The row that a line of a table gives, under the settings above it."""
+def given_by(text: str, told: dict[str, str]) -> dict[str, tuple[list[str], bytes]]:
+    """The words and scripts that a row gives, by their places in it, under the settings above it."""
+    words, span = told["words"].split(), SPAN.fullmatch(text)
     if not told["answer"]:
-        raise CaseError(f"{place}: a row without an answer")
+        raise CaseError("a row without an answer")
     if not text.strip():
-        raise CaseError(f"{place}: a row of blanks; an empty one is \\e")
-    words, script = told["words"].split(), ""
+        raise CaseError("a row of blanks; an empty one is \\e")
     if told["rows"] == "words":
-        words += unescaped(text, place).split()
-    else:
-        script = unescaped(told["before"] + text + told["behind"], place)
-    return Row(place, words, script.encode("latin-1"), told["answer"], told["messages"])
-
-
-def rows_in_range(place: str, text: str, told: dict[str, str]) -> list[Row]:
-    """The rows that a range gives: the settings' script cut after so many bytes, or with another byte at an offset."""
-    span = re.fullmatch(r"(\d+)(?:\.\.(\d+))?", text)
+        return {"": ([*words, *meaning(text).decode("latin-1").split()], b"")}
+    if told["rows"] == "scripts":
+        return {"": (words, meaning(told["before"] + text + told["behind"]))}
     if not span:
-        raise CaseError(f"{place}: neither a number nor a range")
-    script, byte = (unescaped(told[it], place).encode("latin-1") for it in ("script", "byte"))
+        raise CaseError("neither a number nor a range")
+    script, byte, is_cut = meaning(told["script"]), meaning(told["byte"]), told["rows"] == "cuts"
     places = range(int(span[1]), int(span[2] or span[1]) + 1)
-    is_cut = told["rows"] == "cuts"
     if not places or places[-1] >= len(script) + is_cut or len(byte) == is_cut:
-        raise CaseError(f"{place}: the script has no such place, or there is not one byte for it")
-    changed = {at: script[:at] + (b"" if is_cut else byte + script[at + 1 :]) for at in places}
-    return [Row(f"{place} at {at}", told["words"].split(), text, told["answer"], told["messages"]) for at, text in changed.items()]
+        raise CaseError("the script has no such place, or there is not one byte for it")
+    return {f" at {at}": (words, script[:at] + (b"" if is_cut else byte + script[at + 1 :])) for at in places}
 
 
-def rows_of(table: Path) -> list[Row]:
-    """The rows of a table."""
-    told, rows, unused = dict(SETTINGS), [], str(table)
-    for number, line in enumerate(table.read_text(encoding="ascii").splitlines(), 1):
-        place = f"{table}:{number}"
-        key, mark, text = line.partition(":")
-        text = text.removeprefix(" ")
+def rows_of(table: list[str], file: Path, first: int) -> list[Row]:
+    """The rows of a table, whose lines stand in a file from that line on."""
+    told, rows, unused = dict(SETTINGS), list[Row](), f"{file}:{first}"
+    for number, line in enumerate(table, first):
+        place, (key, _, text) = f"{file}:{number}", line.partition(":")
         if line.startswith(ROW):
-            text, is_range = line.removeprefix(ROW), told["rows"] in ("cuts", "bytes")
-            one = row_of(place, text, told)
-            rows += rows_in_range(place, text, told) if is_range else [one]
+            try:
+                given = given_by(line.removeprefix(ROW), told)
+            except CaseError as error:
+                raise CaseError(f"{place}: {error}") from None
+            rows += [Row(place + at, words, script, told["answer"], told["messages"]) for at, (words, script) in given.items()]
             unused = ""
-        elif mark and is_setting(key, text):
+        elif key in SETTINGS and re.fullmatch(FORMS.get(key, ".*"), text.removeprefix(" ")) and ":" in line:
             if key == "answer" and unused and told["answer"]:
-                raise CaseError(f"{unused}: no row follows")
-            told[key] = text
+                break
+            told[key] = text.removeprefix(" ")
             unused = place if key == "answer" else unused
         elif line and not line.startswith("#"):
             raise CaseError(f"{place}: neither a setting nor a row")
@@ -94,16 +71,10 @@ def rows_of(table: Path) -> list[Row]:
     return rows
 
 
-def is_setting(key: str, text: str) -> bool:
-    """Whether a table may say this."""
-    forms = {"rows": "scripts|words|cuts|bytes", "answer": r"accepted|refused \d+( line \d+)?|\d+( .+)?"}
-    return key in SETTINGS and re.fullmatch(forms.get(key, ".*"), text) is not None
-
-
 def wanted_of(answer: str) -> tuple[tuple[int, ...], re.Pattern[bytes]]:
     """The exit statuses and the standard output that an answer allows."""
     if answer == "accepted":
-        return ACCEPTED, re.compile(rb"(?!refused )(?s:.*)")
+        return (FINE, FOUND, CUT), re.compile(rb"(?!refused )(?s:.*)")
     if answer.startswith("refused "):
         return (REFUSED,), re.compile(re.escape(answer).encode() + b"\n")
     status, _, text = answer.partition(" ")
@@ -111,13 +82,13 @@ def wanted_of(answer: str) -> tuple[tuple[int, ...], re.Pattern[bytes]]:
     return (int(status),), re.compile("".join(lines if text else []).encode())
 
 
-def row_fault(row: Row, status: int, output: bytes, messages: bytes) -> str | None:
+def row_fault(row: Row, answer: Answer) -> str | None:
     """What is wrong with an answer to a row, or None."""
     statuses, wanted = wanted_of(row.answer)
-    if status not in statuses:
-        return f"wanted status {' or '.join(map(str, statuses))}, got {status} and {output[:100]!r}"
-    if not wanted.fullmatch(output):
-        return f"wanted {row.answer!r}, got {output[-200:]!r}"
-    if row.messages and row.messages.encode() not in messages:
-        return f"wanted {row.messages!r} on standard error, got {messages[:200]!r}"
+    if answer.status not in statuses:
+        return f"wanted status {' or '.join(map(str, statuses))}, got {answer.status} and {answer.output[:100]!r}"
+    if not wanted.fullmatch(answer.output):
+        return f"wanted {row.answer!r}, got {answer.output[-200:]!r}"
+    if row.messages and row.messages.encode() not in answer.messages:
+        return f"wanted {row.messages!r} on standard error, got {answer.messages[:200]!r}"
     return None

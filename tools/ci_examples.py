@@ -104,14 +104,15 @@ def try_faults(tests: Tests, folder: Folder) -> None:
     words = ("scripts", "--baseline", "lengths.txt")
     folder.write("inner/small.oom", GROWN)
     told = folder.call(*words)
-    wanted = "scripts/inner/small.oom: required 1168, number none, length none, grown from 176"
+    wanted = "scripts/inner/small.oom: required 1168, set none, grown from 176"
     tests.expect("a length that has grown", told.lines[1], wanted)
     tests.expect("its status", told.status, FOUND)
     folder.take("second-phase-leaks.oom")
     told = folder.call(*words)
-    wanted = "scripts/second-phase-leaks.oom: required 256, number 3, length 192, not in the baseline"
+    wanted = "scripts/second-phase-leaks.oom: required 256, number 3, not in the baseline"
     tests.expect("a script that leaks", told.lines[3], wanted)
     tests.expect("its status", told.status, FOUND)
+    try_quickly(tests, folder)
     tests.expect("its explanation", "second-phase-leaks.oom:16: leak: " in told.explained, True)
     folder.write("retry.oom", REJECTED_SCRIPT)
     told = folder.call(*words)
@@ -119,13 +120,26 @@ def try_faults(tests: Tests, folder: Folder) -> None:
     tests.expect("its status", told.status, REJECTED)
     folder.write("long.oom", CUT_SCRIPT)
     told = folder.call(*words)
-    tests.expect("a script that is cut", told.lines[2], "scripts/long.oom: cut 0 budget, length none, not in the baseline")
+    tests.expect("a script that is cut", told.lines[2], "scripts/long.oom: cut 0 budget, not in the baseline")
     tests.expect("its status", told.status, CUT)
     (folder.room / "scripts/holes.oom").unlink()
     told = folder.call(*words, "--jobs", "1")
     tests.expect("a script that is missing", told.lines[0], "scripts/holes.oom: missing")
     tests.expect("its status", told.status, MISSING)
     tests.expect("all lines", len(told.lines), 5)
+
+
+def try_quickly(tests: Tests, folder: Folder) -> None:
+    """Whether single failures and lengths are asked for alone, which pass over a leak that two failures show."""
+    folder.take("album-leaks.oom")
+    told = folder.call("scripts", "--quick")
+    wanted = [
+        "scripts/album-leaks.oom: required 2224, number none, length none",
+        "scripts/second-phase-leaks.oom: required 256, number 3, length 192",
+    ]
+    tests.expect("what is found quickly", [told.lines[0], told.lines[-1]], wanted)
+    tests.expect("a leak that more failures show", folder.call("scripts").lines[0], "scripts/album-leaks.oom: required 2224, set 4,5,6,7,8,9,10,11,12,13")
+    (folder.room / "scripts" / "album-leaks.oom").unlink()
 
 
 def try_parts(tests: Tests, folder: Folder) -> None:

@@ -1,13 +1,15 @@
 """Lets allocations of the program itself fail, and looks at what it answers then.
 
-The program is asked to `check` a script; a case file (`cases/README.md`) has arguments of its own, and its script is given on standard
-input. Without a name these are the examples and some cases. For each number up to that of its last allocation the program runs three times:
-that one fails alone, with all later ones, and with all multiples of its number. Each of these runs must write the report that it writes
-with enough memory and end with its status, or write the line `no memory` and end with 4, or end with 4 before anything is read, where the
-command line itself finds no memory, and write nothing; nothing else may come of it. Standard error must have what it has with enough
-memory, or nothing, or that there is no memory for the command; or less: where no memory was left to find what raised a panic, the same
-panic of the same line with what holds of all such panics. Some of the runs that write `no memory` are made once more with a standard output
-that takes nothing, and must then end with 5.
+The program is asked to `check` a script; a case (`cases/README.md`), named as GROUP/NAME, has arguments of its own, and its script is
+given on standard input. Without a name these are the examples and some cases. For each number up to that of its last allocation the
+program runs three times: that one fails alone, with all later ones, and with all multiples of its number. Each of these runs must write
+the report that it writes with enough memory and end with its status, or write the line `no memory` and end with 4, or end with 4 before
+anything is read, where the command line itself finds no memory, and write nothing; nothing else may come of it. Standard error must have
+what it has with enough memory, or nothing, or that there is no memory for the command; or less: where no memory was left to find what
+raised a panic, the same panic of the same line with what holds of all such panics. Where `check` asks further questions and none was left
+for one, a line says that this isn't decided, and what is found by a later question may follow. Some of the runs that write `no memory`
+are made once more with a standard output that takes nothing, and must then end with 5. Where there are very many allocations, the first
+ones are tried, and of the others some from all over them.
 
 With `--same` the program is given no words and no input, and is one that makes a call once more where it found no memory: `wb_call_tests`,
 which `rt run` in its crate builds. So where a single allocation fails, it must write exactly what it writes with enough memory, and end
@@ -27,15 +29,15 @@ import tempfile
 from collections.abc import Iterator
 from concurrent.futures import ThreadPoolExecutor
 from functools import partial
-from itertools import accumulate, zip_longest
+from itertools import accumulate, takewhile, zip_longest
 from pathlib import Path
 from typing import Any
 
-from tools import case_file
 from tools.crates import RUN_MEMORY, processors
-from tools.paths import CASES, PROGRAM, ROOT, TOOLS, examples
+from tools.paths import PROGRAM, ROOT, TOOLS, examples
 from tools.program import READ_OR_WRITE_FAULT, WANT_OF_MEMORY, Answer, NoAnswer, answer_of, program_parser
 from tools.tally import Tally
+from tools.worked_cases import case_called
 
 SOURCE = TOOLS / "failing_allocation.c"
 # the cases that are tried beside the examples, if nothing else is named
@@ -74,6 +76,9 @@ WAYS = ("once", "from", "each")
 # which panic a line of an explanation is about, before it says what raised it
 PANIC = re.compile(rb".*:\d+: panic [A-Z]+ [0-9a-f]+: \w+: ")
 
+# what is said of a question that `check` asks unasked and doesn't decide
+UNDECIDED = re.compile(rb".*: .+ take more than is tried unasked; `workbench .+` tries them$")
+
 # what the program that makes calls once more writes of a rise of a run, before a turn that asks for an attempt, and after it
 RISE_OF_RUN = re.compile(r"rise (\d+) of the run to \d+")
 TURN_TO_COME = "an attempt is to come"
@@ -83,20 +88,25 @@ NO_RISE = re.compile(r"(?:re)?alloc .*, rise false, trace 0")
 # it makes at least so many that aren't
 FEWEST_WITHOUT_RISE = 180
 
+# how many allocations are tried from the first one on, and how many of those that follow
+FIRST, LATER = 1_500, 250
+
 NO_MEMORY = Answer(b"no memory\n", b"", WANT_OF_MEMORY)
 NO_MEMORY_FOR_THE_COMMAND = (Answer(b"", b"error: no memory\n", WANT_OF_MEMORY), Answer(b"", b"", WANT_OF_MEMORY))
 
 
 def says_less(answer: Answer, plain: Answer) -> bool:
-    """Whether an answer is the plain one, but that its messages leave out what raised a panic."""
+    """Whether an answer is the plain one, but that its messages leave out what raised a panic, or a question is left undecided."""
     lines = plain.messages.splitlines()
+    # what was asked and found behind a question that isn't decided is another one's
+    said = list(takewhile(lambda line: line in lines or not UNDECIDED.match(line), answer.messages.splitlines()))
     panics = {it[0] for it in map(PANIC.match, lines) if it}
 
     def is_fine(line: bytes) -> bool:
         panic = PANIC.match(line)
         return line in lines or line.startswith((b"note: ", b"help: ")) or bool(panic and panic[0] in panics)
 
-    return answer._replace(messages=b"") == plain._replace(messages=b"") and all(map(is_fine, answer.messages.splitlines()))
+    return answer._replace(messages=b"") == plain._replace(messages=b"") and all(map(is_fine, said))
 
 
 def stops_early(answer: Answer, plain: Answer) -> bool:
@@ -118,8 +128,9 @@ class Trial:
     def __init__(self, program: Path, script: Path, room: Path) -> None:
         self.program, self.library, self.count = program, room / "failing_allocation.so", room / f"{script.stem}.count"
         self.words, self.given = ["check", str(script.resolve())], b""
-        if script.suffix == case_file.SUFFIX:
-            case = case_file.read(script)
+        # what is no file is a case by its place
+        if not script.is_absolute() and not script.exists():
+            case = case_called(script.as_posix())
             self.words, self.given = case.args, case.script
 
     def world(self, how: str, fail_at: int) -> dict[str, str]:
@@ -137,9 +148,14 @@ class Trial:
             world["COUNT_TO"] = str(self.count)
         return self.answer(world)
 
-    def answers(self, how: str, last: int) -> Iterator[Answer]:
-        """What comes of the runs whose allocations with the numbers up to the last fail in this way, in their order."""
-        return map(partial(self.run, how), range(1, last + 1))
+    def numbers(self, last: int) -> list[int]:
+        """Which allocations are tried of so many."""
+        later = range(FIRST + 1, last + 1)
+        return [*range(1, min(FIRST, last) + 1), *later[:: max(1, len(later) // LATER)]]
+
+    def answers(self, how: str, numbers: list[int]) -> Iterator[Answer]:
+        """What comes of the runs whose allocations with these numbers fail in this way, in their order."""
+        return map(partial(self.run, how), numbers)
 
     def unwritten(self, how: str, fail_at: int) -> int:
         """The status of the same run where standard output takes nothing."""
@@ -178,7 +194,8 @@ class Trial:
         for how in WAYS:
             was_read = False
             wanted: list[int] = []
-            for number, answer in enumerate(self.answers(how, last), 1):
+            numbers = self.numbers(last)
+            for number, answer in zip(numbers, self.answers(how, numbers)):
                 was_read |= answer == NO_MEMORY
                 if self.wants(answer, plain):
                     wanted.append(number)
@@ -199,8 +216,11 @@ class SameTrial(Trial):
         super().__init__(program, program, room)
         self.words, self.pool = [], pool
 
-    def answers(self, how: str, last: int) -> Iterator[Answer]:
-        return self.pool.map(partial(self.run, how), range(1, last + 1))
+    def numbers(self, last: int) -> list[int]:
+        return list(range(1, last + 1))
+
+    def answers(self, how: str, numbers: list[int]) -> Iterator[Answer]:
+        return self.pool.map(partial(self.run, how), numbers)
 
     def asked_again(self, wanted: list[int]) -> set[int]:
         # it ends with 4 whether its last line is written or not
@@ -247,7 +267,7 @@ class SameTrial(Trial):
 
 def passes(trial: Trial, tried: Path) -> bool:
     """Whether allocations may fail, with what came of it."""
-    name = os.path.relpath(tried)
+    name = os.path.relpath(tried) if tried.exists() else str(tried)
     try:
         fault, last, wanting = trial.fault()
     except NoAnswer as late:
@@ -255,7 +275,7 @@ def passes(trial: Trial, tried: Path) -> bool:
     if fault:
         print(f"{name}: failed: {fault}", flush=True)
         return False
-    print(f"{name}: passed: {last} allocations, and {wanting} of {len(WAYS) * last} runs end in `no memory`", flush=True)
+    print(f"{name}: passed: {last} allocations, and {wanting} runs end in `no memory`", flush=True)
     # a program that makes none, or none that matters, shows nothing
     return wanting > 0
 
@@ -271,7 +291,7 @@ def main(words: list[str]) -> int:
     if not shutil.which("cc"):
         sys.exit("failing allocations can't be tried: there is no C compiler `cc` on the path")
     program = CALLS if given.same and given.program == PROGRAM else given.program
-    scripts, tally = given.scripts or [*examples(), *(CASES / f"{it}.case" for it in TRIED)], Tally()
+    scripts, tally = given.scripts or [*examples(), *map(Path, TRIED)], Tally()
     with tempfile.TemporaryDirectory() as folder, ThreadPoolExecutor(processors(RUN_MEMORY)) as pool:
         room = Path(folder)
         subprocess.run(["cc", "-O1", "-shared", "-fPIC", "-o", room / "failing_allocation.so", SOURCE, "-ldl"], check=True)

@@ -13,11 +13,11 @@ from concurrent.futures import ProcessPoolExecutor
 from functools import partial
 from pathlib import Path
 
-from tools import case_file
 from tools.crates import RUN_MEMORY, processors
-from tools.paths import CASES, examples
+from tools.paths import examples
 from tools.program import CUT, NoAnswer, answer_of, program_parser
 from tools.tally import Tally
+from tools.worked_cases import all_cases
 
 WORDS = re.compile(rb"[^ \n]+")
 NUMBER = re.compile(rb"(?<= )-?[0-9]+\b")
@@ -30,7 +30,7 @@ COMMANDS = ((["check", "--budget", "200"], 1), (["check", "--budget", "200", "--
 
 def seeds() -> list[bytes]:
     """The scripts of the cases and examples, but for the largest."""
-    scripts = [case_file.read(it).script for it in case_file.files_in([CASES])] + [it.read_bytes() for it in examples()]
+    scripts = [it.script for it in all_cases()] + [it.read_bytes() for it in examples()]
     return [text for text in scripts if 0 < len(text) <= 4000]
 
 

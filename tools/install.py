@@ -4,8 +4,7 @@ import os
 import shutil
 from pathlib import Path
 
-from tools.help_files import BASH, FISH, MAN_PAGE, ZSH
-from tools.help_table import NAME
+from tools.help_files import BASH, FISH, MAN_PAGE, NAME, ZSH
 from tools.paths import PROGRAM
 
 # where each file goes, below the prefix

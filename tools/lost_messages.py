@@ -1,4 +1,4 @@
-"""Runs worked cases while what the program says on standard error is lost.
+"""Runs worked cases that have standard error while that is lost.
 
 Standard error is closed, then a device without room, then a pipe that nobody reads. Standard output and status must be the same.
 """
@@ -8,12 +8,10 @@ from collections.abc import Iterator
 from pathlib import Path
 from typing import Any
 
-from tools import case_file
-from tools.case_file import CaseError
-from tools.paths import CASES
 from tools.program import NoAnswer, program_parser
 from tools.run_cases import answer_to, fault_of
 from tools.tally import Tally
+from tools.worked_cases import Case, cases_of
 
 
 def ways_to_lose() -> Iterator[tuple[str, dict[str, Any]]]:
@@ -27,25 +25,24 @@ def ways_to_lose() -> Iterator[tuple[str, dict[str, Any]]]:
     os.close(write_end)
 
 
-def fault_with(program: Path, file: Path, streams: dict[str, Any]) -> str | None:
+def fault_with(program: Path, case: Case, streams: dict[str, Any]) -> str | None:
     """What is wrong with the answer to a case where standard error is this stream, or None."""
     try:
-        case = case_file.read(file)
         return fault_of(case, answer_to(program, case.args, case.script, **streams), has_messages=False)
-    except (CaseError, NoAnswer) as error:
+    except NoAnswer as error:
         return str(error)
 
 
 def main(words: list[str]) -> int:
     """Runs each case in each way, names those that fail, and prints the totals."""
     parser = program_parser(__doc__)
-    parser.add_argument("cases", type=Path, nargs="*", metavar="CASES", default=[Path(os.path.relpath(CASES / "explained"))])
+    parser.add_argument("groups", nargs="*", metavar="GROUP", default=[""])
     given, tally = parser.parse_args(words), Tally()
-    cases, failed = case_file.files_in(given.cases), set()
+    cases, failed = [case for group in given.groups for case in cases_of(group) if case.stderr is not None], set()
     for way, streams in ways_to_lose():
         for case in cases:
             if (fault := fault_with(given.program, case, streams)) is not None:
-                print(f"{case}: standard error {way}: {fault}")
-                failed.add(case)
+                print(f"{case.place}: standard error {way}: {fault}")
+                failed.add(case.place)
     tally.add(len(cases) - len(failed), len(failed))
     return tally.end()

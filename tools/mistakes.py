@@ -13,11 +13,11 @@ from collections.abc import Callable, Iterator
 from pathlib import Path
 from typing import NamedTuple
 
-from tools import case_file
 from tools.language import words_of_roles
-from tools.paths import CASES, examples
+from tools.paths import examples
 from tools.program import REFUSED, Answer, answer_of, program_parser
 from tools.tally import Tally
+from tools.worked_cases import cases_of
 
 WANTED = 200
 LEAST = 180
@@ -42,22 +42,15 @@ def words_of(line: str) -> list[str]:
     return [] if line.lstrip().startswith("#") or '"' in line else line.split()
 
 
-def indented(line: str, words: list[str]) -> str:
-    """A line of these words that stands as far to the right as another."""
-    return line[: len(line) - len(line.lstrip())] + " ".join(words)
+def changed(lines: list[str], at: int, words: list[str], named: set[str] | None = None) -> Mistake:
+    """The script with other words in the place of those of a line, as far to the right."""
+    indent = lines[at][: len(lines[at]) - len(lines[at].lstrip())]
+    return Mistake([*lines[:at], indent + " ".join(words), *lines[at + 1 :]], {at + 1}, named or set())
 
 
-def changed(lines: list[str], at: int, line: str, words: set[str]) -> Mistake:
-    """The script with another line in the place of one."""
-    return Mistake([*lines[:at], line, *lines[at + 1 :]], {at + 1}, words)
-
-
-def with_word(lines: list[str], at: int, place: int, word: str) -> Mistake | None:
-    """The script with another word in the place of one."""
-    words = words_of(lines[at])
-    if not word or word == words[place]:
-        return None
-    return changed(lines, at, indented(lines[at], [*words[:place], word, *words[place + 1 :]]), {word})
+def without(lines: list[str], at: int, numbers: set[int], named: set[str] | None = None) -> Mistake:
+    """The script without a line."""
+    return Mistake(lines[:at] + lines[at + 1 :], {at + 1, *numbers}, named or set())
 
 
 def letter(edit: Callable[[str, int], str]) -> Maker:
@@ -65,10 +58,11 @@ def letter(edit: Callable[[str, int], str]) -> Maker:
 
     def make(lines: list[str], at: int, turn: int) -> Mistake | None:
         words = words_of(lines[at])
-        if not words or len(words[turn % len(words)]) < 3:
+        place = turn % len(words) if words else 0
+        if not words or len(words[place]) < 3:
             return None
-        place = turn % len(words)
-        return with_word(lines, at, place, edit(words[place], turn // 3 % (len(words[place]) - 1)))
+        word = edit(words[place], turn // 3 % (len(words[place]) - 1))
+        return changed(lines, at, [*words[:place], word, *words[place + 1 :]], {word}) if word not in ("", words[place]) else None
 
     return make
 
@@ -76,16 +70,14 @@ def letter(edit: Callable[[str, int], str]) -> Maker:
 def word_gone(lines: list[str], at: int, turn: int) -> Mistake | None:
     """Leaves out the last word of a line that has more than one."""
     words = words_of(lines[at])
-    return changed(lines, at, indented(lines[at], words[:-1]), set()) if len(words) > 1 else None
+    return changed(lines, at, words[:-1]) if len(words) > 1 else None
 
 
 def word_too_many(lines: list[str], at: int, turn: int) -> Mistake | None:
     """Writes one of a line's words twice."""
     words = words_of(lines[at])
-    if not words:
-        return None
-    place = turn % len(words)
-    return changed(lines, at, indented(lines[at], [*words[: place + 1], *words[place:]]), set())
+    place = turn % len(words) if words else 0
+    return changed(lines, at, [*words[: place + 1], *words[place:]]) if words else None
 
 
 def opens(words: list[str]) -> bool:
@@ -93,26 +85,17 @@ def opens(words: list[str]) -> bool:
     return bool(words) and (words[0] in OPENERS or words == ["construct"])
 
 
-def opener_of(lines: list[str], end: int) -> int | None:
-    """The index of the line whose block an `end` closes."""
-    open_lines: list[int] = []
-    for at, line in enumerate(lines[: end + 1]):
-        words = words_of(line)
-        if opens(words):
-            open_lines.append(at)
-        elif words == ["end"]:
-            closed = open_lines.pop()
-            if at == end:
-                return closed
-    return None
-
-
 def end_gone(lines: list[str], at: int, turn: int) -> Mistake | None:
-    """Leaves out one `end` of the script, whatever the line that was chosen."""
-    ends = [place for place, line in enumerate(lines) if words_of(line) == ["end"]]
-    end = ends[turn % len(ends)]
-    opener = opener_of(lines, end)
-    return None if opener is None else Mistake(lines[:end] + lines[end + 1 :], {end + 1, opener + 1}, set())
+    """Leaves out one `end` of the script, whatever the line that was chosen. The line of its block will do, too."""
+    blocks: list[tuple[int, int]] = []
+    begun: list[int] = []
+    for place, words in enumerate(map(words_of, lines)):
+        if opens(words):
+            begun.append(place)
+        elif words == ["end"]:
+            blocks.append((begun.pop(), place))
+    opener, end = blocks[turn % len(blocks)]
+    return without(lines, end, {opener + 1})
 
 
 def end_too_many(lines: list[str], at: int, turn: int) -> Mistake | None:
@@ -120,16 +103,14 @@ def end_too_many(lines: list[str], at: int, turn: int) -> Mistake | None:
     words = words_of(lines[at])
     if not words or opens(words) or words[0] in {"else", "field"}:
         return None
-    return Mistake([*lines[: at + 1], indented(lines[at], ["end"]), *lines[at + 1 :]], {at + 2}, set())
+    return Mistake([*lines[: at + 1], *changed(lines, at, ["end"]).lines[at:]], {at + 2}, set())
 
 
 def declaration_gone(lines: list[str], at: int, turn: int) -> Mistake | None:
     """Leaves out one declaration of the script, whatever the line that was chosen."""
-    declarations = [place for place, line in enumerate(lines) if words_of(line)[:1] and words_of(line)[0] in DECLARATIONS]
-    if not declarations:
-        return None
-    gone = declarations[turn % len(declarations)]
-    return Mistake(lines[:gone] + lines[gone + 1 :], {gone + 1}, {words_of(lines[gone])[1]})
+    declared = [place for place, line in enumerate(lines) if words_of(line)[:1] and words_of(line)[0] in DECLARATIONS]
+    gone = declared[turn % len(declared)] if declared else 0
+    return without(lines, gone, set(), {words_of(lines[gone])[1]}) if declared else None
 
 
 MAKERS: list[Maker] = [
@@ -147,7 +128,7 @@ MAKERS: list[Maker] = [
 
 def sources() -> list[str]:
     """The scripts of the examples and of the guide's cases."""
-    cases = [case_file.read(it).script.decode() for it in case_file.files_in([CASES / "guide"])]
+    cases = [it.script.decode() for it in cases_of("guide")]
     return [it.read_text() for it in examples()] + [it for it in cases if it.strip()]
 
 

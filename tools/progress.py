@@ -1,8 +1,8 @@
 """Runs long sweeps of the program, and looks at what is said of their progress on standard error.
 
-They are of single failures, rates, pairs, sets and lengths. On a terminal one line says which failure or length is being tried. It appears once a
-sweep has taken two seconds, is rewritten in place, and is wiped before the report. Elsewhere nothing is said, nor of a sweep that is
-shorter. The scripts are made longer and longer until their sweeps take long enough on this machine.
+They are of single failures, rates, pairs, sets and lengths. On a terminal one line says which failure or length is being tried. It
+appears once a sweep has taken two seconds, is rewritten in place, and is wiped before the report. Elsewhere nothing is said, nor of a
+sweep that is shorter. The scripts are made longer and longer until their sweeps take long enough on this machine.
 
 A script that is typed on a terminal is announced there, since the program would wait without a word.
 """
@@ -175,25 +175,6 @@ def screen(written: bytes) -> list[str]:
     return ["".join(it).rstrip(" ") for it in lines]
 
 
-def look_at_estimates(checks: Checks, name: str, lines: list[re.Match[str]]) -> None:
-    """What is said to be done and left: more and more, and nothing of what can't be known."""
-    shown = [int(it[4]) for it in lines if it[4]]
-    checks.look(f"{name}: what is done", len(shown) > 0, [it[0] for it in lines])
-    checks.look(f"{name}: more and more", shown == sorted(shown), shown)
-    checks.look(f"{name}: not yet all", all(percent < 100 for percent in shown), shown)
-    checks.look(f"{name}: what is left", all(int(it[5]) >= 1 for it in lines if it[4]), [it[0] for it in lines])
-
-
-def look_at_sets(checks: Checks, name: str, attempts: int, lines: list[re.Match[str]]) -> None:
-    """What is said of sets: larger ones come later, and those of one size by their first attempts. What is done grows with each size."""
-    places = [(int(it[1]), int(it[2])) for it in lines]
-    done = [(int(it[1]), int(it[4])) for it in lines if it[4]]
-    checks.look(f"{name}: of how many", all(int(it[3]) == attempts >= int(it[2]) >= 1 for it in lines), [it[0] for it in lines])
-    checks.look(f"{name}: one after another", places == sorted(places), places)
-    checks.look(f"{name}: what is done", len(done) > 0 and done == sorted(done), [it[0] for it in lines])
-    checks.look(f"{name}: not yet all", all(percent < 100 for _, percent in done), done)
-
-
 def look_at_lines(checks: Checks, kind: Kind, name: str, attempts: int, shown: Shown) -> None:
     """What is said while a sweep goes on."""
     written = shown.bytes().decode("ascii")
@@ -205,13 +186,17 @@ def look_at_lines(checks: Checks, kind: Kind, name: str, attempts: int, shown: S
         lengths = [int(it[1]) for it in lines]
         checks.look(f"{name}: each shorter", lengths == sorted(set(lengths), reverse=True), lengths)
         return
-    if kind.calls == "set":
-        look_at_sets(checks, name, attempts, lines)
-        return
-    checks.look(f"{name}: of how many", all(int(it[3]) == attempts >= int(it[2]) >= 1 for it in lines), [it[0] for it in lines])
-    checks.look(f"{name}: one after another", all(int(one[2]) < int(two[2]) for one, two in zip(lines, lines[1:])), [it[0] for it in lines])
-    look_at_estimates(checks, name, lines)
-    checks.look(f"{name}: its kind", all(it[1] == kind.calls for it in lines))
+    # sets come by their sizes, those of one size by their first attempts; more and more is done of each size, and never yet all
+    is_set = kind.calls == "set"
+    places = [(int(it[1]) if is_set else 1, int(it[2])) for it in lines]
+    done = [(size, int(it[4])) for (size, _), it in zip(places, lines) if it[4]]
+    said = [it[0] for it in lines]
+    checks.look(f"{name}: of how many", all(int(it[3]) == attempts >= int(it[2]) >= 1 for it in lines), said)
+    checks.look(f"{name}: one after another", places == sorted(places if is_set else set(places)), said)
+    checks.look(f"{name}: what is done, more and more", len(done) > 0 and done == sorted(done), said)
+    checks.look(f"{name}: not yet all", all(percent < 100 for _, percent in done), done)
+    checks.look(f"{name}: what is left", is_set or all(int(it[5]) >= 1 for it in lines if it[4]), said)
+    checks.look(f"{name}: its kind", is_set or all(it[1] == kind.calls for it in lines), said)
 
 
 def look_at(program: Path, kind: Kind) -> Checks:

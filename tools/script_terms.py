@@ -4,7 +4,8 @@ They are read by the small reader here, not by the workbench's own, so that the 
 
 import re
 from collections.abc import Callable
-from dataclasses import dataclass, field
+from functools import partial
+from typing import NamedTuple
 
 from tools.language import line_of, lines_by_kind, words_of_roles
 from tools.terms import UnknownWord, among, apply, found, integer, listed, made, option, text_term
@@ -47,8 +48,7 @@ def words_of(line: str) -> list[str]:
     return [] if words and words[0].startswith("#") else words
 
 
-@dataclass
-class Local:
+class Local(NamedTuple):
     """A local or parameter of a body: `ptr`, `int`, `buf` or `view`, and a pointer's class."""
 
     sort: str
@@ -64,17 +64,6 @@ def parameter(word: str, index: int) -> tuple[str, Local]:
     return name, Local("int" if of == "int" else "ptr", index, None if of in ("int", "ptr") else of)
 
 
-@dataclass
-class ClassLines:
-    """What a `class` declares: its line, index, extra bytes, fields with their classes, and bodies."""
-
-    line: int
-    index: int
-    extra: int
-    fields: dict[str, str | None] = field(default_factory=dict)
-    bodies: dict[str, str] = field(default_factory=dict)
-
-
 class Reader:
     """Reads an accepted script; faults were refused before, so none are looked for."""
 
@@ -83,9 +72,9 @@ class Reader:
         numbered = enumerate(map(words_of, text.split("\n")), 1)
         self.lines = [(number, words) for number, words in reversed(list(numbered)) if words]
         self.line = 0
-        self.classes: dict[str, ClassLines] = {}
-        self.procedures: dict[str, int] = {}
-        self.operations: dict[str, int] = {}
+        # what bodies may name before its declaration, and the classes of the fields of each class
+        self.indexes: dict[str, dict[str, int]] = {"a class": {}, "a procedure": {}, "an operation": {}}
+        self.fields: dict[str, dict[str, str | None]] = {}
         self.literals: list[str] = []
         self.locals: dict[str, Local] = {}
         self.this: str | None = None
@@ -94,78 +83,63 @@ class Reader:
     def declare(self) -> None:
         """Collects the names that bodies may use before their declaration."""
         # A line's first word tells these from statements: no statement begins with such a word.
+        sorts = {"class": "a class", "proc": "a procedure", "op": "an operation"}
         name = ""
-        for number, words in reversed(self.lines):
+        for _, words in reversed(self.lines):
+            if words[0] in sorts:
+                known = self.indexes[sorts[words[0]]]
+                known[words[1]] = len(known)
             if words[0] == "class":
                 name = words[1]
-                self.classes[name] = ClassLines(number, len(self.classes), int(words[2]))
+                self.fields[name] = {}
             elif words[0] == "field":
-                self.classes[name].fields[words[1]] = words[2] if len(words) > 2 else None
-            elif words[0] == "proc":
-                self.procedures[words[1]] = len(self.procedures)
-            elif words[0] == "op":
-                self.operations[words[1]] = len(self.operations)
+                self.fields[name][words[1]] = words[2] if len(words) > 2 else None
 
     def next_line(self) -> list[str]:
         """Takes the next line's words, and keeps its number."""
         self.line, words = self.lines.pop()
         return words
 
-    def script(self) -> str:
-        """The whole script."""
-        procedures: list[str] = []
-        operations: list[str] = []
-        while self.lines:
-            words, line = self.next_line(), str(self.line)
-            if words[0] == "class":
-                self.class_body(words[1])
-            elif words[0] == "proc":
-                parameters = dict(map(parameter, words[2:], range(len(words))))
-                terms = listed(list(map(self.parameter_term, parameters.values())))
-                procedures.append(made("procedure", line=line, parameters=terms, body=self.body(parameters, None)))
-            else:
-                among(("op",), words[0], "the first word of an item", "read it in `Reader.script`, and its name in `Reader.declare`")
-                operations.append(made("operation", line=line, body=self.body({words[2]: Local("ptr", 0)}, None)))
-        return made(
-            "script",
-            classes=listed([self.class_term(c) for c in self.classes.values()]),
-            procedures=listed(procedures),
-            operations=listed(operations),
-            literals=listed(list(map(text_term, self.literals))),
-            main=self.procedure("main"),
-        )
-
-    def class_body(self, name: str) -> None:
-        """The lines of a class after its first."""
-        while (words := self.next_line())[0] != "end":
-            if words[0] in ("construct", "destroy"):
-                self.classes[name].bodies[words[0]] = self.body({}, name)
-            else:
-                among(("field",), words[0], "a line of a class", "read it in `Reader.class_body`")
-
-    def parameter_term(self, of: Local) -> str:
-        """A parameter."""
-        if of.sort == "int":
-            return "Par.OfNumber"
-        return apply("Par.OfPointer", self.class_option(of.class_name))
-
-    def class_named(self, name: str) -> ClassLines:
-        """What the class of this name declares."""
-        return found(self.classes, name, "the name of a class", "read its declaration in `Reader.declare`")
+    def index(self, sort: str, name: str) -> str:
+        """The index of a class, a procedure or an operation, by its name."""
+        return str(found(self.indexes[sort], name, f"the name of {sort}", "read its declaration in `Reader.declare`"))
 
     def class_option(self, name: str | None) -> str:
         """The class of a pointer, a field or a parameter, where it has one."""
-        return option(None if name is None else self.class_index(name))
+        return option(None if name is None else self.index("a class", name))
 
-    def procedure(self, name: str) -> str:
-        """A procedure by its name."""
-        return str(found(self.procedures, name, "the name of a procedure", "read its declaration in `Reader.declare`"))
+    def script(self) -> str:
+        """The whole script."""
+        items: dict[str, list[str]] = {"class": [], "proc": [], "op": []}
+        while self.lines:
+            words, line = self.next_line(), str(self.line)
+            among(items, words[0], "the first word of an item", "read it in `Reader.script`, and its name in `Reader.declare`")
+            if words[0] == "class":
+                term = self.class_term(words[1], line, words[2])
+            elif words[0] == "proc":
+                given = dict(map(parameter, words[2:], range(len(words))))
+                parameters = listed(list(map(self.parameter_term, given.values())))
+                term = made("procedure", line=line, parameters=parameters, body=self.body(given, None))
+            else:
+                term = made("operation", line=line, body=self.body({words[2]: Local("ptr", 0)}, None))
+            items[words[0]].append(term)
+        lists = {"classes": listed(items["class"]), "procedures": listed(items["proc"]), "operations": listed(items["op"])}
+        return made("script", **lists, literals=listed(list(map(text_term, self.literals))), main=self.index("a procedure", "main"))
 
-    def class_term(self, c: ClassLines) -> str:
-        """A class."""
-        fields = list(map(self.class_option, c.fields.values()))
-        bodies = {name: option(c.bodies.get(name)) for name in ("construct", "destroy")}
-        return made("class_of", line=str(c.line), extra=str(c.extra), fields=listed(fields), **bodies)
+    def parameter_term(self, of: Local) -> str:
+        """A parameter."""
+        return "Par.OfNumber" if of.sort == "int" else apply("Par.OfPointer", self.class_option(of.class_name))
+
+    def class_term(self, name: str, line: str, extra: str) -> str:
+        """A class, of which the first line has been read."""
+        bodies: dict[str, str | None] = {"construct": None, "destroy": None}
+        while (words := self.next_line())[0] != "end":
+            if words[0] in bodies:
+                bodies[words[0]] = self.body({}, name)
+            else:
+                among(("field",), words[0], "a line of a class", "read it in `Reader.class_term`")
+        fields = listed(list(map(self.class_option, self.fields[name].values())))
+        return made("class_of", line=line, extra=str(int(extra)), fields=fields, **{it: option(body) for it, body in bodies.items()})
 
     def body(self, given: dict[str, Local], this: str | None) -> str:
         """A body up to its `end`, with its parameters and the class of `self`."""
@@ -184,50 +158,34 @@ class Reader:
         self.locals[words[1]] = Local(words[0], len(self.locals), of)
         if words[0] == "ptr":
             return apply("OfPointer", self.class_option(of))
-        if words[0] == "buf":
-            return apply("OfBuffer", str(int(words[2])))
-        return "OfNumber" if words[0] == "int" else "OfView"
+        return apply("OfBuffer", str(int(words[2]))) if words[0] == "buf" else {"int": "OfNumber"}.get(words[0], "OfView")
 
     def block(self) -> tuple[list[str], str]:
         """Statements with their lines up to an `end` or `else`, and which of these it was."""
         statements: list[str] = []
         while (words := self.next_line())[0] not in ("end", "else"):
             line = str(self.line)
-            statements.append(apply("on", line, "Statement-F." + self.statement(words)))
+            statements.append(apply("on", line, "Statement-F." + self.statement(words[0], words[1:])))
         return statements, words[0]
 
-    def statement(self, words: list[str]) -> str:
+    def statement(self, key: str, operands: list[str]) -> str:
         """One statement, with what stands inside it."""
-        key, operands = words[0], words[1:]
         if key in STATEMENTS:
             name, rest = STATEMENTS[key]
             return apply(name, *self.operands(key, line_of(key, "Plain").places, operands), *rest)
         if key in OVERLOADED:
             name, places = OVERLOADED[key][self.sort_of("".join(operands[:1])) != "int"]
             return apply(name, *self.operands(key, places, operands))
-        if key == "call":
-            return apply("Call", *self.call(operands))
-        if key == "callto":
-            return apply("CallTo", self.local(operands[0]), *self.call(operands[1:]))
+        if key in ("call", "callto"):
+            results, rest = ([self.local(operands[0])], operands[1:]) if key == "callto" else ([], operands)
+            arguments = listed(list(map(self.argument, rest[1:])))
+            return apply("CallTo" if results else "Call", *results, self.index("a procedure", rest[0]), arguments)
         if key == "return":
             return apply("ReturnPointer", *self.operands(key, ("Pointer",), operands)) if operands else "Return"
         if key == "if":
             return self.choice(operands)
         name = found(BLOCKS, key, "a statement", "add it to STATEMENTS, OVERLOADED or BLOCKS, or read it in `Reader.statement`")
         return apply(name, *self.operands(key, line_of(key, "Loop").places, operands), listed(self.block()[0]))
-
-    def operands(self, key: str, places: tuple[str, ...], words: list[str]) -> list[str]:
-        """All operands of a line, by their places."""
-        if len(words) > len(places):
-            raise UnknownWord(words[len(places)], f"an operand of `{key}`", "`wb_lines` has fewer places for it")
-        if len(words) < len(places):
-            raise UnknownWord(key, f"a line with {len(words)} operands", "`wb_lines` has more places for it")
-        return list(map(self.operand, places, words))
-
-    def call(self, words: list[str]) -> tuple[str, str]:
-        """A procedure and its arguments."""
-        arguments = [apply("Given", self.number(w)) if self.sort_of(w) == "int" else apply("Passed", self.pointer(w)) for w in words[1:]]
-        return self.procedure(words[0]), listed(arguments)
 
     def choice(self, operands: list[str]) -> str:
         """`if` with its condition and both parts."""
@@ -238,21 +196,26 @@ class Reader:
             return apply("If", condition, listed(first))
         return apply("IfElse", condition, listed(first), listed(self.block()[0]))
 
+    def operands(self, key: str, places: tuple[str, ...], words: list[str]) -> list[str]:
+        """All operands of a line, by their places."""
+        if len(words) > len(places):
+            raise UnknownWord(words[len(places)], f"an operand of `{key}`", "`wb_lines` has fewer places for it")
+        if len(words) < len(places):
+            raise UnknownWord(key, f"a line with {len(words)} operands", "`wb_lines` has more places for it")
+        return list(map(self.operand, places, words))
+
     def operand(self, place: str, word: str) -> str:
         """An operand by its place."""
         readers: dict[str, Callable[[str], str]] = {
             **{"Pointer": self.pointer, "Written": self.pointer, "Value": self.number, "Variable": self.local, "ViewName": self.local},
-            **{"Writable": self.writable, "Readable": self.readable, "Class": self.class_index, "Operation": self.operation},
+            **{"Writable": self.writable, "Readable": self.readable},
+            **{"Class": partial(self.index, "a class"), "Operation": partial(self.index, "an operation")},
         }
         return found(readers, place, "the place of an operand", "read it in `Reader.operand`")(word)
 
-    def class_index(self, word: str) -> str:
-        """A class by its name."""
-        return str(self.class_named(word).index)
-
-    def operation(self, word: str) -> str:
-        """An operation by its name."""
-        return str(found(self.operations, word, "the name of an operation", "read its declaration in `Reader.declare`"))
+    def argument(self, word: str) -> str:
+        """What a procedure is given."""
+        return apply("Given", self.number(word)) if self.sort_of(word) == "int" else apply("Passed", self.pointer(word))
 
     def local_named(self, word: str) -> Local:
         """A local of the body."""
@@ -270,18 +233,16 @@ class Reader:
             return "int"
         return "ptr" if "." in word or word == "self" else self.local_named(word).sort
 
-    def holder(self, name: str) -> str:
-        """A variable that holds a pointer."""
-        return "H.This" if name == "self" else apply("H.Local", self.local(name))
-
     def pointer(self, word: str) -> str:
-        """A pointer."""
-        if "." not in word:
-            return apply("Held", self.holder(word))
-        base, _, name = word.partition(".")
-        of = self.class_named((self.this if base == "self" else self.local_named(base).class_name) or "")
-        among(of.fields, name, "a field of its class", "read its form in `Reader.pointer`, or its declaration in `Reader.declare`")
-        return apply("Field", self.holder(base), str(of.index), str(list(of.fields).index(name)))
+        """A pointer: a variable, or a field of what one points to."""
+        base, mark, name = word.partition(".")
+        holder = "H.This" if base == "self" else apply("H.Local", self.local(base))
+        if not mark:
+            return apply("Held", holder)
+        of = (self.this if base == "self" else self.local_named(base).class_name) or ""
+        index = self.index("a class", of)
+        among(self.fields[of], name, "a field of its class", "read its form in `Reader.pointer`, or its declaration in `Reader.declare`")
+        return apply("Field", holder, index, str(list(self.fields[of]).index(name)))
 
     def number(self, word: str) -> str:
         """A number."""
@@ -297,6 +258,4 @@ class Reader:
         if sort == "literal":
             self.literals.append(word[1:-1])
             return apply("Quoted", str(len(self.literals) - 1))
-        if sort == "view":
-            return apply("ViewOf", self.local(word))
-        return apply("Of", self.writable(word))
+        return apply("ViewOf", self.local(word)) if sort == "view" else apply("Of", self.writable(word))

@@ -2,8 +2,10 @@
 
 Nothing here knows what a script or a report is."""
 
-from collections.abc import Collection
+from collections.abc import Collection, Mapping
 from typing import TypeVar
+
+Value = TypeVar("Value")
 
 
 class UnknownWord(Exception):
@@ -13,16 +15,6 @@ class UnknownWord(Exception):
         super().__init__(f"`{word}` is not known as {read_as}: {add}")
 
 
-Value = TypeVar("Value")
-
-
-def found(table: dict[str, Value], word: str, read_as: str, add: str) -> Value:
-    """What a table says of a word."""
-    if word not in table:
-        raise UnknownWord(word, read_as, add)
-    return table[word]
-
-
 def among(words: Collection[str], word: str, read_as: str, add: str) -> str:
     """The word, which is one of these."""
     if word not in words:
@@ -30,19 +22,19 @@ def among(words: Collection[str], word: str, read_as: str, add: str) -> str:
     return word
 
 
-def atom(term: str) -> str:
-    """The term as an argument."""
-    return f"({term})" if " " in term else term
+def found(table: Mapping[str, Value], word: str, read_as: str, add: str) -> Value:
+    """What a table says of a word."""
+    return table[among(table, word, read_as, add)]
 
 
 def apply(name: str, *arguments: str) -> str:
     """A constructor or function with its arguments."""
-    return " ".join([name, *map(atom, arguments)])
+    return " ".join([name, *(f"({it})" if " " in it else it for it in arguments)])
 
 
 def listed(items: list[str]) -> str:
     """A list."""
-    return " ∷ ".join([*map(atom, items), "[]"])
+    return " ∷ ".join([*(f"({it})" if " " in it else it for it in items), "[]"])
 
 
 def made(shorthand: str, **fields: str) -> str:
@@ -62,4 +54,4 @@ def option(term: str | None) -> str:
 
 def text_term(text: str) -> str:
     """A text as the list of its bytes."""
-    return listed([str(ord(c)) for c in text])
+    return listed([str(ord(it)) for it in text])

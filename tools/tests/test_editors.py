@@ -6,14 +6,26 @@ import re
 import unittest
 from typing import Any
 
-from tools.editors import EDITORS
+from tools import editors
+from tools.editors import CONFIGURATION, EDITORS, SCOPES, VIM, faults, indentation, read
 from tools.paths import examples
-from tools.textmate_files import CLASS, OPERANDS
 
-GRAMMAR = json.loads((EDITORS / "vscode/syntaxes/oom.tmLanguage.json").read_text(encoding="utf-8"))
+GRAMMAR = json.loads(read()[editors.GRAMMAR])
 PACKAGE = json.loads((EDITORS / "vscode/package.json").read_text(encoding="utf-8"))
-INDENTATION = json.loads((EDITORS / "vscode/language-configuration.json").read_text(encoding="utf-8"))["indentationRules"]
 ILLEGAL = "invalid.illegal.oom"
+# changes of words in the files, each of which is seen
+CHANGES = {
+    VIM: (
+        *((r"add\|alloc\|", r"add\|allocs\|"), (r"op\|proc\)\ze", r"op\)\ze"), (r"(end\)\ze\s*$", r"(end\)\ze\%(\s\|$\)")),
+        *((r"less\|null", "less"), (r"new\|newleave\|ptr", r"new\|ptr"), (r"(callto\)\s\+\S\+", r"(callto\)"), ("oomBody", "oomClass")),
+        ("syntax match oomBlock", '" syntax match oomBlock'),
+    ),
+    editors.GRAMMAR: (
+        *(("add|alloc|", "add|allocs|"), ("op|proc", "op"), ("(?:end))(?=\\\\s*$)", "(?:end))(?=\\\\s|$)"), ("less|null", "less")),
+        *(("callto))((?:\\\\s+\\\\S+){1})", "callto))((?:\\\\s+\\\\S+){0})"), ("keyword.control.oom", "keyword.other.oom")),
+    ),
+    CONFIGURATION: ((r"if(?=\\s|$)|", ""), (r"|end(?=\\s*$)", r"|end(?=\\s|$)")),
+}
 
 Rule = dict[str, Any]
 Token = tuple[str, str]
@@ -51,6 +63,18 @@ def tokens(line: str) -> list[Token]:
     return tokens_of(line, GRAMMAR["patterns"], 0, len(line))
 
 
+class Compared(unittest.TestCase):
+    """What is seen where a file has other words than the language."""
+
+    def test_files_that_differ(self) -> None:
+        self.assertEqual(list(faults(read())), [])
+        for file, changes in CHANGES.items():
+            for old, new in changes:
+                with self.subTest(file=file.name, old=old, new=new):
+                    self.assertIn(old, read()[file])
+                    self.assertNotEqual(list(faults(read() | {file: read()[file].replace(old, new)})), [])
+
+
 class Grammar(unittest.TestCase):
     """What the words of a line are coloured as."""
 
@@ -70,7 +94,7 @@ class Grammar(unittest.TestCase):
         )
 
     def test_names(self) -> None:
-        name = CLASS.removesuffix(".oom")
+        name = SCOPES["class"].removesuffix(".oom")
         self.assertEqual(self.scopes("class Note 4"), {"class": "keyword.other", "Note": name, "4": "constant.numeric.integer"})
         self.assertEqual(self.scopes("new self.list List")["List"], name)
         self.assertEqual(self.scopes("new self.list List")["self"], "variable.language.self")
@@ -101,14 +125,15 @@ class Grammar(unittest.TestCase):
                 self.assertNotIn(ILLEGAL, [scope for _, scope in found], line)
                 self.assertEqual(bool(found), bool(line.strip()), line)
                 seen.update(scope for _, scope in found)
-        self.assertEqual(set(OPERANDS.values()) - seen, set())
+        self.assertEqual({it["name"] for it in GRAMMAR["repository"]["operand"]["patterns"]} - seen, set())
 
 
 class Indentation(unittest.TestCase):
     """Which lines begin and end what is indented."""
 
     def test_examples(self) -> None:
-        more, less = (re.compile(INDENTATION[f"{it}IndentPattern"]) for it in ("increase", "decrease"))
+        rules = indentation(read()[CONFIGURATION])
+        more, less = (re.compile(rules[f"{it}IndentPattern"]) for it in ("increase", "decrease"))
         for file in examples():
             lines, depth = [it for it in file.read_text(encoding="ascii").splitlines() if it.strip()], 0
             is_indented = any(it.startswith(" ") for it in lines)

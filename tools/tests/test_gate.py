@@ -19,8 +19,9 @@ from tools.tool_runs import Outcome, ToolRun, ToolRuns
 
 # the commands that the gate runs on the program, and what some are given
 RUN = """
-cases, lost-messages, broken-streams, progress, forks, rates, pairs, failures, every-set, sets, moving, parts, lengths, followed, mistakes,
-pictures, failing-allocations, failing-allocations --same, ci-examples, help-files --compare
+cases, lost-messages, broken-streams, progress, compare sets, compare steps, compare failures, compare lengths, compare lists,
+compare moving, compare parts, compare pairs, compare every, compare persistent, compare forks, mistakes, pictures, failing-allocations,
+failing-allocations --same, ci-examples, help-files, pages --runs
 """
 
 

@@ -1,4 +1,4 @@
-"""What the man page and the completions make of the program's help, and what bash completes by its file."""
+"""What is seen where the man page or the completions differ from the help, and what bash completes by its file."""
 
 import stat
 import subprocess
@@ -6,10 +6,8 @@ import tempfile
 import unittest
 from pathlib import Path
 
-from tools.completions import bash, fish, zsh
-from tools.help_files import BASH
-from tools.help_table import CommandLine, UnknownHelp, command_line_of
-from tools.man_page import man_page
+from tools.help_files import BASH, FISH, MAN_PAGE, ZSH, Help, Row, faults, help_of, zsh_rows
+from tools.paths import DOCS
 
 WHOLE = """\
 Runs scripts
@@ -17,7 +15,6 @@ Runs scripts
 Begin so:
 
     proc main
-    .end
 
 Usage: workbench <COMMAND>
 
@@ -31,10 +28,6 @@ Options:
 """
 RUN = """\
 Runs a script's main once
-
-With --every: finds one
-With --pairs: finds another,
-or none
 
 Example: workbench run --limit 3 a-b.oom
 
@@ -50,70 +43,66 @@ Options:
       --limit <L>
           Limits the heap to L bytes: from 0 [default: 5]
 
-      --picture <FILE>
-          Draws FILE
-
-      --json
-          Writes one object
-
   -h, --help
           Print help (see a summary with '-h')
 """
+# changes of each file, each of which is seen
+CHANGES = {
+    BASH: (
+        *((" --states", ""), (" --states", " --state"), (" check help --help", " help --help"), (" --version", "")),
+        *(("check help'", "help'"), ("values='--limit --fail", "values='--limit"), ('" --picture "', '" "')),
+    ),
+    ZSH: (
+        *((":LIST:", ":N:"), ("--follow-steps", "--steps"), ("'check:Runs", "'check:Makes"), ("to 16777216]", "to 16777217]")),
+        *((':FILE:_files -g "*.svg"', ":FILE: "), ("'--follow[", "'--follow=["), ("'--limit=[", "'--limit["), ("{-V,--version}", "{-V,--versions}")),
+    ),
+    FISH: (
+        *((" -l states -x", " -l states"), (" -l states", " -l state"), (" -a check", " -a checks"), ("to 16777216", "to 16777217")),
+        *((" -r -k -a '(__fish_complete_suffix .svg)'", " -x"), ("from size' -l json", "from size' -l json -x")),
+    ),
+    MAN_PAGE: (
+        *(("\\fILIST\\fR\n", "\\fIN\\fR\n"), ("\\fILIST\\fR]", "\\fIN\\fR]"), ("[\\fB\\-\\-json\\fR] ", "")),
+        *(("Of \\fBsweep\\fR and", "Of"), ("to\n1000000", "to\n100000"), ("\n\\fB\\-\\-json\\fR\n", "\n\\fB\\-\\-lines\\fR\n")),
+        *((".B lengths", ".B length"), ("The command line", "The line"), (".B 6", ".B 7"), ("docs/CI.md", "docs/CIS.md")),
+        ("leak\\-under", "leaks\\-under"),
+    ),
+}
 
 
-def given(whole: str, run: str) -> CommandLine:
-    """The command line of a program whose help this is."""
-    with tempfile.TemporaryDirectory() as room:
-        program = Path(room, "program")
-        text = f"#!/bin/sh\n[ $# = 1 ] && cat >&2 <<'END' || cat >&2 <<'OTHER'\n{whole}END\n{run}OTHER\nexit 6\n"
-        program.write_text(text, encoding="ascii")
-        program.chmod(stat.S_IRWXU)
-        return command_line_of(program)
+def read() -> dict[Path, str]:
+    """The files as they are."""
+    return {it: it.read_text(encoding="utf-8") for it in (MAN_PAGE, BASH, ZSH, FISH)}
 
 
-class Help(unittest.TestCase):
-    """What is read off the help."""
+class Compared(unittest.TestCase):
+    """What is read off the help, and what is seen beside it."""
 
-    def test_a_command(self) -> None:
-        (run,) = given(WHOLE, RUN).commands
-        self.assertEqual((run.name, run.about), ("run", "Runs a script's main once"))
-        self.assertEqual(run.paragraphs, ("With --every: finds one\nWith --pairs: finds another,\nor none",))
-        self.assertEqual(run.examples, ("workbench run --limit 3 a-b.oom",))
-        self.assertEqual([(it.name, it.letter, it.value) for it in run.options][::3], [("limit", None, "L"), ("help", "h", None)])
-        self.assertEqual([it.takes_file for it in run.options], [False, True, False, False])
-        self.assertEqual(run.about_file, "Script file [default: standard input]")
+    def test_the_help(self) -> None:
+        with tempfile.TemporaryDirectory() as room:
+            program = Path(room, "program")
+            text = f"#!/bin/sh\n[ $# = 1 ] && cat >&2 <<'END' || cat >&2 <<'OTHER'\n{WHOLE}END\n{RUN}OTHER\nexit 6\n"
+            program.write_text(text, encoding="ascii")
+            program.chmod(stat.S_IRWXU)
+            told = help_of(program)
+        summary = "Print help see a summary with -h"
+        commands = {Row("run", about="Runs a scripts main once"), Row("help", about="Print this message")}
+        options = {Row("", "help", "", summary), Row("run", "help", "", summary)}
+        limit = Row("run", "limit", "L", "Limits the heap to L bytes from 0 default 5")
+        self.assertEqual(told.rows, commands | options | {limit})
+        self.assertEqual(told.texts[-1], "Example: workbench run --limit 3 a-b.oom")
 
-    def test_another_form(self) -> None:
-        for whole, run in (
-            *((WHOLE, RUN.replace(row, other)) for row, other in (("      --json", "      -j"), ("  [FILE]\n", "  [FILES]\n"))),
-            *((WHOLE, "no help"), ("no help", RUN)),
-        ):
-            with self.assertRaises(UnknownHelp):
-                given(whole, run)
-
-
-class Made(unittest.TestCase):
-    """What is made of it."""
-
-    def setUp(self) -> None:
-        self.line = given(WHOLE, RUN)
-
-    def test_the_man_page(self) -> None:
-        page = man_page(self.line)
-        for text in (
-            ".SH SYNOPSIS\n\\fBworkbench run\\fR [\\fB\\-\\-limit\\fR\\~\\fIL\\fR] ",
-            "proc main\n\\&.end\n",
-            "With \\fB\\-\\-every\\fR: finds one.\nWith \\fB\\-\\-pairs\\fR: finds another, or none.\n",
-            "workbench run \\fB\\-\\-limit\\fR 3 a\\-b.oom\n",
-            ".B 0\nNothing found.\n",
-        ):
-            self.assertIn(text, page)
-
-    def test_quotes(self) -> None:
-        self.assertIn(r"'run:Runs a script'\''s main once'", zsh(self.line))
-        self.assertIn(r"'--limit=[Limits the heap to L bytes\: from 0 \[default\: 5\]]:L: '", zsh(self.line))
-        self.assertIn(r"-a run -d 'Runs a script\'s main once'", fish(self.line))
-        self.assertIn("options='--limit --picture --json --help'\n            values='--limit --picture'\n", bash(self.line))
+    def test_files_that_differ(self) -> None:
+        texts, page = read(), (DOCS / "REPORTS.md").read_text(encoding="utf-8")
+        # the file for zsh has all of a help but its paragraphs and examples
+        told = Help(set(zsh_rows(texts[ZSH])), ["Example: workbench run --fail 3 examples/leak-under-failure.oom"])
+        self.assertGreater(len(told.rows), 50)
+        self.assertEqual(list(faults(told, texts, page)), [])
+        for file, changes in CHANGES.items():
+            for old, new in changes:
+                with self.subTest(file=file.name, old=old, new=new):
+                    self.assertIn(old, texts[file])
+                    self.assertNotEqual(list(faults(told, texts | {file: texts[file].replace(old, new)}, page)), [])
+        self.assertNotEqual(list(faults(told, texts, page.replace("| 6 | the command line", "| 6 | words"))), [])
 
 
 class InBash(unittest.TestCase):
@@ -136,8 +125,8 @@ class InBash(unittest.TestCase):
         self.assertEqual(self.completed("no-command", ""), [])
 
     def test_options(self) -> None:
-        self.assertEqual(self.completed("check", "--p"), ["--pairs", "--picture"])
-        self.assertEqual(self.completed("check", "--pairs", "--p"), ["--picture"])
+        self.assertEqual(self.completed("check", "--p"), ["--pairs", "--persistent", "--picture"])
+        self.assertEqual(self.completed("check", "--pairs", "--p"), ["--persistent", "--picture"])
         self.assertNotIn("--limit", self.completed("sweep", "-"))
 
     def test_values(self) -> None:

@@ -20,8 +20,8 @@ class WhatIsMade(unittest.TestCase):
 
     def test_mistakes(self) -> None:
         for part in (*PARTS, *PARTS_OF_TWO, *PARTS_OF_THREE, *PARTS_OF_FOUR, *PARTS_THAT_REMEMBER):
-            with self.subTest(part.__name__):
-                right, wrong = ([part(random.Random(seed), is_wrong) for seed in range(5)] for is_wrong in (False, True))
+            with self.subTest(part.name):
+                right, wrong = ([part.body(random.Random(seed), is_wrong) for seed in range(5)] for is_wrong in (False, True))
                 self.assertTrue(all(one != other for one, other in zip(right, wrong)))
 
     def test_scripts_that_can_be_read(self) -> None:

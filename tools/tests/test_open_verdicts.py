@@ -16,6 +16,7 @@ from unittest.mock import patch
 from tools.bounded_checks import ENDED, Checks, OutOfTime
 from tools.door import said_by
 from tools.open_verdicts import OpenVerdict, fault_of_number, logic_of_readme, open_verdicts, sentence
+from tools.paths import ROOT
 from tools.tally import Tally
 from tools.tests.test_gate import the_gate
 from tools.tests.test_wrong_bodies import TinyRepository
@@ -192,13 +193,13 @@ class WhatTheReadmeSays(unittest.TestCase):
         self.assertEqual(logic_of_readme("Its logic is proved."), "")
 
     def test_the_pages_fail_by_it(self) -> None:
-        with patch("tools.pages.fault_of_readme", return_value="another number") as fault:
-            said = said_by("pages", "--brief")
-            self.assertEqual((said.output.splitlines()[-1], said.status), ("another number", 1))
+        with patch("tools.pages.fault_of_readme", return_value="another number") as fault, patch("tools.pages.pages", return_value=[]):
+            said = said_by("pages")
+            self.assertEqual((said.output, said.status), ("another number\n0 passed, 1 failed\n", 1))
             fault.return_value = ""
-            self.assertEqual(said_by("pages", "--brief").status, 0)
+            self.assertEqual(said_by("pages").status, 0)
             fault.reset_mock()
-            self.assertEqual(said_by("pages", "README.md").status, 0)
+            self.assertEqual(said_by("pages", ROOT / "CONTRIBUTING.md").status, 0)
             fault.assert_not_called()
 
 

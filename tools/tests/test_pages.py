@@ -1,101 +1,115 @@
-"""What counts as a sentence of a page, and the list of crates that a page has."""
+"""That a stale page fails: each check once, on a page that is right but for one thing."""
 
+import sys
 import tempfile
 import unittest
 from pathlib import Path
 
-from tools.crates import Crates
-from tools.dependency_list import BEGIN, END, listed, with_list
-from tools.door import said_by
-from tools.pages import most_allowed, pages, sentences
+from tools.door import Said, said_by
+from tools.pages import pages, sentences
 
+SWEEPS, LAWS = "crates/wb_model/specs/runs/Sweeps.antt", "crates/wb_model/src/set_laws.rt"
+PROMISES = "<!-- promises -->\n| A | B |\n|---|---|\n"
+# for each block its words, a text in a right one, and what makes it stale in its place
+BLOCKS = {
+    f"quote {SWEEPS} failing_at": ("failing_at Pairs n = Number n\n", ""),
+    f"quote {LAWS} small_sets_are_failures.one": ("Single script", "Every script"),
+    f"file {SWEEPS} 1-2": ("-- What", "-- Where"),
+    "case guide/two-cells.run": ("proc main", "proc mine"),
+    f"laws {LAWS}": ("| `sets_end` |", "| `sets_stop` |"),
+    "bodies wb_model/heap": ("`usable-length-counts-the-header`", "`usable-length`"),
+    "bodies": ("| `wb_size` | ", "| `wb_size` | 1"),
+    "dependencies": ("`wb_states` |", "`wb_size` |"),
+    "crates": ("| `wb_streams` |", "| `wb_stream` |"),
+    r"files (?i)\bpop_?check": ("`src/script.rt`", "`src/scripts.rt`"),
+    **{f"number {it}": ("-->", "-->1") for it in ("cases", "examples", "crates", "functions", "contracts", "wrong-bodies")},
+}
+# what a page says, and what is said of it
+FAULTS = {
+    f"<!-- quote {SWEEPS} failing -->\n<!-- end -->": "there is no one failing, but 0",
+    f"<!-- quote {LAWS} sets_end.none -->\n<!-- end -->": "there is no one sets_end.none",
+    "<!-- file docs/NONE -->\n<!-- end -->": "there is no docs/NONE",
+    "<!-- case guide/none.run -->\n<!-- end -->": "there is no one case: 0 cases are called guide/none.run",
+    "<!-- bodies wb_model/none -->\n<!-- end -->": "there is no wrong body of wb_model/none",
+    "<!-- number cases -->1": "a comment that neither begins nor ends a block",
+    "<!-- run: workbench check -->\nNo block.": "a comment that neither begins nor ends a block",
+    "<!-- measured bench/run -->\nToday.\n<!-- end -->": "measured on no commit",
+    f"{PROMISES}| A | `wb_size::size`: `cut`, `none` |\n<!-- end -->": "wb_size::size has no clause none, or isn't public",
+    f"{PROMISES}| A | `wb_size::sizing_of`: `ensures` |\n<!-- end -->": "wb_size::sizing_of has no clause ensures, or isn't public",
+    f"{PROMISES}| A | `wb_size::size` |\n<!-- end -->": "a promise without a call and its clause: | A | `wb_size::size` |",
+    "word " * 36 + ".": "a sentence of 36 words: word word",
+    "| table |\n\n" + "x" * 161: "a line of 161 columns: xxx",
+    "[Here](none.md#part)": "there is no none.md",
+    "`tools/none.py`": "there is no file tools/none.py",
+    "`none.md`": "there is no page none.md",
+    '`docs/README.md`, "One\nmore"': 'docs/README.md has no section "One more"',
+}
 PAGE = """\
-# A title that is no sentence
+# No sentence
 
-One `let it = 1. Two` here, of [two links](to/a/page.md). Two
+One `let it = 1. Two` here, of [two links](docs/README.md). Two
 goes on, e.g. to a second line. "Three?" Four .. and more.
 
-- an item
-  with a second line
 - **Another.** It ends
 
-      alloc a 16. Free a.
+      # alloc a 16. Free a.
 
 1. Numbered
 
 | A table. | Not read. |
-|---|---|
-
-    code. Not read.
 
 ```
-fenced. Not read.
-
-    Nor this.
+Not read.
 ```
 
 <!-- Nor this. -->
-Last
 """
-REFERENCES = """\
-[Here](other.md), [there](none.md#part), [outside](https://example.com/page).
-`other.md`, "One code, and
-more", `docs/REPORTS.md`, "Status", `other.md`, "Two", `missing.md`.
-"""
-LACKING = ["there is no none.md", 'other.md has no section "Two"', "there is no page missing.md"]
-# the lines and the numbers of words
-WANTED = [(3, 6), (3, 8), (4, 1), (4, 3), (6, 6), (8, 1), (8, 2), (12, 1), (26, 1)]
+PROGRAM = f"#!{sys.executable}\nimport sys\nprint(*sys.argv[1:])\nprint(sys.stdin.read())\nprint('said', file=sys.stderr)\nsys.exit(1)\n"
+RUNS = (
+    "```\nscript\n```\n\n<!-- run 1: workbench check -->\n```\ncheck\nscript\n\n```\n\n"
+    "<!-- messages: workbench check -->\n```\nsaid\n```\n"
+)
 
 
-class Sentences(unittest.TestCase):
-    """The sentences of a page."""
-
-    def test_where_they_begin_and_how_long_they_are(self) -> None:
-        self.assertEqual([(it.line, len(it.words)) for it in sentences(PAGE)], WANTED)
-
-    def test_what_is_printed(self) -> None:
-        with tempfile.TemporaryDirectory() as folder:
-            page = Path(folder, "page.md")
-            page.write_text("Short.\n\nFirst " + "word " * 35 + "\nLast.\n", encoding="utf-8")
-            status, said, _ = said_by("pages", page)
-        self.assertEqual(status, 0)
-        self.assertIn(": 38 words, 1 sentences of more than 35\n  line 3: 37 words: First word ", said)
-        self.assertTrue(said.endswith("38 words, 1 sentences of more than 35 words\n"))
-
-    def test_the_greatest_number_is_met(self) -> None:
-        status, said, _ = said_by("pages", "--brief")
-        self.assertEqual(status, 0, said)
-        self.assertGreater(len(pages()), 10)
-        self.assertLess(most_allowed(), 1000)
-
-
-class References(unittest.TestCase):
-    """What a page refers to."""
-
-    def test_what_is_lacking(self) -> None:
-        with tempfile.TemporaryDirectory() as folder:
-            page = Path(folder, "page.md")
-            page.write_text(REFERENCES, encoding="utf-8")
-            Path(folder, "other.md").write_text("# Other\n\n## One `code`, and more\n", encoding="utf-8")
-            status, said, _ = said_by("pages", page)
-        self.assertEqual(status, 1)
-        self.assertEqual([it.strip() for it in said.splitlines()[1:-1]], LACKING)
-
-
-class ListsOfCrates(unittest.TestCase):
-    """The list of crates in a page."""
+class OfPages(unittest.TestCase):
+    """What fails, and what is written."""
 
     def setUp(self) -> None:
         folder = tempfile.TemporaryDirectory()
         self.addCleanup(folder.cleanup)
-        Path(folder.name, "crates.txt").write_text("# in order\nhigh: low std\nlow:\n", encoding="utf-8")
-        self.crates = Crates(Path(folder.name))
+        self.page, self.program = Path(folder.name, "page.md"), Path(folder.name, "program")
 
-    def test_a_list(self) -> None:
-        self.assertEqual(listed(self.crates), "\n| Crate | Depends on |\n|---|---|\n| `high` | `low`, `std` |\n| `low` | nothing |\n\n")
+    def said(self, text: str, *words: str | Path) -> Said:
+        """What is said of a page with this text."""
+        self.page.write_text(text, encoding="utf-8")
+        return said_by("pages", *words, self.page)
 
-    def test_the_place_of_the_list(self) -> None:
-        page = f"Before.\n\n{BEGIN}{{}}{END}\nBehind. {BEGIN}"
-        self.assertEqual(with_list(page.format("old\n"), "new\n"), page.format("new\n"))
-        for other in ("Nothing.\n", page.format("") * 2):
-            self.assertIsNone(with_list(other, "new\n"))
+    def test_stale_blocks(self) -> None:
+        for words, (right, stale) in BLOCKS.items():
+            self.said(f"Of <!-- {words} --><!-- end -->.", "--write")
+            written = self.page.read_text(encoding="utf-8")
+            self.assertEqual(self.said(written).status, 0, words)
+            self.assertIn(right, written, words)
+            said = self.said(written.replace(right, stale, 1))
+            self.assertEqual((said.status, "aren't what the sources give" in said.output), (1, True), words)
+
+    def test_faults(self) -> None:
+        for text, fault in FAULTS.items():
+            said = self.said(text)
+            self.assertEqual((said.status, fault in said.output), (1, True), said.output)
+
+    def test_runs(self) -> None:
+        self.program.write_text(PROGRAM, encoding="utf-8")
+        self.program.chmod(0o755)
+        how = ("--runs", "--program", self.program)
+        for right in (RUNS, RUNS.replace("check\nscript\n", "..\n")):
+            self.assertEqual(self.said(right, *how).status, 0, right)
+        self.assertIn("check: the status is 1", self.said(RUNS.replace("run 1", "run 0"), *how).output)
+        for stale in (RUNS.replace("said", "sai"), RUNS.replace("check\nscript", "check\ntext")):
+            self.assertEqual(self.said(stale, *how).status, 1)
+            self.said(stale, *how, "--write")
+            self.assertEqual(self.page.read_text(encoding="utf-8"), RUNS)
+
+    def test_sentences(self) -> None:
+        self.assertEqual([len(it) for it in sentences(PAGE) if it], [6, 8, 1, 3, 1, 2, 1])
+        self.assertGreater(len(pages()), 10)

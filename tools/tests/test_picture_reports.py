@@ -14,6 +14,16 @@ REPORTS = {
     "size": ["required 256", "from 0 refuses 1", "from 144 refuses 2", "from 192 refuses 3", "enough from 256"],
     "lengths": ["from 0 nocleanup", "from 144 left -4", "from 192 leaks 1", "from 256 ended", "length 192"],
 }
+# what the report for some words may have in the place of some text, and the faults that the picture has then
+OTHER_REPORTS = [
+    ("run --fail 3", "length 64", "length 80", "attempts are", "failing attempts are"),
+    ("run --fail 3", "simulated", "refused", "attempts are", "failing attempts are"),
+    ("run", "place 144", "place 160", "attempts are", "cells are"),
+    ("run --fail 3", "leak 2", "leak 1", "leaks are"),
+    ("run --fail 3", "left -4", "left -5", "the heading doesn't end with ': attempts 3, steps 3, left with -5, 1 leak'"),
+    ("size", "required 256", "required 272", "lengths are"),
+    ("size", "refuses 2", "refuses 3", "rows of the table are"),
+]
 
 
 class OfPictures(unittest.TestCase):
@@ -22,12 +32,6 @@ class OfPictures(unittest.TestCase):
     def faults(self, picture: str = PICTURE, command: str = "check", reports: dict[str, list[str]] = REPORTS) -> list[str]:
         """What is wrong with a picture beside these reports."""
         return list(faults_of(Picture(picture), command, lambda words: reports[" ".join(words)]))
-
-    def with_other(self, words: str, old: str, new: str) -> list[str]:
-        """What is wrong with the picture where the report for these words has other text in the place of some."""
-        lines = [it.replace(old, new) for it in REPORTS[words]]
-        self.assertNotEqual(lines, REPORTS[words])
-        return self.faults(reports=REPORTS | {words: lines})
 
     def assert_wrong(self, found: list[str], *parts: str) -> None:
         """There must be one fault for each of these parts, with it."""
@@ -43,23 +47,11 @@ class OfPictures(unittest.TestCase):
     def test_the_picture_itself(self) -> None:
         self.assertEqual(self.faults(), [])
 
-    def test_other_attempts(self) -> None:
-        for old, new in (("length 64", "length 80"), ("simulated", "refused")):
-            self.assert_wrong(self.with_other("run --fail 3", old, new), "attempts are", "failing attempts are")
-
-    def test_other_cells(self) -> None:
-        self.assert_wrong(self.with_other("run", "place 144", "place 160"), "attempts are", "cells are")
-
-    def test_other_leaks(self) -> None:
-        self.assert_wrong(self.with_other("run --fail 3", "leak 2", "leak 1"), "leaks are")
-
-    def test_other_ends(self) -> None:
-        found = self.with_other("run --fail 3", "left -4", "left -5")
-        self.assert_wrong(found, "the heading doesn't end with ': attempts 3, steps 3, left with -5, 1 leak'")
-
-    def test_other_lengths(self) -> None:
-        self.assert_wrong(self.with_other("size", "required 256", "required 272"), "lengths are")
-        self.assert_wrong(self.with_other("size", "refuses 2", "refuses 3"), "rows of the table are")
+    def test_other_reports(self) -> None:
+        for words, old, new, *parts in OTHER_REPORTS:
+            lines = [it.replace(old, new) for it in REPORTS[words]]
+            self.assertNotEqual(lines, REPORTS[words])
+            self.assert_wrong(self.faults(reports=REPORTS | {words: lines}), *parts)
 
     def test_a_table_of_ends(self) -> None:
         self.assert_wrong(self.faults(command="lengths"), "rows of the table are")

@@ -5,6 +5,7 @@ import unittest
 import xml.etree.ElementTree as ET
 
 from tools.picture_file import Picture
+from tools.pictured import SCRIPTS, of_steps, rows
 from tools.pictures import KEPT, KINDS, shown_pictures
 from tools.workbench import reads_standard_input, script_in, with_whole_picture
 
@@ -55,6 +56,27 @@ class OfKeptPictures(unittest.TestCase):
         self.assertIn("second-phase-leaks", shown_pictures())
         self.assertFalse(shown_pictures() & set(KINDS))
         self.assertEqual({it.name for it in KEPT.iterdir()}, {f"{it}.svg" for it in shown_pictures() | set(KINDS)})
+
+
+class OfScripts(unittest.TestCase):
+    """Which scripts are drawn, and what is said of each."""
+
+    def test_a_block(self) -> None:
+        said = "A comment.\n\n== a leak: run --fail 2\nproc main\nend\n-- 2 cells\n-- 1 rect leak: cell 2\n-- 0 path cut\n"
+        (row,) = rows(said)
+        self.assertEqual((row.name, row.words, row.script), ("a leak", ["run", "--fail", "2"], "proc main\nend\n"))
+        self.assertEqual((row.cells, row.titles, row.shows), (2, {("rect", "leak: cell 2"): 1, ("path", "cut"): 0}, None))
+        shown = [it.shows for it in rows("== one: check\nend\n-- shows end, fold\n\n== other: check\nend\n-- shows neither\n")]
+        self.assertEqual(shown, [{"end", "fold"}, set()])
+
+    def test_the_file(self) -> None:
+        text = SCRIPTS.read_text(encoding="utf-8")
+        self.assertEqual(len(list(rows())), text.count("\n== "))
+        self.assertGreater(len(list(rows())), 25)
+        self.assertEqual(len([it for it in rows() if it.shows is None and not it.cells]), 0)
+
+    def test_steps(self) -> None:
+        self.assertEqual(of_steps(5, False), "proc main\nptr a\nptr b\nint n\nrepeat 2\nadd n 1\nend\nend\n")
 
 
 class OfWords(unittest.TestCase):

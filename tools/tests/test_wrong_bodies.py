@@ -1,17 +1,14 @@
 """When the wrong bodies of a crate are tried again: on a tiny repository in a temporary folder, with these tools in it."""
 
-import re
 import shutil
 import subprocess
 import tempfile
 import unittest
 from pathlib import Path
 
-from tools.crates import Crates
-from tools.paths import ROOT, TOOLS
+from tools.paths import TOOLS
 from tools.seen_code import without_bodies
 from tools.verdicts import FILE, Verdicts
-from tools.wrong_body_files import MUST_FAIL, WRONG_BODIES, written_edits
 
 LOW = """\
 //! A number and the next one.
@@ -299,15 +296,3 @@ class WhatLinesStand(TinyRepository):
     def test_the_bodies_that_nobody_above_sees(self) -> None:
         self.assertNotIn("n + 1\n}", without_bodies(LOW))
         self.assertIn("result ≡ n + 1", without_bodies(LOW))
-
-
-class WhatThePageNames(unittest.TestCase):
-    """The edits of this repository that WRONG_BODIES.md names: each is there, and has no fault."""
-
-    def test_each_is_an_edit(self) -> None:
-        page = (ROOT / "docs/WRONG_BODIES.md").read_text(encoding="utf-8")
-        named = re.findall(r"`(\w+)/(must-fail/)?([a-z0-9-]+)`", page)
-        self.assertGreater(len(named), 30)
-        edits = {crate: written_edits(Crates().folder(crate), [WRONG_BODIES, MUST_FAIL]) for crate, _, _ in named}
-        for crate, _, name in named:
-            self.assertEqual([it.fault for it in edits[crate] if it.name == name], [""], f"{crate}/{name}")

@@ -1,5 +1,5 @@
 " Vim syntax file for scripts of the workbench
-" Made by `./tools/dev editors` from the tables of crates/wb_lines.
+" `./tools/dev editors` compares its words with the tables of crates/wb_lines.
 if exists('b:current_syntax')
   finish
 endif
