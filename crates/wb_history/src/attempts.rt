@@ -6,27 +6,28 @@ use wb_machine::Machine;
 use wb_model::heap::{Answer, Attempt, Rule};
 use wb_model::limits::CEILING;
 
-/// The most attempts that are kept whatever they are.
+/// How many of a run's first attempts are kept in any case.
 const MOST_ATTEMPTS: usize = 100_000;
 
-/// What is kept of a run beside what any explanation names.
+/// What is kept of a run besides what any explanation names.
 #[derive(Clone, Copy, Debug, PartialEq, Eq)]
 pub enum Keep {
-    /// Nothing: of attempts past the first 100,000 only those that the rule names.
+    /// Nothing more: of the attempts past the first 100,000, only those that the rule names are kept.
     Named,
-    /// Of these also the rises, which shorter heaps refuse first.
+    /// The rises: of the attempts past the first 100,000, also those that shorter heaps refuse first.
     Rises,
-    /// All that a picture draws: each attempt, and its `Course`.
+    /// All that a picture draws: each attempt, and the run's `Course`.
     Drawn,
 }
 
-/// An attempt, what made it, and in which step.
+/// An attempt, what made it, and the step in which it was made.
 #[derive(Clone, Copy)]
 pub struct AttemptMade<'a> {
     pub attempt: Attempt,
     pub maker: Maker<'a>,
     pub step: u32,
-    /// Whether it ends past all attempts before it that the script's own setting didn't refuse: a shorter heap refuses it first.
+    /// Whether the attempt is a rise: it isn't made to fail, and its cell ends, or would end, past those of all earlier attempts that
+    /// weren't made to fail. A heap that is too short for it, but not for any attempt before it, refuses it first.
     pub is_rise: bool,
 }
 
@@ -35,40 +36,40 @@ impl<'a> AttemptMade<'a> {
         self.attempt.answer == Answer::Granted
     }
 
-    /// Where the cell would end, in bytes.
+    /// Returns where the cell ends, or would end, in bytes.
     pub fn top(&self) -> u32 {
         self.attempt.place.saturating_add(self.attempt.length)
     }
 }
 
-/// How many attempts of a run failed on purpose, each counted once.
+/// How many attempts of a run were made to fail, each counted once.
 #[derive(Clone, Copy, Debug, PartialEq, Eq)]
 pub struct FailedCounts {
-    /// Those whose number the rule names, whether the script's own setting refused them too or not.
+    /// Attempts that the rule makes fail, whether or not the script's own setting makes them fail too.
     pub by_rule: u32,
-    /// Those that the script's own setting alone refused.
+    /// Attempts that only the script's own setting makes fail.
     pub by_script: u32,
 }
 
 /// The attempts of a run.
 #[derive(Drop)]
 pub struct Attempts<'a> {
-    /// By number.
+    /// In order of their numbers.
     kept: Vec<AttemptMade<'a>>,
     rule: Rule,
     keep: Keep,
     count: u32,
-    /// Where the last rise ends.
+    /// Where the last rise ends, in bytes.
     top: u32,
     failed: FailedCounts,
-    /// The index of the first attempt that the limit refused.
+    /// The index in `kept` of the first attempt that the limit denied.
     refused_at: Option<usize>,
-    /// Whether the newest attempt is kept, and no other line came after it.
+    /// Whether the newest attempt is kept, and the run hasn't gone on to another line since.
     is_newest_open: bool,
 }
 
 impl<'a> Attempts<'a> {
-    /// No attempt yet, of a run under this rule.
+    /// No attempt of the run under this rule was made yet.
     pub fn new(alloc: Global, rule: Rule, keep: Keep) -> Attempts<'a> {
         Attempts {
             kept: Vec::new(alloc),
@@ -95,12 +96,12 @@ impl<'a> Attempts<'a> {
         self.top
     }
 
-    /// Returns how many failed on purpose.
+    /// Returns how many attempts were made to fail.
     pub fn failed_counts(&self) -> FailedCounts {
         self.failed
     }
 
-    /// Returns those that are kept, by number.
+    /// Returns the attempts that are kept, in order of their numbers.
     pub fn kept_attempts(&self) -> &[AttemptMade<'a>] {
         self.kept.as_slice()
     }
@@ -127,12 +128,12 @@ impl<'a> Attempts<'a> {
         }
     }
 
-    /// Returns the first attempt that the limit refused; `None` if it refused none.
+    /// Returns the first attempt that the limit denied; `None` if it denied none.
     pub fn first_refused(&self) -> Option<AttemptMade<'a>> {
         self.kept.get(self.refused_at?).copied()
     }
 
-    /// Sees the attempt that the last turn of a machine made, and returns it; `None` if it made none.
+    /// Sees the attempt that the last machine turn made, and returns it; `None` if that turn made none.
     pub fn see_newest(&mut self, machine: &Machine<'a>) -> Result<Option<Attempt>, AllocError> {
         if self.count >= machine.attempts() {
             return Ok(None);
@@ -180,7 +181,7 @@ impl<'a> Attempts<'a> {
         Ok(())
     }
 
-    /// Sees a turn after the newest attempt: the line that was begun last, and whether that is in a body that undoes.
+    /// Sees a machine turn after the newest attempt: the line that was begun last, and whether that line is in a body that undoes.
     pub fn see_turn(&mut self, line: u32, undoes: bool) {
         if !self.is_newest_open {
             return;
@@ -191,7 +192,7 @@ impl<'a> Attempts<'a> {
         }
     }
 
-    /// Whether the rule names an attempt by its number.
+    /// Whether the rule names an attempt: by its number, as the first multiple of a rate, or as the first attempt that a limit denies.
     fn is_named(&self, attempt: Attempt) -> bool {
         match &self.rule {
             Rule::Unlimited => false,

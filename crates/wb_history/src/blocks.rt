@@ -1,10 +1,10 @@
-//! The blocks of a run that are open: its TRAPs, the turns that its `repeat`s have left, and the items that are still
-//! to be destroyed.
+//! The blocks of a run that are open: its TRAPs, its `repeat`s with the turns that each has left, and the items that are still to be
+//! destroyed.
 //!
-//! They are known from the lines that begin, so that nobody has to go over all that is pending. A line ends each block
-//! that it isn't in, unless that is in a body below the one that runs. A turn that begins no line is one of the
-//! innermost block that has something left, and ends those in it. So it is known before each turn which TRAPs the last
-//! one ended.
+//! Which blocks are open follows from the lines that begin, so nothing has to go over all that is pending in the machine. A line that
+//! begins ends every block that it isn't in, except for those of the bodies that called its own. A machine turn that begins no line belongs
+//! to the innermost block that has turns or items left, and ends the blocks inside that one. So before each machine turn it is known which
+//! TRAPs the previous one ended.
 
 use std::alloc::{AllocError, Global};
 use wb_model::script::{Body, Script, Statement, StatementAt};
@@ -12,7 +12,7 @@ use wb_model::script::{Body, Script, Statement, StatementAt};
 /// A block that is open.
 #[derive(Clone, Copy)]
 struct Block {
-    /// How many bodies run where it is, and in how many blocks of its body its line is.
+    /// How many bodies run where the block is, and how many blocks of its body the block's own line is in.
     depth: u32,
     nesting: u32,
     is_trap: bool,
@@ -20,7 +20,7 @@ struct Block {
     left: u32,
 }
 
-/// Lines that are in so many blocks of their body.
+/// Lines, and how many blocks of their body they are in.
 #[derive(Clone, Copy)]
 struct Lines<'s> {
     nesting: u32,
@@ -30,13 +30,13 @@ struct Lines<'s> {
 /// The blocks of a run that are open.
 #[derive(Drop)]
 pub struct Blocks {
-    /// For each line, in how many blocks of its body it is: of TRAPs and `repeat`s. Lines past the last have 0.
+    /// For each line, how many blocks (TRAPs and `repeat`s) of its body it is in. Lines past the end of this list are in none.
     nestings: Vec<u32>,
-    /// The innermost last.
+    /// The open blocks, the innermost last.
     open: Vec<Block>,
-    /// How many of these are TRAPs.
+    /// How many of the open blocks are TRAPs.
     traps: usize,
-    /// Whether the next turn is that of an object that is to be destroyed.
+    /// Whether the next machine turn begins to destroy an object.
     is_object_next: bool,
 }
 
@@ -56,7 +56,7 @@ impl Blocks {
         self.traps
     }
 
-    /// A line begins while so many bodies run.
+    /// A line begins while `depth` bodies run.
     #[inline(always)]
     pub fn begin_line(&mut self, depth: u32, line: u32) {
         if let Some(last) = self.open.last()
@@ -66,7 +66,7 @@ impl Blocks {
         }
     }
 
-    /// A TRAP begins at a line, while so many bodies run.
+    /// A TRAP begins at a line, while `depth` bodies run.
     pub fn begin_trap(&mut self, depth: u32, line: u32) -> Result<(), AllocError> {
         let nesting = self.nesting_of(line);
         self.open.push(Block {
@@ -79,7 +79,7 @@ impl Blocks {
         Ok(())
     }
 
-    /// A line leaves so many turns or items to be done, while so many bodies run.
+    /// A line begins a `repeat` of `left` turns or the destruction of `left` items, while `depth` bodies run.
     pub fn begin_rest(&mut self, depth: u32, line: u32, left: u32) -> Result<(), AllocError> {
         let nesting = self.nesting_of(line);
         self.add_rest(depth, nesting, left)
@@ -90,7 +90,7 @@ impl Blocks {
         self.is_object_next = true;
     }
 
-    /// A turn comes that begins no line.
+    /// A machine turn comes that begins no line.
     #[inline(never)]
     pub fn go_on(&mut self) {
         if self.is_object_next {
@@ -108,7 +108,7 @@ impl Blocks {
         }
     }
 
-    /// The innermost of so many bodies returns.
+    /// The innermost of `depth` bodies returns.
     pub fn end_body(&mut self, depth: u32) {
         for _ in 0..self.open.len() {
             if let Some(last) = self.open.last()
@@ -120,7 +120,8 @@ impl Blocks {
         }
     }
 
-    /// A leave ends all up to the innermost TRAP, and the TRAP, or all that is. So many items are to be destroyed then.
+    /// A leave ends the innermost TRAP and all blocks inside it; if no TRAP is open, it ends all blocks. Then `items` items are to be
+    /// destroyed.
     pub fn leave(&mut self, items: u32) -> Result<(), AllocError> {
         let mut at = Block {
             depth: 1,
@@ -152,7 +153,7 @@ impl Blocks {
         Ok(())
     }
 
-    /// Ends the blocks that a line isn't in that begins while so many bodies run.
+    /// Ends the blocks that a line isn't in. The line begins while `depth` bodies run.
     fn end_before(&mut self, depth: u32, line: u32) {
         let nesting = self.nesting_of(line);
         for _ in 0..self.open.len() {
@@ -173,13 +174,13 @@ impl Blocks {
         Some(last)
     }
 
-    /// In how many blocks of its body a line is.
+    /// How many blocks of its body a line is in.
     fn nesting_of(&self, line: u32) -> u32 {
         self.nestings.get(line as usize).copied().unwrap_or(0)
     }
 }
 
-/// In how many blocks each line of a script is, up to the last that is in one.
+/// For each line of a script, how many blocks of its body it is in; the list ends with the last line that is in any.
 fn nestings_of(alloc: Global, script: &Script) -> Result<Vec<u32>, AllocError> {
     let mut rest = bodies_of(alloc, script)?;
     let mut nestings = Vec::new(alloc);
@@ -228,7 +229,7 @@ fn add_block<'s>(
     Ok(())
 }
 
-/// Notes how deep these lines are, and adds the lines of the blocks that they begin.
+/// Notes how many blocks these lines are in, and adds the lines of the blocks that they begin.
 fn add_lines<'s>(
     nestings: &mut Vec<u32>,
     rest: &mut Vec<Lines<'s>>,
@@ -243,7 +244,7 @@ fn add_lines<'s>(
     Ok(())
 }
 
-/// Adds the lines of the blocks that a statement begins. Those of an `if` are as deep as itself.
+/// Adds the lines of the blocks that a statement begins. Lines inside an `if` are in no more blocks than the `if` itself.
 fn add_inner<'s>(
     rest: &mut Vec<Lines<'s>>,
     statement: &'s Statement,

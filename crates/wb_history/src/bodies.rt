@@ -1,4 +1,4 @@
-//! In which bodies of a script lines are.
+//! Which body of a script each line is in.
 
 use std::alloc::{AllocError, Global};
 use wb_model::script::{Class, Script};
@@ -6,7 +6,7 @@ use wb_model::script::{Class, Script};
 /// What a body is.
 #[derive(Clone, Copy, Debug, PartialEq, Eq, PartialOrd, Ord)]
 pub enum BodyKind {
-    /// No body: lines before the first.
+    /// No body: lines before the first body.
     Nothing,
     Procedure,
     /// The second phase of a class.
@@ -16,7 +16,7 @@ pub enum BodyKind {
 }
 
 impl BodyKind {
-    /// Whether a leave runs such bodies on its way.
+    /// Whether bodies of this kind undo what was done: a leave runs them when it destroys items.
     fn undoes(self) -> bool {
         match self {
             BodyKind::Operation | BodyKind::Destructor => true,
@@ -45,14 +45,14 @@ struct Part {
 pub struct Bodies {
     /// In order of their lines.
     parts: Vec<Part>,
-    /// For each line before the last body, whether it is in one that undoes.
+    /// For each line before the last body, whether it is in a body that undoes.
     undoing: Vec<bool>,
     /// Whether the last body undoes.
     undoes_at_end: bool,
 }
 
 impl Bodies {
-    /// The only error is that memory ran out.
+    /// Finds the bodies of a script. The only error is that memory ran out.
     pub fn of(alloc: Global, script: &Script) -> Result<Bodies, AllocError> {
         let mut bodies = Bodies {
             parts: Vec::new(alloc),
@@ -73,7 +73,7 @@ impl Bodies {
         Ok(bodies)
     }
 
-    /// Returns the body of a line: the last one that begins up to it.
+    /// Returns the body of a line: the last body that begins at this line or before it.
     pub fn body_of(&self, line: u32) -> BodyOfScript {
         let mut body = BodyOfScript {
             kind: BodyKind::Nothing,
@@ -88,7 +88,7 @@ impl Bodies {
         body
     }
 
-    /// Whether a line is in an operation or a destructor, which a leave runs on its way.
+    /// Whether a line is in a body that undoes: in an operation or a destructor, which a leave may run.
     pub fn undoes(&self, line: u32) -> bool {
         match self.undoing.get(line as usize) {
             Some(undoes) => *undoes,
@@ -111,7 +111,7 @@ impl Bodies {
         Ok(())
     }
 
-    /// A class's second phase comes before its destructor.
+    /// Adds the bodies of a class. The second phase comes before the destructor, so it counts from the class's own line on.
     fn add_class(&mut self, class: &Class) -> Result<(), AllocError> {
         self.add(class.line, BodyKind::Construct, class.line)?;
         if let Some(body) = &class.destroy

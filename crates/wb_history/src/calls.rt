@@ -6,24 +6,24 @@ use wb_model::heap::Ptr;
 use wb_model::limits::MOST_FRAMES;
 use wb_model::script::Statement;
 
-/// The most calls that are kept. What comes past them has a line and no call path.
+/// The most calls that are kept. What a further call leads to has a line, but no call path.
 const MOST_CALLS: usize = 100_000;
 
-/// A body that runs, or ran last at its depth.
+/// A body that runs, or the last one that ran at its depth.
 #[derive(Clone, Copy)]
 struct Frame<'a> {
-    /// The line that was begun last in it; 0 if none was.
+    /// The line that was begun last in the body; 0 if none was.
     line: u32,
     statement: Option<&'a Statement>,
-    /// What the target of a `callto` of that line named before it.
+    /// What the target of the last `callto` at this depth named before that call.
     replaced: Ptr,
-    /// The step in which it began.
+    /// The step in which the body began.
     since: u32,
-    /// The call path to that line, if `known` says so.
+    /// The call path to that line, if `known` says that the frame has it.
     path: u32,
 }
 
-/// The last line of a call path, and the path before it.
+/// The last line of a call path, and the path that leads to that line.
 #[derive(Clone, Copy)]
 struct Call {
     before: u32,
@@ -36,16 +36,17 @@ pub struct Calls<'a> {
     frames: Vec<Frame<'a>>,
     /// How many bodies ran when the last statement began.
     depth: u32,
-    /// Paths are indexes of their last calls. That with index 0 is the empty one.
+    /// A call path is the index here of its last call. Index 0 is the empty path.
     calls: Vec<Call>,
-    /// For each line the newest path that ends with it.
+    /// For each line, the newest path that ends with it.
     newest: Vec<u32>,
-    /// How many of the bodies, from `main` on, have their paths in their frames. They get them once no more calls are
-    /// kept: until then a path is looked for anew each time.
+    /// How many of the bodies, counted from `main`, have their call paths in their frames. Frames get paths only when no more calls can be
+    /// kept: until then a path is looked up anew each time.
     known: u32,
 }
 
-/// Written out, so that other proofs have one call where one is dropped, and its fields are gone over here alone.
+/// Written by hand, so that a proof about a function that drops such a value has a single call there, and only this function goes over
+/// the fields.
 impl Drop for Calls<'_> {
     fn drop(self) {
         let Calls {
@@ -72,7 +73,7 @@ impl<'a> Calls<'a> {
         })
     }
 
-    /// A statement begins while this many bodies run, in this step.
+    /// A statement begins in this step, while `depth` bodies run.
     pub fn begin(
         &mut self,
         depth: u32,
@@ -108,14 +109,14 @@ impl<'a> Calls<'a> {
         self.depth
     }
 
-    /// A `callto` begins, whose target names this.
+    /// A `callto` begins, while `depth` bodies run. Its target still names `names`.
     pub fn replace(&mut self, depth: u32, names: Ptr) {
         if let Some(frame) = self.frames.get_mut(depth as usize) {
             frame.replaced = names;
         }
     }
 
-    /// Returns what the target of the last `callto` named before it, while this many bodies ran; null if there was none.
+    /// Returns what the target of the last `callto` at this depth named before the call; null if there was none.
     pub fn replaced_at(&self, depth: u32) -> Ptr {
         match self.frames.get(depth as usize) {
             Some(frame) => frame.replaced,
@@ -123,7 +124,7 @@ impl<'a> Calls<'a> {
         }
     }
 
-    /// Returns the line that was begun last while this many bodies ran, 1 for a line of `main`; 0 if none was.
+    /// Returns the line that was begun last at this depth, which is 1 in `main`; 0 if none was.
     pub fn line_at(&self, depth: u32) -> u32 {
         match self.frames.get(depth as usize) {
             Some(frame) => frame.line,
@@ -131,7 +132,8 @@ impl<'a> Calls<'a> {
         }
     }
 
-    /// Returns the line that was begun last by the body that ran at this depth in this step; 0 if another has begun at that depth since.
+    /// Returns the line that was begun last by the body that ran at this depth in this step; 0 if another body has begun at this depth
+    /// since.
     pub fn last_line_of(&self, depth: u32, step: u32) -> u32 {
         match self.frames.get(depth as usize) {
             Some(frame) if frame.since <= step => frame.line,
@@ -139,12 +141,12 @@ impl<'a> Calls<'a> {
         }
     }
 
-    /// Returns the statement of that line.
+    /// Returns the statement that was begun last at this depth; `None` if none was.
     pub fn statement_at(&self, depth: u32) -> Option<&'a Statement> {
         self.frames.get(depth as usize)?.statement
     }
 
-    /// Returns the call path to the line that was begun last while this many bodies ran. The only error is that memory ran out.
+    /// Returns the call path to the line that was begun last at this depth. The only error is that memory ran out.
     pub fn path(&mut self, depth: u32) -> Result<u32, AllocError> {
         let is_full = self.calls.len() >= MOST_CALLS;
         let from = if is_full { self.known.min(depth) } else { 0 };
@@ -158,8 +160,7 @@ impl<'a> Calls<'a> {
         Ok(path)
     }
 
-    /// The call path to the line that was begun last while this many bodies ran, as its frame has it; the empty one of
-    /// no body.
+    /// The call path that the frame at this depth has; the empty path if the depth is 0.
     fn known_path(&self, depth: u32) -> u32 {
         match self.frames.get(depth as usize) {
             Some(frame) if depth > 0 => frame.path,
@@ -167,7 +168,7 @@ impl<'a> Calls<'a> {
         }
     }
 
-    /// Keeps the call path to that line, whose callers' paths are kept.
+    /// Keeps a call path in the frame at this depth. The callers' frames have their paths already.
     fn know(&mut self, depth: u32, path: u32) {
         if let Some(frame) = self.frames.get_mut(depth as usize) {
             frame.path = path;
@@ -193,7 +194,7 @@ impl<'a> Calls<'a> {
         Ok(lines)
     }
 
-    /// The path with one more line.
+    /// The path `before` with one more line; the empty path if that takes a further call and no more can be kept.
     fn longer(&mut self, before: u32, line: u32) -> Result<u32, AllocError> {
         let known = self.newest.get(line as usize).copied().unwrap_or(0);
         if let Some(call) = self.calls.get(known as usize)

@@ -1,4 +1,4 @@
-//! Which cells a check of the heap counted that failed, read off the machine that it stopped.
+//! Which cells a failed heap check counted, read off the machine that the check stopped.
 
 use std::alloc::{AllocError, Global};
 use wb_machine::Machine;
@@ -8,18 +8,17 @@ use wb_model::script::{Number, Statement};
 /// The most cells that are listed.
 const MOST_CELLS: usize = 20;
 
-/// The cells that a check counted whose panic ended the run.
+/// The cells counted by the heap check whose panic ended the run.
 #[derive(Drop)]
 pub struct Counted {
-    /// How many it was to find, and how many it found.
+    /// How many cells the check expected, and how many it found.
     pub expected: i32,
     pub found: u32,
-    /// The lowest of them, by place.
+    /// The lowest of the cells that it found, in order of their places.
     pub cells: Vec<Ptr>,
 }
 
-/// Returns the cells that a check counted whose panic ended the run; `None` if no check failed. The only error is that memory ran
-/// out.
+/// Returns the cells counted by the heap check whose panic ended the run; `None` if no check failed. The only error is that memory ran out.
 pub fn counted_by(machine: &Machine<'_>, alloc: Global) -> Result<Option<Counted>, AllocError> {
     let Some((is_of_all, number)) = failed_check(machine) else {
         return Ok(None);
@@ -59,7 +58,8 @@ impl Counted {
     }
 }
 
-/// Whether the check that failed was to count all cells, and how many it was to find; `None` if no check failed.
+/// Whether the check that failed counts the cells of all levels, and the operand that says how many cells it expects; `None` if no check
+/// failed.
 fn failed_check(machine: &Machine<'_>) -> Option<(bool, Number)> {
     let Panic::Alloc(_) = machine.raised_panic()?.panic else {
         return None;

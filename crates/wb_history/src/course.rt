@@ -1,4 +1,4 @@
-//! What a picture draws of a run, beside its attempts: its cells over time, and a few numbers. It is kept where a picture is wanted.
+//! What a picture draws of a run, besides its attempts: its cells over time, and a few numbers. This is kept only if a picture is wanted.
 
 use crate::lives::End;
 use crate::series::Series;
@@ -6,7 +6,7 @@ use std::alloc::{AllocError, Global};
 use wb_machine::Machine;
 use wb_model::heap::{Header, Kind, Ptr};
 
-/// The step at which a part ends that hasn't ended yet.
+/// Stands for the step at which a part ends, if it hasn't ended yet.
 pub const NEVER: u32 = u32::MAX;
 
 /// How a part of a cell's life ends.
@@ -16,13 +16,13 @@ pub enum PartEnd {
     Live,
     /// The cell is released.
     Freed,
-    /// It has another length from here on, at the same place.
+    /// The cell is resized at its place, and another part begins.
     Resized,
-    /// It moves to another place.
+    /// The cell moves to another place.
     Moved,
 }
 
-/// A part of a cell's life, over which it keeps its place and its length, both in bytes.
+/// A part of a cell's life, during which the cell keeps its place and its length, both in bytes.
 #[derive(Clone, Copy)]
 pub struct Part {
     /// The cell's allocation number.
@@ -38,14 +38,14 @@ pub struct Part {
     pub from: u32,
     pub gone: u32,
     pub end: PartEnd,
-    /// The index of the part that it follows, in the same cell or in one that moved.
+    /// The index of the part before this one: of the same cell, or of the cell that moved to this place.
     pub before: Option<usize>,
     /// Whether the cell is a leak of the run.
     pub leaks: bool,
 }
 
 impl Part {
-    /// Where the cell ends.
+    /// Returns where the cell ends, in bytes.
     pub fn top(&self) -> u32 {
         self.place.saturating_add(self.length)
     }
@@ -56,7 +56,7 @@ impl Part {
     }
 }
 
-/// The step, the line and the attempt with which a part begins; the attempt is 0 where the cell became shorter.
+/// The step, the line and the attempt with which a part begins; the attempt is 0 if the cell became shorter.
 #[derive(Clone, Copy)]
 pub struct PartStart {
     pub step: u32,
@@ -68,7 +68,7 @@ pub struct PartStart {
 pub struct Course {
     is_wanted: bool,
     parts: Vec<Part>,
-    /// For each cell, by its number, its last part: the index from 1; 0 if there is none.
+    /// For each cell, by its allocation number, the index of its last part, counted from 1; 0 if it has none.
     latest: Vec<u32>,
     pub committed: Series,
     pub levels: Series,
@@ -76,7 +76,8 @@ pub struct Course {
     pub items: Series,
 }
 
-/// Written out, so that other proofs have one call where one is dropped, and its fields are gone over here alone.
+/// Written by hand, so that a proof about a function that drops such a value has a single call there, and only this function goes over
+/// the fields.
 impl Drop for Course {
     fn drop(self) {
         let Course {
@@ -92,7 +93,7 @@ impl Drop for Course {
 }
 
 impl Course {
-    /// Nothing has happened yet. If it isn't wanted, nothing is kept later either.
+    /// Nothing has happened yet. If the course isn't wanted, nothing is kept later either.
     pub fn new(alloc: Global, is_wanted: bool) -> Course {
         Course {
             is_wanted,
@@ -110,7 +111,7 @@ impl Course {
         self.parts.as_slice()
     }
 
-    /// Sees the numbers that a turn left, but for that of the TRAPs.
+    /// Notes the numbers as they are after a machine turn, except for how many TRAPs are open.
     #[inline(always)]
     pub(crate) fn see_numbers(&mut self, machine: &Machine<'_>) -> Result<(), AllocError> {
         if !self.is_wanted {
@@ -132,13 +133,13 @@ impl Course {
             .note(step, u32::try_from(count).unwrap_or(u32::MAX))
     }
 
-    /// Sees a cell that was just granted. `old` is the cell that it took the place of, which has moved; null if there is none.
+    /// Sees a cell that was just granted. `old` is what named the cell before it moved; null if it is a new cell.
     pub fn begin(&mut self, cell: Header, start: PartStart, old: Ptr) -> Result<(), AllocError> {
         let before = self.index_of(old.number);
         self.add(cell, start, before)
     }
 
-    /// Sees that a live cell has another length, or that it was granted what it had.
+    /// Sees that a live cell was resized at its place, or that an attempt was granted the length that the cell already had.
     pub fn resize(&mut self, cell: Header, start: PartStart) -> Result<(), AllocError> {
         let index = self.index_of(cell.number);
         if let Some(index) = index
@@ -166,7 +167,7 @@ impl Course {
         }
     }
 
-    /// Marks the cell with this number as a leak.
+    /// Marks the cell with this allocation number as a leak.
     pub fn mark_leak(&mut self, number: u32) {
         if let Some(index) = self.index_of(number)
             && let Some(part) = self.parts.get_mut(index)
@@ -175,7 +176,7 @@ impl Course {
         }
     }
 
-    /// The index of the last part of the cell with this number.
+    /// The index of the last part of the cell with this allocation number.
     fn index_of(&self, number: u32) -> Option<usize> {
         let index = self.latest.get(number as usize)?.checked_sub(1)?;
         Some(index as usize)

@@ -1,24 +1,26 @@
-//! What happened in a run, for those who explain it or draw it. Outside of every theorem: no report depends on it, and nothing here is
-//! text for people.
+//! What happened in a run, for the crates that explain it or draw it. Outside of every theorem: no report depends on it, and nothing here
+//! is text for people.
 //!
-//! `watch_run` runs a script once under a rule (`RunParameters`), turn by turn, and keeps a `History`:
+//! `watch_run` runs a script once with given `RunParameters`, one machine turn after another, and keeps a `History`:
 //!
-//! - `Attempts`: each attempt, and the line and the statement that made it;
-//! - `Lives`: each cell: where it was made, grown, moved, shortened, pushed and popped, what pointed to it last, and how it ended;
+//! - `Attempts`: each attempt, with the line and the statement that made it;
+//! - `Lives`: each cell: the lines at which it was made, grown, pushed, popped and moved, the pointer that got it last, and how it ended;
 //! - `Items`: the items on the cleanup stack, each with where it was pushed;
-//! - `Traps`: the TRAPs that are open, with their lines; and each leave, with where it was caught;
+//! - `Traps`: the TRAPs that are open, with their lines; and each leave, with the TRAP that caught it;
 //! - `Views`: which cell's text each view shows;
-//! - `Calls`: which bodies run, and the call path of items, leaves and the end;
-//! - `Course`: where a picture is wanted, each part of each cell's life, and numbers over time.
+//! - `Calls`: which bodies run, and the call paths to pushed items, to leaves and to the run's end;
+//! - `Course`: if a picture is wanted, each part of each cell's life, and a few numbers over time.
 //!
-//! `watch_attempts` keeps the attempts alone, of a part of a run.
+//! `watch_attempts` makes only a part of a run, and keeps the attempts alone.
 //!
-//! When the run is over, `WatchedRun` adds its result, what raised its panic, and the pointer and the values that this was about.
+//! When the run is over, `WatchedRun` adds its outcome and, if it panicked, what raised the panic and the pointer, the values or the cells
+//! that the panic is about.
 //!
-//! Before a turn the machine says which statement it begins, and what its pointers name; after it, what became of these. So a turn
-//! costs a few looks at single cells, and never one at all of them; of most statements, as of one that adds, the line alone is kept
-//! (`quiet`). Memory is bounded: a life takes a few words, and past 100,000 attempts, cells or calls only what can still be named is
-//! kept, which is the last life of each place, and the attempts that the rule names.
+//! Before a machine turn, the machine says which statement the turn is to begin, and what the statement's pointers name; after the turn,
+//! what became of them. So watching a turn costs a few looks at single cells, and never a look at all of them. Of most statements, such as
+//! `add`, only the line is kept (`quiet`). The memory for a history is bounded: a life takes a few words. Past 100,000 attempts, only those
+//! that the rule names are kept, and besides them the rises, or all attempts for a picture, if these are wanted; past 100,000 lives, a new
+//! life replaces the newest at its place; past 100,000 calls, no new call path is kept.
 #![tactic(auto)]
 
 mod attempts;

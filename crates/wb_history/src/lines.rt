@@ -9,7 +9,7 @@ pub struct ScriptFile<'a> {
     pub text: &'a str,
 }
 
-/// The lines of a script's file, which is split once, and the names of its classes in their order.
+/// The lines of a script's file, split once, and the names of its classes, in the order in which the file declares them.
 #[derive(Drop)]
 pub struct ScriptLines<'a> {
     pub name: &'a str,

@@ -1,20 +1,20 @@
-//! The life of each cell: where it was made, grown, shortened, pushed and popped, what pointed to it last, and how it ended.
+//! The life of each cell: at which lines it was made, grown, pushed and popped, which pointer got it last, and how its life ended.
 
 use crate::moments::{Held, ShortLine};
 use std::alloc::{AllocError, Global};
 use wb_model::heap::{Header, Kind, Ptr};
 
-/// The most lives that are kept whatever they are. Later ones take the place of lives that ended at the same place.
+/// How many of the first lives are kept in any case. Past them, a new life replaces the newest one at the same place.
 const MOST_LIVES: usize = 100_000;
 
 /// How a cell's life ends.
 #[derive(Clone, Copy, Debug, PartialEq, Eq)]
 pub enum End {
-    /// It is freed, and no destructor runs.
+    /// The cell is freed, and no destructor runs.
     Freed,
-    /// Its object is deleted.
+    /// The cell's object is deleted.
     Deleted,
-    /// It is reallocated and moves.
+    /// The cell is reallocated and moves.
     Moved,
 }
 
@@ -25,7 +25,7 @@ pub enum Origin {
     Made,
     /// A line that reallocates: the cell may be one that moved.
     Reallocated,
-    /// The same, of a cell that moved though it had room to grow at its place.
+    /// A line that reallocates, by which a cell moved though it had room to grow at its place.
     MovedWithRoom,
 }
 
@@ -46,30 +46,30 @@ pub struct Ended {
     pub end: End,
     pub by: By,
     pub at: ShortLine,
-    /// Whether a cell that moved had room to grow at its place, so that it moved only because each such cell does in its heap.
+    /// Whether the cell moved though it had room to grow at its place: it moved only because the heap is a moving one.
     pub had_room: bool,
 }
 
-/// The life of a cell, at one place. A cell that moves begins another. Of what happened to it the lines alone are kept, and each in two
-/// bytes: a run may have half a million lives.
+/// The life of a cell at one place; a cell that moves begins another life. Of what happened to the cell only the lines are kept, in two
+/// bytes each: a run may have half a million lives.
 #[derive(Clone, Copy, Debug, PartialEq, Eq)]
 pub struct Life {
     pub pointer: Ptr,
-    /// Its cell length, in bytes.
+    /// The cell length, in bytes.
     pub length: u32,
     pub kind: Kind,
     pub origin: Origin,
     pub made: ShortLine,
-    /// Where it grew last, at its place.
+    /// The line at which the cell grew last, at its place.
     pub grown: ShortLine,
-    /// Where it was put on the cleanup stack last, and where that item was popped.
+    /// The line that put the cell on the cleanup stack last, and the line that popped that item.
     pub pushed: ShortLine,
     pub popped: ShortLine,
-    /// The pointer that got it last, and where that got another value.
+    /// The local or field that got the cell last, and the line at which that pointer got another value.
     pub held: Option<Held>,
     pub overwritten: ShortLine,
     pub ended: Option<Ended>,
-    /// The life before it at its place, by an index from 1; 0 if there is none.
+    /// The previous life at the same place, by an index from 1; 0 if there is none.
     before: u32,
 }
 
@@ -91,7 +91,7 @@ impl Life {
         }
     }
 
-    /// Whether the line that made it reallocates.
+    /// Whether the line that made the cell reallocates.
     pub fn is_reallocated(&self) -> bool {
         self.origin != Origin::Made
     }
@@ -100,11 +100,12 @@ impl Life {
 /// The lives of a run's cells.
 pub struct Lives {
     all: Vec<Life>,
-    /// For each place, by its sixteenth, the newest life there, by an index from 1; 0 if there is none.
+    /// For each place, divided by 16, the newest life there, by an index from 1; 0 if there is none.
     newest: Vec<u32>,
 }
 
-/// Written out, so that other proofs have one call where one is dropped, and its fields are gone over here alone.
+/// Written by hand, so that a proof about a function that drops such a value has a single call there, and only this function goes over
+/// the fields.
 impl Drop for Lives {
     fn drop(self) {
         let Lives { all: _, newest: _ } = self;
@@ -120,7 +121,8 @@ impl Lives {
         }
     }
 
-    /// Returns the life that a pointer names, also if it has ended; `None` if the pointer is null, or if that life isn't kept.
+    /// Returns the life of the cell that a pointer names, even if that life has ended; `None` if the pointer is null, or if the life isn't
+    /// kept.
     pub fn find(&self, pointer: Ptr) -> Option<Life> {
         let mut index = self.newest_at(pointer.place);
         for _ in 0..self.all.len() {
@@ -133,7 +135,7 @@ impl Lives {
         None
     }
 
-    /// Begins the life of a cell that was just granted, to this line.
+    /// Begins the life of a cell that the line `made` was just granted.
     pub fn begin(&mut self, cell: Header, made: u32, origin: Origin) -> Result<(), AllocError> {
         let before = self.newest_at(cell.place);
         if self.all.len() >= MOST_LIVES
@@ -179,7 +181,7 @@ impl Lives {
         }
     }
 
-    /// Notes which pointer got a live cell, unless it named that cell before.
+    /// Notes which local or field got a live cell, unless it was the last to get this cell and still names it.
     pub fn hold(&mut self, pointer: Ptr, held: Held) {
         if let Some(life) = self.live_mut(pointer) {
             let is_same = life.held.is_some_and(|last| last.is_same_variable(held));

@@ -1,9 +1,10 @@
-//! Single looks at a machine between two turns.
+//! Single looks at a machine between two machine turns.
 
 use wb_machine::{Machine, Raiser};
 use wb_model::heap::{Header, Ptr};
 
-/// Returns whether the statement begun last has panicked. A panic of the end of its block or body comes after it.
+/// Returns whether the statement begun last has panicked itself. A panic that the end of its block or body raises comes later, and doesn't
+/// count.
 pub fn has_panicked(machine: &Machine<'_>) -> bool {
     match machine.raised_panic() {
         Some(raised) => match raised.raiser {
@@ -24,8 +25,8 @@ pub fn live_at(machine: &Machine<'_>, place: u32) -> Option<Header> {
     }
 }
 
-/// Returns whether the bytes from one place up to another belong to no live cell but this one, where no other that begins below them
-/// reaches into them.
+/// Returns whether the bytes from place `from` up to place `until` belong to no live cell other than `own`. No other cell that begins below
+/// `from` may reach into these bytes.
 pub fn are_free_but_for(machine: &Machine<'_>, own: Header, from: u32, until: u32) -> bool {
     let first = machine.next_live(from);
     let other = match first {

@@ -8,14 +8,15 @@ pub struct Maker<'a> {
     pub line: u32,
     /// Its statement; `None` for the first attempt, which no line makes.
     pub statement: Option<&'a Statement>,
-    /// The first other line that was begun, outside of all that undoes; 0 where there is none.
+    /// The first line, other than this one, that was begun after the attempt, outside of bodies that undo; 0 if there is none.
     pub after: u32,
-    /// The turns before any other line was begun. A `repeat` of the line alone takes two for each time.
+    /// How many machine turns after the attempt stayed at this line, until that other line was begun. A `repeat` of this line alone takes
+    /// two machine turns for each pass.
     pub idle: u32,
 }
 
 impl<'a> Maker<'a> {
-    /// A line that made an attempt, by its statement, before anything comes after it.
+    /// A line that has just made an attempt, with its statement: nothing has come after the attempt yet.
     pub fn of(line: u32, statement: Option<&'a Statement>) -> Maker<'a> {
         Maker {
             line,
@@ -25,7 +26,7 @@ impl<'a> Maker<'a> {
         }
     }
 
-    /// Sees a turn after the attempt: the line that was begun last, and whether that is in a body that undoes.
+    /// Sees a machine turn after the attempt: the line that was begun last, and whether that line is in a body that undoes.
     pub fn see(&mut self, line: u32, undoes: bool) {
         if self.after != 0 {
             return;
@@ -37,7 +38,7 @@ impl<'a> Maker<'a> {
         }
     }
 
-    /// Whether the line gives null if its attempt fails, and goes on.
+    /// Whether the line gives null and the run goes on if the attempt fails.
     pub fn gives_null(&self) -> bool {
         match self.statement {
             Some(Statement::Realloc(_, _, _, Refusal::GivesNull))

@@ -6,12 +6,13 @@ use wb_model::heap::Ptr;
 #[derive(Clone, Copy, Debug, PartialEq, Eq)]
 pub struct Moment {
     pub step: u32,
-    /// 0 for what no line does: the cell of the cleanup stack.
+    /// 0 for what no line does: making the cell of the cleanup stack.
     pub line: u32,
     pub path: u32,
 }
 
-/// The number of a line in two bytes, or no line: a line that does something is less than 65,536 bytes from the script's beginning.
+/// The number of a line in two bytes, or no line. Two bytes are enough: a line that does something is less than 65,536 bytes from the
+/// script's beginning.
 #[derive(Clone, Copy, Debug, PartialEq, Eq)]
 pub struct ShortLine(u16);
 
@@ -36,12 +37,12 @@ impl ShortLine {
     }
 }
 
-/// What pointed to a cell last, and since when.
+/// The local or field that got a cell last, and when it got the cell.
 #[derive(Clone, Copy, Debug, PartialEq, Eq)]
 pub struct Held {
-    /// The object whose field it is; null if it is a local.
+    /// The object whose field it is; null for a local.
     pub owner: Ptr,
-    /// After how many steps it got the cell, at which line, and which line called the body that did that; no line if it is `main`.
+    /// After how many steps it got the cell, at which line, and which line called the body of that line; no line if that body is `main`.
     pub since: u32,
     pub line: ShortLine,
     pub caller: ShortLine,

@@ -3,7 +3,7 @@
 use crate::statements::target_of;
 use wb_model::script::{Argument, Condition, Pointer, Readable, Statement, Writable};
 
-/// The most operands of a statement that name cells: two names of a call, and its arguments.
+/// The greatest index of a word that may name a cell: a `callto` has its target, the procedure's name, and up to 4 arguments.
 pub const MOST_OPERANDS: usize = 6;
 
 /// An operand that names a cell.
@@ -11,7 +11,7 @@ pub const MOST_OPERANDS: usize = 6;
 pub enum CellName {
     /// A pointer that the line reads.
     Read(Pointer),
-    /// A pointer that the line writes: only the object of a field is read.
+    /// A pointer that the line writes. If it is a field, the line reads only the pointer to the field's object.
     Target(Pointer),
     /// A view, by the index of its local.
     View(u8),
@@ -24,7 +24,7 @@ pub struct Operand {
     pub name: CellName,
 }
 
-/// Returns the operand at the word with an index, counted from 0; `None` if that word names no cell.
+/// Returns the operand at the line's word with this index, counted from 0; `None` if that word names no cell.
 pub fn operand_at(statement: &Statement, word: usize) -> Option<Operand> {
     let name = match word {
         1 => first_name(statement)?,

@@ -2,7 +2,7 @@
 
 use wb_model::heap::{Rule, Shape};
 
-/// How a run is made: the attempts that are refused, the greatest number of steps, and the heap's shape.
+/// How a run is made: the rule that says which attempts fail, the greatest number of steps, and the heap's shape.
 #[derive(Debug, Drop)]
 pub struct RunParameters {
     pub rule: Rule,

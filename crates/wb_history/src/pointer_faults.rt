@@ -22,13 +22,13 @@ pub struct PointerFault {
     /// The index of its word in the line.
     pub word: usize,
     pub state: PointerState,
-    /// The pointer; `None` if it is a view, and then the cell is that of its text.
+    /// The pointer; `None` if the operand is a view. Then the cell is that of the view's text.
     pub pointer: Option<Pointer>,
-    /// Whether it is what holds the field that the word names.
+    /// Whether the word names a field, and the pointer is the one to the object of that field.
     pub is_owner: bool,
 }
 
-/// Returns the pointer that the panic is about that ended a run; `None` if it is about none.
+/// Returns the pointer that is at fault in the panic that ended a run; `None` if the panic is about no pointer.
 pub fn pointer_fault(machine: &Machine<'_>, history: &History<'_>) -> Option<PointerFault> {
     let raised = machine.raised_panic()?;
     let is_about_pointer = raised.panic == Panic::NULL_OR_STALE || raised.panic == Panic::BAD_CELL;
@@ -72,7 +72,7 @@ fn fault_of(
     })
 }
 
-/// What holds the object of a field.
+/// The pointer to the object of a field; `None` if the pointer is no field.
 fn owner_of(pointer: Pointer) -> Option<Pointer> {
     match pointer {
         Pointer::Held(_) => None,

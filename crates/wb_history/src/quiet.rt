@@ -1,9 +1,9 @@
-//! Which statements leave nothing of a run otherwise than it was but its line.
+//! Which statements change nothing that a history keeps, except for the line.
 
 use wb_model::script::Statement;
 
-/// Whether a statement makes no attempt, and changes no pointer, cell, item, view or mark. It doesn't leave or return,
-/// and begins no TRAP and no `repeat`.
+/// Whether a statement is quiet: it makes no attempt, frees or resizes no cell, and changes no pointer, item, view or mark. It doesn't
+/// leave or return, and begins no TRAP and no `repeat`.
 pub fn is_quiet(statement: &Statement) -> bool {
     matches!(
         statement,

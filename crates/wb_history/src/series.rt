@@ -1,4 +1,4 @@
-//! A number that changes in the course of a run, kept by its changes.
+//! A number that changes in the course of a run, kept as the list of its changes.
 
 use std::alloc::{AllocError, Global};
 
@@ -13,7 +13,7 @@ pub struct Change {
 #[derive(Drop)]
 pub struct Series {
     changes: Vec<Change>,
-    /// The value of the last.
+    /// The value of the last change.
     last: Option<u32>,
 }
 
@@ -29,7 +29,7 @@ impl Series {
         self.changes.as_slice()
     }
 
-    /// Notes the value after a step, if it is another than before.
+    /// Notes the number's value after a step, if it has changed.
     #[inline(always)]
     pub fn note(&mut self, step: u32, value: u32) -> Result<(), AllocError> {
         if self.last == Some(value) {
@@ -45,7 +45,7 @@ impl Series {
         Ok(())
     }
 
-    /// The least value; the greatest number that there is if there is none.
+    /// Returns the least value; `u32::MAX` if there is none.
     pub fn least(&self) -> u32 {
         let mut least = u32::MAX;
         for change in self.changes.as_slice() {
@@ -54,7 +54,7 @@ impl Series {
         least
     }
 
-    /// The greatest value; 0 if there is none.
+    /// Returns the greatest value; 0 if there is none.
     pub fn greatest(&self) -> u32 {
         let mut greatest = 0;
         for change in self.changes.as_slice() {

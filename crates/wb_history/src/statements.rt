@@ -1,4 +1,4 @@
-//! What a statement does with pointers, and what they name before it begins.
+//! What a statement does with pointers, and what these pointers name before it begins.
 
 use wb_machine::Machine;
 use wb_model::heap::{Answer, Attempt, Item, Ptr};
@@ -13,30 +13,30 @@ pub const NULL: Ptr = Ptr {
 /// The pointer that a statement writes, as it is before the statement.
 #[derive(Clone, Copy)]
 pub struct Variable {
-    /// The object whose field it is; null if it is a local.
+    /// The object whose field the pointer is; null if the pointer is a local.
     pub owner: Ptr,
     /// The index of the field or the local.
     pub index: u8,
-    /// What it names.
+    /// What the pointer names.
     pub names: Ptr,
 }
 
-/// A statement that a turn is to begin, and what it names before it.
+/// A statement that the next machine turn is to begin, and what its pointers name before that turn.
 #[derive(Clone, Copy)]
 pub struct Ahead<'a> {
     pub statement: &'a Statement,
-    /// The pointer that it writes.
+    /// The pointer that the statement writes; `None` if it writes none.
     pub written: Option<Variable>,
-    /// What the pointer that it reads names; null if it reads none.
+    /// What is named by the pointer that the statement reads; null if it reads none.
     pub source: Ptr,
-    /// How many turns or items it leaves to be done if it doesn't panic.
+    /// How many turns a `repeat` is to take, or how many items a `popdestroy` is to destroy, if it doesn't panic; 0 for other statements.
     pub(crate) rest: u32,
-    /// Whether it leaves by its own operand.
+    /// Whether the statement leaves because of its operand, without any attempt.
     leaves: bool,
 }
 
 impl<'a> Ahead<'a> {
-    /// Looks at the statement that the machine's next turn begins; `None` if it begins none.
+    /// Looks at the statement that the machine's next turn begins; `None` if that turn begins none.
     pub fn of(machine: &Machine<'a>) -> Option<Ahead<'a>> {
         Some(Ahead::with(machine, machine.next_statement()?))
     }
@@ -54,7 +54,7 @@ impl<'a> Ahead<'a> {
         }
     }
 
-    /// Whether the statement leaves, with the attempt that it made.
+    /// Whether the statement leaves, given the attempt that it made, if any.
     pub fn leaves(&self, attempt: Option<Attempt>) -> bool {
         let is_refused = match attempt {
             Some(attempt) => attempt.answer != Answer::Granted,
@@ -63,7 +63,7 @@ impl<'a> Ahead<'a> {
         self.leaves || is_refused && leaves_if_refused(self.statement)
     }
 
-    /// The item that the statement pushes.
+    /// The item that the statement pushes; `None` if it pushes none.
     pub fn item(&self) -> Option<Item> {
         match self.statement {
             Statement::Push(_) => Some(Item::Free(self.source)),
@@ -98,12 +98,12 @@ fn written_by(machine: &Machine<'_>, target: Option<Pointer>) -> Option<Variable
     })
 }
 
-/// Returns the pointer that a statement writes; `None` if it writes none. That of a `callto` is written when the call ends.
+/// Returns the pointer that a statement writes; `None` if it writes none. A `callto` writes its target when the call ends.
 pub fn target_of(statement: &Statement) -> Option<Pointer> {
     pointers_of(statement).target
 }
 
-/// The pointers of a statement: which it writes, and which it reads, as far as lives of cells or items depend on that.
+/// The pointer that a statement writes and the pointer that it reads, as far as the lives of cells or the items depend on them.
 #[derive(Clone, Copy)]
 struct Pointers {
     target: Option<Pointer>,
@@ -138,7 +138,7 @@ fn pair_of(target: Option<Pointer>, source: Option<Pointer>) -> Pointers {
     Pointers { target, source }
 }
 
-/// What a pointer names; null if there is none.
+/// What a pointer names; null if there is no pointer.
 #[inline(always)]
 fn names_of(machine: &Machine<'_>, pointer: Option<Pointer>) -> Ptr {
     match pointer {
@@ -147,7 +147,7 @@ fn names_of(machine: &Machine<'_>, pointer: Option<Pointer>) -> Ptr {
     }
 }
 
-/// Returns what the pointer names that the statement reads that was begun last; null if it reads none.
+/// Returns what is named by the pointer that the last statement begun reads; null if it reads none.
 pub fn last_read(machine: &Machine<'_>) -> Ptr {
     match machine.statement() {
         Some(statement) => names_of(machine, pointers_of(statement).source),
@@ -155,7 +155,7 @@ pub fn last_read(machine: &Machine<'_>) -> Ptr {
     }
 }
 
-/// How many turns or items a statement leaves to be done if it doesn't panic.
+/// How many turns a `repeat` is to take, or how many items a `popdestroy` is to destroy, if it doesn't panic; 0 for other statements.
 fn rest_of(machine: &Machine<'_>, statement: &Statement) -> u32 {
     match statement {
         Statement::Repeat(number, _) | Statement::PopDestroy(number) => {

@@ -3,7 +3,7 @@
 use crate::moments::{Held, Moment};
 use std::alloc::{AllocError, Global};
 
-/// The most leaves that are kept. Past them each takes the place of the last.
+/// The most leaves that are kept. Each further leave replaces the last one.
 const MOST_LEAVES: usize = 100_000;
 
 /// A TRAP of the script that is open, or was.
@@ -27,7 +27,8 @@ pub struct Leave {
 }
 
 impl Leave {
-    /// Whether it ends what got a cell: that came before it, in a body that ran still, and since its TRAP began.
+    /// Whether this leave cut short the code in which a pointer got a cell: the pointer got it after the leave's TRAP began and before the
+    /// leave, in a body that was still running.
     fn ends(&self, held: Held) -> bool {
         let since = match self.caught {
             Some(trap) => trap.since,
@@ -41,11 +42,12 @@ impl Leave {
 pub struct Traps {
     open: Vec<OpenTrap>,
     last_ended: Option<OpenTrap>,
-    /// The oldest first, and the last.
+    /// The oldest leaves first, and always the newest last.
     leaves: Vec<Leave>,
 }
 
-/// Written out, so that other proofs have one call where one is dropped, and its fields are gone over here alone.
+/// Written by hand, so that a proof about a function that drops such a value has a single call there, and only this function goes over
+/// the fields.
 impl Drop for Traps {
     fn drop(self) {
         let Traps {
@@ -81,7 +83,7 @@ impl Traps {
         self.leaves.last().copied()
     }
 
-    /// Returns the first leave that ended what got a cell; `None` if none did.
+    /// Returns the first leave that cut short the code in which a pointer got a cell; `None` if none did.
     pub fn leave_that_ended(&self, held: Held) -> Option<Leave> {
         for leave in self.leaves.as_slice() {
             if leave.ends(held) {
@@ -97,8 +99,8 @@ impl Traps {
         Ok(())
     }
 
-    /// A leave begins while this many bodies run, and the innermost TRAP catches it. Returns how many items were on the
-    /// cleanup stack at its entry; 0 if `main` was left.
+    /// A leave begins while `depth` bodies run, and the innermost TRAP catches it. Returns how many items were on the cleanup stack when
+    /// that TRAP began; 0 if `main` was left.
     pub fn leave(&mut self, at: Moment, depth: u32) -> Result<usize, AllocError> {
         let caught = self.open.last().copied();
         if self.leaves.len() >= MOST_LEAVES {
@@ -108,7 +110,7 @@ impl Traps {
         Ok(caught.map_or(0, |trap| trap.items))
     }
 
-    /// So many TRAPs are open now.
+    /// Only the outermost `count` TRAPs are still open.
     pub fn keep(&mut self, count: usize) {
         if let Some(ended) = self.open.get(count) {
             self.last_ended = Some(*ended);

@@ -1,4 +1,4 @@
-//! What is seen of a run turn by turn.
+//! What is seen of a run, one machine turn after another.
 
 mod carried;
 mod cells;
@@ -20,7 +20,7 @@ use wb_machine::Machine;
 use wb_model::heap::{Item, Ptr, Rule};
 use wb_model::script::{Script, Statement};
 
-/// An object that is being deleted, by what, and since which line.
+/// An object that is being deleted, what deletes it, and the line that began the deletion.
 #[derive(Clone, Copy)]
 struct Deletion {
     object: Ptr,
@@ -28,7 +28,7 @@ struct Deletion {
     line: u32,
 }
 
-/// What was begun last outside of bodies that undo.
+/// The statement that was begun last outside of bodies that undo.
 #[derive(Clone, Copy)]
 struct Outside<'a> {
     line: u32,
@@ -48,11 +48,11 @@ pub struct History<'a> {
     pub calls: Calls<'a>,
     pub bodies: Bodies,
     pub course: Course,
-    /// The item that the cleanup stack destroyed last, and the object whose deletion was over last.
+    /// The item that the cleanup stack destroyed last, and the object whose deletion ended last.
     pub last_item: Option<ItemOnStack>,
     pub last_deleted: Ptr,
     deletions: Vec<Deletion>,
-    /// How many cells were live when these were looked at; `None` if one was added since.
+    /// How many cells were live when `deletions` was last gone through; `None` if a deletion was added since.
     live: Option<u32>,
     blocks: Blocks,
     /// The cleanup stack's own cell.
@@ -61,11 +61,12 @@ pub struct History<'a> {
     /// The line that was begun last, and whether it is in a body that undoes.
     last: u32,
     undoes: bool,
-    /// What was begun last outside of these, before the one that runs.
+    /// The statement that was begun last before the running body that undoes.
     outside: Outside<'a>,
 }
 
-/// Written out, so that other proofs have one call where one is dropped, and its fields are gone over here alone.
+/// Written by hand, so that a proof about a function that drops such a value has a single call there, and only this function goes over
+/// the fields.
 impl Drop for History<'_> {
     fn drop(self) {
         let History {
@@ -136,7 +137,8 @@ impl<'a> History<'a> {
         self.last
     }
 
-    /// Returns the line that was begun last outside of operations and destructors: the one that destroys, where these run.
+    /// Returns the line that was begun last outside of operations and destructors. While one of these runs, it is the line because of which
+    /// something is destroyed.
     pub fn last_line_outside(&self) -> u32 {
         if self.undoes {
             self.outside.line
@@ -145,7 +147,7 @@ impl<'a> History<'a> {
         }
     }
 
-    /// Returns the call path of that line. The only error is that memory ran out.
+    /// Returns the call path to the line that `last_line_outside` returns. The only error is that memory ran out.
     pub fn outside_path(&mut self) -> Result<u32, AllocError> {
         if self.undoes && self.outside.path != 0 {
             return Ok(self.outside.path);
@@ -158,7 +160,7 @@ impl<'a> History<'a> {
         self.calls.path(depth)
     }
 
-    /// Sees what a turn left that began a statement of which the line alone is kept.
+    /// Sees the machine after a turn that was to begin a quiet statement, of which only the line is kept.
     pub(crate) fn see_quiet(&mut self, machine: &Machine<'a>) -> Result<(), AllocError> {
         if machine.steps() > self.steps {
             self.see_block(machine)?;
@@ -170,7 +172,7 @@ impl<'a> History<'a> {
         self.see_ends(machine)
     }
 
-    /// Sees what a turn left that was to begin any other statement.
+    /// Sees the machine after a turn that was to begin any other statement.
     pub(crate) fn see_begun(
         &mut self,
         machine: &Machine<'a>,
@@ -190,13 +192,13 @@ impl<'a> History<'a> {
         self.see_ends(machine)
     }
 
-    /// Sees that a turn comes that begins no statement, and which TRAPs ended before it.
+    /// Sees that the next machine turn begins no statement, and which TRAPs ended before it.
     pub(crate) fn go_on(&mut self) -> Result<(), AllocError> {
         self.blocks.go_on();
         self.see_traps()
     }
 
-    /// Sees what such a turn left: the first, one of a `repeat`, or one that destroys.
+    /// Sees the machine after a turn that began no statement: the first turn of the run, a turn of a `repeat`, or one that destroys.
     pub(crate) fn see_other(&mut self, machine: &Machine<'a>) -> Result<(), AllocError> {
         self.see_line(machine)?;
         if let Some(attempt) = self.attempts.see_newest(machine)? {
@@ -210,14 +212,14 @@ impl<'a> History<'a> {
         self.see_ends(machine)
     }
 
-    /// Sees what the last turn of the run left.
+    /// Sees the machine after the last machine turn of the run.
     pub(crate) fn see_end(&mut self, machine: &Machine<'a>) -> Result<(), AllocError> {
         self.traps.keep(machine.open_traps());
         self.note_traps()?;
         self.see_ends(machine)
     }
 
-    /// Sees which TRAPs ended before the statement began that the last turn began.
+    /// Sees which TRAPs ended before the last machine turn began its statement.
     #[inline(always)]
     fn see_block(&mut self, machine: &Machine<'a>) -> Result<(), AllocError> {
         self.blocks.begin_line(machine.depth(), machine.line());
@@ -234,14 +236,14 @@ impl<'a> History<'a> {
         self.note_traps()
     }
 
-    /// Notes how many TRAPs are open after the last step that was seen, if that is drawn.
+    /// Notes how many TRAPs are open after the last step that was seen, if a picture is wanted.
     #[inline(always)]
     fn note_traps(&mut self) -> Result<(), AllocError> {
         let count = self.traps.open_traps().len();
         self.course.note_traps(self.steps, count)
     }
 
-    /// Sees which objects a turn released, and the numbers that it left if they are drawn.
+    /// Sees which objects a machine turn released, and notes the numbers after it if a picture is wanted.
     fn see_ends(&mut self, machine: &Machine<'a>) -> Result<(), AllocError> {
         if !self.deletions.is_empty() {
             self.see_deletions(machine);
@@ -261,8 +263,8 @@ impl<'a> History<'a> {
             .begin(machine.depth(), line, machine.statement(), self.steps)
     }
 
-    /// Sees that a body that undoes begins, or that none runs any more. It takes the place of bodies that a leave ended, so what was
-    /// begun before it is kept, with its path.
+    /// Sees that a body that undoes begins, or that none runs any more. Such a body takes the depth, and so the frames, of bodies that a
+    /// leave ended. So the statement that was begun before it is kept, with its call path.
     fn see_undoing(&mut self) -> Result<(), AllocError> {
         self.undoes = !self.undoes;
         if self.undoes {
@@ -277,7 +279,7 @@ impl<'a> History<'a> {
         Ok(())
     }
 
-    /// Now, at the line that was begun last.
+    /// Returns the present moment, at the line that was begun last.
     fn now(&mut self, machine: &Machine<'a>) -> Result<Moment, AllocError> {
         Ok(Moment {
             step: self.steps,

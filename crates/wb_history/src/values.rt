@@ -1,13 +1,13 @@
-//! The values with which a line panicked, read off the machine that it stopped.
+//! The values with which a line panicked, read off the machine that the panic stopped.
 
 use wb_machine::{Machine, Raiser};
 use wb_model::heap::Panic;
 use wb_model::script::{Number, Pointer, Readable, Statement, Writable};
 
-/// The values with which a line panicked. Lengths and maxima are units, `bytes` are those of a cell that can be used.
+/// The values with which a line panicked. Positions, lengths and maxima count units; `bytes` is how many bytes of a cell can be used.
 #[derive(Clone, Copy, Debug, PartialEq, Eq)]
 pub enum Values {
-    /// How long a text would have been.
+    /// How long a text would have been, and its maximum.
     WouldHave {
         units: u32,
         maximum: u32,
@@ -17,12 +17,12 @@ pub enum Values {
         position: i32,
         length: u32,
     },
-    /// More units were asked for than a text has.
+    /// More units were asked for than a text has, or room for fewer than it has.
     Fewer {
         wanted: i32,
         length: u32,
     },
-    /// A part was asked for that doesn't end in the text.
+    /// A part of a text was asked for that would end past the text's end.
     Part {
         position: i32,
         wanted: i32,
@@ -33,14 +33,14 @@ pub enum Values {
         index: i32,
         bytes: u32,
     },
-    /// Two numbers whose sum is no int.
+    /// Two numbers whose sum doesn't fit in an int.
     Sum {
         first: i32,
         second: i32,
     },
     OutOfRange(i32),
     BelowZero(i32),
-    /// More items were to be popped than there are above those of the innermost TRAP's entry.
+    /// More items were to be popped than were pushed since the innermost TRAP began.
     TooManyItems {
         wanted: i32,
     },
@@ -48,14 +48,14 @@ pub enum Values {
     OwnText,
 }
 
-/// The values with which a line panicked, and the index of the word that they are about among the words of the line.
+/// The values with which a line panicked, and the index, from 0, of the line's word that they are about.
 #[derive(Clone, Copy, Debug, PartialEq, Eq)]
 pub struct Meant {
     pub word: usize,
     pub values: Values,
 }
 
-/// The values with which a line raised the panic that ended a run; `None` if nothing is said of any.
+/// Returns the values with which a line raised the panic that ended a run; `None` if the panic is about no values.
 pub fn values_of(machine: &Machine<'_>) -> Option<Meant> {
     let raised = machine.raised_panic()?;
     if raised.raiser != Raiser::Statement {
@@ -103,7 +103,7 @@ fn would_have(machine: &Machine<'_>, target: Writable, units: Option<u32>) -> Op
     about(1, Values::WouldHave { units, maximum })
 }
 
-/// How many units a text has and another that is put into it.
+/// How many units a text would have with another text put into it.
 fn both_lengths(machine: &Machine<'_>, target: Writable, text: Readable) -> Option<u32> {
     let own = machine.length(Readable::Of(target))?;
     let other = machine.length(text)?;
@@ -165,7 +165,7 @@ fn too_little_room(machine: &Machine<'_>, statement: &Statement) -> Option<Meant
     }
 }
 
-/// Which number is out of the line's range.
+/// Which number is out of the range that its statement allows.
 fn out_of_range(machine: &Machine<'_>, statement: &Statement) -> Option<Meant> {
     match statement {
         Statement::Store(pointer, index, _) => past_words(machine, 2, *pointer, *index),
@@ -214,12 +214,12 @@ fn out_of_line(machine: &Machine<'_>, word: usize, number: Number) -> Option<Mea
     about(word, Values::OutOfRange(machine.number(number)))
 }
 
-/// What keeps a text from being inserted: a position below 0, and else that it is the text itself.
+/// Why a text couldn't be inserted: because the position is below 0, or else because the text is the one it was to be inserted into.
 fn below_zero_or_own_text(position: i32) -> Option<Meant> {
     below_zero(2, position).or(about(3, Values::OwnText))
 }
 
-/// The first of two numbers that is below 0, by the index of the first one's word.
+/// The first of two numbers that is below 0. `word` is the index of the first number's word; the second number's word is the next.
 fn either_below_zero(
     machine: &Machine<'_>,
     word: usize,

@@ -6,13 +6,13 @@ use wb_machine::Machine;
 use wb_model::heap::Ptr;
 use wb_model::script::{Readable, Statement, Writable};
 
-/// How many locals a body may have by their indexes.
+/// How many different indexes a body's locals may have: an index is one byte.
 const LOCALS: usize = 256;
 
-/// What the views of the bodies that run were made of.
+/// The cells whose texts the views of the running bodies show.
 #[derive(Drop)]
 pub struct Views {
-    /// By how many bodies ran, and by the view's index among the locals.
+    /// Indexed by how many bodies run where the view is, and by the view's index among its body's locals.
     cells: Vec<Ptr>,
 }
 
@@ -24,13 +24,13 @@ impl Views {
         }
     }
 
-    /// Returns the cell whose text a view shows, while this many bodies run; null if none does.
+    /// Returns the cell whose text a view shows in the body at this depth; null if the view shows no cell's text.
     pub fn cell_of(&self, depth: u32, view: u8) -> Ptr {
         let at = index_of(depth, view);
         self.cells.get(at).copied().unwrap_or(NULL)
     }
 
-    /// Sees a statement that was carried out, which may have made a view show a text.
+    /// Sees a statement that was carried out, and notes what a view shows if the statement changed that.
     pub fn see(&mut self, machine: &Machine<'_>, statement: &Statement) -> Result<(), AllocError> {
         match statement {
             Statement::Left(view, text, _)

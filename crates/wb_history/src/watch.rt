@@ -1,6 +1,9 @@
-//! A run that is watched turn by turn.
+//! A run that is watched, one machine turn after another.
 
-ghost use Rattle.std.specs.Prelude.{◌≤◌, IsTrue};
+ghost use Rattle.std.specs.Prelude.{◌≡◌, ◌≤◌, false, IfOk, IfSome, IsTrue};
+ghost use Rattle.wb_history.specs.Watched.{IsWatchedRun};
+ghost use Rattle.wb_machine.specs.Seen.{seen_at_start, whole_run_of};
+ghost use Rattle.wb_machine.specs.Turns.{IsSameRun};
 ghost use Rattle.wb_model.specs.language.Sound.{is_script};
 
 use crate::attempts::{Attempts, Keep};
@@ -21,21 +24,22 @@ use wb_model::script::{Script, Statement};
 
 /// What ended a run.
 pub struct EndOfRun<'a> {
-    /// The panic that ended it.
+    /// The panic that ended the run; `None` if none did.
     pub raised: Option<Raised>,
     /// The statement that was begun last.
     pub statement: Option<&'a Statement>,
-    /// The pointer, the values or the cells that the panic is about; each is `None` if it is about none.
+    /// The pointer, the values or the cells that the panic is about; each is `None` if the panic is about none.
     pub pointer: Option<PointerFault>,
     pub values: Option<Meant>,
     pub counted: Option<Counted>,
-    /// What the pointer that the last statement reads names; null if it reads none.
+    /// What is named by the pointer that the last statement reads; null if it reads none.
     pub names: Ptr,
-    /// The lines from `main` down to the one that raised the panic.
+    /// The lines from `main` down to the line that is to be named for the panic; none without a panic.
     pub path: Vec<u32>,
 }
 
-/// Written out, so that other proofs have one call where one is dropped, and its fields are gone over here alone.
+/// Written by hand, so that a proof about a function that drops such a value has a single call there, and only this function goes over
+/// the fields.
 impl Drop for EndOfRun<'_> {
     fn drop(self) {
         let EndOfRun {
@@ -58,7 +62,8 @@ pub struct WatchedRun<'a> {
     pub end: EndOfRun<'a>,
 }
 
-/// Written out, so that other proofs have one call where one is dropped, and its fields are gone over here alone.
+/// Written by hand, so that a proof about a function that drops such a value has a single call there, and only this function goes over
+/// the fields.
 impl Drop for WatchedRun<'_> {
     fn drop(self) {
         let WatchedRun {
@@ -70,8 +75,9 @@ impl Drop for WatchedRun<'_> {
     }
 }
 
-/// Runs the script once with these parameters and watches it, and keeps what explanations name, and besides what is said; `None` if the
-/// shape is none that a heap may have. The only error is that memory ran out.
+/// Runs the script once with these parameters, watches the run, and keeps what explanations name, and besides that what `keep` says; `None`
+/// if no heap may have this shape. The run ends as the definitions say; nothing is promised of what is kept. The only error is that memory
+/// ran out.
 pub fn watch_run<'a>(
     alloc: Global,
     script: &'a Script,
@@ -81,6 +87,8 @@ pub fn watch_run<'a>(
     requires script { IsTrue (is_script script.now) }
     requires least { 1 ≤ parameters.budget }
     requires greatest { parameters.budget ≤ LARGEST_BUDGET }
+    ensures watched { IfOk result (λ watched.
+        IfSome watched (IsWatchedRun script.now parameters)) }
 {
     match machine_of(alloc, script, &parameters)? {
         Some(machine) => Ok(Some(run_of(alloc, machine, script, parameters, keep)?)),
@@ -88,8 +96,7 @@ pub fn watch_run<'a>(
     }
 }
 
-/// Returns the machine of a run that hasn't begun; `None` if the shape is none that a heap may have. The only error is that memory ran
-/// out.
+/// Returns the machine of a run that hasn't begun; `None` if no heap may have this shape. The only error is that memory ran out.
 pub fn machine_of<'a>(
     alloc: Global,
     script: &'a Script,
@@ -98,6 +105,9 @@ pub fn machine_of<'a>(
     requires script { IsTrue (is_script script.now) }
     requires least { 1 ≤ parameters.now.budget }
     requires greatest { parameters.now.budget ≤ LARGEST_BUDGET }
+    ensures begins { IfOk result (λ made. IfSome made (λ machine.
+        machine ≡ seen_at_start false script.now parameters.now.rule
+        parameters.now.budget parameters.now.shape)) }
 {
     let rule = parameters.rule.try_copy()?;
     match Machine::new(alloc, script, rule, parameters.budget, parameters.shape) {
@@ -107,14 +117,18 @@ pub fn machine_of<'a>(
     }
 }
 
-/// Watches the whole run of a machine, and takes its outcome. Turns that were not watched, if any, are taken then.
+/// Watches the whole run of a machine, and takes its outcome. If any machine turns weren't watched, they are taken after that.
 fn run_of<'a>(
     alloc: Global,
     mut machine: Machine<'a>,
     script: &Script,
     parameters: RunParameters,
     keep: Keep,
-) -> Result<WatchedRun<'a>, NoMemory> {
+) -> Result<WatchedRun<'a>, NoMemory>
+    ensures made_with { IfOk result (λ watched. watched.parameters ≡ parameters) }
+    ensures ended { IfOk result (λ watched.
+        watched.outcome ≡ (whole_run_of machine.entry).result.outcome) }
+{
     let Seen { mut history, end } = see_run(alloc, &mut machine, script, &parameters, keep)?;
     let outcome = machine.run_to_end()?.outcome;
     history.see_outcome(&outcome);
@@ -140,7 +154,9 @@ fn see_run<'a>(
     script: &Script,
     parameters: &RunParameters,
     keep: Keep,
-) -> Result<Seen<'a>, NoMemory> {
+) -> Result<Seen<'a>, NoMemory>
+    ensures { IsSameRun machine.old machine.new }
+{
     let mut history = History::new(alloc, script, parameters.rule.try_copy()?, keep)?;
     let end = see_turns(alloc, machine, &mut history, parameters.budget)?;
     Ok(Seen { history, end })
@@ -151,7 +167,9 @@ fn see_turns<'a>(
     machine: &mut Machine<'a>,
     history: &mut History<'a>,
     budget: u32,
-) -> Result<EndOfRun<'a>, NoMemory> {
+) -> Result<EndOfRun<'a>, NoMemory>
+    ensures { IsSameRun machine.old machine.new }
+{
     watch(machine, history, budget)?;
     Ok(end_of(alloc, machine, history)?)
 }
@@ -161,12 +179,12 @@ fn see_turns<'a>(
 pub enum Until {
     /// Up to the attempt with this number.
     Attempt(u32),
-    /// Up to the first attempt that ends past this length, in bytes.
+    /// Up to the first rise that ends past this length, in bytes.
     Past(u32),
 }
 
-/// Makes a part of the run of the script with these parameters and returns its attempts alone, with the lines that made them; `None`
-/// if the shape is none that a heap may have. The only error is that memory ran out.
+/// Runs the script with these parameters up to `until`, and returns only the attempts, with the lines that made them; `None` if no heap may
+/// have this shape. The only error is that memory ran out.
 pub fn watch_attempts<'a>(
     alloc: Global,
     script: &'a Script,
@@ -183,7 +201,7 @@ pub fn watch_attempts<'a>(
     }
 }
 
-/// The attempts of a part of a machine's run, which is given up then.
+/// The attempts of a machine's run up to `until`. The rest of the run isn't made.
 fn attempts_of<'a>(
     alloc: Global,
     mut machine: Machine<'a>,
@@ -204,8 +222,8 @@ fn see_attempts<'a>(
     Ok(attempts)
 }
 
-/// Lets the machine take its turns until this is reached, at most one for each step of the budget, the first, and the one that ends
-/// the run.
+/// Lets the machine take its turns up to `until`, at most one for each step of the budget, besides the first turn and the one that ends the
+/// run.
 fn watch_some<'a>(
     machine: &mut Machine<'a>,
     attempts: &mut Attempts<'a>,
@@ -229,12 +247,14 @@ fn is_reached(attempts: &Attempts<'_>, until: Until) -> bool {
     }
 }
 
-/// Lets the machine take its turns, at most one for each step of the budget, the first, and the one that ends the run.
+/// Lets the machine take its turns, at most one for each step of the budget, besides the first turn and the one that ends the run.
 fn watch<'a>(
     machine: &mut Machine<'a>,
     history: &mut History<'a>,
     budget: u32,
-) -> Result<(), NoMemory> {
+) -> Result<(), NoMemory>
+    ensures { IsSameRun machine.old machine.new }
+{
     for _ in 0..=budget.saturating_add(1) {
         if watch_turn(machine, history)? == Turn::Ended {
             break;
@@ -245,7 +265,9 @@ fn watch<'a>(
 }
 
 /// Lets the machine take its next turn, and keeps what happens.
-fn watch_turn<'a>(machine: &mut Machine<'a>, history: &mut History<'a>) -> Result<Turn, NoMemory> {
+fn watch_turn<'a>(machine: &mut Machine<'a>, history: &mut History<'a>) -> Result<Turn, NoMemory>
+    ensures { IsSameRun machine.old machine.new }
+{
     match machine.next_statement() {
         Some(statement) if is_quiet(statement) => {
             let turn = machine.step()?;

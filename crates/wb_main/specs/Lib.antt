@@ -1,2 +1,4 @@
 -- What the program's own contracts say.
+pub mod Afterwards
+pub mod Asked
 pub mod Picture

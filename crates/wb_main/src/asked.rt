@@ -1,7 +1,8 @@
-//! What the command says of the script, and its answer: how its file is called, how many steps its runs may take, and the failure or
-//! the heap whose run the report shows.
+//! What a command says of its script, and what its answer names: the name of the script's file, how many steps a run may take, and the
+//! failure or the heap whose run the report shows.
 
-ghost use Rattle.std.specs.Prelude.{◌≤◌};
+ghost use Rattle.std.specs.Prelude.{◌≡◌, ◌≤◌, IfOk};
+ghost use Rattle.wb_main.specs.Asked.{rule_named, IsAsAsked};
 
 use wb_command_line::command_line::MOST_STATES;
 use wb_explain::runs::ManyStates;
@@ -13,15 +14,15 @@ use wb_model::memory::NoMemory;
 use workbench::findings::Findings;
 use workbench::{Command, FileName, Search, Task};
 
-/// How standard input is called before the number of a line.
+/// The name of standard input before the number of a line.
 const INPUT: &str = "<stdin>";
 
-/// Returns how the script is called in a page or a picture.
+/// Returns the name of the script in an explanation or a picture.
 pub fn script_name(command: &Command) -> &str {
     source_name(command, INPUT)
 }
 
-/// Returns the name of the script's file, or how standard input is called.
+/// Returns the name of the script's file, or `input` if the script is read from standard input.
 pub fn source_name<'a>(command: &'a Command, input: &'a str) -> &'a str {
     match &command.file {
         Some(name) => shown_name(name),
@@ -29,7 +30,7 @@ pub fn source_name<'a>(command: &'a Command, input: &'a str) -> &'a str {
     }
 }
 
-/// Returns a file's name. An empty one is shown as two quotes.
+/// Returns a file's name, or two quotes if the name is empty.
 pub fn shown_name(name: &FileName) -> &str {
     if name.as_str().is_empty() {
         "\"\""
@@ -38,16 +39,19 @@ pub fn shown_name(name: &FileName) -> &str {
     }
 }
 
-/// Returns the command's budget, which is in its range.
+/// Returns the command's budget, in steps, brought into its range: from 1 to `LARGEST_BUDGET`.
 pub fn budget_of(command: &Command) -> u32
     ensures least { 1 ≤ result }
     ensures greatest { result ≤ LARGEST_BUDGET }
+    ensures own { 1 ≤ command.now.budget → command.now.budget ≤ LARGEST_BUDGET →
+        result ≡ command.now.budget }
 {
     command.budget.max(1).min(LARGEST_BUDGET)
 }
 
-/// Returns how the run under a rule is made that the command asks for.
+/// Returns the parameters of the run under this rule, with the budget and the shape that the command asks for.
 pub fn parameters_of(command: &Command, rule: Rule) -> RunParameters
+    ensures asked { IsAsAsked command.now rule result }
     ensures least { 1 ≤ result.budget }
     ensures greatest { result.budget ≤ LARGEST_BUDGET }
 {
@@ -58,8 +62,11 @@ pub fn parameters_of(command: &Command, rule: Rule) -> RunParameters
     }
 }
 
-/// Returns the rule of the run that a sweep's report names; `None` if it names none. The only error is that memory ran out.
-pub fn rule_named(findings: &Findings) -> Result<Option<Rule>, NoMemory> {
+/// Returns the rule under which the run that a sweep's report names was made; `None` if the report names no run. The only error is that
+/// memory ran out.
+pub fn rule_named(findings: &Findings) -> Result<Option<Rule>, NoMemory>
+    ensures { IfOk result (λ rule. rule ≡ rule_named findings.now) }
+{
     match &findings.set {
         Some(numbers) => Ok(Some(Rule::Set(numbers.try_copy()?))),
         None => Ok(findings.at.map(|it| it.rule())),
@@ -74,7 +81,7 @@ pub fn search_of(task: &Task) -> Option<Search> {
     }
 }
 
-/// Returns what is known of a search that met more states than the command allows; `None` if the report isn't that of one.
+/// Returns what is known of a search that met more states than the command allows; `None` if the report isn't of such a search.
 pub fn many_states(command: &Command, findings: &Findings) -> Option<ManyStates> {
     let fine = findings.fine?;
     let most = match search_of(&command.task)? {
@@ -88,7 +95,7 @@ pub fn many_states(command: &Command, findings: &Findings) -> Option<ManyStates>
     })
 }
 
-/// How many states may be met next; `None` if no more may.
+/// How many states the user may allow next, if this many weren't enough; `None` if no more can be allowed.
 fn more_states(states: u32) -> Option<u32> {
     if states < MOST_STATES {
         Some(states.saturating_mul(10).min(MOST_STATES))
@@ -97,7 +104,7 @@ fn more_states(states: u32) -> Option<u32> {
     }
 }
 
-/// Returns the least length of a table whose run leaks or panics, in bytes; `None` if none does.
+/// Returns the least length of heap in a table for which the run leaks or panics, in bytes; `None` if there is none.
 pub fn least_bad_length(ranges: &LengthTable) -> Option<u32> {
     for range in ranges.as_slice() {
         if range.end.is_bad() {

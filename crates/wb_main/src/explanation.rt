@@ -1,4 +1,4 @@
-//! What is said on standard error of an answer, beside the answer itself.
+//! The text on standard error that explains an answer.
 
 ghost use Rattle.std.specs.Prelude.{IsTrue};
 ghost use Rattle.wb_model.specs.language.Sound.{is_script};
@@ -26,7 +26,8 @@ use workbench::exit_status::NOTHING_FOUND;
 use workbench::findings::Findings;
 use workbench::{Command, Search, Task};
 
-/// Returns whether there is nothing to say of a report: nothing was found, no attempt was to fail, and no length is reported.
+/// Returns whether there is nothing to say of a report. For `size` and `check` there always is something; for other tasks there is if
+/// something was found, or if there is a run to explain all the same.
 pub fn has_nothing_to_say(answer: Answer<'_>) -> bool {
     match &answer.command.task {
         Task::Size | Task::Check(_) => false,
@@ -34,12 +35,13 @@ pub fn has_nothing_to_say(answer: Answer<'_>) -> bool {
     }
 }
 
-/// Whether nothing was found, and no run is explained all the same.
+/// Whether nothing was found, and there is no run to explain all the same.
 fn is_found_nothing(answer: Answer<'_>) -> bool {
     answer.status == NOTHING_FOUND && !has_run_to_explain(&answer.command.task, answer.findings)
 }
 
-/// Returns why the script's file could not be read, or the report not written. The only error is that memory ran out.
+/// Returns why the script could not be read, or the report could not be written; empty if no fault was recorded. The only error is that
+/// memory ran out.
 pub fn explain_fault(
     alloc: Global,
     command: &Command,
@@ -55,7 +57,7 @@ pub fn explain_fault(
     Ok(file_fault(alloc, name, deed, kind)?)
 }
 
-/// Returns what is said of these runs. The only error is that memory ran out.
+/// Returns the text on these runs. The only error is that memory ran out.
 pub fn explain_runs(
     alloc: Global,
     answer: Answer<'_>,
@@ -82,8 +84,9 @@ pub fn explain_runs(
     Ok(said)
 }
 
-/// What shorter heaps refuse first, what heaps of every length show, and what all numbers show; empty if the report says none of
-/// these. The run that they are about is made up to the last attempt that they name, unless it was made whole.
+/// The text on what the report says of many runs: what shorter heaps refuse first, what heaps of every length show, or what all numbers
+/// show; empty if the report says none of these. The run whose attempts the text names is made once more up to the last of them, unless it
+/// was watched as a whole already.
 fn explain_all(
     alloc: Global,
     answer: Answer<'_>,
@@ -118,7 +121,7 @@ fn explain_all(
     }
 }
 
-/// The rises of a size; none if the report has no table.
+/// The rises of the report's table; empty if the report has no table.
 fn rises_of(findings: &Findings) -> &[Rise] {
     match &findings.rises {
         Some(rises) => rises.as_slice(),
@@ -126,7 +129,7 @@ fn rises_of(findings: &Findings) -> &[Rise] {
     }
 }
 
-/// What shorter heaps refuse first, and what all numbers show.
+/// The text on what shorter heaps refuse first, and on what all numbers show.
 fn explain_attempts(
     alloc: Global,
     findings: &Findings,
@@ -145,7 +148,7 @@ fn explain_attempts(
     Ok(found)
 }
 
-/// What heaps of every length show.
+/// The text on what heaps of every length show.
 fn explain_heaps(
     alloc: Global,
     command: &Command,
@@ -163,8 +166,8 @@ fn explain_heaps(
     Ok(heaps_found(alloc, lines, attempts.as_ref(), budget_of(command), ranges)?)
 }
 
-/// Returns all the numbers that are told of, and what they are; `None` if fewer than two leak or panic, since the run of one is
-/// explained anyway.
+/// Returns the kind of failure that the report lists, and how the run of each number ended; `None` if the report has no such list, or if
+/// fewer than two of its runs leak or panic, since a single such run is explained anyway.
 fn numbers_to_explain<'a>(
     task: &Task,
     findings: &'a Findings,
@@ -181,7 +184,7 @@ fn numbers_to_explain<'a>(
     }
 }
 
-/// Whether the runs of two numbers leak or panic.
+/// Whether the runs of at least two numbers leak or panic.
 fn has_two_bad(ends: &[NumberEnd]) -> bool {
     let mut has_one = false;
     for told in ends {

@@ -1,4 +1,4 @@
-//! What is said of what `check` asks unasked, where it found nothing. What is asked, and how far, is in `unasked`.
+//! The text on what `check` asks unasked if it found nothing. How each question is answered, and with how much work, is in `unasked`.
 
 ghost use Rattle.std.specs.Prelude.{IsTrue};
 ghost use Rattle.wb_model.specs.language.Sound.{is_script};
@@ -14,11 +14,12 @@ use wb_model::memory::NoMemory;
 use wb_model::script::Script;
 use workbench::Command;
 
-/// The questions that are asked unasked, in their order.
+/// The questions that `check` asks unasked, in this order.
 const QUESTIONS: [Question; 3] = [Question::Persistent, Question::Lengths, Question::Sets];
 
-/// Returns what a check that found nothing finds unasked: the first question that shows a leak or a panic, with its run, and those before it that
-/// weren't decided; or that nothing does. The only error is that memory ran out.
+/// Returns what a check that found nothing finds unasked: the first question whose answer shows a leak or a panic, with its run, after the
+/// questions before it that stay open. If all questions are settled and none shows anything, the text says so. The only error is that
+/// memory ran out.
 pub fn explain_unasked(
     alloc: Global,
     command: &Command,
@@ -56,7 +57,7 @@ pub fn explain_unasked(
     Ok(said)
 }
 
-/// The options of the command that asks a question, beside the command's own name.
+/// The options of the command that asks this question by itself.
 fn options_for(command: &Command, question: Question) -> ShellOptions {
     let moving = command.shape.moving || question == Question::Sets;
     ShellOptions {
@@ -68,7 +69,7 @@ fn options_for(command: &Command, question: Question) -> ShellOptions {
     }
 }
 
-/// The run that a verdict is about; nothing if it shows nothing.
+/// The text on the run that a verdict shows; empty if the verdict shows none. The only error is that memory ran out.
 fn explain_verdict(
     alloc: Global,
     command: &Command,
@@ -94,7 +95,7 @@ fn explain_verdict(
     }
 }
 
-/// The rule by which the attempts of a set fail; of one or none it is that of its number.
+/// The rule by which the attempts of a set fail: `Rule::Number` for a set of one attempt, and for an empty set, with number 0.
 fn rule_of_set(numbers: &Numbers) -> Result<Rule, NoMemory> {
     Ok(match numbers.as_slice() {
         [] => Rule::Number(0),

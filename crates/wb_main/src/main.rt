@@ -1,8 +1,8 @@
-//! The program: hands the process's own words, files and streams to the workbench, says on standard error what there is
-//! to say of the answer, with the steps of its run if they are asked for, and how far a sweep is that takes long, and draws the picture
-//! that is asked for.
+//! The program: hands the process's own words, files and streams to the workbench, explains the answer on standard error, and draws the
+//! picture that is asked for. On standard error it also writes how far a long sweep has come, and the steps of a run if they are asked for.
 #![tactic(auto)]
 
+mod afterwards;
 mod asked;
 mod explanation;
 mod following;
@@ -10,6 +10,7 @@ mod further;
 mod messages;
 mod picture;
 mod picture_file;
+mod process_afterwards;
 mod progress_line;
 mod recorded;
 mod run_shown;
@@ -19,18 +20,15 @@ mod told;
 mod unasked;
 mod work;
 
-use crate::following::put_steps;
+use crate::afterwards::finish;
 use crate::messages::ProcessMessages;
-use crate::picture::put_picture;
 use crate::picture_file::ProcessFiles;
+use crate::process_afterwards::ProcessAfterwards;
 use crate::progress_line::ProgressLine;
-use crate::recorded::{FirstFault, Recorded, RecordedHost};
-use crate::told::tell_answer;
+use crate::recorded::{Recorded, RecordedHost};
 use std::cell::RefCell;
-use std::io::Write;
 use std::process::ExitCode;
 use std::{env, io};
-use wb_model::memory::NoMemory;
 use workbench::FileName;
 use workbench::program::{Exit, program};
 
@@ -50,30 +48,17 @@ fn main(rt: HostRuntime) -> ExitCode {
         &mut ProcessMessages { rt: &rt },
         &mut ProgressLine::new(&rt),
     );
-    put_steps(&rt, &exit);
-    let picture = explain(&rt, &first, &exit);
-    let mut files = ProcessFiles::new(&rt, script_file(&exit));
-    ExitCode::from(put_picture(&exit, picture.as_deref(), &mut files))
+    let mut afterwards = ProcessAfterwards {
+        rt: &rt,
+        first: &first,
+        files: ProcessFiles::new(&rt, script_file(&exit)),
+    };
+    ExitCode::from(finish(&exit, &mut afterwards))
 }
 
-/// Returns the name of the script's file; `None` if that is standard input.
+/// Returns the name of the script's file; `None` if the script is read from standard input, or if there is no command.
 fn script_file(exit: &Exit) -> Option<&FileName> {
     exit.command.as_ref()?.file.as_ref()
-}
-
-/// Says what there is to say of the answer, and returns its picture if there is one. What finds no memory, or can't be written, is
-/// left out.
-fn explain(rt: &HostRuntime, first: &RefCell<FirstFault>, exit: &Exit) -> Option<String> {
-    let Ok(first) = first.try_borrow() else {
-        return None;
-    };
-    match tell_answer(rt.alloc(), exit, *first) {
-        Ok(told) => {
-            let _ = rt.stderr().write_all(told.text.as_bytes());
-            told.picture
-        }
-        Err(NoMemory) => None,
-    }
 }
 
 /// All words of the command line, the program's name first.

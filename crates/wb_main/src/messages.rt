@@ -1,4 +1,4 @@
-//! What the process says on standard error of words that are no command, and of a script that is read from a terminal.
+//! Messages of the process on standard error: on words that are no command, and on a script that is read from a terminal.
 
 ghost use Rattle.std.specs.Prelude.{⊤};
 
@@ -9,11 +9,11 @@ use wb_command_line::messages::message_of;
 use workbench::CommandFault;
 use workbench::host::{Messages, WordsFault};
 
-/// What is said where a script is read from a terminal, which would wait without a word.
+/// What is said when a script is read from a terminal. Without this the program would wait in silence.
 const TYPED: &[u8] =
     b"workbench: the script is read from the terminal; end it with Ctrl-D on a line of its own\n";
 
-/// Standard error. Whether a message went out makes no difference to anything.
+/// Standard error. Nothing depends on whether a message could be written.
 #[derive(Drop)]
 pub struct ProcessMessages<'a> {
     pub rt: &'a HostRuntime,
@@ -22,7 +22,7 @@ pub struct ProcessMessages<'a> {
 impl<'a> Messages for ProcessMessages<'a> {
     ghost reports = { λ _ _ _. ⊤ };
 
-    /// Says why the words are no command. Where memory runs out, it is said without a tip.
+    /// Says why the words are no command. If memory runs out, the message has no tip.
     fn report(&mut self, fault: &WordsFault) {
         if let WordsFault::Refused(fault) = fault {
             if let Ok(message) = self.message(fault) {
@@ -41,7 +41,7 @@ impl<'a> ProcessMessages<'a> {
     }
 }
 
-/// Says that a script is read from a terminal, where standard input and standard error are one.
+/// Says that a script is read from a terminal, if both standard input and standard error are terminals.
 pub fn say_if_typed(rt: &HostRuntime) {
     if rt.stdin().is_terminal() && rt.stderr().is_terminal() {
         let _ = rt.stderr().write_all(TYPED);

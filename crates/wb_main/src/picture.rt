@@ -1,5 +1,5 @@
-//! The picture that the command asks for is put into its file, when the answer has gone out and is explained. How it comes there is in
-//! `picture_file`.
+//! Puts the picture that a command asks for into its file, once the answer is written and explained. How the picture gets into the file is
+//! in `picture_file`.
 
 ghost use Rattle.std.specs.Prelude.{◌≡◌, ◌≢◌, ℕ, List, Bool, IsSome, IfSome};
 ghost use Rattle.wb_main.specs.Picture.{IsPictured, IsWanted};
@@ -8,19 +8,19 @@ use workbench::FileName;
 use workbench::exit_status::READ_OR_WRITE_FAULT;
 use workbench::program::Exit;
 
-/// Where pictures go.
+/// The files that pictures are put into.
 pub trait PictureFiles {
-    /// What putting a picture into a file does: what was there before, the file's name, whether the picture is left out or is in
-    /// that file now, and what is there after.
+    /// What putting a picture into a file does, as a relation between the files before, the file's name, whether the picture is in that file
+    /// now or was left out, and the files after.
     ghost puts: { Self → List ℕ → Bool → Self → Type 0 };
 
-    /// Puts a picture into the file with this name. Returns `false` if that failed.
+    /// Puts a picture into the file with this name. Returns `false` if the picture can't be put there.
     fn put(&mut self, name: &FileName, picture: &str) -> bool
         ensures { puts self.old name.now result self.new };
 }
 
-/// Puts a picture, if it is that of a report, into the file that the command names for it, and into no other. Returns the exit status:
-/// that of the answer, or `READ_OR_WRITE_FAULT` if the picture can't be put there.
+/// Puts the picture of a report into the file that the command names for it, and into no other file. Returns the exit status: that of the
+/// answer, or `READ_OR_WRITE_FAULT` if the picture can't be put there.
 pub fn put_picture<P: PictureFiles>(exit: &Exit, picture: Option<&str>, files: &mut P) -> u8
     ensures { IsPictured P.puts exit.now files.old files.new result }
 {

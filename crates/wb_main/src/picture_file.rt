@@ -1,4 +1,5 @@
-//! The file of a picture: which files a picture may replace, and how it comes there whole. What it shows is elsewhere.
+//! The file of a picture: which files a picture may replace, and how a picture gets into its file whole or not at all. What a picture shows
+//! is elsewhere.
 
 ghost use Rattle.std.specs.Prelude.{⊤};
 
@@ -14,22 +15,23 @@ use thiserror::Error;
 use wb_explain::files::{Deed, file_fault};
 use workbench::FileName;
 
-/// How the files of standard input, standard output and standard error are called.
+/// The name by which the file behind standard input is found.
 const INPUT: &str = "/dev/stdin";
 
+/// The names by which the files behind standard output and standard error are found.
 const OUTPUTS: [&str; 2] = ["/dev/stdout", "/dev/stderr"];
 
 /// The most symbolic links that are followed from the name of a file.
 const MOST_LINKS: u32 = 40;
 
-/// How many names are tried for the file that a picture is written to before it has its own name.
+/// How many names are tried for the file that a picture is written to before it is renamed.
 const MOST_NAMES: u32 = 100;
 
 /// The process's own files.
 #[derive(Drop)]
 pub struct ProcessFiles<'a> {
     rt: &'a HostRuntime,
-    /// The script's file; `None` if that is standard input.
+    /// The script's file; `None` if the script is read from standard input.
     script: Option<&'a FileName>,
 }
 
@@ -42,8 +44,8 @@ impl<'a> ProcessFiles<'a> {
 impl<'a> PictureFiles for ProcessFiles<'a> {
     ghost puts = { λ _ _ _ _. ⊤ };
 
-    /// Puts a picture into a file, or says on standard error why it isn't put there. Then the file is as it was. If memory
-    /// runs out, the picture is left out, and nothing is said.
+    /// Puts a picture into a file, or says on standard error why it isn't put there; the file is then as it was. If memory runs out, the
+    /// picture is left out, nothing is said, and the call returns `true`.
     fn put(&mut self, name: &FileName, picture: &str) -> bool {
         match put_into_file(self.rt, self.script, name.as_str(), picture) {
             Ok(()) | Err(PictureFault::System(ErrorKind::OutOfMemory)) => true,
@@ -58,21 +60,21 @@ impl<'a> PictureFiles for ProcessFiles<'a> {
 /// Why a picture isn't put into a file.
 #[derive(Clone, Copy, Debug, PartialEq, Eq, Error)]
 enum PictureFault {
-    /// The name stands for standard output with many programs.
+    /// The name is `-`, which stands for standard output with many programs.
     #[error("a picture is not written to standard output")]
     Dash,
     #[error("it is the script, which a picture does not replace")]
     Script,
-    /// What is written to standard output or to standard error goes there.
+    /// Standard output or standard error goes to this file.
     #[error("the report or the messages go there")]
     Output,
-    /// It is a device, a pipe or a socket.
+    /// The file is a device, a pipe or a socket.
     #[error("it is not a regular file")]
     NotRegular,
-    /// It doesn't begin as an SVG does.
+    /// The file doesn't begin as an SVG does.
     #[error("it exists and is not an SVG, so it is left as it is")]
     NotPicture,
-    /// The system refuses what has to be done.
+    /// The system refuses a call that is needed.
     #[error("{0}")]
     System(ErrorKind),
 }
@@ -89,7 +91,7 @@ impl From<AllocError> for PictureFault {
     }
 }
 
-/// Says why the picture isn't put into the file. If memory runs out, or this can't be written either, it is left out.
+/// Says why the picture isn't put into the file. The message is left out if memory runs out, or if it can't be written.
 fn say_fault(rt: &HostRuntime, name: &FileName, fault: PictureFault) {
     let file = shown_name(name);
     if let PictureFault::System(kind) = fault {
@@ -101,7 +103,7 @@ fn say_fault(rt: &HostRuntime, name: &FileName, fault: PictureFault) {
     let _ = writeln!(rt.stderr(), "workbench: {file}: {fault}");
 }
 
-/// Puts a picture into the file that a name leads to. What is there is replaced only if it is a picture.
+/// Puts a picture into the file that a name leads to. If there is such a file, it is replaced only if it is a picture.
 fn put_into_file(
     rt: &HostRuntime,
     script: Option<&FileName>,
@@ -125,7 +127,7 @@ fn put_into_file(
     put_whole(rt, path.as_path(), picture, permissions)
 }
 
-/// Returns the path that a name leads to: while a symbolic link is there, the link is followed.
+/// Returns the path that a name leads to: as long as a path is a symbolic link, the link is followed.
 fn follow_links(rt: &HostRuntime, name: &str) -> Result<PathBuf, PictureFault> {
     let mut path = PathBuf::from_str(rt.alloc(), name)?;
     for _ in 0..MOST_LINKS {
@@ -145,8 +147,8 @@ fn follow_links(rt: &HostRuntime, name: &str) -> Result<PathBuf, PictureFault> {
     Err(PictureFault::System(ErrorKind::FilesystemLoop))
 }
 
-/// Sees that a file which exists may be replaced by a picture: it begins as an SVG, may be written, and is neither the script
-/// nor what the report or the messages go to.
+/// Checks that a file which exists may be replaced by a picture: it is a regular file that begins as an SVG does and may be written, and it
+/// is neither the script nor the file that the report or the messages go to.
 fn see_replaceable(
     rt: &HostRuntime,
     script: Option<&FileName>,
@@ -172,13 +174,13 @@ fn see_replaceable(
     }
 }
 
-/// Whether a name leads to this file. If the system doesn't say what is there, it isn't this file.
+/// Whether a name leads to this file; `false` if the system doesn't say what the name leads to.
 fn is_file_at(rt: &HostRuntime, name: &str, file: &Metadata) -> bool {
     fs::metadata(rt, name).is_ok_and(|it| it.dev() == file.dev() && it.ino() == file.ino())
 }
 
-/// Whether a file begins as an SVG does: with the opening tag of its outermost element. It is opened for writing as well, so
-/// that one which may not be written isn't replaced.
+/// Whether a file begins as an SVG does: with the opening tag of its outermost element. The file is opened for writing as well, so that a
+/// file that may not be written is an error, and isn't replaced.
 fn begins_as_svg(rt: &HostRuntime, path: Path<'_>) -> Result<bool, PictureFault> {
     let mut start = [0u8; 5];
     let mut file = OpenOptions::new().read(true).write(true).open(rt, path)?;
@@ -191,7 +193,7 @@ fn begins_as_svg(rt: &HostRuntime, path: Path<'_>) -> Result<bool, PictureFault>
     }
 }
 
-/// Writes a picture whole to a file beside this one, and renames that. If this fails, the file beside is removed.
+/// Writes a whole picture to a new file in the same folder, and gives that file the name `path`. If either fails, the new file is removed.
 fn put_whole(
     rt: &HostRuntime,
     path: Path<'_>,
@@ -209,7 +211,7 @@ fn put_whole(
     Ok(put?)
 }
 
-/// Creates a file beside this one, under a name that no file has.
+/// Creates a file in the same folder as `path`, under a name that no file has yet. Returns its path and the file.
 fn create_beside(rt: &HostRuntime, path: Path<'_>) -> Result<(PathBuf, File), PictureFault> {
     for number in 0..MOST_NAMES {
         let name = format!(in rt.alloc(); "workbench-picture-{number}.tmp")?;
@@ -223,7 +225,7 @@ fn create_beside(rt: &HostRuntime, path: Path<'_>) -> Result<(PathBuf, File), Pi
     Err(PictureFault::System(ErrorKind::AlreadyExists))
 }
 
-/// Writes a picture to a new file, and gives that these permissions.
+/// Writes a picture to a new file, and gives the file these permissions, if there are any.
 fn fill(mut file: File, picture: &str, permissions: Option<Permissions>) -> io::Result<()> {
     file.write_all(picture.as_bytes())?;
     match permissions {

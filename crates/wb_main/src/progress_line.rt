@@ -1,5 +1,5 @@
-//! The line on a terminal that says which failure a sweep tries, or which length of heap. Where standard error is no terminal,
-//! nothing is said. How much of the work is done is found in `work`, of sets of attempts in `set_work`.
+//! The line on a terminal that says which failure, or which length of heap, is tried at the moment. If standard error is no terminal,
+//! nothing is written. How much of the work is done is computed in `work`, and for sets of attempts in `set_work`.
 
 use crate::set_work::SetWork;
 use crate::work::{Estimate, Work};
@@ -12,35 +12,35 @@ use wb_model::failures::Failing;
 use wb_model::heap::Numbers;
 use workbench::Progress;
 
-/// How many milliseconds runs go on before anything is said of them.
+/// How long runs go on before the line is first shown, in milliseconds.
 const QUIET: u64 = 2_000;
 
-/// How many milliseconds a line is left as it is.
+/// How long a line stays as it is, in milliseconds.
 const PAUSE: u64 = 100;
 
-/// The most bytes that are written at once: a line's words, with three numbers, and what leads to its beginning.
+/// The most bytes that are written at once: a carriage return, and a line's words and numbers.
 const WIDEST: usize = 80;
 
-/// A line on standard error that is rewritten in place while runs go on, and wiped at their end. Whether it could be written,
-/// and what time it is, makes no difference to anything.
+/// A line on standard error that is rewritten in place while runs go on, and wiped when they end. Nothing depends on whether the line could
+/// be written, or on the time.
 #[derive(Drop)]
 pub struct ProgressLine<'a> {
     rt: &'a HostRuntime,
-    /// From when on the line is to be rewritten; `None` where it never is.
+    /// From when on the line is to be rewritten; `None` if it isn't to be written at all.
     due: Option<Instant>,
     /// The greatest number that is tried.
     last: u32,
-    /// How many attempts the sets have that are tried.
+    /// How many attempts each set has that is tried now.
     many: u32,
-    /// How many failures were tried.
+    /// How far the sweep has come with failures that have one number each.
     work: Work,
-    /// How many of the sets were that have as many attempts.
+    /// How far the sweep has come with the sets of `many` attempts.
     sets: SetWork,
-    /// How many states before an attempt were met.
+    /// How many states a search over all sets has met.
     states: u32,
-    /// When the first of them was; `None` where nothing is said of it.
+    /// When the first failure was tried, or the first set of `many` attempts; `None` if that isn't known.
     since: Option<Instant>,
-    /// How many columns the line takes that is shown; 0 where none is.
+    /// How many columns the line on the terminal takes; 0 if there is none.
     width: usize,
 }
 
@@ -74,32 +74,32 @@ impl<'a> ProgressLine<'a> {
         now.checked_add(Duration::from_millis(pause))
     }
 
-    /// What is left as a failure is tried; `None` if that isn't known.
+    /// The estimate as a failure is tried; `None` if there is none.
     fn estimate(&self, at: Failing) -> Option<Estimate> {
         let elapsed = self.since?.elapsed(self.rt).ok()?;
         self.work.estimate(number_of(at), elapsed)
     }
 
-    /// The same as a set is tried.
+    /// The estimate as a set is tried; `None` if there is none.
     fn estimate_of_sets(&self, numbers: &Numbers) -> Option<Estimate> {
         let elapsed = self.since?.elapsed(self.rt).ok()?;
         self.sets.estimate(numbers, elapsed)
     }
 
-    /// How many seconds ago the sets that are tried began; `None` if that isn't known.
+    /// How many seconds have passed since the time in `since`; `None` if that isn't known.
     fn seconds(&self) -> Option<u64> {
         let elapsed = self.since?.elapsed(self.rt).ok()?;
         Some(elapsed.as_secs())
     }
 
-    /// Begins to wait, where standard error is a terminal.
+    /// Begins to wait until the line is first shown, if standard error is a terminal.
     fn begin_quietly(&mut self) {
         if self.rt.stderr().is_terminal() {
             self.due = self.after(QUIET);
         }
     }
 
-    /// Shows a text, if there is one, and leaves it for a while.
+    /// Shows a text, if there is one, and then leaves the line as it is for `PAUSE`.
     fn show(&mut self, text: Option<ArrayString<WIDEST>>) {
         if let Some(text) = text {
             self.rewrite(text.as_str());
@@ -107,7 +107,7 @@ impl<'a> ProgressLine<'a> {
         self.due = self.after(PAUSE);
     }
 
-    /// Writes a text in the place of the line that is shown.
+    /// Writes a text in place of the line that is shown.
     fn rewrite(&mut self, text: &str) {
         let mut line = ArrayString::<WIDEST>::new();
         if write!(line, "\r{:<1$}", text, self.width).is_ok() {
@@ -184,7 +184,7 @@ impl<'a> Progress for ProgressLine<'a> {
     }
 }
 
-/// The line of a failure that is tried, with the last that will be and what is left; `None` if it is too long.
+/// The line on a failure that is tried: the failure, the last number that will be tried, and the estimate; `None` if the line is too long.
 fn line_of(at: Failing, last: u32, estimate: Option<Estimate>) -> Option<ArrayString<WIDEST>> {
     let mut line = ArrayString::new();
     put_failing(&mut line, at, last).ok()?;
@@ -194,7 +194,7 @@ fn line_of(at: Failing, last: u32, estimate: Option<Estimate>) -> Option<ArraySt
     Some(line)
 }
 
-/// The number of a failure. Of two attempts, which are tried as a set, it is the first one's.
+/// The number of a failure. Of a pair of attempts, which is tried as a set, it is the first attempt's.
 fn number_of(at: Failing) -> u32 {
     match at {
         Failing::Number(number) | Failing::Every(number) => number,
@@ -213,8 +213,8 @@ fn put_failing(line: &mut ArrayString<WIDEST>, at: Failing, last: u32) -> fmt::R
     }
 }
 
-/// The line of a set that is tried, by its first attempt, with the last that will be the first and what is left; `None` if the set is
-/// empty, or the line too long.
+/// The line on a set that is tried: the size of the set, its first attempt, the last attempt that will come first in a set, and the
+/// estimate; `None` if the set is empty, or if the line is too long.
 fn line_of_set(
     numbers: &Numbers,
     many: u32,
@@ -234,10 +234,11 @@ fn line_of_set(
     Some(line)
 }
 
-/// The line of a search over states: how many attempts fail, how many states were met, and since how many seconds so many fail, where that is known.
+/// The line on a search over states: how many attempts fail together, how many states were met, and, if it is known, for how many seconds
+/// sets of that size have been tried; `None` if the line is too long.
 fn line_of_states(many: u32, states: u32, seconds: Option<u64>) -> Option<ArrayString<WIDEST>> {
     let mut line = ArrayString::new();
-    // single failures are followed once more for their states
+    // the runs under single failures are made once more for their states
     let (many, attempts) = if many < 2 {
         (1, "attempt")
     } else {
@@ -254,7 +255,7 @@ fn line_of_states(many: u32, states: u32, seconds: Option<u64>) -> Option<ArrayS
     Some(line)
 }
 
-/// Appends how much is done, and how long the rest takes: up to 99 seconds, then up to 99 minutes, then hours.
+/// Appends how much is done, and how long the rest takes: in seconds up to 99, then in minutes up to 99, then in hours.
 fn put_estimate(line: &mut ArrayString<WIDEST>, estimate: Estimate) -> fmt::Result {
     let Estimate { percent, seconds } = estimate;
     let minutes = seconds.div_ceil(60);
@@ -268,7 +269,7 @@ fn put_estimate(line: &mut ArrayString<WIDEST>, estimate: Estimate) -> fmt::Resu
     write!(line, ", {percent}% done, {time} {unit} left")
 }
 
-/// The line of a length of heap that is tried, in bytes.
+/// The line on a heap that is tried, with its length in bytes; `None` if the line is too long.
 fn line_of_length(length: u32) -> Option<ArrayString<WIDEST>> {
     let mut line = ArrayString::new();
     let put = write!(line, "trying a heap of {length} bytes");

@@ -1,5 +1,4 @@
-//! The process's files and streams, with a record of what failed first. What is recorded changes nothing of what is read and
-//! written.
+//! The process's files and streams, with a record of what failed first. The record changes nothing of what is read and written.
 
 ghost use Rattle.std.specs.Prelude.{⊤};
 
@@ -12,7 +11,7 @@ use wb_explain::files::Deed;
 use workbench::host::Host;
 use workbench::{Sink, Source};
 
-/// What failed first of what went through the files and streams, and why; `None` if nothing did.
+/// What failed first, opening, reading or writing, and the kind of the error; `None` if nothing failed.
 pub type FirstFault = Option<(Deed, ErrorKind)>;
 
 /// Notes a fault, unless one was noted before it.

@@ -1,4 +1,4 @@
-//! What is said of a run that leaks or panics: what it found, and the command that shows it step by step.
+//! The text on a run: what it found, and, if it leaks or panics, the command that shows it step by step.
 
 use std::alloc::Global;
 use wb_explain::runs::{ShellFile, ShellOptions, run_found, steps_shown};
@@ -7,8 +7,8 @@ use wb_model::memory::NoMemory;
 use wb_model::run_end::RunEnd;
 use workbench::{Command, FileName};
 
-/// Returns what a run found, and the command that shows it step by step, if it leaks or panics and isn't shown so anyway. The only
-/// error is that memory ran out.
+/// Returns what a run found. If the run leaks or panics, and the command doesn't show its steps already, the text also has a command that
+/// shows them. The only error is that memory ran out.
 pub fn explain_run(
     alloc: Global,
     command: &Command,

@@ -1,6 +1,7 @@
-//! An answer, and the runs that it is about: each is watched once, for what is said of it and for its picture.
+//! An answer, and the runs that it is about. Each run is watched once, for both its explanation and its picture.
 
-ghost use Rattle.std.specs.Prelude.{IsTrue};
+ghost use Rattle.std.specs.Prelude.{IfOk, IfSome, IsTrue};
+ghost use Rattle.wb_main.specs.Asked.{IsRuleToWatch, IsShownRun};
 ghost use Rattle.wb_model.specs.language.Sound.{is_script};
 
 use crate::asked::{least_bad_length, parameters_of, rule_named};
@@ -21,12 +22,12 @@ pub struct Answer<'a> {
     pub status: u8,
 }
 
-/// The runs that the report is about, as far as they are made whole once more.
+/// The runs that the report is about, as far as they are made once more from beginning to end.
 #[derive(Drop)]
 pub struct Runs<'a> {
-    /// The run without failure, where a picture has it beside another.
+    /// The run without failure, if a picture shows it and `found` isn't that run; else `None`.
     pub plain: Option<WatchedRun<'a>>,
-    /// The run that was asked for, or the one that was found.
+    /// The run that was asked for, or the run that was found; `None` if neither is explained or drawn.
     pub found: Option<WatchedRun<'a>>,
 }
 
@@ -36,19 +37,14 @@ pub fn runs_of<'a>(
     answer: Answer<'_>,
     script: &'a Script,
 ) -> Result<Runs<'a>, NoMemory>
-    requires { IsTrue (is_script script.now) }
+    requires script { IsTrue (is_script script.now) }
+    ensures shown { IfOk result (λ runs. IfSome runs.found
+        (IsShownRun answer.entry.command.now answer.entry.findings.now script.now)) }
 {
-    let Answer {
-        command,
-        findings,
-        status,
-    } = answer;
+    let command = answer.command;
     let is_drawn = command.picture.is_some();
     let keep = if is_drawn { Keep::Drawn } else { Keep::Named };
-    let found = match rule_to_watch(&command.task, findings, status, is_drawn)? {
-        Some(rule) => watch_run(alloc, script, parameters_of(command, rule), keep)?,
-        None => None,
-    };
+    let found = shown_run(alloc, answer, script, keep)?;
     let is_alone = match (&command.task, &found) {
         (Task::Run(_), _) => true,
         (_, Some(found)) => is_plain(found),
@@ -62,7 +58,30 @@ pub fn runs_of<'a>(
     Ok(Runs { plain, found })
 }
 
-/// Whether a run is one without failure: its rule makes nothing fail.
+/// Watches the run that the report shows; `None` if there is none to explain or draw. The only error is that memory ran out.
+fn shown_run<'a>(
+    alloc: Global,
+    answer: Answer<'_>,
+    script: &'a Script,
+    keep: Keep,
+) -> Result<Option<WatchedRun<'a>>, NoMemory>
+    requires { IsTrue (is_script script.now) }
+    ensures { IfOk result (λ shown. IfSome shown
+        (IsShownRun answer.entry.command.now answer.entry.findings.now script.now)) }
+{
+    let Answer {
+        command,
+        findings,
+        status,
+    } = answer;
+    let is_drawn = command.picture.is_some();
+    match rule_to_watch(&command.task, findings, status, is_drawn)? {
+        Some(rule) => watch_run(alloc, script, parameters_of(command, rule), keep),
+        None => Ok(None),
+    }
+}
+
+/// Whether a run is the run without failure: its rule makes no attempt fail.
 fn is_plain(run: &WatchedRun<'_>) -> bool {
     matches!(
         run.parameters.rule,
@@ -70,7 +89,7 @@ fn is_plain(run: &WatchedRun<'_>) -> bool {
     )
 }
 
-/// Returns the run without failure, if all of its attempts are kept.
+/// Returns the run without failure, if it was watched with all of its attempts kept; else `None`.
 pub fn plain_run<'a>(answer: Answer<'_>, runs: &'a Runs<'a>) -> Option<&'a WatchedRun<'a>> {
     match (&runs.plain, &runs.found) {
         (Some(plain), _) => Some(plain),
@@ -79,14 +98,16 @@ pub fn plain_run<'a>(answer: Answer<'_>, runs: &'a Runs<'a>) -> Option<&'a Watch
     }
 }
 
-/// The rule of the run to explain and to draw; `None` if it found nothing and nothing was to fail, unless it is drawn, and if
-/// the report names no failure and no length.
+/// The rule of the run to explain and to draw. For `run`, `None` if no rule was given, nothing was found and no picture is drawn; for other
+/// tasks, `None` if the report names no failure, no set and no length. The only error is that memory ran out.
 fn rule_to_watch(
     task: &Task,
     findings: &Findings,
     status: u8,
     is_drawn: bool,
-) -> Result<Option<Rule>, NoMemory> {
+) -> Result<Option<Rule>, NoMemory>
+    ensures { IfOk result (IsRuleToWatch task.now findings.now) }
+{
     Ok(match task {
         Task::Run(Rule::Unlimited) if status == NOTHING_FOUND && !is_drawn => None,
         Task::Run(rule) => Some(rule.try_copy()?),
@@ -95,12 +116,13 @@ fn rule_to_watch(
     })
 }
 
-/// The least length whose run leaks or panics; `None` if there is none.
+/// The least length of heap whose run leaks or panics, in bytes; `None` if there is none.
 fn length_to_explain(findings: &Findings) -> Option<u32> {
     least_bad_length(findings.ranges.as_ref()?)
 }
 
-/// Returns whether a run that found nothing is explained all the same, since something was to fail in it.
+/// Returns whether there is a run to explain even if nothing was found: `run` was given a rule, or the report names a failure, a set or a
+/// length.
 pub fn has_run_to_explain(task: &Task, findings: &Findings) -> bool {
     match task {
         Task::Run(Rule::Unlimited) => false,

@@ -1,27 +1,27 @@
-//! How far a sweep has come with the sets of so many attempts, counted in sets, and how long the rest of them takes if it goes on as
-//! fast. Larger sets aren't counted: nobody knows yet whether they will be tried.
+//! How far a sweep has come with the sets of one size, counted in sets, and how long the rest of these takes at the same pace. Larger sets
+//! aren't counted: it isn't known yet whether they will be tried.
 
 use crate::work::{Estimate, estimate_of};
 use std::time::Duration;
 use wb_model::heap::Numbers;
 
-/// The sets of so many attempts that a sweep tries, in their order.
+/// The sets of one size that a sweep tries, in their order.
 #[derive(Clone, Copy, Debug, Drop)]
 pub struct SetWork {
-    /// How many attempts each of them has.
+    /// How many attempts each set has.
     many: u32,
-    /// The greatest number that comes first.
+    /// The greatest first number of a set.
     last: u32,
-    /// The first number of the set that was tried first; 0 before that.
+    /// The first number of the set that was tried first; 0 before any was tried.
     begin: u32,
-    /// The greatest number of a set.
+    /// The greatest number in a set that was tried.
     farthest: u32,
-    /// Whether that is known of a whole run: a set with a lesser last number came after it.
+    /// Whether `farthest` is known to be the last attempt of a run: a set with a lesser last number came after it.
     is_known: bool,
 }
 
 impl SetWork {
-    /// The sets of so many attempts whose first number is at most `last`, none of which has begun.
+    /// The sets of `many` attempts whose first number is at most `last`. No run has begun yet.
     pub fn new(many: u32, last: u32) -> SetWork {
         SetWork {
             many,
@@ -32,7 +32,7 @@ impl SetWork {
         }
     }
 
-    /// Begins the run of a set.
+    /// Counts a set whose run begins.
     pub fn begin(&mut self, numbers: &Numbers) {
         if self.begin == 0 {
             self.begin = number_at(numbers, 0).unwrap_or(0);
@@ -44,8 +44,8 @@ impl SetWork {
         self.farthest = self.farthest.max(last);
     }
 
-    /// What is left as the run of a set begins, by the time since the first of its size began; `None` if that isn't known yet, or longer
-    /// than a year. Each run is taken to make as many attempts as the longest of them.
+    /// The estimate as the run of a set begins. `elapsed` is the time since the first run of a set of this size began. `None` if too little
+    /// is known yet, or if the rest takes longer than a year. Each run is taken to make as many attempts as the longest run.
     pub fn estimate(&self, numbers: &Numbers, elapsed: Duration) -> Option<Estimate> {
         if !self.is_known {
             return None;
@@ -59,7 +59,7 @@ impl SetWork {
         estimate_of(all.checked_sub(left)?, left, elapsed)
     }
 
-    /// How many sets have a first number from this one on.
+    /// How many sets have a first number from `first` to `last`.
     fn sets_with_first_from(&self, first: u32) -> Option<u64> {
         let past = self.last.checked_add(1)?;
         let all = sets_from(first, self.farthest, self.many)?;
@@ -67,7 +67,7 @@ impl SetWork {
     }
 }
 
-/// How many sets of so many numbers there are from one number to another.
+/// How many sets of `many` numbers there are, of the numbers from `from` to `to`.
 fn sets_from(from: u32, to: u32, many: u32) -> Option<u64> {
     let count = u64::from(to.saturating_add(1).saturating_sub(from));
     let mut sets: u64 = 1;

@@ -1,5 +1,5 @@
-//! What is made of an answer beside the answer itself: what is said on standard error, and the picture. For both the script is read
-//! once more, and each run that they are about is watched once.
+//! What is made of an answer beside the answer itself: the text for standard error, and the picture. For both, the script is read once
+//! more, and each run that the text or the picture is about is watched once.
 
 ghost use Rattle.std.specs.Prelude.{IsTrue};
 ghost use Rattle.wb_model.specs.language.Sound.{is_script};
@@ -22,9 +22,10 @@ use workbench::program::Exit;
 /// What is made of an answer beside the answer itself.
 #[derive(Drop)]
 pub struct Told {
-    /// What is said on standard error; empty if there is nothing to say.
+    /// The text for standard error; empty if there is nothing to say.
     pub text: String,
-    /// The picture; `None` if none is wanted, if there is no report, and if the script is refused.
+    /// The picture; `None` if none is wanted, if there is no report, if the script is rejected, or if memory ran out. It is empty if there
+    /// is no run to draw.
     pub picture: Option<String>,
 }
 
@@ -37,8 +38,8 @@ impl Told {
     }
 }
 
-/// Returns what is made of an answer, by what the program's words came to and by what failed first of what was read and written. The
-/// only error is that memory ran out.
+/// Returns what is made of an answer. `exit` is what came of the program's words, and `first` is what failed first in reading and writing.
+/// The only error is that memory ran out.
 pub fn tell_answer(alloc: Global, exit: &Exit, first: FirstFault) -> Result<Told, NoMemory> {
     let Some(command) = &exit.command else {
         return Ok(Told::of_text(String::new(alloc)));
@@ -58,7 +59,7 @@ pub fn tell_answer(alloc: Global, exit: &Exit, first: FirstFault) -> Result<Told
     tell_findings(alloc, answer)
 }
 
-/// Tells of a report. Where there is nothing to say and no picture is wanted, the script isn't read once more.
+/// Returns what is made of a report. If there is nothing to say and no picture is wanted, the script isn't read once more.
 fn tell_findings(alloc: Global, answer: Answer<'_>) -> Result<Told, NoMemory> {
     if answer.command.picture.is_none() && has_nothing_to_say(answer) {
         return Ok(Told::of_text(String::new(alloc)));
@@ -74,7 +75,7 @@ fn tell_findings(alloc: Global, answer: Answer<'_>) -> Result<Told, NoMemory> {
     }
 }
 
-/// What the runs of the report found, and their picture if it is wanted.
+/// Returns the text on the runs of a report, and their picture if it is wanted. The only error is that memory ran out.
 fn tell_runs(alloc: Global, answer: Answer<'_>, script: &Script) -> Result<Told, NoMemory>
     requires { IsTrue (is_script script.now) }
 {
@@ -89,7 +90,7 @@ fn tell_runs(alloc: Global, answer: Answer<'_>, script: &Script) -> Result<Told,
     Ok(Told { text, picture })
 }
 
-/// What is said of these runs; nothing if memory runs out.
+/// The text on these runs; empty if there is nothing to say, or if memory runs out.
 fn say_runs(
     alloc: Global,
     answer: Answer<'_>,
@@ -108,7 +109,7 @@ fn say_runs(
     }
 }
 
-/// The picture of these runs; `None` if none is wanted, or if memory runs out.
+/// The picture of these runs; `None` if none is wanted, or if memory runs out. It is empty if there are no runs.
 fn draw_runs(
     alloc: Global,
     answer: Answer<'_>,
@@ -142,7 +143,7 @@ fn shown_runs<'a>(runs: &'a Runs<'a>) -> Option<ShownRuns<'a>> {
     }
 }
 
-/// What is at the side of a picture.
+/// The table at the side of a picture.
 fn table_of<'a>(task: &Task, findings: &'a Findings) -> Table<'a> {
     match (task, &findings.ranges) {
         (Task::Size | Task::Check(_), _) => Table::Refusals,

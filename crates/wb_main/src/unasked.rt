@@ -1,6 +1,7 @@
-//! What `check` tries unasked where it found nothing: that all attempts fail from one on, heaps of every length, and all sets of attempts
-//! where each cell that grows moves, in this order, up to the first that shows a leak or a panic. How long it tries is counted in steps
-//! and states, so that it says the same of a script each time. What is said of it is in `wb_explain`.
+//! What `check` tries unasked if it found nothing: whether the script leaks or panics when all attempts from some number on fail, in heaps
+//! of every length, or when any set of attempts fails in a heap in which each cell that grows moves. It tries these in this order, up to
+//! the first that shows a leak or a panic. The work is limited by steps and states, and not by time, so that a script always gets the same
+//! answer. What the user is told of it is in `wb_explain`.
 
 ghost use Rattle.std.specs.Prelude.{IsTrue, ◌≤◌};
 ghost use Rattle.wb_model.specs.language.Sound.{is_script};
@@ -21,35 +22,36 @@ use wb_model::script::Script;
 use wb_sweep::{FoundSet, sweep, sweep_every_set};
 use workbench::{Command, Search};
 
-/// The most steps that the runs of failures that persist take together.
+/// How many steps the runs under failures that persist may take together.
 const MOST_STEPS_FROM: u32 = 500_000;
 
-/// The most steps that runs in heaps of all lengths take together.
+/// How many steps the runs in heaps of all lengths may take together.
 const MOST_STEPS_OF_LENGTHS: u32 = 1_000_000;
 
-/// The most steps that all sets may take, if each state takes as many as the run without failure from one attempt to the next.
+/// How many steps the search over all sets may take, if each state takes as many steps as the run without failure takes from one attempt to
+/// the next.
 const MOST_STEPS_OF_SETS: u32 = 500_000;
 
-/// The most states that are met, whatever the steps.
+/// How many states the search over all sets may meet, however few steps each takes.
 const MOST_STATES: u32 = 20_000;
 
-/// What came of a question.
+/// What came of one of the questions that `check` asks unasked.
 #[derive(Drop)]
 pub enum Verdict {
-    /// Nothing that was asked about leaks or panics.
+    /// No run that was asked about leaks or panics.
     Fine,
-    /// It took too long, a run was cut, or memory ran out.
+    /// The question is open: the answer would take too many steps or states, a run was cut, or memory ran out.
     Undecided,
-    /// The least failure that persists whose run leaks or panics, and how it ends.
+    /// The first attempt of the least failure that persists whose run leaks or panics, and how that run ends.
     From(u32, RunEnd),
-    /// The table of all lengths, some of whose runs leak or panic, and the least of these.
+    /// The table of all lengths, some of whose runs leak or panic, and the least length of such a run, in bytes.
     Length(LengthTable, u32),
-    /// The least set whose run leaks or panics where each cell that grows moves, and how it ends.
+    /// The least set whose run leaks or panics in a heap in which each cell that grows moves, and how that run ends.
     Set(Numbers, RunEnd),
 }
 
 impl Verdict {
-    /// What is to be said of it; `None` if it shows nothing.
+    /// What the user is told of the verdict; `None` if it shows neither a leak nor a panic.
     pub fn shown(&self) -> Option<Shown<'_>> {
         match self {
             Verdict::Fine | Verdict::Undecided => None,
@@ -60,7 +62,7 @@ impl Verdict {
     }
 }
 
-/// Whether a question is neither what a command asks nor settled by its answer, which found nothing.
+/// Whether a question is still open after a command that found nothing: the command doesn't ask it, and its answer doesn't settle it.
 pub fn is_open(command: &Command, question: Question) -> bool {
     let Some(search) = search_of(&command.task) else {
         return false;
@@ -76,7 +78,7 @@ pub fn is_open(command: &Command, question: Question) -> bool {
     }
 }
 
-/// Asks a question of a script that has no leak or panic by the command's own answer.
+/// Asks a question about a script for which the command itself found neither a leak nor a panic.
 pub fn ask(alloc: Global, command: &Command, script: &Script, question: Question) -> Verdict
     requires { IsTrue (is_script script.now) }
 {
@@ -88,7 +90,8 @@ pub fn ask(alloc: Global, command: &Command, script: &Script, question: Question
     }
 }
 
-/// Whether a failure that persists shows anything. Each run has a share of the steps: where one would take more, it isn't known.
+/// Whether the script leaks or panics when all attempts from some number on fail. Each run may take an equal share of the steps; a run that
+/// would take more leaves the question open.
 fn ask_persistent(alloc: Global, script: &Script, budget: u32, shape: Shape) -> Verdict
     requires script { IsTrue (is_script script.now) }
     requires least { 1 ≤ budget }
@@ -115,7 +118,7 @@ fn ask_persistent(alloc: Global, script: &Script, budget: u32, shape: Shape) -> 
     }
 }
 
-/// The first attempt that fails.
+/// The number of the first attempt that fails.
 fn first_of(at: Failing) -> u32 {
     match at {
         Failing::Number(number) | Failing::Every(number) => number,
@@ -139,7 +142,7 @@ fn attempts_and_steps(
     Some((attempts, plain.steps))
 }
 
-/// Whether a heap of some length shows anything.
+/// Whether the script leaks or panics in a heap of some length.
 fn ask_lengths(alloc: Global, script: &Script, budget: u32, shape: Shape) -> Verdict
     requires script { IsTrue (is_script script.now) }
     requires least { 1 ≤ budget }
@@ -155,12 +158,12 @@ fn ask_lengths(alloc: Global, script: &Script, budget: u32, shape: Shape) -> Ver
     }
 }
 
-/// Whether the run in a heap of some length is cut.
+/// Whether the run is cut in a heap of some length.
 fn has_cut(table: &LengthTable) -> bool {
     table.as_slice().iter().any(|range| range.end.is_cut())
 }
 
-/// Whether any set of attempts shows anything where each cell that grows moves.
+/// Whether the script leaks or panics when some set of attempts fails, in a heap in which each cell that grows moves.
 fn ask_sets(alloc: Global, script: &Script, budget: u32, shape: Shape) -> Verdict
     requires script { IsTrue (is_script script.now) }
     requires least { 1 ≤ budget }
@@ -193,8 +196,8 @@ fn ask_sets(alloc: Global, script: &Script, budget: u32, shape: Shape) -> Verdic
     }
 }
 
-/// How many states may be met of a script whose run without failure makes so many attempts in so many steps: from each the run goes on
-/// to the next attempt in two ways.
+/// How many states the search over all sets may meet, for a script whose run without failure makes `attempts` attempts in `steps` steps.
+/// From each state, runs go on to the next attempt in two ways, as the attempt is granted or fails.
 fn states_for(attempts: u32, steps: u32) -> u32
     ensures { 1 ≤ result }
 {

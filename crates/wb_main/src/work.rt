@@ -1,21 +1,21 @@
-//! How much of a sweep's work is done, counted in runs under failures, and how long the rest takes if it goes on as fast. The line
-//! that says so is in `progress_line`; sets of attempts, and so pairs, are counted in `set_work`.
+//! How much of a sweep's work is done, counted in runs under failures with one number each, and how long the rest takes at the same pace.
+//! The line that shows this is in `progress_line`. Sets of attempts, and so pairs, are counted in `set_work`.
 
 use std::time::Duration;
 
-/// The longest time that is said to be left, a year, in seconds.
+/// The longest time that is shown as left: a year, in seconds.
 const LONGEST: u64 = 31_536_000;
 
-/// The runs that a sweep has begun under failures with a number each: that of an attempt, or a rate.
+/// The runs that a sweep has begun under failures with one number each: an attempt's number, or a rate.
 #[derive(Clone, Copy, Debug, Drop)]
 pub struct Work {
-    /// The greatest number.
+    /// The greatest number that is tried.
     last: u32,
-    /// How many have begun.
+    /// How many runs have begun.
     begun: u64,
 }
 
-/// What is left of the work.
+/// How much of the work is done, and how long the rest takes.
 #[derive(Clone, Copy, Debug, PartialEq, Eq)]
 pub struct Estimate {
     /// How much is done, in percent; less than 100.
@@ -25,19 +25,19 @@ pub struct Estimate {
 }
 
 impl Work {
-    /// The work of failures whose greatest number is `last`, of which none has begun.
+    /// The work of trying failures with numbers up to `last`. No run has begun yet.
     pub fn new(last: u32) -> Work {
         Work { last, begun: 0 }
     }
 
-    /// Begins the run under a failure. Returns whether it is the first, from which time counts.
+    /// Counts a run that begins. Returns whether it is the first run, from whose beginning time is measured.
     pub fn begin(&mut self) -> bool {
         self.begun = self.begun.saturating_add(1);
         self.begun == 1
     }
 
-    /// What is left as the run under the failure of a number begins, by the time since the first began; `None` if that isn't known yet,
-    /// or longer than a year.
+    /// The estimate as the run under the failure with this number begins. `elapsed` is the time since the first run began. `None` if no run
+    /// is done yet, or if the rest takes longer than a year.
     pub fn estimate(&self, number: u32, elapsed: Duration) -> Option<Estimate> {
         let done = self.begun.checked_sub(1)?;
         let after = self.last.checked_sub(number)?;
@@ -45,8 +45,8 @@ impl Work {
     }
 }
 
-/// What is left where so many runs are done, and so many aren't, by the time that the former took; `None` if nothing is done, and if the
-/// rest takes longer than a year.
+/// The estimate if `done` runs took `elapsed`, and `left` runs aren't done yet. `None` if no run is done, or if the rest takes longer than
+/// a year.
 pub fn estimate_of(done: u64, left: u64, elapsed: Duration) -> Option<Estimate> {
     let all = done.checked_add(left)?;
     let millis = u64::try_from(elapsed.as_millis()).ok()?;

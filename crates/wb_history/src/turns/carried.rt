@@ -146,7 +146,7 @@ impl<'a> History<'a> {
         })
     }
 
-    /// Sees a leave. The items are destroyed then that were pushed since its TRAP began.
+    /// Sees a leave. After it, the items that were pushed since its TRAP began are destroyed.
     fn see_leave(&mut self, machine: &Machine<'a>) -> Result<(), AllocError> {
         let now = self.now(machine)?;
         let items = self.traps.leave(now, machine.depth())?;
@@ -163,7 +163,7 @@ impl<'a> History<'a> {
         }
     }
 
-    /// Sees that the pointer that a statement wrote names this now.
+    /// Sees that the pointer that a statement wrote now names `names`.
     fn see_written(&mut self, machine: &Machine<'a>, ahead: &Ahead<'a>, names: Ptr) {
         if let Some(variable) = ahead.written {
             let held = self.hold_at(machine.depth(), variable.owner, variable.index);
@@ -171,7 +171,7 @@ impl<'a> History<'a> {
         }
     }
 
-    /// What gets a cell now, by the line that was begun last at a depth.
+    /// The local or field that gets a cell now, at the line that was begun last at this depth.
     fn hold_at(&self, depth: u32, owner: Ptr, index: u8) -> Held {
         Held {
             owner,

@@ -1,4 +1,4 @@
-//! What becomes of cells turn by turn: which are granted, moved, resized, freed and deleted.
+//! What becomes of cells in each machine turn: which are granted, moved, resized, freed and deleted.
 
 use crate::course::PartStart;
 use crate::lives::{By, End, Ended, Origin};
@@ -37,7 +37,7 @@ impl<'a> History<'a> {
         Ok(cell.pointer())
     }
 
-    /// Sees a cell that begins, which may be one that moved.
+    /// Sees a new cell, or a cell that moved, at its new place.
     fn see_new_cell(
         &mut self,
         machine: &Machine<'a>,
@@ -73,7 +73,7 @@ impl<'a> History<'a> {
         self.lives.begin(cell, start.line, origin)
     }
 
-    /// Whether the cell that `old` named could have grown where it was; `cell` is what it became. False for null.
+    /// Whether the cell that `old` named had room to grow at its place; `cell` is the same cell after it moved. False if `old` is null.
     fn had_room(&self, machine: &Machine<'a>, old: Ptr, cell: Header) -> bool {
         let until = old.place.saturating_add(cell.length);
         old.number != 0
@@ -81,7 +81,7 @@ impl<'a> History<'a> {
             && are_free_but_for(machine, cell, old.place, until)
     }
 
-    /// A part of a cell's life that begins now, by this attempt.
+    /// The start of a part of a cell's life that begins now. `attempt` is 0 if no attempt begins it.
     fn start_now(&self, attempt: u32) -> PartStart {
         PartStart {
             step: self.steps,
@@ -104,7 +104,7 @@ impl<'a> History<'a> {
         self.course.resize(cell, start)
     }
 
-    /// Sees which objects were released whose deletion had begun: none if as many cells are live as before.
+    /// Sees which of the objects that are being deleted were released: none, if as many cells are live as before.
     #[inline(always)]
     pub(crate) fn see_deletions(&mut self, machine: &Machine<'a>) {
         let (live, _) = machine.alloc_size();
@@ -158,7 +158,7 @@ impl<'a> History<'a> {
         );
     }
 
-    /// The same, by what is known of that end.
+    /// Notes how the life of the cell that a pointer named ended; does nothing for null.
     fn note_end(&mut self, pointer: Ptr, ended: Ended) {
         if pointer.number != 0 {
             self.lives.end(pointer, ended);

@@ -1,0 +1,2 @@
+-- What the contracts of a watched run say.
+pub mod Watched

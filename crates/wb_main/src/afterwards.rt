@@ -1,0 +1,35 @@
+//! What is done once the answer is written, each part once and in this order: writing the steps of the run, explaining the answer, and
+//! putting its picture into a file. How each part is done is elsewhere.
+
+ghost use Rattle.wb_main.specs.Afterwards.{IsFinished};
+ghost use Rattle.workbench.specs.declared.program.Exit.{Exit};
+
+use crate::picture::{PictureFiles, put_picture};
+use workbench::program::Exit;
+
+/// The receiver of what comes after an answer.
+pub trait Afterwards: PictureFiles {
+    /// What writing the steps of a run does, as a relation between the receiver before, the answer, and the receiver after.
+    ghost steps: { Self → Exit → Self → Type 0 };
+
+    /// What explaining an answer does, as a relation between the receiver before, the answer, and the receiver after.
+    ghost explains: { Self → Exit → Self → Type 0 };
+
+    /// Writes the steps of the run, if the command asks for them and there is a report.
+    fn put_steps(&mut self, exit: &Exit)
+        ensures { steps self.old exit.now self.new };
+
+    /// Explains the answer, and returns its picture; `None` if there is none.
+    fn explain(&mut self, exit: &Exit) -> Option<String>
+        ensures { explains self.old exit.now self.new };
+}
+
+/// Does all that comes after an answer. Returns the exit status: that of the answer, or `READ_OR_WRITE_FAULT` if the picture can't be put
+/// into its file.
+pub fn finish<A: Afterwards>(exit: &Exit, afterwards: &mut A) -> u8
+    ensures { IsFinished A.steps A.explains A.puts exit.now afterwards.old afterwards.new result }
+{
+    afterwards.put_steps(exit);
+    let picture = afterwards.explain(exit);
+    put_picture(exit, picture.as_deref(), afterwards)
+}

@@ -1,0 +1,55 @@
+//! The process's own standard error and files, for what comes after its answer.
+
+ghost use Rattle.std.specs.Prelude.{⊤};
+
+use crate::afterwards::Afterwards;
+use crate::following::put_steps;
+use crate::picture::PictureFiles;
+use crate::picture_file::ProcessFiles;
+use crate::recorded::FirstFault;
+use crate::told::tell_answer;
+use std::cell::RefCell;
+use std::io::Write;
+use wb_model::memory::NoMemory;
+use workbench::FileName;
+use workbench::program::Exit;
+
+/// The process's own standard error and files. What there is no memory for, or what can't be written to standard error, is left out.
+#[derive(Drop)]
+pub struct ProcessAfterwards<'a> {
+    pub rt: &'a HostRuntime,
+    /// What failed first in reading and writing.
+    pub first: &'a RefCell<FirstFault>,
+    pub files: ProcessFiles<'a>,
+}
+
+impl<'a> PictureFiles for ProcessAfterwards<'a> {
+    ghost puts = { λ _ _ _ _. ⊤ };
+
+    fn put(&mut self, name: &FileName, picture: &str) -> bool {
+        self.files.put(name, picture)
+    }
+}
+
+impl<'a> Afterwards for ProcessAfterwards<'a> {
+    ghost steps = { λ _ _ _. ⊤ };
+
+    ghost explains = { λ _ _ _. ⊤ };
+
+    fn put_steps(&mut self, exit: &Exit) {
+        put_steps(self.rt, exit);
+    }
+
+    fn explain(&mut self, exit: &Exit) -> Option<String> {
+        let Ok(first) = self.first.try_borrow() else {
+            return None;
+        };
+        match tell_answer(self.rt.alloc(), exit, *first) {
+            Ok(told) => {
+                let _ = self.rt.stderr().write_all(told.text.as_bytes());
+                told.picture
+            }
+            Err(NoMemory) => None,
+        }
+    }
+}
