@@ -9,9 +9,9 @@ use wb_model::heap::{Kind, Ptr, Shape};
 use wb_model::limits::CEILING;
 use wb_rheap::Heap;
 
-/// The cell length, in bytes: a header and four words.
+/// The length of each cell, in bytes: a header and four words.
 const LENGTH: u32 = 32;
-/// That of a cell that fits into no hole.
+/// The length of a cell that fits into no hole, in bytes.
 const LONG: u32 = 96;
 
 const SHAPE: Shape = Shape {
@@ -30,7 +30,7 @@ pub(crate) struct Filled {
 }
 
 impl Filled {
-    /// Live cells, listed in order of place.
+    /// A heap with `count` live cells. Their pointers are added to `cells`, in order of place.
     pub(crate) fn new(
         alloc: Global,
         count: u32,
@@ -78,7 +78,7 @@ impl Filled {
         Ok(())
     }
 
-    /// Grants a cell above all holes and frees it, a number of times.
+    /// Grants a cell above all holes and frees it again, `times` times.
     pub(crate) fn pass_over_holes(&mut self, times: u32) -> Result<(), AllocError> {
         for _ in 0..times {
             let cell = self.grant(LONG)?;
@@ -102,7 +102,7 @@ impl Filled {
         }
     }
 
-    /// Looks up each cell, and answers how many are live.
+    /// Looks up each cell, and returns how many are live.
     pub(crate) fn look_up(&self, cells: &[Ptr]) -> usize {
         cells
             .iter()
@@ -110,12 +110,12 @@ impl Filled {
             .count()
     }
 
-    /// The free bytes and the longest run of them.
+    /// How many bytes are free below the committed length, and the longest free stretch there, in bytes.
     pub(crate) fn available(&self) -> (u32, u32) {
         self.heap.available()
     }
 
-    /// How many cells are live, and their bytes.
+    /// How many cells are live, and how many bytes they take together.
     pub(crate) fn live(&self) -> (u32, u32) {
         self.heap.alloc_size()
     }

@@ -1,7 +1,7 @@
 //! Measures what a call of the heap costs while many cells are live.
 //!
-//! With the word `time` it prints nanoseconds a call; without a word it makes the same calls once and prints what is live
-//! then, so that the gate can run it.
+//! With a word, such as `time`, it prints how many nanoseconds a call takes. Without one it makes a single round of the calls, but for
+//! those above the holes and `available`, and prints how many cells are live, so that the gate can run it.
 #![tactic(auto)]
 
 mod filled;
@@ -12,11 +12,11 @@ use std::time::Instant;
 use std::{env, io};
 use wb_model::heap::Ptr;
 
-/// How many cells are live.
+/// How many cells are live, one measurement for each count.
 const COUNTS: [u32; 3] = [100, 1_000, 10_000];
-/// How many calls of each kind a measurement makes.
+/// How many words a measurement stores, and how many cells it looks up. It frees and grants half as many.
 const CALLS: u32 = 1_000_000;
-/// How many cells are granted above the holes of a round.
+/// How many cells are granted above the holes in each round.
 const PASSES: u32 = 10;
 
 fn main(rt: HostRuntime) -> io::Result<()> {
@@ -31,7 +31,7 @@ fn main(rt: HostRuntime) -> io::Result<()> {
     Ok(())
 }
 
-/// Prints what a call costs.
+/// Prints what each kind of call costs.
 fn time(rt: &HostRuntime, count: u32) -> io::Result<()> {
     let mut cells = Vec::new(rt.alloc());
     let mut filled = Filled::new(rt.alloc(), count, &mut cells)?;
@@ -72,7 +72,7 @@ fn time_grants(
     )
 }
 
-/// Prints what calls cost that leave the cells as they are.
+/// Prints what the calls cost that neither grant nor free a cell.
 fn time_looks(
     rt: &HostRuntime,
     count: u32,
@@ -106,12 +106,12 @@ fn time_looks(
     )
 }
 
-/// Nanoseconds a call.
+/// Nanoseconds per call.
 fn a_call(nanoseconds: u128, calls: u32) -> u128 {
     nanoseconds / calls.max(1) as u128
 }
 
-/// Makes each call once, and prints what is live then.
+/// Makes a single round of calls, and prints how many cells are live in it.
 fn call_once(rt: &HostRuntime, count: u32) -> io::Result<()> {
     let mut cells: Vec<Ptr> = Vec::new(rt.alloc());
     let mut filled = Filled::new(rt.alloc(), count, &mut cells)?;

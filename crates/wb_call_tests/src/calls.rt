@@ -1,5 +1,6 @@
-//! The calls of a debug heap that may find no memory. Each is made once more, with the same arguments, where it answers `NoMemory`. One
-//! whose arguments no call may have isn't made, and answers `NoMemory` too: then the plain run has other lines than it should.
+//! The calls on a debug heap that may run out of memory. A call that returns `NoMemory` is made once more with the same arguments. A call
+//! whose arguments its contract forbids isn't made, and `NoMemory` is returned for it too: then even a run with enough memory prints other
+//! lines than it should.
 
 ghost use Rattle.std.specs.Prelude.{◌≡◌, ◌+◌, ◌^◌, ◌<◌, ◌≤◌, IfOk, IsSome, OnErr, OnOk};
 ghost use Rattle.wb_model.specs.heap.Debug.{IsSoundDebug, alloc_made};
@@ -39,7 +40,7 @@ pub(crate) fn realloc(heap: &mut DebugHeap, ptr: Ptr, bytes: u32) -> Result<Gave
     }
 }
 
-/// The attempt itself, of a live cell.
+/// The attempt itself, for a live cell.
 fn realloc_live(heap: &mut DebugHeap, ptr: Ptr, bytes: u32) -> Result<Gave, NoMemory>
     requires live { IsSome (cell_at ptr heap.old.heap.row) }
     requires bytes { bytes ≤ CEILING }
@@ -60,7 +61,8 @@ pub(crate) fn copy(heap: &DebugHeap) -> Result<DebugHeap, NoMemory>
     }
 }
 
-/// A copy of a heap over the memory of another; where none was found the first time, that memory is lost.
+/// A copy of a heap over the memory of `spare`. If memory runs out at the first call, the memory of `spare` is lost, and the second call
+/// takes new memory.
 pub(crate) fn copy_over(heap: &DebugHeap, spare: Heap) -> Result<DebugHeap, NoMemory>
     ensures { IfOk result (λ copy. copy ≡ heap.now) }
 {

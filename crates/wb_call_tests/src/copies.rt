@@ -1,5 +1,5 @@
-//! A debug heap and its copies: each shows what the other does, and what is done to one changes nothing in the other. The copies are
-//! taken before the sixth attempt of a heap that frees neighbours and then asks for a cell in their place.
+//! A debug heap and its copies: at first each shows what the other shows, and no change to one changes the other. The copies are taken
+//! before the sixth attempt on a heap where neighbours were freed and a cell is then asked for in their place.
 
 use crate::heaps::{Call, Marked};
 use crate::stop::Stop;
@@ -19,7 +19,8 @@ static BEFORE: [Call; 11] = [
     Call::FailNext(3),
 ];
 
-/// Every kind of change: grants, reallocations, a refusal that was set before, words, marks, settings, releases and a note.
+/// Every kind of change: grants, reallocations, an attempt that a setting from before the copy makes fail, words, marks, settings, releases
+/// and a note.
 static CHANGES: [Call; 16] = [
     Call::Alloc(80),
     Call::Realloc((240, 5), 48),
@@ -39,7 +40,7 @@ static CHANGES: [Call; 16] = [
     Call::Compress,
 ];
 
-/// Changes a copy while its source stays, and then the source while another copy stays, which takes the memory of the first.
+/// Changes a copy while its source stays as it is, and then the source while a second copy, over the memory of the first, stays as it is.
 pub(crate) fn compare_copies(rt: &HostRuntime) -> Result<(), Stop> {
     let mut source = Marked::new(rt.alloc())?;
     change_both(rt, &mut source)
@@ -58,7 +59,7 @@ fn change_copy(rt: &HostRuntime, source: &Marked) -> Result<Marked, Stop> {
     Ok(copy)
 }
 
-/// Changes the source, and then a copy in the same way, which takes the memory of one that was changed before.
+/// Changes the source, and then, in the same way, a copy of it over the memory of the copy that was changed before.
 fn change_source(rt: &HostRuntime, source: &mut Marked, changed: Marked) -> Result<(), Stop> {
     let mut copy = source.copy_over(changed)?;
     change_in_turn(rt, source, &mut copy)
@@ -70,7 +71,7 @@ fn change_in_turn(rt: &HostRuntime, source: &mut Marked, copy: &mut Marked) -> R
     copy.show(rt, "copy")
 }
 
-/// Shows two heaps, changes the first of them, and shows both again.
+/// Prints two heaps, changes `changed`, and prints both again.
 fn change_one(
     rt: &HostRuntime,
     names: [&str; 2],

@@ -1,4 +1,4 @@
-//! Calls of a debug heap, made one after another as a table says, with a line of each.
+//! Calls on a debug heap, made one after another as a table says, with a line for each.
 
 ghost use Rattle.std.specs.Prelude.{◌≡◌};
 
@@ -12,10 +12,10 @@ use wb_model::limits::CEILING;
 use wb_model::memory::NoMemory;
 use wb_model::run::Note;
 
-/// A cell, by its place and the number of its attempt.
+/// A cell, by its place and its allocation number.
 pub(crate) type Cell = (u32, u32);
 
-/// A call of a debug heap. Lengths are bytes without a header.
+/// A call on a debug heap. Lengths are in bytes, without the header.
 #[derive(Clone, Copy)]
 pub(crate) enum Call {
     Alloc(u32),
@@ -40,14 +40,14 @@ pub(crate) struct Marked {
     ghost open: { heap.heap.level ≡ marks },
 }
 
-/// Heaps of this shape begin without memory, so that the first attempt asks for it.
+/// Heaps of this shape begin with no bytes, so that the first attempt asks for memory.
 pub(crate) const SHAPE: Shape = Shape {
     min: 0,
     step: 64,
     moving: false,
 };
 
-/// Cells that are granted in a hole and at the top, grow at their place and move, and are refused by a setting.
+/// Cells that are granted in a hole and at the top, that grow in place or by a move; and attempts that a setting makes fail.
 static ATTEMPTS: [Call; 23] = [
     Call::Alloc(16),
     Call::Alloc(40),
@@ -74,7 +74,7 @@ static ATTEMPTS: [Call; 23] = [
     Call::Compress,
 ];
 
-/// Makes the calls of the table, and prints all that the heap shows then.
+/// Makes the calls of the table, and then prints all that the heap shows.
 pub(crate) fn make_attempts(rt: &HostRuntime) -> Result<(), Stop> {
     let mut marked = Marked::new(rt.alloc())?;
     make_and_show(rt, &mut marked)
@@ -86,7 +86,7 @@ fn make_and_show(rt: &HostRuntime, marked: &mut Marked) -> Result<(), Stop> {
 }
 
 impl Marked {
-    /// A heap without a cell.
+    /// A heap without cells.
     pub(crate) fn new(alloc: Global) -> Result<Marked, NoMemory> {
         match DebugHeap::new(alloc, Rule::Unlimited, SHAPE) {
             Ok(heap) => Ok(Marked { heap, marks: 0 }),
@@ -94,7 +94,7 @@ impl Marked {
         }
     }
 
-    /// A copy.
+    /// A copy of the heap.
     pub(crate) fn copy(&self) -> Result<Marked, NoMemory> {
         Ok(Marked {
             heap: calls::copy(&self.heap)?,
@@ -102,7 +102,7 @@ impl Marked {
         })
     }
 
-    /// A copy over the memory of another.
+    /// A copy of the heap over the memory of `spare`.
     pub(crate) fn copy_over(&self, spare: Marked) -> Result<Marked, NoMemory> {
         let (_, heap) = spare.heap.into_trace_and_heap();
         Ok(Marked {
@@ -111,12 +111,12 @@ impl Marked {
         })
     }
 
-    /// Tells all that the heap shows.
+    /// Prints all that the heap shows.
     pub(crate) fn show(&self, rt: &HostRuntime, name: &str) -> Result<(), Stop> {
         show(rt, name, &self.heap)
     }
 
-    /// Makes calls, with a line of each.
+    /// Makes calls, with a line for each.
     pub(crate) fn make_calls(&mut self, rt: &HostRuntime, calls: &[Call]) -> Result<(), Stop> {
         for call in calls {
             self.make_call(rt, *call)?;
@@ -151,7 +151,7 @@ impl Marked {
         write_heap(rt, &self.heap)
     }
 
-    /// Makes such a call. Whether it wasn't refused; of `Compress`, whether it gave up anything.
+    /// Makes a call that takes no memory, and returns whether it succeeded; for `Compress`, whether the heap gave up any bytes.
     fn do_plain(&mut self, call: Call) -> bool {
         match call {
             Call::Free(cell) => self.heap.release(pointer(cell)).is_ok(),
@@ -163,7 +163,7 @@ impl Marked {
         }
     }
 
-    /// The same of a call that sets which attempts fail.
+    /// Makes a call that sets which attempts fail, and returns whether it succeeded.
     fn set(&mut self, call: Call) -> bool {
         match call {
             Call::FailNext(n) if n > 0 => {
@@ -182,7 +182,7 @@ impl Marked {
         }
     }
 
-    /// Opens a mark. Whether there could be one more.
+    /// Opens a mark. Returns whether there could be one more.
     fn mark(&mut self) -> bool {
         let Some(marks) = self.marks.checked_add(1) else {
             return false;
@@ -192,7 +192,7 @@ impl Marked {
         true
     }
 
-    /// Closes a mark. Whether one was open, and the cells are as many as expected.
+    /// Closes a mark. Returns whether a mark was open and had the expected number of cells.
     fn mark_end(&mut self, n: u32) -> bool {
         let is_closed = self.heap.mark_end(n).is_ok();
         if is_closed && self.marks > 0 {
@@ -201,7 +201,7 @@ impl Marked {
         is_closed
     }
 
-    /// Stores a word. Whether there was one.
+    /// Stores a word. Returns whether the payload has a word with this index.
     fn store(&mut self, ptr: Ptr, i: u32, word: u32) -> bool {
         match self.heap.header(ptr) {
             Some(header) if i < header.words() => {

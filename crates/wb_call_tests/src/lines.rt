@@ -1,4 +1,4 @@
-//! The lines that report calls. Each is written at once, so that it takes no memory.
+//! The lines that report calls. Each is written straight to standard output, so that it takes no memory.
 
 use crate::calls;
 use crate::stop::Stop;
@@ -6,7 +6,7 @@ use wb_debug::DebugHeap;
 use wb_model::heap::{Attempt, Gave, Ptr};
 use wb_model::run::{Leak, Note};
 
-/// Tells what an attempt gave: the number and the place of the cell, or who refused.
+/// Prints what an attempt returned (the number and the place of the cell, or why there is none), and the state of the heap.
 pub(crate) fn write_gave(
     rt: &HostRuntime,
     call: &str,
@@ -25,7 +25,8 @@ pub(crate) fn write_gave(
     write_heap(rt, heap)
 }
 
-/// Ends a line: how many attempts were counted, how many lines the trace has, how many cells are live, and the lengths.
+/// Ends a line with the state of a heap: how many attempts were counted, how many lines the trace has, how many cells are live and how many
+/// bytes they have, and the committed length.
 pub(crate) fn write_heap(rt: &HostRuntime, heap: &DebugHeap) -> Result<(), Stop> {
     let (live, bytes, committed) = match heap.note_heap() {
         Note::Heap(live, bytes, committed) => (live, bytes, committed),
@@ -39,7 +40,7 @@ pub(crate) fn write_heap(rt: &HostRuntime, heap: &DebugHeap) -> Result<(), Stop>
     Ok(())
 }
 
-/// Tells all that a heap shows: its trace, and its live cells with what they hold.
+/// Prints all that a heap shows: its state, what is free, its trace, and its live cells with what they hold.
 pub(crate) fn show(rt: &HostRuntime, name: &str, heap: &DebugHeap) -> Result<(), Stop> {
     print!(rt; "{name}")?;
     write_heap(rt, heap)?;
@@ -49,7 +50,7 @@ pub(crate) fn show(rt: &HostRuntime, name: &str, heap: &DebugHeap) -> Result<(),
     show_cells(rt, heap, cells.as_slice())
 }
 
-/// Tells what is free.
+/// Prints how many bytes are free, and the length of the longest free stretch.
 fn show_free(rt: &HostRuntime, heap: &DebugHeap) -> Result<(), Stop> {
     let (total, longest) = match heap.note_available() {
         Note::Available(total, longest) => (total, longest),
@@ -59,7 +60,7 @@ fn show_free(rt: &HostRuntime, heap: &DebugHeap) -> Result<(), Stop> {
     Ok(())
 }
 
-/// Tells the lines of a trace.
+/// Prints the lines of a trace.
 fn show_trace(rt: &HostRuntime, trace: &[Attempt]) -> Result<(), Stop> {
     for line in trace {
         println!(rt;
@@ -70,7 +71,7 @@ fn show_trace(rt: &HostRuntime, trace: &[Attempt]) -> Result<(), Stop> {
     Ok(())
 }
 
-/// Tells the cells, each with those of its words that aren't zero.
+/// Prints the cells, each with those of its words that aren't zero.
 fn show_cells(rt: &HostRuntime, heap: &DebugHeap, cells: &[Leak]) -> Result<(), Stop> {
     for cell in cells {
         println!(rt;
@@ -86,7 +87,7 @@ fn show_cells(rt: &HostRuntime, heap: &DebugHeap, cells: &[Leak]) -> Result<(), 
     Ok(())
 }
 
-/// Tells the level of a cell, and those of its words that aren't zero.
+/// Prints the level of a cell, and those of its words that aren't zero.
 fn show_words(rt: &HostRuntime, heap: &DebugHeap, ptr: Ptr) -> Result<(), Stop> {
     let Some(header) = heap.header(ptr) else {
         return Ok(());

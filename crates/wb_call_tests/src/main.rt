@@ -1,8 +1,8 @@
-//! Makes those calls that may find no memory, one after another, and prints a line of what each gave.
+//! Makes the calls that may run out of memory, one after another, and prints a line with the result of each.
 //!
-//! A call that answers `NoMemory` is made once more with the same arguments. Where it was refused plainly, as its contract says, the
-//! lines are the same as if memory had been there at once. Where the second call finds no memory either, the last line is
-//! `no memory`, and the status 4. Printing takes no memory.
+//! A call that returns `NoMemory` is made once more with the same arguments. If the first call left everything as its contract says, the
+//! lines are the same as if memory had been there at once. If the second call returns `NoMemory` too, the last line is `no memory`, and the
+//! status is 4. Printing takes no memory.
 #![tactic(auto)]
 
 mod calls;

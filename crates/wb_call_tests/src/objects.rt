@@ -17,10 +17,10 @@ use wb_objects::make;
 /// The classes of which objects are made, by their indexes.
 const MADE: [u16; 6] = [0, 1, 0, 1, 1, 0];
 
-/// Every third of them is refused: a call that is made once more is one attempt.
+/// Every third attempt fails. A call that is made a second time is still one attempt.
 const RULE: Rule = Rule::Every(3);
 
-/// Makes objects, and prints all that the heap shows then.
+/// Makes objects, and then prints all that the heap shows.
 pub(crate) fn make_objects(rt: &HostRuntime, script: &Script) -> Result<(), Stop> {
     let Ok(mut heap) = DebugHeap::new(rt.alloc(), RULE, SHAPE) else {
         return Err(Stop::NoMemory);
@@ -36,7 +36,7 @@ fn make_and_show(rt: &HostRuntime, heap: &mut DebugHeap, script: &Script) -> Res
     show(rt, "after all objects", heap)
 }
 
-/// `make`, once more where memory ran out.
+/// Calls `make`, a second time if memory ran out.
 fn make_again(heap: &mut DebugHeap, script: &Script, class: u16) -> Result<Gave, NoMemory> {
     if heap.attempts() == u32::MAX || !has_class(script, class) {
         return Err(NoMemory);
@@ -47,7 +47,7 @@ fn make_again(heap: &mut DebugHeap, script: &Script, class: u16) -> Result<Gave,
     }
 }
 
-/// Whether the script has the class, and one object of it can be below the ceiling.
+/// Whether the script has the class, and an object of it fits below the heap's ceiling.
 fn has_class(script: &Script, class: u16) -> bool
     ensures there { result ≡ true → class < length script.now.classes }
     ensures fits { result ≡ true → payload_of_object (class_at script.now class) ≤ CEILING }

@@ -1,5 +1,5 @@
-//! Attempts on a heap that keeps the rises alone. One that isn't a rise asks for no memory: so it is granted or denied at
-//! once, whichever allocation is refused, and `tools/failing_allocations.py` counts that it makes no allocation.
+//! Attempts on a heap that keeps its rises but no trace. An attempt that isn't a rise takes none of the workbench's own memory. So it is
+//! answered at its first call, even while the workbench's allocations fail; `tools/failing_allocations.py` checks that it makes none.
 
 ghost use Rattle.std.specs.Prelude.{◌≡◌, ◌+◌, ◌^◌, ◌<◌, ◌≤◌, true, IfOk, IsSome};
 ghost use Rattle.wb_model.specs.heap.Debug.{keeps_rises};
@@ -12,30 +12,30 @@ use wb_model::heap::{Gave, Kind, Ptr, Shape};
 use wb_model::limits::CEILING;
 use wb_model::memory::NoMemory;
 
-/// A call of a heap.
+/// A call on a heap.
 #[derive(Clone, Copy)]
 enum Call {
     /// An attempt to get a cell for a number of bytes.
     Alloc(u32),
-    /// The place and the number of a cell, and the bytes that it is to have.
+    /// The place and the allocation number of a cell, and the bytes that it is to have.
     Realloc(u32, u32, u32),
-    /// The place and the number of a cell that is released.
+    /// The place and the allocation number of a cell that is released.
     Free(u32, u32),
-    /// Every attempt with a multiple of this number fails from here on.
+    /// From here on, every attempt fails whose number, counted from here, is a multiple of this one.
     FailEvery(u32),
-    /// So many times a mark, and an attempt to get a cell of its level.
+    /// This many times: a mark is opened, and an attempt is made to get a cell of its level.
     MarkedCells(u32),
 }
 
-/// The heap begins without memory, so that the first attempt asks for it.
+/// The heap begins with no bytes, so that the first attempt asks for memory.
 const SHAPE: Shape = Shape {
     min: 0,
     step: 64,
     moving: false,
 };
 
-/// Cells at the top, in a hole and past the top, attempts that are simulated, and cells that become longer at their place
-/// and elsewhere, and shorter; at last cells of more levels than the heap counts, below the end of a long cell that was released.
+/// Cells at the top, in a hole and past the top; attempts that are made to fail; cells that grow in place, grow by a move, and shrink. At
+/// last cells of more levels than the heap keeps counts of, below the end of a long cell that was released.
 static CALLS: [Call; 25] = [
     Call::Alloc(128),
     Call::FailEvery(2),
@@ -64,13 +64,13 @@ static CALLS: [Call; 25] = [
     Call::MarkedCells(70),
 ];
 
-/// Makes the calls of the table, and prints the rises then.
+/// Makes the calls of the table, and then prints the rises.
 pub(crate) fn make_attempts(rt: &HostRuntime) -> Result<(), Stop> {
     let mut heap = new_heap(rt.alloc())?;
     make_calls(rt, &mut heap)
 }
 
-/// A heap without a cell, asked for once more where memory ran out.
+/// A heap without cells, asked for a second time if memory ran out.
 fn new_heap(alloc: Global) -> Result<DebugHeap, NoMemory>
     ensures { IfOk result (λ heap. keeps_rises heap ≡ true) }
 {
@@ -100,7 +100,7 @@ fn make_calls(rt: &HostRuntime, heap: &mut DebugHeap) -> Result<(), Stop>
     Ok(())
 }
 
-/// Cells of levels of their own.
+/// Makes `count` attempts to get a cell, each after opening another mark.
 fn make_marked_cells(rt: &HostRuntime, heap: &mut DebugHeap, count: u32) -> Result<(), Stop>
     requires { keeps_rises heap.old ≡ true }
     ensures { keeps_rises heap.new ≡ true }
@@ -112,7 +112,7 @@ fn make_marked_cells(rt: &HostRuntime, heap: &mut DebugHeap, count: u32) -> Resu
     Ok(())
 }
 
-/// An attempt to get a cell, made once more where it found no memory.
+/// An attempt to get a cell, made a second time if memory ran out.
 fn alloc(rt: &HostRuntime, heap: &mut DebugHeap, bytes: u32) -> Result<(), Stop>
     requires { keeps_rises heap.old ≡ true }
     ensures { keeps_rises heap.new ≡ true }
@@ -125,7 +125,7 @@ fn alloc(rt: &HostRuntime, heap: &mut DebugHeap, bytes: u32) -> Result<(), Stop>
     write_attempt(rt, heap, "alloc", bytes, gave, before, found)
 }
 
-/// An attempt to give a cell another length, made once more where it found no memory.
+/// An attempt to give a cell another length, made a second time if memory ran out.
 fn realloc(rt: &HostRuntime, heap: &mut DebugHeap, ptr: Ptr, bytes: u32) -> Result<(), Stop>
     requires { keeps_rises heap.old ≡ true }
     ensures { keeps_rises heap.new ≡ true }
@@ -138,7 +138,7 @@ fn realloc(rt: &HostRuntime, heap: &mut DebugHeap, ptr: Ptr, bytes: u32) -> Resu
     write_attempt(rt, heap, "realloc", bytes, gave, before, found)
 }
 
-/// Prints what an attempt gave. One that found no memory at first and isn't a rise is printed as that.
+/// Prints what an attempt returned. If memory ran out at first, but the attempt isn't a rise, a line says so.
 fn write_attempt(
     rt: &HostRuntime,
     heap: &DebugHeap,
@@ -170,7 +170,7 @@ fn write_attempt(
     Ok(())
 }
 
-/// The attempt to get a cell itself.
+/// The attempt to get a cell, made once.
 fn attempt(heap: &mut DebugHeap, bytes: u32) -> Result<Gave, NoMemory>
     ensures { keeps_rises heap.new ≡ keeps_rises heap.old }
 {
@@ -180,7 +180,7 @@ fn attempt(heap: &mut DebugHeap, bytes: u32) -> Result<Gave, NoMemory>
     heap.attempt_alloc(bytes, Kind::Raw)
 }
 
-/// The attempt to give a cell another length itself.
+/// The attempt to give a cell another length, made once.
 fn reattempt(heap: &mut DebugHeap, ptr: Ptr, bytes: u32) -> Result<Gave, NoMemory>
     ensures { keeps_rises heap.new ≡ keeps_rises heap.old }
 {
@@ -190,7 +190,7 @@ fn reattempt(heap: &mut DebugHeap, ptr: Ptr, bytes: u32) -> Result<Gave, NoMemor
     reattempt_live(heap, ptr, bytes)
 }
 
-/// The same of a live cell.
+/// The attempt to give a live cell another length.
 fn reattempt_live(heap: &mut DebugHeap, ptr: Ptr, bytes: u32) -> Result<Gave, NoMemory>
     requires live { IsSome (cell_at ptr heap.old.heap.row) }
     requires bytes { bytes ≤ CEILING }
@@ -200,7 +200,7 @@ fn reattempt_live(heap: &mut DebugHeap, ptr: Ptr, bytes: u32) -> Result<Gave, No
     heap.attempt_realloc(ptr, bytes)
 }
 
-/// Releases a cell, where the pointer names one.
+/// Releases the cell that the pointer names, if it names one.
 fn release(heap: &mut DebugHeap, ptr: Ptr)
     ensures { keeps_rises heap.new ≡ keeps_rises heap.old }
 {
@@ -216,7 +216,7 @@ fn mark(heap: &mut DebugHeap)
     }
 }
 
-/// Sets what is to fail from here on.
+/// Sets which attempts fail from here on.
 fn fail_every(heap: &mut DebugHeap, n: u32)
     ensures { keeps_rises heap.new ≡ keeps_rises heap.old }
 {

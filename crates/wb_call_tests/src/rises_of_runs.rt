@@ -1,5 +1,6 @@
-//! A run that keeps the rises alone, taken turn by turn. Each turn that asks for an attempt is between two lines, so that
-//! `tools/failing_allocations.py` counts what it asks for: nothing, unless its attempt is one of the rises, which come last.
+//! A run that keeps its rises but no trace, taken one machine turn after another. A line is printed before and after each turn that makes
+//! an attempt, so that `tools/failing_allocations.py` can count the allocations of the turn: none, unless the attempt is one of the rises,
+//! which are printed last.
 
 ghost use Rattle.std.specs.Prelude.{IsTrue};
 ghost use Rattle.wb_model.specs.language.Sound.{is_script};
@@ -12,7 +13,7 @@ use wb_model::memory::NoMemory;
 use wb_model::run::RisesResult;
 use wb_model::script::Script;
 
-/// Runs a script, and prints its rises.
+/// Runs a script, and then prints its rises.
 pub(crate) fn run_for_rises(rt: &HostRuntime, script: &Script) -> Result<(), Stop>
     requires { IsTrue (is_script script.now) }
 {
@@ -25,7 +26,7 @@ pub(crate) fn run_for_rises(rt: &HostRuntime, script: &Script) -> Result<(), Sto
     Ok(())
 }
 
-/// A machine at the start of the run, asked for once more where memory ran out.
+/// A machine at the start of the run, asked for a second time if memory ran out.
 fn machine<'a>(alloc: Global, script: &'a Script) -> Result<Machine<'a>, NoMemory>
     requires { IsTrue (is_script script.now) }
 {
@@ -35,7 +36,7 @@ fn machine<'a>(alloc: Global, script: &'a Script) -> Result<Machine<'a>, NoMemor
     }
 }
 
-/// The whole run, made once more where memory ran out.
+/// The whole run, made a second time if memory ran out.
 fn rises_of(alloc: Global, script: &Script) -> Result<RisesResult, NoMemory>
     requires { IsTrue (is_script script.now) }
 {
@@ -65,7 +66,7 @@ fn take_turn(rt: &HostRuntime, lead: &mut Machine) -> Result<Turn, Stop> {
     }
 }
 
-/// Takes a turn that asks for an attempt, between two lines.
+/// Takes a turn that makes an attempt, and prints a line before and after it.
 fn take_asking_turn<'a>(
     rt: &HostRuntime,
     lead: &mut Machine<'a>,

@@ -1,5 +1,6 @@
-//! A run that is taken turn by turn, beside copies of it. Before each turn that asks for an attempt a copy goes on to the end of the run,
-//! over the memory of the copy that did so before, and another waits while the run takes its turn: neither changes the other.
+//! A run that is taken one machine turn after another, beside copies of it. Before each turn that makes an attempt, a copy goes on to the
+//! end of the run, over the memory of the copy that did so before. During each turn, another copy waits. No change to the run or to a copy
+//! changes another.
 
 ghost use Rattle.std.specs.Prelude.{IsTrue};
 ghost use Rattle.wb_model.specs.language.Sound.{is_script};
@@ -14,7 +15,7 @@ use wb_model::script::Script;
 
 pub(crate) const BUDGET: u32 = 1000;
 
-/// The first turn, one for each step, and one that cuts the run.
+/// The most turns of a run: the first turn, one for each step of the budget, and one that cuts the run.
 pub(crate) const MOST_TURNS: u32 = BUDGET + 2;
 
 pub(crate) const SHAPE: Shape = Shape {
@@ -31,7 +32,7 @@ pub(crate) fn run_script(rt: &HostRuntime, script: &Script) -> Result<(), Stop>
     take_turns(rt, &mut lead)
 }
 
-/// A machine at the start of the run, asked for once more where memory ran out.
+/// A machine at the start of the run, asked for a second time if memory ran out.
 fn machine<'a>(alloc: Global, script: &'a Script) -> Result<Machine<'a>, NoMemory>
     requires { IsTrue (is_script script.now) }
 {
@@ -41,7 +42,7 @@ fn machine<'a>(alloc: Global, script: &'a Script) -> Result<Machine<'a>, NoMemor
     }
 }
 
-/// The same, asked for once. A heap may have the shape, so that only memory can be wanting.
+/// A machine at the start of the run, asked for once. The shape is one that a heap may have, so nothing but memory can be missing.
 fn new_machine<'a>(alloc: Global, script: &'a Script) -> Result<Machine<'a>, NoMemory>
     requires { IsTrue (is_script script.now) }
 {
@@ -65,7 +66,7 @@ fn take_turns(rt: &HostRuntime, lead: &mut Machine) -> Result<(), Stop> {
     write_end(rt, lead, &mut spare)
 }
 
-/// Takes a turn while a copy waits, and prints both.
+/// Takes a turn while a copy waits, and prints where both are.
 fn take_turn(rt: &HostRuntime, lead: &mut Machine) -> Result<Turn, Stop> {
     let waiting = copy(lead)?;
     take_turn_beside(rt, lead, &waiting)
@@ -82,8 +83,8 @@ fn take_turn_beside<'a>(
     Ok(turn)
 }
 
-/// Takes a turn. A machine that found no memory finds none for good: so a copy of the one that waits takes its place, and the turn
-/// is taken once more.
+/// Takes a turn. A machine that has run out of memory in a turn never goes on; so a copy of the waiting machine takes its place, and the
+/// turn is taken once more.
 pub(crate) fn step<'a>(lead: &mut Machine<'a>, waiting: &Machine<'a>) -> Result<Turn, NoMemory> {
     match lead.step() {
         Ok(turn) => Ok(turn),
@@ -94,7 +95,7 @@ pub(crate) fn step<'a>(lead: &mut Machine<'a>, waiting: &Machine<'a>) -> Result<
     }
 }
 
-/// A copy of a run, asked for once more where memory ran out.
+/// A copy of a run, asked for a second time if memory ran out.
 pub(crate) fn copy<'a>(machine: &Machine<'a>) -> Result<Machine<'a>, NoMemory> {
     match machine.try_copy() {
         Ok(copy) => Ok(copy),
@@ -102,7 +103,7 @@ pub(crate) fn copy<'a>(machine: &Machine<'a>) -> Result<Machine<'a>, NoMemory> {
     }
 }
 
-/// Tells where a run is.
+/// Prints where a run is.
 fn write_turn(rt: &HostRuntime, name: &str, machine: &Machine) -> Result<(), Stop> {
     println!(rt;
         "{name}: line {}, attempts {}, asks for one {}",
@@ -113,13 +114,13 @@ fn write_turn(rt: &HostRuntime, name: &str, machine: &Machine) -> Result<(), Sto
     Ok(())
 }
 
-/// Tells what a copy comes to that goes on to the end of the run.
+/// Prints the result of a copy that goes on to the end of the run.
 fn write_end(rt: &HostRuntime, lead: &Machine, spare: &mut Option<Heap>) -> Result<(), Stop> {
     let told = end(lead, spare)?;
     write_result(rt, &told)
 }
 
-/// What the run comes to, by a copy, and by another one where memory ran out.
+/// The result of the run, by a copy of it, or by a second copy if memory ran out.
 fn end(lead: &Machine, spare: &mut Option<Heap>) -> Result<RunResult, NoMemory> {
     match end_of_copy(lead, spare) {
         Ok(told) => Ok(told),

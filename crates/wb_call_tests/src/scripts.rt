@@ -1,4 +1,5 @@
-//! Scripts that are read: one with lines of most kinds, which objects are then made of and which is run, and some that have a fault.
+//! Scripts that are read: one with lines of most kinds, which is run, and of whose classes objects are made; one that is run for its rises;
+//! and some that have a fault.
 
 ghost use Rattle.std.specs.Prelude.{IfOk, IsTrue};
 ghost use Rattle.wb_model.specs.language.Sound.{is_script};
@@ -68,8 +69,9 @@ leave code
 end
 ";
 
-/// A script of whose attempts most aren't rises, below the end of a long cell that is released: cells of more levels than a heap counts, also in an outer
-/// level once inner ones were ended, attempts that are refused, in a TRAP and at its end, an object, texts, and pushes that grow the cleanup stack.
+/// A script most of whose attempts aren't rises, since they are for cells below the end of a long cell that was released: cells of more
+/// levels than a heap keeps counts of, also in an outer level after inner levels have ended, attempts that fail, within a TRAP and as its
+/// last, an object, texts, and pushes that grow the cleanup stack.
 static BELOW_THE_TOP: &[u8] = b"class Item 4
 field next Item
 end
@@ -120,7 +122,7 @@ alloc cell 50
 end
 ";
 
-/// Scripts with a fault, each found by another check.
+/// Scripts with a fault, each of which another check finds.
 static FAULTY: [&[u8]; 6] = [
     b"proc main\nptr a\n\x07\nend",
     b"proc main\nptr a\nelse\nend",
@@ -130,7 +132,7 @@ static FAULTY: [&[u8]; 6] = [
     b"proc start\nptr a\nalloc a 4\nend",
 ];
 
-/// Reads the scripts, and goes on with the one that has no fault.
+/// Reads the scripts, and runs the two that have no fault.
 pub(crate) fn read_scripts(rt: &HostRuntime) -> Result<(), Stop> {
     for bytes in &FAULTY {
         write_fault(rt, bytes)?;
@@ -145,7 +147,7 @@ pub(crate) fn read_scripts(rt: &HostRuntime) -> Result<(), Stop> {
     }
 }
 
-/// Reads a script with a fault, and prints which it is.
+/// Reads a script with a fault, and prints the fault.
 fn write_fault(rt: &HostRuntime, bytes: &[u8]) -> Result<(), Stop> {
     match read_again(rt.alloc(), bytes) {
         Err(ScriptFault::NoMemory) => Err(Stop::NoMemory),
@@ -160,7 +162,7 @@ fn write_fault(rt: &HostRuntime, bytes: &[u8]) -> Result<(), Stop> {
     }
 }
 
-/// `read`, once more where memory ran out.
+/// Calls `read`, a second time if memory ran out.
 fn read_again(alloc: Global, bytes: &[u8]) -> Result<Script, ScriptFault>
     ensures { IfOk result (λ script. IsTrue (is_script script)) }
 {
@@ -171,7 +173,7 @@ fn read_again(alloc: Global, bytes: &[u8]) -> Result<Script, ScriptFault>
     }
 }
 
-/// Tells what a script has, makes objects of its classes, and runs it.
+/// Prints what a script has, makes objects of its classes, and runs it.
 fn use_script(rt: &HostRuntime, script: &Script) -> Result<(), Stop>
     requires { IsTrue (is_script script.now) }
 {

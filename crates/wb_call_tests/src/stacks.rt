@@ -1,4 +1,4 @@
-//! Items that are pushed onto a cleanup stack, so many that its cell grows at its place and moves.
+//! Items that are pushed onto a cleanup stack, so many that the stack's cell grows in place, and then grows by a move.
 
 ghost use Rattle.std.specs.Prelude.{◌≡◌, IfOk, IfSome};
 ghost use Rattle.wb_cleanup.specs.Stacks.{IsStack};
@@ -15,10 +15,10 @@ use wb_debug::DebugHeap;
 use wb_model::heap::{Gave, Item, Kind, Ptr, Rule};
 use wb_model::memory::NoMemory;
 
-/// How many items are pushed before another cell is made after the stack's.
+/// How many items are pushed before another cell is made behind the stack's cell.
 const FIRST: u32 = 9;
 
-/// So many are pushed then.
+/// How many items are pushed after that.
 const LATER: u32 = 12;
 
 /// A cleanup stack in its heap, which contracts see as the heap.
@@ -39,7 +39,7 @@ impl Model for Stacked {
     ghost invariant = { λ s. IsStacked s.stack s.heap };
 }
 
-/// Pushes items, and prints those that are on the stack then, the newest first.
+/// Pushes items, takes them off again, and prints each, the newest first.
 pub(crate) fn push_items(rt: &HostRuntime) -> Result<(), Stop> {
     let mut stacked = empty_stack(rt.alloc())?;
     push_and_take(rt, &mut stacked)
@@ -54,7 +54,7 @@ fn push_and_take(rt: &HostRuntime, stacked: &mut Stacked) -> Result<(), Stop> {
     stacked.take_all(rt)
 }
 
-/// The empty stack of a heap.
+/// An empty stack in a heap of its own.
 fn empty_stack(alloc: Global) -> Result<Stacked, NoMemory> {
     let Ok(mut heap) = DebugHeap::new(alloc, Rule::Unlimited, SHAPE) else {
         return Err(NoMemory);
@@ -65,7 +65,7 @@ fn empty_stack(alloc: Global) -> Result<Stacked, NoMemory> {
     }
 }
 
-/// Starts a stack, once more where memory ran out.
+/// Starts a stack, a second time if memory ran out.
 fn start(heap: &mut DebugHeap) -> Result<Option<Cleanup>, NoMemory>
     requires first { heap.old.attempts ≡ 0 }
     ensures stands { IfOk result (λ started. IfSome started (λ stack. IsStack stack heap.new)) }
@@ -88,7 +88,7 @@ impl Stacked {
         Ok(())
     }
 
-    /// Pushes an item, once more where memory ran out.
+    /// Pushes an item, a second time if memory ran out.
     fn push(&mut self, item: Item) -> Result<Pushed, NoMemory> {
         if self.stack.is_full() || self.heap.attempts() == u32::MAX {
             return Err(NoMemory);
@@ -99,12 +99,12 @@ impl Stacked {
         }
     }
 
-    /// Gets a raw cell after the stack's.
+    /// Makes an attempt to get a raw cell, which lies behind the stack's.
     fn alloc(&mut self, bytes: u32) -> Result<Gave, NoMemory> {
         calls::alloc(&mut self.heap, bytes, Kind::Raw)
     }
 
-    /// Takes the newest item off, where there is one.
+    /// Takes the newest item off, or returns `None` if there is none.
     fn take(&mut self) -> Option<Item> {
         self.stack.take_top(&self.heap, 0)
     }
@@ -119,7 +119,7 @@ impl Stacked {
     }
 }
 
-/// An item that differs from others.
+/// Item number `i`, which differs from all others.
 fn item(i: u32) -> Item {
     let ptr = Ptr {
         place: i,

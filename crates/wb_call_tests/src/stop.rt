@@ -6,7 +6,7 @@ use wb_model::memory::NoMemory;
 /// Why the calls end early.
 #[derive(Clone, Copy, Debug)]
 pub(crate) enum Stop {
-    /// A call answered `NoMemory` when it was made once more.
+    /// A call returned `NoMemory` when it was made for the second time.
     NoMemory,
     /// A line couldn't be written.
     NotWritten,

@@ -1,4 +1,4 @@
-//! Texts that are made in cells, and get other maxima: at their place, and at another.
+//! Texts that are made in cells and then get another maximum length, in place or by a move.
 
 ghost use Rattle.std.specs.Prelude.{◌≤◌, [], IfOk};
 ghost use Rattle.wb_model.specs.cells.TextCells.{IsGrantedText, IsRemadeText, IsTextAt, text_at};
@@ -13,7 +13,7 @@ use wb_model::heap::{Gave, Kind, Ptr, Rule};
 use wb_model::limits::MOST_UNITS;
 use wb_model::memory::NoMemory;
 
-/// Makes texts, and prints all that the heap shows then.
+/// Makes texts, and then prints all that the heap shows.
 pub(crate) fn make_texts(rt: &HostRuntime) -> Result<(), Stop> {
     let Ok(mut heap) = DebugHeap::new(rt.alloc(), Rule::Unlimited, SHAPE) else {
         return Err(Stop::NoMemory);
@@ -35,7 +35,7 @@ fn make_hole(rt: &HostRuntime, heap: &mut DebugHeap) -> Result<(), Stop> {
     Ok(())
 }
 
-/// A raw cell.
+/// Makes a raw cell.
 fn alloc(rt: &HostRuntime, heap: &mut DebugHeap, bytes: u32) -> Result<Ptr, Stop> {
     let gave = calls::alloc(heap, bytes, Kind::Raw)?;
     write_gave(rt, "alloc", bytes, gave, heap)?;
@@ -45,7 +45,7 @@ fn alloc(rt: &HostRuntime, heap: &mut DebugHeap, bytes: u32) -> Result<Ptr, Stop
     }
 }
 
-/// A text that grows in the hole, then moves after the live cell, is denied more, and shrinks.
+/// Makes a text that grows in the hole, moves behind the live cell, is denied more, and shrinks.
 fn grow_text(rt: &HostRuntime, heap: &mut DebugHeap) -> Result<(), Stop> {
     let text = new_text(rt, heap, 4)?;
     let _ = set_length(heap, text, 3);
@@ -59,7 +59,7 @@ fn grow_text(rt: &HostRuntime, heap: &mut DebugHeap) -> Result<(), Stop> {
     Ok(())
 }
 
-/// A new text for `n` units.
+/// Makes a new text for `n` units.
 fn new_text(rt: &HostRuntime, heap: &mut DebugHeap, n: u32) -> Result<Ptr, Stop>
     requires { n ≤ MOST_UNITS }
     ensures { IfOk result (λ ptr. IsTextAt ptr heap.new) }
@@ -72,7 +72,7 @@ fn new_text(rt: &HostRuntime, heap: &mut DebugHeap, n: u32) -> Result<Ptr, Stop>
     }
 }
 
-/// `make`, once more where memory ran out.
+/// Calls `make`, a second time if memory ran out.
 fn make_again(heap: &mut DebugHeap, n: u32) -> Result<Gave, NoMemory>
     requires { n ≤ MOST_UNITS }
     ensures { IfOk result (IsGrantedText heap.new []) }
@@ -86,7 +86,7 @@ fn make_again(heap: &mut DebugHeap, n: u32) -> Result<Gave, NoMemory>
     }
 }
 
-/// The pointer to a text that was to get another maximum: the old one where that was denied.
+/// Makes an attempt to give a text another maximum length, and returns the pointer to it: the old pointer if the attempt was denied.
 fn remake_text(rt: &HostRuntime, heap: &mut DebugHeap, ptr: Ptr, n: u32) -> Result<Ptr, Stop>
     requires text { IsTextAt ptr heap.old }
     requires most { n ≤ MOST_UNITS }
@@ -100,7 +100,7 @@ fn remake_text(rt: &HostRuntime, heap: &mut DebugHeap, ptr: Ptr, n: u32) -> Resu
     }
 }
 
-/// `remake`, once more where memory ran out.
+/// Calls `remake`, a second time if memory ran out.
 fn remake_again(heap: &mut DebugHeap, ptr: Ptr, n: u32) -> Result<Gave, NoMemory>
     requires text { IsTextAt ptr heap.old }
     requires most { n ≤ MOST_UNITS }

@@ -1,4 +1,4 @@
-//! Bits in order, and searches for those that are on. What a bit says is not said here.
+//! A list of bits, and searches for bits that are on. What a bit means is not said here.
 
 ghost use Rattle.std.specs.Prelude.{◌≡◌, ◌+◌, ◌-◌, ◌*◌, ◌/◌, ◌<◌, ◌≤◌, [], ◌++◌, length, replicate, slice_set};
 ghost use Rattle.std.specs.Prelude.{slice_index_or, false, IfOk, IsOk, OnOk, OnErr};
@@ -8,7 +8,7 @@ use std::alloc::{AllocError, Global};
 use std::marker::Model;
 use wb_model::limits::CEILING;
 
-/// How many places of 16 bytes a chunk may have; a list has a bit for each, or for fewer.
+/// How many places of 16 bytes a chunk may have at most, and so how many bits a list may have.
 pub const MOST_PLACES: u32 = CEILING / 16;
 
 /// A list of bits, 32 to a word, which grows at its end.
@@ -31,7 +31,7 @@ impl Model for Bits {
 }
 
 impl Bits {
-    /// No bits, which takes no memory.
+    /// A list of no bits, which takes no memory.
     pub fn new(alloc: Global) -> Bits
         ensures { result ≡ [] }
     {
@@ -40,7 +40,7 @@ impl Bits {
         }
     }
 
-    /// The same bits, in memory of their own. On `Err` memory was refused.
+    /// A copy with the same bits, in memory of its own. `Err` if the allocator refuses memory.
     pub fn try_copy(&self) -> Result<Bits, AllocError>
         ensures { IfOk result (λ copy. copy ≡ self.now) }
     {
@@ -57,8 +57,8 @@ impl Bits {
         32 * self.words.len() as u32
     }
 
-    /// Appends bits that are off, in steps of 32, until there are at least `count`. Where memory is refused, the bits
-    /// are as they were; it takes none if there are that many.
+    /// Appends bits that are off, 32 at a time, until there are at least `count` bits; takes no memory if there are that many already.
+    /// `Err` if the allocator refuses memory, and then the bits are as they were.
     pub fn grow_to(&mut self, count: u32) -> Result<(), AllocError>
         requires { count ≤ MOST_PLACES }
         ensures grown { OnOk result (self.new
@@ -73,7 +73,7 @@ impl Bits {
         Ok(())
     }
 
-    /// Whether the bit is on; past the end none is.
+    /// Whether the bit at index `at` is on. Bits past the end of the list are off.
     pub fn is_on(&self, at: u32) -> bool
         ensures { result ≡ slice_index_or self.now at false }
     {
@@ -85,7 +85,7 @@ impl Bits {
         words[index] >> (at % 32) & 1 == 1
     }
 
-    /// Puts one bit on or off.
+    /// Turns the bit at index `at` on or off.
     pub fn set(&mut self, at: u32, on: bool)
         requires { at < length self.old }
         ensures { self.new ≡ slice_set self.old at on }
@@ -95,7 +95,7 @@ impl Bits {
         words[index] = with_bit(words[index], at % 32, on);
     }
 
-    /// The first bit from one on that is on.
+    /// The index of the first bit that is on, from index `from` on, or `None`.
     pub fn next(&self, from: u32) -> Option<u32>
         ensures { IsNext self.now from result }
     {
@@ -112,7 +112,7 @@ impl Bits {
         None
     }
 
-    /// The last bit that is on, from one on and below another.
+    /// The index of the last bit that is on, from index `from` on and below `end`, or `None`.
     pub fn last(&self, from: u32, end: u32) -> Option<u32>
         ensures { IsLastOn self.now from end result }
     {
@@ -130,7 +130,7 @@ impl Bits {
     }
 }
 
-/// The last bit of a word that is on, up to one.
+/// The highest bit of a word that is on and is not above bit `top`, or `None`.
 fn last_in(word: u32, top: u32) -> Option<u32>
     requires { top < 32 }
     ensures { IsLastIn word top result }
@@ -142,7 +142,7 @@ fn last_in(word: u32, top: u32) -> Option<u32>
     Some(31 - low.leading_zeros())
 }
 
-/// A word with one bit put on or off.
+/// The word with bit number `bit` turned on or off.
 fn with_bit(word: u32, bit: u32, on: bool) -> u32
     requires { bit < 32 }
     ensures { IsWithBit word result bit on }

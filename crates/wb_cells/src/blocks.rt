@@ -1,5 +1,5 @@
-//! The greatest length of each block of places. That of the block which changed last is kept apart: as long as it rises, or falls
-//! no lower than it was before, no other number is written.
+//! The greatest length of each block of places. The number of the block that changed last is kept apart from the list of all blocks: that
+//! list isn't written while the number stays at least as great as the one that the list has for this block.
 
 ghost use Rattle.std.specs.Prelude.{◌≡◌, ◌-◌, ◌<◌, ◌≤◌, [], ◌++◌, length, replicate, slice_index, slice_set, IfOk, IsOk};
 ghost use Rattle.std.specs.Prelude.{OnOk, OnErr};
@@ -13,11 +13,11 @@ use std::marker::Model;
 /// A number for each block, in a list that grows at its end.
 #[derive(Drop)]
 pub struct Blocks {
-    /// Of the latest block it has a number that may be less than its own.
+    /// The numbers of all blocks, except that the number of the latest block may be less here than it is.
     ranked: Ranked,
     /// The block that changed last.
     latest: u32,
-    /// Its number.
+    /// The number of the latest block.
     number: u32,
 }
 
@@ -33,7 +33,7 @@ impl Model for Blocks {
 }
 
 impl Blocks {
-    /// No blocks, which takes no memory.
+    /// A list of no blocks, which takes no memory.
     pub fn new(alloc: Global) -> Blocks
         ensures { result ≡ [] }
     {
@@ -44,7 +44,7 @@ impl Blocks {
         }
     }
 
-    /// The same numbers, in memory of their own. On `Err` memory was refused.
+    /// A copy with the same numbers, in memory of its own. `Err` if the allocator refuses memory.
     pub fn try_copy(&self) -> Result<Blocks, AllocError>
         ensures { IfOk result (λ copy. copy ≡ self.now) }
     {
@@ -55,8 +55,8 @@ impl Blocks {
         })
     }
 
-    /// Appends numbers that are 0 until there are `count`. Where memory is refused, the numbers are as they were; it
-    /// takes none if there are that many.
+    /// Appends numbers that are 0 until there are `count` numbers; takes no memory if there are that many already. `Err` if the allocator
+    /// refuses memory, and then the numbers are as they were.
     pub fn grow_to(&mut self, count: u32) -> Result<(), AllocError>
         requires { count ≤ MOST_PLACES }
         ensures grown { OnOk result (self.new ≡ self.old ++ replicate (count - length self.old) 0) }
@@ -91,7 +91,7 @@ impl Blocks {
         self.number = number;
     }
 
-    /// The first block with a number that is at least so great.
+    /// The first block whose number is at least `least`, or `None`.
     pub fn first_long(&self, least: u32) -> Option<u32>
         requires { 0 < least }
         ensures { IsFirstLong (slice_index self.now) least result }
@@ -106,7 +106,7 @@ impl Blocks {
         }
     }
 
-    /// The last block below another with a number that is not 0.
+    /// The last block below block `at` whose number is not 0, or `None`.
     pub fn last_below(&self, at: u32) -> Option<u32>
         ensures { IsLast (slice_index self.now) 0 at result }
     {
@@ -120,7 +120,7 @@ impl Blocks {
         }
     }
 
-    /// The greatest number, or 0 where there is none.
+    /// The greatest number, or 0 if there are no blocks.
     pub fn greatest(&self) -> u32
         ensures { IsGreatest (slice_index self.now) 0 (length self.now) result }
     {
@@ -128,7 +128,7 @@ impl Blocks {
     }
 }
 
-/// Puts a number that was kept apart where it belongs.
+/// Writes a number that was kept apart into the list of all blocks.
 fn settle(ranked: &mut Ranked, at: u32, number: u32)
     requires within { 0 < number → at < length ranked.old }
     requires low { slice_index ranked.old at ≤ number }
@@ -139,7 +139,7 @@ fn settle(ranked: &mut Ranked, at: u32, number: u32)
     }
 }
 
-/// Makes the number at an index no greater than another, and changes nothing else.
+/// Lowers the number at index `at` to `most` if it is greater, and changes nothing else.
 fn lower(ranked: &mut Ranked, at: u32, most: u32)
     requires { at < length ranked.old }
     ensures same { slice_set ranked.new at most ≡ slice_set ranked.old at most }

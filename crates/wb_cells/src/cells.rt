@@ -1,5 +1,5 @@
-//! The cells of a chunk, and their calls. Which bytes a grown heap may use, and in what order memory is asked for, is
-//! not decided here.
+//! The cells of a chunk, and the calls on them. Not decided here: which bytes a heap that has grown may use, and in which order memory is
+//! asked for.
 
 ghost use Rattle.std.specs.Prelude.{◌≡◌, ◌≢◌, ◌+◌, ◌*◌, ◌%◌, ◌<◌, ◌≤◌, [], ◌++◌, max, true, length, take, drop, slice_index};
 ghost use Rattle.std.specs.Prelude.{slice_set, All, IfOk, OnOk, OnErr, option_map, IsOk, IsSome};
@@ -21,13 +21,13 @@ use wb_model::heap::{Header, Ptr};
 use wb_model::limits::CEILING;
 use wb_model::memory::NoMemory;
 
-/// Cells end to end in a chunk of words, from place 0 up to the end of the last live one. Contracts see the row that the
-/// words spell and the bytes held. Places and lengths are bytes; a place is a multiple of 16.
+/// Cells end to end in a chunk of words, from place 0 up to the end of the last live cell. Contracts see the row of live cells that the
+/// words spell, and how many bytes are held. Places and lengths are in bytes; a place is a multiple of 16.
 ///
-/// A free cell lies between two live ones, or before the first; the words link the free cells in order of place. No two
-/// free cells touch. One bit for each place of 16 bytes says whether a live cell begins there, so that no payload can
-/// pass for a header. An index of the free cells' lengths finds one without a walk, so no call costs more the more cells
-/// there are, live or free.
+/// A free cell lies between two live cells, or before the first one; the words link the free cells in order of place. No two free cells
+/// touch. One bit for each place of 16 bytes says whether a live cell begins there, so that no payload can pass for a header. An index of
+/// the free cells' lengths finds a free cell without a walk along the links, so no call gets slower when there are more cells, live or
+/// free.
 pub struct Cells {
     pub(crate) words: Chunk,
     starts: Bits,
@@ -35,7 +35,8 @@ pub struct Cells {
     ends: Ends,
 }
 
-/// Written out, so that other proofs have one call where one is dropped, and its fields are gone over here alone.
+/// Written out rather than derived: a proof elsewhere that drops a `Cells` sees one call, and only this function's own proof goes through
+/// the fields.
 impl Drop for Cells {
     fn drop(self) {
         let Cells {
@@ -59,7 +60,7 @@ impl Model for Cells {
 }
 
 impl Cells {
-    /// No cell, and no byte held. It takes no memory.
+    /// No cells, and no bytes held. The call takes no memory.
     pub fn new(alloc: Global) -> Cells
         ensures { result ≡ record { row = []; held = 0 } }
     {
@@ -74,8 +75,8 @@ impl Cells {
         }
     }
 
-    /// The same cells, with as many bytes held, in memory of their own: what is done to one changes nothing in the other. On
-    /// `Err` memory was refused.
+    /// A copy with the same cells and the same number of bytes held, in memory of its own: no change to the copy or to the original changes
+    /// the other. `Err` if the workbench's own memory runs out.
     pub fn try_copy(&self) -> Result<Cells, NoMemory>
         ensures { IfOk result (λ copy. copy ≡ self.now) }
     {
@@ -87,9 +88,9 @@ impl Cells {
         })
     }
 
-    /// The same cells, with as many bytes held, over the memory of `spare`, whose cells are lost. It is made larger if need be.
-    /// Of the words only blocks that may differ are written. What is done to one changes nothing in the
-    /// other. On `Err` memory was refused.
+    /// A copy with the same cells and the same number of bytes held, over the memory of `spare`, whose cells are lost; that memory is made
+    /// larger if need be. Of the words, only blocks that may differ are written. No change to the copy or to the original changes the
+    /// other. `Err` if the workbench's own memory runs out.
     pub fn try_copy_over(&self, spare: Cells) -> Result<Cells, NoMemory>
         ensures { IfOk result (λ copy. copy ≡ self.now) }
     {
@@ -111,8 +112,8 @@ impl Cells {
         })
     }
 
-    /// Holds at least `bytes` bytes; the cells stay as they are. Where memory is refused, nothing changes; it takes
-    /// none if that many are held.
+    /// Reserves bytes until at least `bytes` are held; the cells stay as they are. The call takes no memory if that many are held already.
+    /// `Err` if the workbench's own memory runs out, and then nothing has changed.
     pub fn reserve(&mut self, bytes: u32) -> Result<(), NoMemory>
         requires rounded { bytes % 16 ≡ 0 }
         requires within { bytes ≤ CEILING }
@@ -127,7 +128,7 @@ impl Cells {
         Ok(())
     }
 
-    /// The bytes held: the greatest number that was reserved.
+    /// How many bytes are held: the greatest number that was reserved.
     pub fn held(&self) -> u32
         ensures bytes { result ≡ self.now.held }
         ensures sound { IsSoundCells self.now }
@@ -135,7 +136,7 @@ impl Cells {
         4 * self.words.words()
     }
 
-    /// The end of the last live cell, or 0 where there is none.
+    /// The end of the last live cell, or 0 if there is no live cell.
     pub fn top(&self) -> u32
         ensures end { result ≡ top_of (headers self.now.row) }
         ensures sound { IsSoundCells self.now }
@@ -143,8 +144,8 @@ impl Cells {
         self.ends.top
     }
 
-    /// The lowest place where a cell of this length fits; the space above the last live cell counts as free without
-    /// end. Source: Symbian OS v9 SDK reference, RHeap (first fit in address order).
+    /// The lowest place where a cell of `length` bytes fits; the space above the last live cell counts as free without end. Source: Symbian
+    /// OS v9 SDK reference, RHeap (first fit in address order).
     pub fn first_fit(&self, length: u32) -> u32
         requires { 16 ≤ length }
         ensures place { result ≡ place_of (headers self.now.row) length }
@@ -159,7 +160,7 @@ impl Cells {
         }
     }
 
-    /// The length of the longest free cell, or 0 where there is none; what lies above the last live cell is none.
+    /// The length of the longest free cell, or 0 if there is no free cell. The space above the last live cell is not a free cell.
     pub fn longest_gap(&self) -> u32
         ensures gap { result
             ≡ longest (free_runs 0 (headers self.now.row) (top_of (headers self.now.row))) }
@@ -168,8 +169,8 @@ impl Cells {
         self.gaps.longest()
     }
 
-    /// Inserts a live cell with this header, whose payload is zeros whatever was there. What a free cell has past the
-    /// new one's end stays a free cell. It takes no memory.
+    /// Inserts a live cell with this header and a payload of zeros, whatever the bytes were before. If the cell is put into a longer free
+    /// cell, the rest past its end stays a free cell. The call takes no memory.
     pub fn take(&mut self, place: u32, length: u32, header: Header)
         requires rounded { length % 16 ≡ 0 }
         requires least { 16 ≤ length }
@@ -200,8 +201,8 @@ impl Cells {
         self.starts.set(place / 16, true);
     }
 
-    /// Removes the cell that the pointer names. Its bytes and the free cells that touch it become one free cell, or
-    /// part of the space above the last live cell where none follows.
+    /// Removes the cell that the pointer names. Its bytes and the free cells that touch it become one free cell, or part of the space above
+    /// the last live cell if no live cell follows.
     pub fn give(&mut self, ptr: Ptr)
         requires { IsSome (cell_at ptr self.old.row) }
         ensures given { self.new ≡ record self.old { row = without ptr self.old.row } }
@@ -216,9 +217,9 @@ impl Cells {
         self.starts.set(ptr.place / 16, false);
     }
 
-    /// Gives the cell that the pointer names another length where it is. What it gains is zeros; what it loses, or
-    /// leaves of a free cell after it, becomes one free cell, or part of the space above the last live cell. It takes no
-    /// memory.
+    /// Changes the length of the cell that the pointer names, and leaves the cell at its place. Bytes that it gains are zeros. Bytes that
+    /// it loses, together with what it leaves of a free cell after it, become one free cell, or part of the space above the last live cell.
+    /// The call takes no memory.
     pub fn resize(&mut self, ptr: Ptr, length: u32)
         requires live { IsSome (cell_at ptr self.old.row) }
         requires rounded { length % 16 ≡ 0 }
@@ -243,8 +244,8 @@ impl Cells {
         self.ends = ends;
     }
 
-    /// The header of the cell that the pointer names, or `None` where no live cell begins at its place or that cell has
-    /// another number. It reads one bit and four words, however many cells there are.
+    /// The header of the cell that the pointer names, or `None` if no live cell begins at the pointer's place, or if the live cell there
+    /// has another allocation number. The call reads one bit and four words, however many cells there are.
     pub fn header(&self, ptr: Ptr) -> Option<Header>
         ensures header { result ≡ option_map (λ c. c.head) (cell_at ptr self.now.row) }
         ensures sound { IsSoundCells self.now }
@@ -263,7 +264,8 @@ impl Cells {
         }
     }
 
-    /// The first live cell that begins at a place or above it. It scans bits from there.
+    /// The header of the first live cell that begins at the place `from` or above it, or `None`. The call scans the bits from that place
+    /// on.
     pub fn next_live(&self, from: u32) -> Option<Header>
         ensures first { result ≡ next_live_of from (headers self.now.row) }
         ensures sound { IsSoundCells self.now }
@@ -274,7 +276,7 @@ impl Cells {
         }
     }
 
-    /// The free bytes between the cell that the pointer names and the next live one, or `None` where it is the last.
+    /// How many bytes are free between the cell that the pointer names and the next live cell, or `None` if no live cell follows.
     pub fn room_after(&self, ptr: Ptr) -> Option<u32>
         requires { IsSome (cell_at ptr self.now.row) }
         ensures room { result ≡ room_after ptr (headers self.now.row) }
@@ -287,7 +289,7 @@ impl Cells {
         Some(self.gaps.length_at(end / 16))
     }
 
-    /// Puts the cell that the pointer names under another nesting level of heap marks.
+    /// Gives the cell that the pointer names another level.
     pub fn set_level(&mut self, ptr: Ptr, level: u32)
         requires { IsSome (cell_at ptr self.old.row) }
         ensures changed { self.new ≡ record self.old { row = with_level ptr level self.old.row } }
@@ -296,7 +298,7 @@ impl Cells {
         self.words.set_word(layout::words_in(ptr.place) + 2, level);
     }
 
-    /// The word at an index of a payload. An index within a payload says that the pointer names a cell.
+    /// The word at index `i` of a payload. That the index lies within the payload implies that the pointer names a live cell.
     pub fn payload(&self, ptr: Ptr, i: u32) -> u32
         requires { i < length (payload_of ptr self.now.row) }
         ensures word { result ≡ slice_index (payload_of ptr self.now.row) i }
@@ -305,8 +307,8 @@ impl Cells {
         self.words.word(layout::payload_at(ptr.place) + i)
     }
 
-    /// Whether a payload of so many words is that of another list of cells, at the same place. Where neither was written since it
-    /// was zeros, nothing is read.
+    /// Whether the payload that `ptr` names here has the same words as the payload that `there` names in `other`. Both have `n` words and
+    /// are at the same place. Words that are known to be zeros in both aren't read.
     pub fn has_payload_of(&self, ptr: Ptr, other: &Cells, there: Ptr, n: u32) -> bool
         requires live { IsSome (cell_at ptr self.now.row) }
         requires other_live { IsSome (cell_at there other.now.row) }
@@ -319,7 +321,7 @@ impl Cells {
             .has_words_of(&other.words, layout::payload_at(ptr.place), n)
     }
 
-    /// Puts another word at an index of a payload.
+    /// Puts another word at index `i` of a payload.
     pub fn set_payload(&mut self, ptr: Ptr, i: u32, v: u32)
         requires { i < length (payload_of ptr self.old.row) }
         ensures changed { self.new ≡ record self.old {
@@ -330,7 +332,7 @@ impl Cells {
         self.words.set_word(layout::payload_at(ptr.place) + i, v);
     }
 
-    /// The half at an index of halves of a payload: half 2k is the low half of word k.
+    /// The half at index `i` of a payload, where indexes count halves of 16 bits: half 2k is the low half of word k.
     pub fn payload_half(&self, ptr: Ptr, i: u32) -> u16
         requires { i < 2 * length (payload_of ptr self.now.row) }
         ensures half { result ≡ half_of (payload_of ptr self.now.row) i }
@@ -339,7 +341,7 @@ impl Cells {
         self.words.half(2 * layout::payload_at(ptr.place) + i)
     }
 
-    /// Puts another half at an index of halves of a payload, and leaves the word's other half.
+    /// Puts another half at index `i` of a payload, where indexes count halves, and leaves the other half of the word as it is.
     pub fn set_payload_half(&mut self, ptr: Ptr, i: u32, v: u16)
         requires { i < 2 * length (payload_of ptr self.old.row) }
         ensures changed { self.new ≡ record self.old {
@@ -351,7 +353,7 @@ impl Cells {
             .set_half(2 * layout::payload_at(ptr.place) + i, v);
     }
 
-    /// Puts the first `n` words of one payload over those of another, which may be the same cell.
+    /// Copies the first `n` words of the payload of `from` over the first `n` words of the payload of `to`, which may be the same cell.
     pub fn copy_payload(&mut self, from: Ptr, to: Ptr, n: u32)
         requires source { n ≤ length (payload_of from self.old.row) }
         requires target { n ≤ length (payload_of to self.old.row) }

@@ -1,5 +1,5 @@
-//! The free cells, linked in order of place: those round a place, and what a grant and a release make of them. Of live
-//! cells nothing here reads but the length of the one that is released.
+//! The free cells, linked in order of place: the free cells on both sides of a place, and what becomes of the list when a cell is granted,
+//! released or resized. Of live cells, only the length of the one that is released or resized is read here.
 
 ghost use Rattle.std.specs.Prelude.{◌≡◌, ◌≢◌, ◌+◌, ◌*◌, ◌/◌, ◌%◌, ◌<◌, ◌≤◌, ◌⊎◌, [], ◌++◌, ℕ, List, length};
 ghost use Rattle.std.specs.Prelude.{slice_index, slice_set, if◌then◌else◌, nat_eq};
@@ -13,14 +13,14 @@ use crate::layout::{self, NONE};
 use wb_chunk::Chunk;
 use wb_model::limits::CEILING;
 
-/// The free cells on both sides of a place, or NONE.
+/// The places of the free cells on both sides of a place; each is NONE if there is no such cell.
 #[derive(Clone, Copy, Debug)]
 pub struct Neighbours {
-    /// The last one below that, where that ends at the place; else it need not be known.
+    /// The last free cell below `before`, if the free cell `before` ends at the place; otherwise it need not be known.
     pub prior: u32,
-    /// The last one below the place.
+    /// The last free cell below the place.
     pub before: u32,
-    /// The first one at the place or above it.
+    /// The first free cell at the place or above it.
     pub after: u32,
 }
 
@@ -40,7 +40,7 @@ pub fn link_at(words: &Chunk, place: u32) -> u32
     words.word(layout::words_in(place) + 2)
 }
 
-/// The free cells round a place.
+/// The free cells on both sides of a place.
 pub fn neighbours_of(words: &Chunk, gaps: &GapIndex, first: u32, place: u32) -> Neighbours
     requires below { place < NO_PLACE }
     requires rounded { place % 16 ≡ 0 }
@@ -69,8 +69,8 @@ pub fn neighbours_of(words: &Chunk, gaps: &GapIndex, first: u32, place: u32) -> 
     }
 }
 
-/// Where the last free cell before one begins, or NONE. It is sought only where the one, whose index is given, is not the first
-/// and ends at a place.
+/// The place of the last free cell below the free cell with index `at` (its place divided by 16), or NONE. That cell is looked for only if
+/// the one at `at` isn't the first free cell and ends at `place`.
 fn prior_to(words: &Chunk, gaps: &GapIndex, first: u32, at: u32, place: u32) -> u32
     requires below { (16 * at < place) × (place < NO_PLACE) }
     requires within { 16 * at / 16 * 4 + 4 ≤ length words.now }
@@ -86,7 +86,7 @@ fn prior_to(words: &Chunk, gaps: &GapIndex, first: u32, at: u32, place: u32) -> 
     }
 }
 
-/// Makes one free cell follow another, or be the first. Answers the first one.
+/// Makes the free cell `next` follow the free cell `before`, or makes it the first one if `before` is NONE. Returns the first free cell.
 pub fn link(words: &mut Chunk, first: u32, before: u32, next: u32) -> u32
     requires { before ≢ NO_PLACE → before / 16 * 4 + 4 ≤ length words.old }
     ensures first { result ≡ linked_first first before next }
@@ -100,8 +100,8 @@ pub fn link(words: &mut Chunk, first: u32, before: u32, next: u32) -> u32
     first
 }
 
-/// Parts a free cell after its first `bytes` bytes: what is left is a free cell of its own, or nothing. Answers the
-/// free cell that follows these bytes.
+/// Splits a free cell after its first `bytes` bytes: the rest becomes a free cell of its own, unless it is empty. Returns the free cell
+/// that follows the first `bytes` bytes.
 pub fn split(words: &mut Chunk, place: u32, bytes: u32) -> u32
     requires rounded { bytes % 16 ≡ 0 }
     requires within { IsWithin words.old place }
@@ -120,14 +120,15 @@ pub fn split(words: &mut Chunk, place: u32, bytes: u32) -> u32
     place + bytes
 }
 
-/// The end of the last live cell, and the first free cell.
+/// The end of the last live cell (`top`), and the place of the first free cell (`first`), which is NONE if there is none.
 #[derive(Clone, Copy, Debug)]
 pub struct Ends {
     pub top: u32,
     pub first: u32,
 }
 
-/// Makes room for a cell, in a free cell or at the top. The room is no free cell then, and its words are as they were.
+/// Makes room for a cell of `bytes` bytes, at the start of a free cell or at the top. Afterwards the room isn't part of a free cell, and
+/// its words are as they were.
 pub fn open(words: &mut Chunk, gaps: &GapIndex, ends: Ends, place: u32, bytes: u32) -> Ends
     requires rounded { bytes % 16 ≡ 0 }
     requires below { place + bytes ≤ CEILING }
@@ -155,18 +156,18 @@ pub fn open(words: &mut Chunk, gaps: &GapIndex, ends: Ends, place: u32, bytes: u
     }
 }
 
-/// Bytes that belong to no cell, from the end of one live cell to the start of another or to the top.
+/// Bytes that belong to no live cell, from the end of one live cell to the start of another, or to the top.
 #[derive(Clone, Copy, Debug)]
 pub struct Hole {
     pub start: u32,
     pub end: u32,
     /// The last free cell below the start, or NONE.
     pub before: u32,
-    /// The first free cell from the end on, or NONE.
+    /// The first free cell at the end or above it, or NONE.
     pub next: u32,
 }
 
-/// The free bytes after a live cell, up to the next live one.
+/// The free bytes after a live cell, up to the next live cell.
 pub fn hole_after(words: &Chunk, place: u32, around: Neighbours) -> Hole
     requires cell { IsWithin words.now place }
     requires above { around.after ≡ place + slice_index words.now (place / 16 * 4) →
@@ -190,7 +191,7 @@ pub fn hole_after(words: &Chunk, place: u32, around: Neighbours) -> Hole
     }
 }
 
-/// The hole that a released cell leaves.
+/// The hole that a live cell leaves when it is released: its bytes, and those of the free cells that touch it.
 pub fn hole_left(words: &Chunk, place: u32, around: Neighbours) -> Hole
     requires cell { IsWithin words.now place }
     requires below { around.before ≢ NO_PLACE → IsWithin words.now around.before }
@@ -207,8 +208,8 @@ pub fn hole_left(words: &Chunk, place: u32, around: Neighbours) -> Hole
     hole
 }
 
-/// Makes a hole a free cell, or nothing if it has no bytes. Where no live cell follows it, its start becomes the
-/// top, which may then be higher than it was.
+/// Makes a hole a free cell, unless it has no bytes. If no live cell follows the hole, its start becomes the top instead; the top may then
+/// be higher than it was.
 pub fn close(words: &mut Chunk, ends: Ends, hole: Hole) -> Ends
     requires before { hole.before ≢ NO_PLACE → hole.before / 16 * 4 + 4 ≤ length words.old }
     requires start { hole.end ≢ ends.top → hole.start ≢ hole.end →

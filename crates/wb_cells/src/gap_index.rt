@@ -1,5 +1,5 @@
-//! The lengths of the free cells, by place, and what finds them without a walk: the greatest length of each 1,024 bytes,
-//! among which others are found in turn.
+//! The lengths of the free cells, by place, and an index that finds a free cell without a walk along the links: the greatest length in each
+//! 1,024 bytes of the heap, and, over these numbers, the greatest of each 64 and of all.
 
 ghost use Rattle.std.specs.Prelude.{◌≡◌, ◌≢◌, ◌+◌, ◌-◌, ◌/◌, ◌<◌, ◌≤◌, [], ◌++◌, length, replicate, slice_index};
 ghost use Rattle.std.specs.Prelude.{slice_set, IfOk, IsOk, OnOk, OnErr};
@@ -15,12 +15,12 @@ use std::alloc::{AllocError, Global};
 use std::marker::Model;
 use wb_model::limits::CEILING;
 
-/// A length in bytes for each place of 16 bytes: that of the free cell which begins there, or 0. It is a list that grows
-/// at its end; places are counted in steps of 16 bytes.
+/// For each place of 16 bytes, the length in bytes of the free cell that begins there, or 0 if none does. This is a list that grows at its
+/// end; its indexes are places, counted in steps of 16 bytes.
 #[derive(Drop)]
 pub struct GapIndex {
     lengths: Numbers,
-    /// The greatest of each 64 lengths; each is a block.
+    /// The greatest length of each block of 64 places.
     blocks: Blocks,
 }
 
@@ -36,7 +36,7 @@ impl Model for GapIndex {
 }
 
 impl GapIndex {
-    /// No places, which takes no memory.
+    /// A list of no places, which takes no memory.
     pub fn new(alloc: Global) -> GapIndex
         ensures { result ≡ [] }
     {
@@ -46,7 +46,7 @@ impl GapIndex {
         }
     }
 
-    /// The same lengths, in memory of their own. On `Err` memory was refused.
+    /// A copy with the same lengths, in memory of its own. `Err` if the allocator refuses memory.
     pub fn try_copy(&self) -> Result<GapIndex, AllocError>
         ensures { IfOk result (λ copy. copy ≡ self.now) }
     {
@@ -56,8 +56,8 @@ impl GapIndex {
         })
     }
 
-    /// The same lengths, over the memory of `spare`, whose lengths are lost. It is made larger if need be. On `Err` memory was
-    /// refused.
+    /// A copy with the same lengths, over the memory of `spare`, whose lengths are lost; that memory is made larger if need be. `Err` if
+    /// the allocator refuses memory.
     pub fn try_copy_over(&self, spare: GapIndex) -> Result<GapIndex, AllocError>
         ensures { IfOk result (λ copy. copy ≡ self.now) }
     {
@@ -66,8 +66,8 @@ impl GapIndex {
         Ok(GapIndex { lengths, blocks })
     }
 
-    /// Appends places where no free cell begins until there are `count`. Where memory is refused, the lengths are as they
-    /// were; it takes none if there are that many.
+    /// Appends places where no free cell begins until there are `count` places; takes no memory if there are that many already. `Err` if
+    /// the allocator refuses memory, and then the lengths are as they were.
     pub fn grow_to(&mut self, count: u32) -> Result<(), AllocError>
         requires { count ≤ MOST_PLACES }
         ensures grown { OnOk result (self.new ≡ self.old ++ replicate (count - length self.old) 0) }
@@ -108,8 +108,8 @@ impl GapIndex {
         }
     }
 
-    /// Lists what a cell of `bytes` bytes leaves of the free cell at whose start it is put, and nothing if it is put at
-    /// the top. Place and top are bytes, as are those below.
+    /// Records that a cell of `bytes` bytes is put at the start of the free cell at `place`: the rest of that free cell is listed instead
+    /// of it. If the cell is put at the top, no length changes. Here and in `close`, places are in bytes.
     pub fn open(&mut self, top: u32, place: u32, bytes: u32)
         requires below { place + bytes ≤ CEILING }
         requires start { place ≢ top → place / 16 < length self.old }
@@ -124,8 +124,8 @@ impl GapIndex {
         self.shift(place / 16, (place + bytes) / 16, rest);
     }
 
-    /// Lists a hole as a free cell, in place of the one that began at the end of a live cell, or as part of what lies above
-    /// the top.
+    /// Lists a hole as a free cell, instead of the free cell that began at `end`, the end of a live cell. A hole that ends at the top
+    /// becomes part of the space above the top instead, so that no free cell begins at its start.
     pub fn close(&mut self, top: u32, end: u32, hole: Hole)
         requires end { hole.end ≢ top → end / 16 < length self.old }
         requires start { hole.end ≢ top → hole.start / 16 < length self.old }
@@ -139,8 +139,8 @@ impl GapIndex {
         self.shift(end / 16, hole.start / 16, hole.end - hole.start);
     }
 
-    /// The free cell that began at one place begins at another, and has another length. The other place comes first:
-    /// so a greatest length that stays great is not searched for.
+    /// Records that the free cell that began at `from` now begins at `to` and has `bytes` bytes. The length at `to` is set first: if it is
+    /// then the greatest of its block, the block isn't searched for another.
     fn shift(&mut self, from: u32, to: u32, bytes: u32)
         requires from { from < length self.old }
         requires to { to < length self.old }
@@ -152,7 +152,7 @@ impl GapIndex {
         }
     }
 
-    /// No free cell begins at a place any more; past the end none does.
+    /// Records that no free cell begins at a place. Past the end of the list, none did before.
     fn clear(&mut self, at: u32)
         ensures { self.new ≡ slice_set self.old at 0 }
     {
@@ -161,7 +161,7 @@ impl GapIndex {
         }
     }
 
-    /// The first place with a length of at least `bytes` bytes.
+    /// The first place with a length of at least `bytes` bytes, or `None`.
     pub fn first_long(&self, bytes: u32) -> Option<u32>
         requires { 0 < bytes }
         ensures { IsFirstLong (slice_index self.now) bytes result }
@@ -171,7 +171,7 @@ impl GapIndex {
         maxima::first_among(&self.lengths, places, places + SPAN, bytes)
     }
 
-    /// The last place below one where a free cell begins.
+    /// The last place below `at` where a free cell begins, or `None`.
     pub fn last_below(&self, at: u32) -> Option<u32>
         ensures { IsLast (slice_index self.now) 0 at result }
     {
@@ -183,7 +183,7 @@ impl GapIndex {
         self.lengths.last(block * SPAN, block * SPAN + SPAN)
     }
 
-    /// The greatest length, or 0 where there is no free cell.
+    /// The greatest length, or 0 if there is no free cell.
     pub fn longest(&self) -> u32
         ensures { IsGreatest (slice_index self.now) 0 (length self.now) result }
     {

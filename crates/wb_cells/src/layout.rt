@@ -1,5 +1,5 @@
-//! How a header is laid out in four words: the cell length, the state, the level, the allocation number. Of a free
-//! cell the state and the number are 0, and the place of the next free cell stands for the level.
+//! How a header is laid out in four words: the cell length, the state, the level, the allocation number. In a free cell, the state and the
+//! number are 0, and the place of the next free cell stands where a live cell has its level.
 
 ghost use Rattle.std.specs.Prelude.{◌≡◌, ◌+◌, ◌*◌, ◌/◌, ◌<◌, ◌≤◌, ◌-◌, [], ◌∷◌, ◌++◌, length, drop, replicate};
 ghost use Rattle.std.specs.Prelude.{slice_index, Some, IsOk, OnOk, OnErr};
@@ -12,10 +12,10 @@ use std::alloc::AllocError;
 use wb_chunk::{Chunk, MOST_WORDS};
 use wb_model::heap::{Header, Kind};
 
-/// The link of the last free cell.
+/// The link of the last free cell, which says that no other follows.
 pub const NONE: u32 = 0xffff_ffff;
 
-/// How many words `bytes` bytes are, in whole places of 16 bytes; so a place's first word has this index.
+/// How many words `bytes` bytes hold, counting only whole places of 16 bytes. For a place, this is the index of its first word.
 pub fn words_in(bytes: u32) -> u32
     ensures { result ≡ bytes / 16 * 4 }
 {
@@ -81,8 +81,8 @@ pub fn write_header(words: &mut Chunk, place: u32, bytes: u32, state: u32, link:
     words.set_four(words_in(place), [bytes, state, link, number]);
 }
 
-/// Appends words that are 0 until there are `count`. Where memory is refused, the words are as they were; it takes
-/// none if there are that many.
+/// Appends words that are 0 until there are `count` words; takes no memory if there are that many already. `Err` if the allocator refuses
+/// memory, and then the words are as they were.
 pub fn grow_to(words: &mut Chunk, count: u32) -> Result<(), AllocError>
     requires { count ≤ MOST_WORDS }
     ensures grown { OnOk result (words.new ≡ words.old ++ replicate (count - length words.old) 0) }
@@ -95,7 +95,7 @@ pub fn grow_to(words: &mut Chunk, count: u32) -> Result<(), AllocError>
     words.grow(count - words.words())
 }
 
-/// Makes the `n` words from an index on 0; of no words nothing is asked.
+/// Zeroes the `n` words from index `i` on. If `n` is 0, the chunk isn't called.
 pub fn zero(words: &mut Chunk, i: u32, n: u32)
     requires { i + n ≤ length words.old }
     ensures { words.new ≡ replace_range words.old i (i + n) (replicate n 0) }

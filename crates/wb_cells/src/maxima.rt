@@ -1,4 +1,4 @@
-//! Numbers in a row, the greatest of each 64 of them, and searches among them. What the numbers mean is not said here.
+//! The greatest of each 64 numbers of a list, and searches among the numbers. What the numbers mean is not said here.
 
 ghost use Rattle.std.specs.Prelude.{◌≡◌, ◌≢◌, ℕ, ◌+◌, ◌*◌, ◌/◌, ◌<◌, ◌≤◌, length, slice_index, IfNone, IfSome};
 ghost use Rattle.wb_cells.specs.Maxima.{AreGreatest, IsFirst, IsGreatest};
@@ -6,10 +6,10 @@ ghost use Rattle.wb_cells.specs.Maxima.{AreGreatest, IsFirst, IsGreatest};
 use crate::numbers::Numbers;
 use wb_chunk::MOST_WORDS;
 
-/// How many numbers have one greatest number.
+/// How many numbers make a span, whose greatest number is kept.
 pub const SPAN: u32 = 64;
 
-/// The first number from one index on, below another, that is at least so great.
+/// The index of the first number that is at least `least`, from index `from` on and below `end`, or `None`.
 pub fn first_among(numbers: &Numbers, from: u32, end: u32, least: u32) -> Option<u32>
     requires { 0 < least }
     ensures { IsFirst (slice_index numbers.now) from end least result }
@@ -27,8 +27,8 @@ pub fn first_among(numbers: &Numbers, from: u32, end: u32, least: u32) -> Option
     None
 }
 
-/// The greatest number from one index on, below another, or 0 where there is none, given that none is greater than `most`:
-/// so the search ends where one is as great.
+/// The greatest number from index `from` on and below `end`, or 0 if there is none. The caller knows that no number there is greater than
+/// `most`, so the search ends at a number that is equal to `most`.
 fn greatest_among(numbers: &Numbers, from: u32, end: u32, most: u32) -> u32
     ensures { ((k : ℕ) → from ≤ k → k < end → slice_index numbers.now k ≤ most)
         → IsGreatest (slice_index numbers.now) from end result }
@@ -45,8 +45,8 @@ fn greatest_among(numbers: &Numbers, from: u32, end: u32, most: u32) -> u32
     greatest
 }
 
-/// Makes the greatest of a span right again, once the number at an index, which was `old`, was changed. Answers what the
-/// greatest was, where it is another one now.
+/// Brings the greatest number of a span up to date, after the number at index `at` has changed from `old`. Returns what the span's greatest
+/// number was if it has changed, or `None`.
 pub fn renew(numbers: &Numbers, spans: &mut Numbers, at: u32, old: u32) -> Option<u32>
     requires within { at < length numbers.now }
     requires room { at / SPAN < length spans.old }
@@ -70,8 +70,8 @@ pub fn renew(numbers: &Numbers, spans: &mut Numbers, at: u32, old: u32) -> Optio
     Some(was)
 }
 
-/// The greatest number from one index on, below another, which was `was`, once the number at an index between them, which
-/// was `old`, was changed. It goes over the numbers only where that one was the greatest and is it no more.
+/// The greatest number from index `from` on and below `end`, after the number at index `at` between them has changed from `old`; the
+/// greatest was `was`. The numbers are searched only if the one that changed was the greatest and is less now.
 pub fn greatest_now(numbers: &Numbers, from: u32, end: u32, was: u32, at: u32, old: u32) -> u32
     requires within { at < length numbers.now }
     requires between { (from ≤ at) × (at < end) }

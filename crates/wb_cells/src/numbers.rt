@@ -1,4 +1,4 @@
-//! A list of numbers of which most are 0, and searches that pass over those.
+//! A list of numbers, most of which are 0, and searches that skip the zeros.
 
 ghost use Rattle.std.specs.Prelude.{◌≡◌, ◌-◌, ◌<◌, ◌≤◌, [], ◌++◌, length, replicate, slice_index, slice_set, IfOk};
 ghost use Rattle.std.specs.Prelude.{IsOk, OnOk, OnErr};
@@ -14,7 +14,7 @@ use wb_chunk::Chunk;
 #[derive(Drop)]
 pub struct Numbers {
     words: Chunk,
-    /// For each number, whether it is another than 0; so a search for one looks at 32 at a time.
+    /// For each number, whether it differs from 0; so a search for one that does looks at 32 numbers at a time.
     marks: Bits,
 }
 
@@ -30,7 +30,7 @@ impl Model for Numbers {
 }
 
 impl Numbers {
-    /// No numbers, which takes no memory.
+    /// A list of no numbers, which takes no memory.
     pub fn new(alloc: Global) -> Numbers
         ensures { result ≡ [] }
     {
@@ -40,7 +40,7 @@ impl Numbers {
         }
     }
 
-    /// The same numbers, in memory of their own. On `Err` memory was refused.
+    /// A copy with the same numbers, in memory of its own. `Err` if the allocator refuses memory.
     pub fn try_copy(&self) -> Result<Numbers, AllocError>
         ensures { IfOk result (λ copy. copy ≡ self.now) }
     {
@@ -50,8 +50,8 @@ impl Numbers {
         })
     }
 
-    /// The same numbers, over the memory of `spare`, whose numbers are lost. It is made larger if need be. On `Err` memory was
-    /// refused.
+    /// A copy with the same numbers, over the memory of `spare`, whose numbers are lost; that memory is made larger if need be. `Err` if
+    /// the allocator refuses memory.
     pub fn try_copy_over(&self, spare: Numbers) -> Result<Numbers, AllocError>
         ensures { IfOk result (λ copy. copy ≡ self.now) }
     {
@@ -60,8 +60,8 @@ impl Numbers {
         Ok(Numbers { words, marks })
     }
 
-    /// Appends numbers that are 0 until there are `count`. Where memory is refused, the numbers are as they were; it
-    /// takes none if there are that many.
+    /// Appends numbers that are 0 until there are `count` numbers; takes no memory if there are that many already. `Err` if the allocator
+    /// refuses memory, and then the numbers are as they were.
     pub fn grow_to(&mut self, count: u32) -> Result<(), AllocError>
         requires { count ≤ MOST_PLACES }
         ensures grown { OnOk result (self.new ≡ self.old ++ replicate (count - length self.old) 0) }
@@ -100,14 +100,14 @@ impl Numbers {
         }
     }
 
-    /// The first number from one index on that is not 0.
+    /// The index of the first number that is not 0, from index `from` on, or `None`.
     pub fn next(&self, from: u32) -> Option<u32>
         ensures { IsFirst (slice_index self.now) from (length self.now) 1 result }
     {
         self.marks.next(from)
     }
 
-    /// The last number from one index on, below another, that is not 0.
+    /// The index of the last number that is not 0, from index `from` on and below `end`, or `None`.
     pub fn last(&self, from: u32, end: u32) -> Option<u32>
         ensures { IsLast (slice_index self.now) from end result }
     {

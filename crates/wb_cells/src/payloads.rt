@@ -1,4 +1,4 @@
-//! Runs of halves in payloads. An index counts halves of a payload: half 2k is the low half of its word k.
+//! Ranges of halves in payloads. Indexes count the halves of a payload, each of 16 bits: half 2k is the low half of the payload's word k.
 
 ghost use Rattle.std.specs.Prelude.{◌≡◌, ◌+◌, ◌*◌, ◌≤◌, length, replicate, IsSome};
 ghost use Rattle.wb_chunk.specs.Halves.{halves_from, with_halves};
@@ -10,7 +10,7 @@ use crate::layout;
 use wb_model::heap::Ptr;
 
 impl Cells {
-    /// Makes the `n` halves of a payload from an index on 0, and changes nothing else.
+    /// Zeroes the `n` halves of a payload from index `i` on, and changes nothing else.
     pub fn zero_halves(&mut self, ptr: Ptr, i: u32, n: u32)
         requires live { IsSome (cell_at ptr self.old.row) }
         requires within { i + n ≤ 2 * length (payload_of ptr self.old.row) }
@@ -24,7 +24,7 @@ impl Cells {
             .zero_halves(2 * layout::payload_at(ptr.place) + i, n);
     }
 
-    /// Writes halves into a payload, from an index on, and changes nothing else.
+    /// Writes halves into a payload, from index `i` on, and changes nothing else.
     pub fn write_halves(&mut self, ptr: Ptr, i: u32, halves: &[u16])
         requires live { IsSome (cell_at ptr self.old.row) }
         requires within { i + length halves.now ≤ 2 * length (payload_of ptr self.old.row) }
@@ -38,8 +38,8 @@ impl Cells {
             .write_halves(2 * layout::payload_at(ptr.place) + i, halves);
     }
 
-    /// Puts the `n` halves of one payload from `fi` on at `ti` of another, or of the same, as if all had been read before
-    /// any was written.
+    /// Copies `n` halves of the payload of `from`, from index `fi` on, into the payload of `to`, from index `ti` on, as if all halves had
+    /// been read before any was written. `to` may be the same cell.
     pub fn copy_halves(&mut self, from: Ptr, fi: u32, to: Ptr, ti: u32, n: u32)
         requires from_live { IsSome (cell_at from self.old.row) }
         requires to_live { IsSome (cell_at to self.old.row) }

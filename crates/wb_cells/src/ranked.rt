@@ -1,4 +1,4 @@
-//! Numbers of which the greatest is known, of each 64 and of all. What the numbers mean is not said here.
+//! A list of numbers, with the greatest of each 64 and the greatest of all. What the numbers mean is not said here.
 
 ghost use Rattle.std.specs.Prelude.{◌≡◌, ◌-◌, ◌<◌, ◌≤◌, [], ◌++◌, length, replicate, slice_index, slice_set, IfOk, IsOk};
 ghost use Rattle.std.specs.Prelude.{OnOk, OnErr};
@@ -16,7 +16,7 @@ pub struct Ranked {
     numbers: Numbers,
     /// The greatest of each 64 numbers.
     spans: Numbers,
-    /// The greatest of all.
+    /// The greatest of all numbers.
     greatest: u32,
 }
 
@@ -32,7 +32,7 @@ impl Model for Ranked {
 }
 
 impl Ranked {
-    /// No numbers, which takes no memory.
+    /// A list of no numbers, which takes no memory.
     pub fn new(alloc: Global) -> Ranked
         ensures { result ≡ [] }
     {
@@ -43,7 +43,7 @@ impl Ranked {
         }
     }
 
-    /// The same numbers, in memory of their own. On `Err` memory was refused.
+    /// A copy with the same numbers, in memory of its own. `Err` if the allocator refuses memory.
     pub fn try_copy(&self) -> Result<Ranked, AllocError>
         ensures { IfOk result (λ copy. copy ≡ self.now) }
     {
@@ -54,8 +54,8 @@ impl Ranked {
         })
     }
 
-    /// Appends numbers that are 0 until there are `count`. Where memory is refused, the numbers are as they were; it
-    /// takes none if there are that many.
+    /// Appends numbers that are 0 until there are `count` numbers; takes no memory if there are that many already. `Err` if the allocator
+    /// refuses memory, and then the numbers are as they were.
     pub fn grow_to(&mut self, count: u32) -> Result<(), AllocError>
         requires { count ≤ MOST_PLACES }
         ensures grown { OnOk result (self.new ≡ self.old ++ replicate (count - length self.old) 0) }
@@ -91,7 +91,7 @@ impl Ranked {
         self.greatest = greatest;
     }
 
-    /// The first number that is at least so great.
+    /// The index of the first number that is at least `least`, or `None`.
     pub fn first_long(&self, least: u32) -> Option<u32>
         requires { 0 < least }
         ensures { IsFirstLong (slice_index self.now) least result }
@@ -104,7 +104,7 @@ impl Ranked {
         maxima::first_among(&self.numbers, first, first + SPAN, least)
     }
 
-    /// The last number below an index that is not 0.
+    /// The index of the last number that is not 0, below index `at`, or `None`.
     pub fn last_below(&self, at: u32) -> Option<u32>
         ensures { IsLast (slice_index self.now) 0 at result }
     {
@@ -119,7 +119,7 @@ impl Ranked {
         self.numbers.last(span * SPAN, span * SPAN + SPAN)
     }
 
-    /// The greatest number, or 0 where there is none.
+    /// The greatest number, or 0 if there are no numbers.
     pub fn greatest(&self) -> u32
         ensures { IsGreatest (slice_index self.now) 0 (length self.now) result }
     {

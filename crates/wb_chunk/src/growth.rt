@@ -9,7 +9,7 @@ use crate::marks::BLOCK;
 use crate::region::Region;
 use std::alloc::{AllocError, Global};
 
-/// Writes words after the `count` that are there.
+/// Appends words to the `count` words of a region.
 fn append_words(region: &mut Region<Global>, count: u32, words: &[u32])
     requires fits { (count ≡ length region.old.words)
         × (count + length words.now ≤ region.old.capacity) }
@@ -25,7 +25,7 @@ fn append_words(region: &mut Region<Global>, count: u32, words: &[u32])
     }
 }
 
-/// Writes these words where none is yet. Those of blocks without a mark are 0, and needn't be read.
+/// Writes these words into a region that has none. Words of a block without a mark are 0, and needn't be read.
 pub(crate) fn append_marked(region: &mut Region<Global>, words: &[u32], marks: &[bool])
     requires fits { (length region.old.words ≡ 0) × (length words.now ≤ region.old.capacity) }
     requires bound { region.old.capacity ≤ MOST_WORDS }
@@ -46,7 +46,7 @@ pub(crate) fn append_marked(region: &mut Region<Global>, words: &[u32], marks: &
     }
 }
 
-/// Writes `n` words that are 0 after the `count` that are there.
+/// Appends `n` words that are 0 to the `count` words of a region.
 fn append_zeros(region: &mut Region<Global>, count: u32, n: u32)
     requires fits { (count ≡ length region.old.words) × (count + n ≤ region.old.capacity) }
     requires bound { region.old.capacity ≤ MOST_WORDS }
@@ -59,7 +59,8 @@ fn append_zeros(region: &mut Region<Global>, count: u32, n: u32)
     }
 }
 
-/// The same of a region that is handed over. As a local it is read once, so that many words are written at a time.
+/// Does what `append_zeros` does, for a region that is passed by value. The region is then a local variable whose fields are read once, so
+/// that many words are written at a time.
 fn with_zeros(mut region: Region<Global>, count: u32, n: u32) -> Region<Global>
     requires fits { (count ≡ length region.words) × (count + n ≤ region.capacity) }
     requires bound { region.capacity ≤ MOST_WORDS }
@@ -70,7 +71,7 @@ fn with_zeros(mut region: Region<Global>, count: u32, n: u32) -> Region<Global>
     region
 }
 
-/// Writes `n` words that are 0 after the `count` that are there.
+/// Appends `n` words that are 0 to the `count` words of a region.
 pub(crate) fn extend(
     region: &mut Option<Region<Global>>,
     alloc: &Global,
@@ -92,8 +93,8 @@ pub(crate) fn extend(
     }
 }
 
-/// Makes room for `wanted` words where there was room for `capacity`. The words stay as they are: of a large block the system moves
-/// the pages, and no word is copied. On `Err` nothing has changed.
+/// Makes room for `wanted` words instead of `capacity` words. The words stay as they are: for a large block, the operating system moves the
+/// pages, and no word is copied. On `Err` nothing has changed.
 pub(crate) fn make_room(
     region: &mut Option<Region<Global>>,
     alloc: &Global,
@@ -118,8 +119,7 @@ pub(crate) fn make_room(
     Ok(())
 }
 
-/// For how many words the next region has room: for twice as many as before as far as the bound allows, or for those
-/// wanted where they are more.
+/// How many words the next region has room for: twice `capacity` but no more than [`MOST_WORDS`], or `wanted` if that is more.
 pub(crate) fn larger(capacity: u32, wanted: u32) -> u32
     requires { (capacity ≤ MOST_WORDS) × (wanted ≤ MOST_WORDS) }
     ensures room { (wanted ≤ result) × (min (2 * capacity) MOST_WORDS ≤ result) }

@@ -1,5 +1,5 @@
-//! Halves of words, read and written one by one and many at once: plain code over the words. Runs of halves go by whole
-//! words but for the halves at their ends.
+//! Halves of words, read and written one by one and many at once: plain code over the words. Many halves are read and written as whole
+//! words, except for single halves at the ends of the range. Indexes count halves.
 
 ghost use Rattle.std.specs.Prelude.{◌≡◌, ◌+◌, ◌*◌, ◌%◌, ◌^◌, ◌<◌, ◌≤◌, length, replicate};
 ghost use Rattle.std.specs.List.{All};
@@ -9,7 +9,7 @@ ghost use Rattle.wb_chunk.specs.Marks.{AreMarked};
 use crate::marks::{self, BLOCK};
 use crate::moves::{move_words, shift_words};
 
-/// The half at a place.
+/// The half at index `i`.
 pub(crate) fn half(words: &[u32], i: usize) -> u16
     requires { i < 2 * length words.now }
     ensures { result ≡ half_of words.now i }
@@ -22,7 +22,7 @@ pub(crate) fn half(words: &[u32], i: usize) -> u16
     }
 }
 
-/// Puts another half at a place, and leaves the word's other half.
+/// Puts another half at index `i`, and leaves the other half of the word as it is.
 pub(crate) fn set_half(words: &mut [u32], i: usize, v: u16)
     requires { i < 2 * length words.old }
     ensures { words.new ≡ with_half words.old i v }
@@ -35,7 +35,7 @@ pub(crate) fn set_half(words: &mut [u32], i: usize, v: u16)
     };
 }
 
-/// Makes the `n` halves from a place on 0, as [`marks::zero`] does.
+/// Zeroes the `n` halves from index `i` on, as [`marks::zero`] does with words.
 #[tactic(auto, using(crate::proofs::MarkedWords::marked_zero_half))]
 pub(crate) fn zero(words: &mut [u32], marks: &mut [bool], i: usize, n: usize)
     requires within { i + n ≤ 2 * length words.old }
@@ -52,7 +52,7 @@ pub(crate) fn zero(words: &mut [u32], marks: &mut [bool], i: usize, n: usize)
     }
 }
 
-/// The same from the beginning of a word.
+/// Does what `zero` does, from an index at which a word begins.
 #[tactic(auto, using(crate::proofs::MarkedWords::marked_zero_half))]
 fn zero_from_word(words: &mut [u32], marks: &mut [bool], i: usize, n: usize)
     requires even { i % 2 ≡ 0 }
@@ -68,7 +68,7 @@ fn zero_from_word(words: &mut [u32], marks: &mut [bool], i: usize, n: usize)
     }
 }
 
-/// Writes halves from a place on.
+/// Writes halves from index `i` on.
 pub(crate) fn write(words: &mut [u32], i: usize, halves: &[u16])
     requires { i + length halves.now ≤ 2 * length words.old }
     ensures { words.new ≡ with_halves words.old i halves.now }
@@ -81,7 +81,7 @@ pub(crate) fn write(words: &mut [u32], i: usize, halves: &[u16])
     }
 }
 
-/// The same from the beginning of a word.
+/// Does what `write` does, from an index at which a word begins.
 fn write_from_word(words: &mut [u32], i: usize, halves: &[u16])
     requires even { i % 2 ≡ 0 }
     requires within { i + length halves.now ≤ 2 * length words.old }
@@ -96,7 +96,7 @@ fn write_from_word(words: &mut [u32], i: usize, halves: &[u16])
     }
 }
 
-/// Puts the `n` halves from `from` on at `to`, as if all had been read before any was written.
+/// Copies `n` halves from index `from` to index `to`, as if all halves had been read before any was written.
 pub(crate) fn copy(words: &mut [u32], from: usize, to: usize, n: usize)
     requires fit { All (λ w. w < 2 ^ 32) words.old }
     requires source { from + n ≤ 2 * length words.old }
@@ -112,7 +112,7 @@ pub(crate) fn copy(words: &mut [u32], from: usize, to: usize, n: usize)
     }
 }
 
-/// The same to the beginning of a word.
+/// Does what `copy` does, to an index at which a word begins.
 fn copy_to_word(words: &mut [u32], from: usize, to: usize, n: usize)
     requires even { to % 2 ≡ 0 }
     requires fit { All (λ w. w < 2 ^ 32) words.old }
@@ -129,7 +129,7 @@ fn copy_to_word(words: &mut [u32], from: usize, to: usize, n: usize)
     }
 }
 
-/// Puts `n` pairs of halves at the words from `to` on.
+/// Copies `n` pairs of halves, from half `from` on, to the words from word `to` on.
 fn copy_pairs(words: &mut [u32], from: usize, to: usize, n: usize)
     requires fit { All (λ w. w < 2 ^ 32) words.old }
     requires source { from + 2 * n ≤ 2 * length words.old }

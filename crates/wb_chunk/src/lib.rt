@@ -1,7 +1,7 @@
 //! A list of 32-bit words in one region of memory, which the list owns and frees once.
 //!
-//! This file has the list, in plain code over the region; `region.rt` has the region, and no other file follows a raw
-//! pointer. What words mean is in the crates above.
+//! This file has the list, in plain code over the region; `region.rt` has the region, and no other file follows a raw pointer. What words
+//! mean is said in the crates above.
 #![tactic(auto)]
 
 ghost use Rattle.std.specs.Prelude.{◌≡◌, ◌+◌, ◌*◌, ◌^◌, ◌<◌, ◌≤◌, [], ◌++◌, true, length, replicate, slice_index, slice_set};
@@ -27,13 +27,13 @@ mod region;
 /// The most words that a chunk can have: 16,777,216 bytes, the ceiling of a simulated heap.
 pub const MOST_WORDS: u32 = 4_194_304;
 
-/// A list of words, which grows at its end and never shrinks. Contracts see it as that list; each word is below 2^32,
-/// and there are at most [`MOST_WORDS`]. Words are counted from 0.
+/// A list of words, which grows at its end and never shrinks. Contracts see a list of numbers, each below 2^32, of which there are at most
+/// [`MOST_WORDS`]. Indexes of words begin at 0.
 pub struct Chunk {
     region: Option<Region<Global>>,
     count: u32,
     capacity: u32,
-    /// For each block of words, as far as there is room, whether it may hold anything but zeros.
+    /// For each block of words that the region has room for, whether the block may hold anything but zeros.
     marks: Vec<bool>,
     alloc: Global,
 }
@@ -65,7 +65,7 @@ impl Drop for Chunk {
 }
 
 impl Chunk {
-    /// The chunk of no words, which takes no memory.
+    /// A chunk of no words, which takes no memory.
     pub fn new(alloc: Global) -> Chunk
         ensures { result ≡ [] }
     {
@@ -78,7 +78,7 @@ impl Chunk {
         }
     }
 
-    /// How many words there are. A caller's proof learns here that they are at most [`MOST_WORDS`], and that each fits 32
+    /// How many words there are. A caller's proof learns from this call that they are at most [`MOST_WORDS`], and that each fits into 32
     /// bits.
     pub fn words(&self) -> u32
         ensures count { result ≡ length self.now }
@@ -89,9 +89,9 @@ impl Chunk {
         words.len() as u32
     }
 
-    /// Appends `n` words that are 0. On `Err` memory was refused, and the chunk is as it was; no words are always
-    /// appended. Where the region has to grow it doubles, or gets as long as is wanted where that is more, so that many
-    /// small growths cost no more than the words that they append.
+    /// Appends `n` words that are 0. `Err` if the allocator refuses memory, and then the chunk is as it was; if `n` is 0, the call always
+    /// succeeds. A region that has to grow doubles, or gets the length that is wanted if that is more, so that many small growths together
+    /// cost only in proportion to the words that they append.
     #[tactic(auto, using(crate::proofs::MarkedWords::marked_longer))]
     pub fn grow(&mut self, n: u32) -> Result<(), AllocError>
         requires { length self.old + n ≤ MOST_WORDS }
@@ -121,8 +121,8 @@ impl Chunk {
         Ok(())
     }
 
-    /// A chunk of the same words, in memory of its own: what is done to one changes nothing in the other. On `Err` memory
-    /// was refused.
+    /// A copy with the same words, in memory of its own: no change to the copy or to the original changes the other. `Err` if the allocator
+    /// refuses memory.
     pub fn try_copy(&self) -> Result<Chunk, AllocError>
         ensures { IfOk result (λ copy. copy ≡ self.now) }
     {
@@ -141,8 +141,8 @@ impl Chunk {
         })
     }
 
-    /// A chunk of the same words, over the memory of `spare`, whose words are lost. Where that has no room for them it is made
-    /// larger. Only blocks that may differ are written: those that are marked in either. On `Err` memory was refused.
+    /// A copy with the same words, over the memory of `spare`, whose words are lost; that memory is made larger if the words don't fit.
+    /// Only blocks that may differ are written: those with a mark in this chunk or in `spare`. `Err` if the allocator refuses memory.
     pub fn try_copy_over(&self, mut spare: Chunk) -> Result<Chunk, AllocError>
         ensures { IfOk result (λ copy. copy ≡ self.now) }
     {
@@ -162,7 +162,7 @@ impl Chunk {
         Ok(spare)
     }
 
-    /// The word at an index.
+    /// The word at index `i`.
     pub fn word(&self, i: u32) -> u32
         requires { i < length self.now }
         ensures { result ≡ slice_index self.now i }
@@ -170,7 +170,7 @@ impl Chunk {
         self.as_slice()[i as usize]
     }
 
-    /// Puts another word at an index.
+    /// Puts another word at index `i`.
     pub fn set_word(&mut self, i: u32, v: u32)
         requires { i < length self.old }
         ensures { self.new ≡ slice_set self.old i v }
@@ -193,7 +193,7 @@ impl Chunk {
         }
     }
 
-    /// The 16 bits at an index of halves: half 2k is the low half of word k, and half 2k + 1 the high one.
+    /// The half at index `i`, where indexes count halves of 16 bits: half 2k is the low half of word k, and half 2k + 1 is its high half.
     pub fn half(&self, i: u32) -> u16
         requires { i < 2 * length self.now }
         ensures { result ≡ half_of self.now i }
@@ -201,7 +201,7 @@ impl Chunk {
         halves::half(self.as_slice(), i as usize)
     }
 
-    /// Puts other 16 bits at an index of halves, and leaves the word's other half.
+    /// Puts another half at index `i`, where indexes count halves, and leaves the other half of the word as it is.
     pub fn set_half(&mut self, i: u32, v: u16)
         requires { i < 2 * length self.old }
         ensures { self.new ≡ with_half self.old i v }
@@ -212,7 +212,7 @@ impl Chunk {
         }
     }
 
-    /// Makes the `n` halves from `i` on 0, and changes nothing else.
+    /// Zeroes the `n` halves from index `i` on, where indexes count halves, and changes nothing else.
     pub fn zero_halves(&mut self, i: u32, n: u32)
         requires { i + n ≤ 2 * length self.old }
         ensures { self.new ≡ with_halves self.old i (replicate n 0) }
@@ -223,7 +223,7 @@ impl Chunk {
         }
     }
 
-    /// Writes halves from `i` on, and changes nothing else.
+    /// Writes halves from index `i` on, where indexes count halves, and changes nothing else.
     pub fn write_halves(&mut self, i: u32, halves: &[u16])
         requires { i + length halves.now ≤ 2 * length self.old }
         ensures { self.new ≡ with_halves self.old i halves.now }
@@ -236,8 +236,8 @@ impl Chunk {
         marks::mark(self.marks.as_mut_slice(), i as usize / 2, end.div_ceil(2));
     }
 
-    /// Puts the `n` halves from `from` on at `to`, as if all had been read before any was written: the two ranges may
-    /// overlap.
+    /// Copies `n` halves from index `from` to index `to`, as if all halves had been read before any was written: the two ranges may
+    /// overlap. Indexes count halves.
     pub fn copy_halves(&mut self, from: u32, to: u32, n: u32)
         requires source { from + n ≤ 2 * length self.old }
         requires target { to + n ≤ 2 * length self.old }
@@ -252,7 +252,7 @@ impl Chunk {
         marks::mark(self.marks.as_mut_slice(), to as usize / 2, end.div_ceil(2));
     }
 
-    /// Makes the `n` words from `i` on 0.
+    /// Zeroes the `n` words from index `i` on.
     pub fn zero(&mut self, i: u32, n: u32)
         requires { i + n ≤ length self.old }
         ensures { self.new ≡ replace_range self.old i (i + n) (replicate n 0) }
@@ -263,8 +263,7 @@ impl Chunk {
         }
     }
 
-    /// Puts the `n` words from `from` on at `to`, as if all had been read before any was written: the two ranges may
-    /// overlap.
+    /// Copies `n` words from index `from` to index `to`, as if all words had been read before any was written: the two ranges may overlap.
     #[tactic(auto, using(crate::proofs::MovedWords::moved_range))]
     pub fn copy(&mut self, from: u32, to: u32, n: u32)
         requires source { from + n ≤ length self.old }
@@ -279,7 +278,8 @@ impl Chunk {
         }
     }
 
-    /// Whether the `n` words from `i` on are those of another chunk. Where neither was written since it was zeros, nothing is read.
+    /// Whether the `n` words from index `i` on are equal to the words at the same indexes of another chunk. Blocks that are known to be
+    /// zeros in both chunks aren't read.
     pub fn has_words_of(&self, other: &Chunk, i: u32, n: u32) -> bool
         requires within { i + n ≤ length self.now }
         requires other_within { i + n ≤ length other.now }

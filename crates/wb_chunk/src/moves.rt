@@ -1,14 +1,14 @@
-//! Moves of words, as they are or shifted by half a word, as if all had been read before any was written. Where what is read and
-//! what is written overlap, the words go in blocks, each of which is read whole before it is written, first to last or last to
-//! first as the overlap asks.
+//! Moves of words, as they are or shifted by half a word, as if all words had been read before any was written. If the words that are read
+//! and those that are written overlap, they go in blocks, each of which is read whole before it is written. The blocks go from the first to
+//! the last or from the last to the first, as the overlap requires.
 
 ghost use Rattle.std.specs.Prelude.{◌≡◌, ◌+◌, ◌<◌, ◌≤◌, ◌⊎◌, true, false, length};
 ghost use Rattle.wb_chunk.specs.Halves.{AreMoved, word_of};
 
-/// How many words are read at once.
+/// How many words make a block, which is read whole.
 const AT_ONCE: usize = 16;
 
-/// Puts the `n` words from `from` on at `to`.
+/// Copies `n` words from index `from` to index `to`.
 pub(crate) fn move_words(words: &mut [u32], from: usize, to: usize, n: usize)
     requires source { from + n ≤ length words.old }
     requires target { to + n ≤ length words.old }
@@ -23,7 +23,8 @@ pub(crate) fn move_words(words: &mut [u32], from: usize, to: usize, n: usize)
     }
 }
 
-/// Puts at the `n` words from `to` on the high half of each word from `from` on, and the low half of the word after it.
+/// Writes the `n` words from index `to` on. The low half of each is the high half of the word at the same distance from `from`, and its
+/// high half is the low half of the word after that.
 pub(crate) fn shift_words(words: &mut [u32], from: usize, to: usize, n: usize)
     requires source { from + n < length words.old }
     requires target { to + n ≤ length words.old }
@@ -32,7 +33,7 @@ pub(crate) fn shift_words(words: &mut [u32], from: usize, to: usize, n: usize)
     move_all(words, from, to, n, true);
 }
 
-/// Copies words to a place that has none of them.
+/// Copies words to a range that doesn't overlap with theirs.
 fn copy_apart(words: &mut [u32], from: usize, to: usize, n: usize)
     requires apart { (from + n ≤ to) ⊎ (to + n ≤ from) }
     requires source { from + n ≤ length words.old }
@@ -48,7 +49,7 @@ fn copy_apart(words: &mut [u32], from: usize, to: usize, n: usize)
     }
 }
 
-/// Moves words that are followed by another, shifted or as they are.
+/// Copies `n` words that are followed by at least one more word, shifted or as they are.
 fn move_all(words: &mut [u32], from: usize, to: usize, n: usize, shifted: bool)
     requires source { from + n < length words.old }
     requires target { to + n ≤ length words.old }
@@ -61,7 +62,7 @@ fn move_all(words: &mut [u32], from: usize, to: usize, n: usize, shifted: bool)
     }
 }
 
-/// The same to a place that is no later, the first word first.
+/// Does what `move_all` does, to indexes that are no greater, beginning with the first word.
 fn move_down(words: &mut [u32], from: usize, to: usize, n: usize, shifted: bool)
     requires order { to ≤ from }
     requires source { from + n < length words.old }
@@ -75,7 +76,7 @@ fn move_down(words: &mut [u32], from: usize, to: usize, n: usize, shifted: bool)
     }
 }
 
-/// The same to a later place, the last word first.
+/// Does what `move_all` does, to greater indexes, beginning with the last word.
 fn move_up(words: &mut [u32], from: usize, to: usize, n: usize, shifted: bool)
     requires order { from < to }
     requires target { to + n ≤ length words.old }
@@ -92,7 +93,7 @@ fn move_up(words: &mut [u32], from: usize, to: usize, n: usize, shifted: bool)
     }
 }
 
-/// The same of so many words as are read at once.
+/// Copies one block of [`AT_ONCE`] words, shifted or as they are.
 fn move_block(words: &mut [u32], from: usize, to: usize, shifted: bool)
     requires source { from + AT_ONCE < length words.old }
     requires target { to + AT_ONCE ≤ length words.old }
@@ -105,7 +106,7 @@ fn move_block(words: &mut [u32], from: usize, to: usize, shifted: bool)
     }
 }
 
-/// Shifts so many words as are read at once.
+/// Copies one block of [`AT_ONCE`] words, shifted.
 fn shift_block(words: &mut [u32], from: usize, to: usize)
     requires source { from + AT_ONCE < length words.old }
     requires target { to + AT_ONCE ≤ length words.old }
@@ -118,7 +119,7 @@ fn shift_block(words: &mut [u32], from: usize, to: usize)
     }
 }
 
-/// Copies so many words as are read at once.
+/// Copies one block of [`AT_ONCE`] words as they are.
 fn copy_block(words: &mut [u32], from: usize, to: usize)
     requires source { from + AT_ONCE ≤ length words.old }
     requires target { to + AT_ONCE ≤ length words.old }
@@ -129,7 +130,7 @@ fn copy_block(words: &mut [u32], from: usize, to: usize)
     words[to..to + AT_ONCE].copy_from_slice(&block);
 }
 
-/// Moves one word that is followed by another, shifted or as it is.
+/// Copies one word that is followed by another, shifted or as it is.
 fn move_word(words: &mut [u32], from: usize, to: usize, shifted: bool)
     requires source { from + 1 < length words.old }
     requires target { to < length words.old }
@@ -142,7 +143,7 @@ fn move_word(words: &mut [u32], from: usize, to: usize, shifted: bool)
     };
 }
 
-/// The word of the high half of one and the low half of the next.
+/// The word whose low half is the high half of `word`, and whose high half is the low half of `next`.
 fn high_and_low(word: u32, next: u32) -> u32
     ensures { result ≡ word_of true word next }
 {

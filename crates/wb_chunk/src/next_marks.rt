@@ -1,13 +1,13 @@
-//! Searches for the next block that bears a mark. Blocks without one are mostly many, and are passed over many at once.
+//! Searches for the next block with a mark. Most blocks have none, so many blocks are passed over at once.
 
 ghost use Rattle.std.specs.Prelude.{◌≡◌, ◌<◌, ◌≤◌, false, length};
 ghost use Rattle.wb_chunk.specs.Marks.{AreUnmarked, IsNextInEither, IsNextMarked};
 
-/// How many marks are looked at together: so many first, since the compiler needs no loop for a number that it knows, and then those
-/// that are left.
+/// How many marks are looked at together. A search first goes in groups of this many, since the compiler needs no loop for a number that it
+/// knows, and then through the marks that are left.
 const TOGETHER: usize = 64;
 
-/// The first block from one on that bears a mark; `end` where there is none below it.
+/// The first block with a mark from block `from` on, or `end` if no block below `end` has one.
 pub(crate) fn next_marked(marks: &[bool], from: usize, end: usize) -> usize
     requires { (from ≤ end) × (end ≤ length marks.now) }
     ensures { IsNextMarked marks.now from end result }
@@ -18,7 +18,7 @@ pub(crate) fn next_marked(marks: &[bool], from: usize, end: usize) -> usize
     search_marked(marks, from, end)
 }
 
-/// The same, many at once.
+/// Does what `next_marked` does, many marks at once.
 #[inline(never)]
 fn search_marked(marks: &[bool], from: usize, end: usize) -> usize
     requires { (from ≤ end) × (end ≤ length marks.now) }
@@ -37,7 +37,7 @@ fn search_marked(marks: &[bool], from: usize, end: usize) -> usize
     end
 }
 
-/// The same, one by one.
+/// Does what `next_marked` does, one mark after another.
 fn first_marked(marks: &[bool], from: usize, end: usize) -> usize
     requires { (from ≤ end) × (end ≤ length marks.now) }
     ensures { IsNextMarked marks.now from end result }
@@ -50,7 +50,7 @@ fn first_marked(marks: &[bool], from: usize, end: usize) -> usize
     end
 }
 
-/// The first block from one on that bears a mark in either list; `end` where there is none below it.
+/// The first block from block `from` on that has a mark in at least one of the two lists, or `end` if no block below `end` has one.
 pub(crate) fn next_in_either(marks: &[bool], others: &[bool], from: usize, end: usize) -> usize
     requires { (from ≤ end) × (end ≤ length marks.now) × (end ≤ length others.now) }
     ensures { IsNextInEither marks.now others.now from end result }
@@ -61,7 +61,7 @@ pub(crate) fn next_in_either(marks: &[bool], others: &[bool], from: usize, end: 
     search_either(marks, others, from, end)
 }
 
-/// The same, many at once.
+/// Does what `next_in_either` does, many marks at once.
 #[inline(never)]
 fn search_either(marks: &[bool], others: &[bool], from: usize, end: usize) -> usize
     requires { (from ≤ end) × (end ≤ length marks.now) × (end ≤ length others.now) }
@@ -81,7 +81,7 @@ fn search_either(marks: &[bool], others: &[bool], from: usize, end: usize) -> us
     end
 }
 
-/// The same, one by one.
+/// Does what `next_in_either` does, one mark after another.
 fn first_in_either(marks: &[bool], others: &[bool], from: usize, end: usize) -> usize
     requires { (from ≤ end) × (end ≤ length marks.now) × (end ≤ length others.now) }
     ensures { IsNextInEither marks.now others.now from end result }
@@ -94,7 +94,7 @@ fn first_in_either(marks: &[bool], others: &[bool], from: usize, end: usize) -> 
     end
 }
 
-/// Whether a block from one up to another bears a mark. No mark ends the search, so that many are read at once.
+/// Whether a block from `from` on and below `end` has a mark. The loop doesn't end at a mark, so that many are read at once.
 fn has_mark(marks: &[bool], from: usize, end: usize) -> bool
     requires { (from ≤ end) × (end ≤ length marks.now) }
     ensures off { result ≡ false → AreUnmarked marks.now from end }

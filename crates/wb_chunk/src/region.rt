@@ -1,7 +1,7 @@
 //! The memory of a chunk: a block with words in it, and the right to free it.
 //!
-//! Only the functions here follow a raw pointer, and each is proved by hand. A region does not keep how many words it
-//! has, nor for how many it has room: its owner does, and passes them in.
+//! Only the functions here follow a raw pointer, and each is proved by hand. A region stores neither how many words it has nor how many it
+//! has room for: its owner stores both numbers, and passes them in.
 
 ghost use Rattle.std.specs.Prelude.{◌≡◌, ℕ, ◌<◌, ◌≤◌, List, [], ◌∷◌, ◌++◌, length, take, IfOk, OnOk, OnErr};
 ghost use Rattle.std.specs.Borrow.{u32, Array, sem};
@@ -12,8 +12,8 @@ use std::alloc::{AllocError, Allocator};
 use std::marker::{Model, PhantomData};
 use std::slice;
 
-/// Words at the start of a block of memory, which has room for `capacity` of them. No region is dropped: `free` alone
-/// ends one, so that its block goes back to the allocator exactly once.
+/// Words at the start of a block of memory, which has room for `capacity` words. No region is ever dropped: only `free` ends a region, so
+/// that its block goes back to the allocator exactly once.
 pub(crate) struct Region<A: Allocator> {
     start: *mut u32,
     mark: PhantomData<A>,
@@ -32,7 +32,7 @@ impl<A: Allocator> Model for Region<A> {
 impl<A: Allocator> Region<A> {
     ghost use Rattle.wb_chunk.specs.Lending.{lends_words};
 
-    /// A block with room for `capacity` words, none of which is written.
+    /// A new region whose block has room for `capacity` words, none of which is written.
     pub(crate) fn allocate(alloc: &A, capacity: u32) -> Result<Region<A>, AllocError>
         ensures { IfOk result (λ r.
             (r.words ≡ []) × (r.capacity ≡ capacity) × (r.alloc ≡ alloc.now)) }
@@ -46,7 +46,7 @@ impl<A: Allocator> Region<A> {
         }
     }
 
-    /// Makes room for `wanted` words, in a block that may lie elsewhere. On `Err` the region is as it was.
+    /// Makes room for `wanted` words, in a block that may be at another address. On `Err` the region is as it was.
     pub(crate) fn grow(
         &mut self,
         alloc: &A,
@@ -76,7 +76,7 @@ impl<A: Allocator> Region<A> {
         }
     }
 
-    /// Gives the block back.
+    /// Gives the block back to the allocator.
     pub(crate) fn free(self, alloc: &A, capacity: u32)
         requires alloc { self.alloc ≡ alloc.now }
         requires capacity { (self.capacity ≡ capacity) × (length self.words ≤ capacity) }
@@ -85,7 +85,7 @@ impl<A: Allocator> Region<A> {
         unsafe { alloc.deallocate(start as *mut u8, capacity as usize * 4, 4) }
     }
 
-    /// Writes a word after the others.
+    /// Writes `word` after the region's `count` words.
     pub(crate) fn append(&mut self, count: u32, word: u32)
         requires { (count ≡ length self.old.words) × (count < self.old.capacity) }
         ensures { (self.new.words ≡ self.old.words ++ word ∷ [])
@@ -94,7 +94,7 @@ impl<A: Allocator> Region<A> {
         unsafe { self.start.add(count as usize).write(word) }
     }
 
-    /// Leaves the first `n` words, and makes the others room. Nothing is written.
+    /// Keeps the first `n` words; the memory of the others becomes room again. Nothing is written.
     pub(crate) fn truncate(&mut self, count: u32, n: u32)
         requires { (count ≡ length self.old.words) × (count ≤ self.old.capacity) × (n ≤ count) }
         ensures { (self.new.words ≡ take n self.old.words)

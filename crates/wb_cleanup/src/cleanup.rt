@@ -1,4 +1,4 @@
-//! The calls on the stack.
+//! The calls on the cleanup stack.
 
 ghost use Rattle.std.specs.Prelude.{◌≡◌, ◌+◌, ◌^◌, ◌<◌, nat_eq, nat_le, [], ◌∷◌, ◌++◌, true, None, Some};
 ghost use Rattle.std.specs.Prelude.{option_map, IfErr, IfNone, IfOk, IfSome, IsOk, OnErr, OnOk, OnSome};
@@ -17,17 +17,17 @@ use wb_model::memory::NoMemory;
 const SLOT_BYTES: u32 = 16;
 /// How many slots a stack begins with.
 const FIRST_SLOTS: u32 = 8;
-/// How many slots a growth adds.
+/// How many slots each growth adds.
 const MORE_SLOTS: u32 = 4;
 
-/// The cleanup stack: items in slots in the words of a cell of a debug heap, the oldest first.
+/// The cleanup stack: items in slots, which are words of a cell of a debug heap, the oldest item first.
 ///
-/// Every call but `start` that is handed a heap asks for the one in which the stack is. Source: Symbian OS v9 SDK reference,
+/// Every call that takes a heap, except `start`, must be given the heap that holds the stack's cell. Source: Symbian OS v9 SDK reference,
 /// CleanupStack, and this project's profile for the slots.
 #[derive(Clone, Copy, Debug, PartialEq, Eq)]
 pub struct Cleanup {
     cell: Ptr,
-    /// How many items are on it.
+    /// How many items are on the stack.
     used: u32,
     /// How many items the cell has room for.
     slots: u32,
@@ -38,17 +38,17 @@ pub struct Cleanup {
 pub enum Pushed {
     /// The item is on the stack.
     Fine,
-    /// It is on the stack too, but it filled the last slot, and the growth was refused: the push leaves.
+    /// The item is on the stack, but it filled the last slot, and the attempt to grow the cell failed: the push leaves.
     Leave,
-    /// It isn't: the growth would have ended past the ceiling, which cuts the run.
+    /// The item isn't on the stack: the grown cell would have ended past the heap's ceiling, which cuts the run.
     Ceiling,
 }
 
 impl Cleanup {
-    /// The empty stack of a run, with 8 slots: the run's first attempt, for 128 bytes.
+    /// Returns the empty stack of a run, with 8 slots. The request for its cell, of 128 bytes, is the run's first attempt.
     ///
-    /// `None` exactly where the setting or the rule refuses it. `NoMemory` leaves the heap as it was. Source: Symbian OS v9
-    /// SDK reference, CTrapCleanup::New, and this project's profile for the length.
+    /// `None` exactly if the setting or the rule makes this attempt fail. `NoMemory` if the workbench itself runs out of memory; the heap
+    /// is then as it was. Source: Symbian OS v9 SDK reference, CTrapCleanup::New, and this project's profile for the length.
     pub fn start(heap: &mut DebugHeap) -> Result<Option<Cleanup>, NoMemory>
         requires first { heap.old.attempts ≡ 0 }
         ensures made { OnOk result (heap.new ≡ (alloc_made heap.old 128 Kind.Cleanup).debug) }
@@ -93,26 +93,26 @@ impl Cleanup {
         self.slots
     }
 
-    /// Whether no slot is free. A push always leaves one free but for a growth that was refused.
+    /// Whether no slot is free. Every push leaves a slot free, except one that returns `Leave`.
     pub fn is_full(&self) -> bool
         ensures { result ≡ nat_le (slots_of self.now) (count_of self.now) }
     {
         self.slots <= self.used
     }
 
-    /// Whether one slot is free and no more: the next push grows the stack.
+    /// Whether exactly one slot is free: the next push grows the stack's cell.
     pub fn has_one_free(&self) -> bool
         ensures { result ≡ nat_eq (count_of self.now + 1) (slots_of self.now) }
     {
         self.used < self.slots && self.used + 1 == self.slots
     }
 
-    /// Puts an item on top. Where it fills the last slot, the cell is reallocated for 4 slots more: an attempt, which may
-    /// move the cell.
+    /// Puts an item on top. If it fills the last slot, the cell is reallocated for 4 slots more; this is an attempt, and may move the cell.
     ///
-    /// A push that doesn't fill the last slot is fine and takes no memory. `Leave` keeps the item and the slots.
-    /// `Ceiling` and `NoMemory` leave the stack and the heap as they were, and `NoMemory` never comes in place of
-    /// `Ceiling`, nor, where the rises are kept, of a growth that isn't one. Source: Symbian OS v9 SDK reference, CleanupStack::PushL, and this project's profile for the slots.
+    /// A push that doesn't fill the last slot returns `Fine` and needs no memory. After `Leave` the item is on the stack, which has as many
+    /// slots as before. `NoMemory` if the workbench itself runs out of memory; it never comes in place of `Ceiling`, nor, if the rises are
+    /// kept, for a growth that isn't a rise. After `Ceiling` and `NoMemory` the stack and the heap are as they were. Source: Symbian OS v9
+    /// SDK reference, CleanupStack::PushL, and this project's profile for the slots.
     pub fn push(&mut self, heap: &mut DebugHeap, item: Item) -> Result<Pushed, NoMemory>
         requires stands { IsStack self.old heap.old }
         requires room { count_of self.old < slots_of self.old }
@@ -134,7 +134,7 @@ impl Cleanup {
         Ok(pushed)
     }
 
-    /// The growth where one item more fills the last slot.
+    /// Grows the cell if one more item fills the last slot; if not, returns `Fine` and changes nothing.
     fn make_room(&mut self, heap: &mut DebugHeap) -> Result<Pushed, NoMemory>
         requires stands { IsStack self.old heap.old }
         requires room { count_of self.old < slots_of self.old }
@@ -158,7 +158,7 @@ impl Cleanup {
         }
     }
 
-    /// Reallocates the cell for more slots, with the items that it has.
+    /// Reallocates the cell for 4 slots more; the items in it stay.
     fn grow(&mut self, heap: &mut DebugHeap) -> Result<Pushed, NoMemory>
         requires stands { IsStack self.old heap.old }
         requires number { heap.old.attempts + 1 < 2 ^ 32 }
@@ -200,11 +200,11 @@ impl Cleanup {
         self.used += 1;
     }
 
-    /// Takes the `n` newest items off. `Panic::POP_BELOW_TRAP` if fewer than `n` are above the `floor` first ones, and
-    /// then the stack is as it was.
+    /// Takes the `n` newest items off the stack. `Panic::POP_BELOW_TRAP` if fewer than `n` items are above the `floor` oldest ones; the
+    /// stack is then as it was.
     ///
-    /// What is done with the items is the caller's. Source: Symbian OS v9 SDK reference, CleanupStack::Pop, and this
-    /// project's profile for the floor.
+    /// What is done with the items is the caller's business. Source: Symbian OS v9 SDK reference, CleanupStack::Pop, and this project's
+    /// profile for the floor.
     pub fn pop(&mut self, floor: u32, n: u32) -> Result<(), Panic>
         ensures refused { IfErr result (λ panic.
             pop_refusal floor n (count_of self.old) ≡ Some panic) }
@@ -219,11 +219,11 @@ impl Cleanup {
         Ok(())
     }
 
-    /// Takes the newest item off, which must be of this pointer: of its place and of its number.
+    /// Takes the newest item off the stack. The item's pointer must be `ptr`, with the same place and the same number.
     ///
-    /// `Panic::POP_BELOW_TRAP` if none is above the `floor` first ones, then `Panic::ANOTHER_ITEM_ON_TOP` where the
-    /// newest is of another pointer; the stack is then as it was. Source: Symbian OS v9 SDK reference,
-    /// CleanupStack::Pop, and this project's profile for the floor and the panics.
+    /// `Panic::POP_BELOW_TRAP` if no item is above the `floor` oldest ones, then `Panic::ANOTHER_ITEM_ON_TOP` if the newest item has
+    /// another pointer; the stack is then as it was. Source: Symbian OS v9 SDK reference, CleanupStack::Pop, and this project's profile for
+    /// the floor and the panics.
     pub fn pop_expected(&mut self, heap: &DebugHeap, floor: u32, ptr: Ptr) -> Result<(), Panic>
         requires { IsStack self.old heap.now }
         ensures refused { IfErr result (λ panic.
@@ -243,8 +243,8 @@ impl Cleanup {
         Ok(())
     }
 
-    /// Takes the newest item off that is above the `floor` first ones, and gives it; `None` if there is none, and then
-    /// the stack is as it was.
+    /// Takes the newest item off the stack and returns it; `None` if no item is above the `floor` oldest ones, and then the stack is as it
+    /// was.
     ///
     /// Source: Symbian OS v9 SDK reference, CleanupStack::PopAndDestroy, and this project's profile for the floor.
     pub fn take_top(&mut self, heap: &DebugHeap, floor: u32) -> Option<Item>

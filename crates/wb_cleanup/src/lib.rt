@@ -1,4 +1,4 @@
-//! The cleanup stack: items in slots in the words of one cell of the debug heap, which grows with them.
+//! The cleanup stack: items in slots, which are words of one cell of the debug heap; the cell grows with the items.
 //!
 //! The calls are in `cleanup`; `slots` writes and reads one slot.
 #![tactic(auto)]

@@ -1,5 +1,5 @@
-//! One slot of the stack: four words of the cell, which are what is done with an item, the place and the number of its
-//! pointer, and its operation, or 0 where it has none.
+//! One slot of the cleanup stack: four words of its cell. They say what is done with the item, the place and the number of its pointer, and
+//! the index of its operation, 0 if it has none.
 
 ghost use Rattle.std.specs.Prelude.{◌≡◌, ◌+◌, ◌*◌, ◌^◌, ◌<◌, ◌≤◌, length};
 ghost use Rattle.wb_cleanup.specs.Slots.{IsSlot, with_words, words_of_slot};
@@ -18,7 +18,7 @@ const DELETE: u32 = 2;
 /// The first word of an item that an operation is called on.
 const CALL: u32 = 3;
 
-/// Writes an item into the slot with this index, and nothing else.
+/// Writes an item into the slot with this index, and changes nothing else.
 pub fn write(heap: &mut DebugHeap, cell: Ptr, slot: u32, item: Item)
     requires within { 4 * (slot + 1) ≤ length (payload_of cell heap.old.heap.row) }
     requires bounded { length (payload_of cell heap.old.heap.row) < 2 ^ 32 }
@@ -38,7 +38,7 @@ pub fn write(heap: &mut DebugHeap, cell: Ptr, slot: u32, item: Item)
     heap.set_payload(cell, 4 * slot + 3, operation);
 }
 
-/// The item that the slot with this index spells.
+/// Returns the item in the slot with this index.
 pub fn read(heap: &DebugHeap, cell: Ptr, slot: u32) -> Item
     requires { IsSlot slot (payload_of cell heap.now.heap.row) }
     ensures { slot_words result ≡ words_of_slot slot (payload_of cell heap.now.heap.row) }
@@ -54,7 +54,7 @@ pub fn read(heap: &DebugHeap, cell: Ptr, slot: u32) -> Item
     }
 }
 
-/// What an item is about.
+/// Returns the pointer of an item.
 pub fn pointer(item: Item) -> Ptr
     ensures { result ≡ item_pointer item }
 {

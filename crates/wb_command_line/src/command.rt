@@ -1,5 +1,4 @@
-//! What the words of a command line ask for, and why they may ask for nothing. How they are read is in
-//! `command_line`.
+//! What the words of a command line ask for, or why they are no command. How the words are read is in `command_line`.
 ghost use Rattle.std.specs.Prelude.{◌≡◌};
 ghost use Rattle.wb_command_line.specs.declared.command.CommandFault.TheVariants.{NoMemory};
 ghost use Rattle.wb_command_line.specs.Fault.{fault_of_error};
@@ -18,15 +17,17 @@ pub enum Search {
     /// The least of these failures whose run leaks or panics, and that run. A failure is an attempt that fails, a rate at which
     /// attempts fail, an attempt from which on all fail, or two attempts that fail.
     Least(Failures),
-    /// How the run ends under each of these failures where it leaks, panics or is cut, and the run under the least that leaks
-    /// or panics.
+    /// How the run ends under each of these failures for which it leaks, panics or is cut; and the run under the least failure for which it
+    /// leaks or panics.
     All(Failures),
-    /// The same under every one of these failures, also where the run is fine.
+    /// How the run ends under every one of these failures, also where it is fine; and the run under the least failure for which it leaks or
+    /// panics.
     Ends(Failures),
-    /// The least set of at most so many attempts, from 1 to 8, whose run leaks or panics if they fail together, and that run.
+    /// The least set of attempts whose run leaks or panics if they fail together, and that run. The number says how many attempts a set may
+    /// have, from 1 to 8.
     Sets(u32),
-    /// The least set of attempts, however many, whose run leaks or panics if they fail together, and that run. At most so many
-    /// states are met on the way, from 1 to 10,000,000.
+    /// The least set of attempts, of any size, whose run leaks or panics if they fail together, and that run. The number says how many
+    /// states the search may meet, from 1 to 10,000,000.
     EverySet(u32),
 }
 
@@ -35,11 +36,11 @@ pub enum Search {
 pub enum Task {
     /// One run under this rule.
     Run(Rule),
-    /// The length of heap that the script needs, and what each shorter one refuses first.
+    /// The length of heap that the script needs, and which attempt each shorter heap refuses first.
     Size,
     /// How the run ends in a heap of every length, and the least length whose run leaks or panics.
     Lengths,
-    /// A search among the failures whose number the part has. That of a set is its least number.
+    /// A search among the failures whose numbers are in the part. The number of a pair or a set is the least of its attempts' numbers.
     Sweep(Search, Part),
     /// `Size`, and then a search among all failures.
     Check(Search),
@@ -49,43 +50,45 @@ pub enum Task {
 #[derive(Debug, Drop)]
 pub struct Command {
     pub task: Task,
-    /// The script's file; without one the script is standard input.
+    /// The script's file; `None` if the script is read from standard input.
     pub file: Option<FileName>,
     /// The greatest number of steps of a run, from 1 to 1,000,000.
     pub budget: u32,
     /// The heap's minimum length and step, in bytes, in the ranges that `Shape` states, and whether cells that grow always move.
     pub shape: Shape,
-    /// The report is written as one JSON object, and not as lines.
+    /// Whether the report is written as one JSON object, and not as lines.
     pub json: bool,
     /// The file that a picture of the runs is written to; `None` if none is wanted.
     pub picture: Option<FileName>,
-    /// How many of the first steps of the run are followed, and how many of the last, from 1 to 1,000,000; `None` if none are.
+    /// How many of the run's first steps are followed, which is also how many of its last, from 1 to 1,000,000; `None` if none are
+    /// followed.
     pub follow: Option<u32>,
 }
 
-/// Why words are no command.
+/// Why words are no command. If words have several faults, the first of them in this order is the answer.
 #[derive(Debug, Drop, Error)]
 pub enum CommandFault {
-    /// `clap` refuses the words, or they call for help, or it takes them but the text of a set is no list; its text is for the
-    /// user.
+    /// `clap` refuses the words, or they call for help or the version, or `clap` takes them but the text of a set is no list. The text of
+    /// the error is for the user.
     #[error("{0}")]
     Usage(clap::Error),
-    /// `clap` takes the words, but they give more than one of a limit, the number of an attempt, that of the first that fails, a
-    /// rate and a set; or ask for more than one of rates, failures that persist, pairs, sets of at most so many attempts and all
-    /// sets; or for a list of numbers together with pairs or sets, or for both lists. It comes before `Also`.
+    /// `clap` takes the words, but they give more than one of `--limit`, `--fail`, `--fail-from`, `--every` with a number, and `--set`; or
+    /// more than one of `--every` without a number, `--persistent`, `--pairs`, `--failures` and `--sets`; or `--all` or `--ends` together
+    /// with pairs or sets, or with each other. This fault comes before `Also`.
     #[error("error: two of these options don't go together\n")]
     Both,
-    /// `clap` takes the words, but they give the number of a second attempt that fails, and not that of a first, or a first
-    /// that is 0 or not less than the second. It comes before `Shape`.
+    /// `clap` takes the words, but they give `--also` without `--fail`, or with a value of `--fail` that is 0 or not less than that of
+    /// `--also`. This fault comes before `Shape`.
     #[error("error: give '--also' with '--fail', and a number greater than that of '--fail', which is at least 1\n")]
     Also,
-    /// `clap` takes the words, but the heap's minimum length or step is no multiple of 16 bytes. It comes before `Range`.
+    /// `clap` takes the words, but the heap's minimum length or step is no multiple of 16 bytes. This fault comes before
+    /// `Range`.
     #[error("error: the values of '--min' and '--step' are multiples of 16\n")]
     Shape,
-    /// `clap` takes the words, but the part that is to be tried ends before it begins.
+    /// `clap` takes the words, but the value of `--from` is greater than that of `--to`, so that no number is to be tried.
     #[error("error: give '--from' a number that is not greater than that of '--to'\n")]
     Range,
-    /// The workbench's own memory ran out, or `clap` found none; it says nothing of the words.
+    /// The workbench's own memory ran out, in its own code or in `clap`. This says nothing of the words.
     #[error("error: no memory\n")]
     NoMemory,
 }

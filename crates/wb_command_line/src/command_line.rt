@@ -1,7 +1,9 @@
-//! How the words of a command line are read: `workbench run [--limit L | --fail N [--also J] | --every N | --fail-from N | --set LIST]
-//! [--follow] [--follow-steps N] [--budget B] [--min M] [--step G] [--moving] [--json] [--picture FILE] [FILE]`, the same with `--every`,
-//! `--persistent`, `--pairs`, `--all`, `--ends`, `--failures K`, `--sets` and `--states N` in the place of a rule after `sweep` and
-//! `check`, after `sweep` with `[--from I] [--to J]` too, and with none of them after `size` and `lengths`. Nothing is opened or run here.
+//! How the words of a command line are read. Nothing is opened or run here.
+//!
+//! `workbench run` takes `[--limit L | --fail N [--also J] | --every N | --fail-from N | --set LIST] [--follow] [--follow-steps N]`.
+//! `sweep` and `check` take `--every`, `--persistent`, `--pairs`, `--all`, `--ends`, `--failures K`, `--sets` and `--states N` instead, and
+//! `sweep` also takes `[--from I] [--to J]`. `size` and `lengths` take none of these. All five take `[--budget B] [--min M] [--step G]
+//! [--moving] [--json] [--picture FILE] [FILE]`.
 ghost use Rattle.std.specs.Prelude.{◌≡◌, ◌≤◌, All, IfErr, IfOk, IsSome, IsTrue, List, Some, OnErr, OnOk, codes, false};
 ghost use Rattle.std.specs.Prelude.{map, true};
 ghost use Rattle.std.specs.Str.{IsUtf8};
@@ -43,18 +45,17 @@ use wb_model::heap::Shape;
 use wb_model::limits::{CEILING, DEFAULT_BUDGET, DEFAULT_MINIMUM, DEFAULT_STEP, LARGEST_BUDGET};
 use wb_model::part::Part;
 
-/// The granule of a heap's lengths, in bytes.
+/// The minimum length and the step of a heap are multiples of this, in bytes.
 const GRANULE: u32 = 16;
 
-/// The command that the words spell; the first of them is the program's name, and is not looked at. What the
-/// words don't say has its default, and the numbers are in their ranges.
+/// Returns the command that the words spell. The first word is the program's name, and isn't looked at. What the words don't say has its
+/// default, and all numbers are in their ranges.
 ///
-/// Words that `clap` doesn't take, and calls for help or the version, are `Usage`. Where it takes them, a set whose text is no
-/// list is `Usage` too. Else more than one of a limit, the number of an attempt, that of the first that fails, a rate and a set is
-/// `Both`; and so is more than one of rates, failures that persist, pairs, sets of so many attempts and all sets, and a list of numbers
-/// together with pairs or sets, or with the other list. Else the number of a second attempt is `Also` where that of a first is missing, 0 or not less; else a minimum length or a step that is no multiple of 16 is `Shape`; and else a part that ends
-/// before it begins is `Range`. `NoMemory` comes where a growth was refused, of the workbench or of `clap`, and says nothing of
-/// the words.
+/// The error is the first of these that applies: `Usage` if `clap` doesn't take the words, if they call for help or the version, or if the
+/// text of a set is no list; `Both` if options don't go together; `Also` if the words give `--also`, but no lesser `--fail` of at least 1;
+/// `Shape` if the minimum length or the step is no multiple of 16; and `Range` if the part ends before it begins. `CommandFault` says which
+/// options don't go together. `NoMemory` comes whenever the workbench's own memory ran out, in its own code or in `clap`, and says nothing
+/// of the words.
 pub fn command<'a, S: AsStr>(alloc: Global, words: &'a [S]) -> Result<Command, CommandFault>
     ensures spelled { IfOk result (IsSpelledBy (map S.text words.now)) }
     ensures numbers { IfOk result (λ command. IsTrue (is_answerable command)) }
@@ -70,7 +71,8 @@ pub fn command<'a, S: AsStr>(alloc: Global, words: &'a [S]) -> Result<Command, C
     command_in(alloc, name, options)
 }
 
-/// The command of a subcommand with these options, or `Usage`, `Both`, `Also`, `Shape` or `Range`.
+/// Returns the command of a subcommand with these options. The errors are those of `command`; `Usage` comes only for a set whose text is no
+/// list.
 fn command_in(alloc: Global, name: &str, options: &ArgMatches) -> Result<Command, CommandFault>
     requires named { IsSome (subcommand_named name.now) }
     requires passed { RowsPass joined_level.rules (rows_of (found_of options.now)) }
@@ -92,7 +94,7 @@ fn command_in(alloc: Global, name: &str, options: &ArgMatches) -> Result<Command
     })
 }
 
-/// What a subcommand asks for, or `Usage`, `Both` or `Also`.
+/// Returns what a subcommand asks for. The errors are `Usage`, `Both`, `Also` and `NoMemory`.
 #[tactic(auto, using(crate::proofs::CommandLineLemmas::last_doubled, crate::proofs::CommandLineLemmas::last_task))]
 fn task_in(alloc: Global, name: &str, options: &ArgMatches) -> Result<Task, CommandFault>
     requires named { IsSome (subcommand_named name.now) }
@@ -110,12 +112,12 @@ fn task_in(alloc: Global, name: &str, options: &ArgMatches) -> Result<Task, Comm
         "size" => Ok(Task::Size),
         "lengths" => Ok(Task::Lengths),
         "sweep" => Ok(sweep_in(options)?),
-        // There is no other.
+        // There is no other subcommand than `check`.
         _ => Ok(check_in(options)?),
     }
 }
 
-/// Nothing if the part that a task names, if it names one, has a number; else `Range`.
+/// Checks that the part of a sweep has a number; the error is `Range`. Other tasks name no part, and pass.
 fn check_part_of(task: &Task) -> Result<(), CommandFault>
     ensures ok { OnOk result (IsTrue (is_filled task.now)) }
     ensures fault { IfErr result (λ fault. fault ≡ CommandFault.Range) }
@@ -127,7 +129,7 @@ fn check_part_of(task: &Task) -> Result<(), CommandFault>
     }
 }
 
-/// Nothing if the part has a number; else `Range`.
+/// Checks that a part has a number. The only error is `Range`.
 fn check_part(part: Part) -> Result<(), CommandFault>
     ensures ok { OnOk result (IsTrue (has_number part)) }
     ensures fault { IfErr result (λ fault. fault ≡ CommandFault.Range) }
@@ -140,7 +142,7 @@ fn check_part(part: Part) -> Result<(), CommandFault>
     }
 }
 
-/// What the options of `sweep` ask for, or `Both`.
+/// Returns what the options of `sweep` ask for. The only error is `Both`.
 fn sweep_in(options: &ArgMatches) -> Result<Task, CommandFault>
     requires { RowsPass joined_level.rules (rows_of (found_of options.now)) }
     ensures ok { IfOk result
@@ -154,7 +156,7 @@ fn sweep_in(options: &ArgMatches) -> Result<Task, CommandFault>
     Ok(Task::Sweep(search, part_in(options)))
 }
 
-/// What the options of `check` ask for, or `Both`.
+/// Returns what the options of `check` ask for. The only error is `Both`.
 fn check_in(options: &ArgMatches) -> Result<Task, CommandFault>
     requires { RowsPass joined_level.rules (rows_of (found_of options.now)) }
     ensures ok { IfOk result
@@ -167,7 +169,7 @@ fn check_in(options: &ArgMatches) -> Result<Task, CommandFault>
     Ok(Task::Check(search_in(options)?))
 }
 
-/// The numbers that the options ask to be tried.
+/// The numbers that the options ask to try.
 fn part_in(options: &ArgMatches) -> Part
     requires { RowsPass joined_level.rules (rows_of (found_of options.now)) }
     ensures is { result ≡ spelled_part (rows_of (found_of options.now)) }
@@ -178,7 +180,7 @@ fn part_in(options: &ArgMatches) -> Part
     Part { from, to }
 }
 
-/// The greatest number of steps that the options spell.
+/// The budget that the options spell: how many steps a run may take.
 fn budget_in(options: &ArgMatches) -> u32
     requires { RowsPass joined_level.rules (rows_of (found_of options.now)) }
     ensures is { result ≡ spelled_budget (rows_of (found_of options.now)) }
@@ -188,7 +190,7 @@ fn budget_in(options: &ArgMatches) -> u32
     options.get_one("budget").unwrap_or(DEFAULT_BUDGET)
 }
 
-/// The heap's shape that they spell, or `Shape`.
+/// Returns the heap's shape that the options spell. The only error is `Shape`.
 fn shape_in(options: &ArgMatches) -> Result<Shape, CommandFault>
     requires { RowsPass joined_level.rules (rows_of (found_of options.now)) }
     ensures ok { IfOk result (λ shape. shape ≡ spelled_shape (rows_of (found_of options.now))) }
@@ -207,7 +209,7 @@ fn shape_in(options: &ArgMatches) -> Result<Shape, CommandFault>
     }
 }
 
-/// Whether they ask for a heap in which each cell that grows moves.
+/// Whether the options ask for a heap in which each cell that grows moves.
 fn moving_in(options: &ArgMatches) -> bool
     requires { RowsPass joined_level.rules (rows_of (found_of options.now)) }
     ensures { result ≡ flag_of (codes "moving") (rows_of (found_of options.now)) }
@@ -215,7 +217,7 @@ fn moving_in(options: &ArgMatches) -> bool
     options.get_flag("moving")
 }
 
-/// Whether they ask for the report as JSON.
+/// Whether the options ask for the report as JSON.
 fn json_in(options: &ArgMatches) -> bool
     requires { RowsPass joined_level.rules (rows_of (found_of options.now)) }
     ensures { result ≡ flag_of (codes "json") (rows_of (found_of options.now)) }
@@ -223,7 +225,7 @@ fn json_in(options: &ArgMatches) -> bool
     options.get_flag("json")
 }
 
-/// The script's file, where they name one. The only error is that memory ran out.
+/// Returns the script's file; `None` if the options name none. The only error is that memory ran out.
 fn file_in(alloc: Global, options: &ArgMatches) -> Result<Option<FileName>, AllocError>
     ensures { IfOk result
         (λ file. file ≡ first_of (codes "file") (rows_of (found_of options.now))) }
@@ -234,7 +236,7 @@ fn file_in(alloc: Global, options: &ArgMatches) -> Result<Option<FileName>, Allo
     }
 }
 
-/// Returns the file for a picture; `None` if they name none. The only error is that memory ran out.
+/// Returns the file for a picture; `None` if the options name none. The only error is that memory ran out.
 fn picture_in(alloc: Global, options: &ArgMatches) -> Result<Option<FileName>, AllocError>
     ensures { IfOk result
         (λ picture. picture ≡ first_of (codes "picture") (rows_of (found_of options.now))) }
@@ -245,10 +247,10 @@ fn picture_in(alloc: Global, options: &ArgMatches) -> Result<Option<FileName>, A
     }
 }
 
-/// Law: which words the command line takes, and what they spell, word by word. After the program's name and that of a
-/// subcommand comes one FILE or none, and one `--` or none before or after it. FILE begins with no hyphen or is `-`, but
-/// after `--` it is any word. What is an option of another subcommand is a word that begins with a hyphen. `sweep` and `check`
-/// then try the failure of each attempt alone.
+/// Law: which words the command line takes, and what they spell, word by word, if no word is an option of the subcommand. After the
+/// program's name and that of a subcommand comes at most one FILE, and at most one `--`, before or after FILE. FILE is `-` or begins with
+/// no hyphen, but after `--` it may be any word. An option of another subcommand counts as any word that begins with a hyphen. `sweep` and
+/// `check` then try the failure of each attempt alone.
 pub fn words_are_read()
     ensures { (words : List Text) → All IsUtf8 words → AreRead words }
 {}

@@ -1,11 +1,11 @@
-//! The name of a file, as the command line gave it: of the script, or of a picture.
+//! The name of a file, of the script or of a picture, as the command line gives it.
 ghost use Rattle.std.specs.Prelude.{◌≡◌, IfOk};
 
 use std::alloc::{AllocError, Global};
 use std::marker::Model;
 
-/// A file's name, which contracts see as the list of its bytes. Any text is one, the empty one and `-`
-/// too; whether such a file is there shows only where it is opened.
+/// A file's name, which contracts see as the list of its bytes. Any text is a name, also the empty text and `-`. Whether there is such a
+/// file shows only when it is opened.
 #[derive(Debug, Drop)]
 pub struct FileName {
     text: String,
@@ -20,7 +20,7 @@ impl Model for FileName {
 }
 
 impl FileName {
-    /// A name of its own with the bytes of `text`. The only error is that memory ran out.
+    /// Returns a name with its own copy of the bytes of `text`. The only error is that memory ran out.
     pub fn copy_of(alloc: Global, text: &str) -> Result<FileName, AllocError>
         ensures { IfOk result (λ name. name ≡ text.now) }
     {

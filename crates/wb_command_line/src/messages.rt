@@ -1,15 +1,15 @@
-//! What is said of words that are no command: the text of their fault, with a tip where `clap` has none that helps. No contract
-//! mentions it.
+//! What the user is told of words that are no command: the text of the fault, with a tip where `clap` has none that helps. No contract
+//! mentions this text.
 
 use crate::command::CommandFault;
 use clap::error::ErrorKind;
 use std::alloc::{AllocError, Global};
 use std::convert::AsStr;
 
-/// What `clap` adds to an error that `set_list` found, and not to one of a value that it found itself: a usage.
+/// The usage that `clap` adds to an error that `set_list` makes. It adds none to the errors of values that it finds itself.
 const USAGE: &str = "\n\nUsage: workbench run\n\nFor more information, try '--help'.\n";
 
-/// Returns the text of a fault that these words have, whose first is the program's name. The only error is that memory ran out.
+/// Returns the text of a fault of these words, of which the first is the program's name. The only error is that memory ran out.
 pub fn message_of<S: AsStr>(
     alloc: Global,
     words: &[S],
@@ -28,7 +28,7 @@ pub fn message_of<S: AsStr>(
     }
 }
 
-/// The text of an error of a value, as `clap` writes its own.
+/// The text of an error, with the usage of an error of `set_list` taken off, as `clap` writes its own errors of values.
 fn without_usage(alloc: Global, text: String) -> Result<String, AllocError> {
     match text.as_str().strip_suffix(USAGE) {
         Some(error) => format!(in alloc; "{error}\n\nFor more information, try '--help'.\n"),
@@ -36,7 +36,7 @@ fn without_usage(alloc: Global, text: String) -> Result<String, AllocError> {
     }
 }
 
-/// Which options of a subcommand don't go together, of words that give some that don't.
+/// The message that names options which don't go together, of words that give such options.
 fn too_many<S: AsStr>(words: &[S]) -> &'static str {
     if word_at(words, 1) == "run" {
         return "error: give one of '--limit', '--fail', '--every', '--fail-from' and '--set'\n";
@@ -57,7 +57,7 @@ fn too_many<S: AsStr>(words: &[S]) -> &'static str {
     "error: give '--pairs' without '--every' and without '--all'\n"
 }
 
-/// Whether an option is one of the words, with its value or without.
+/// Whether an option is one of the words, alone or with `=` and a value.
 fn has<S: AsStr>(words: &[S], option: &str) -> bool {
     words.iter().any(|word| {
         let word = word.as_str();
@@ -68,7 +68,7 @@ fn has<S: AsStr>(words: &[S], option: &str) -> bool {
     })
 }
 
-/// The text of an error of `clap`, with this tip in the place of its own.
+/// The text of a `clap` error, with this tip in place of `clap`'s own.
 fn with_tip(alloc: Global, text: &str, tip: &str) -> Result<String, AllocError> {
     let Some((error, rest)) = text.split_once('\n') else {
         return String::from_str(alloc, text);
@@ -87,7 +87,7 @@ fn with_tip(alloc: Global, text: &str, tip: &str) -> Result<String, AllocError> 
     Ok(message)
 }
 
-/// A tip for words that `clap` refuses with this text; `None` if there is none that helps more than its own.
+/// A tip for words that `clap` refuses with this text; `None` if no tip helps more than `clap`'s own.
 fn tip_for<S: AsStr>(
     alloc: Global,
     words: &[S],
@@ -103,7 +103,7 @@ fn tip_for<S: AsStr>(
     }
 }
 
-/// The word at a place; empty if there is none.
+/// The word with this index; empty if there is none.
 fn word_at<S: AsStr>(words: &[S], place: usize) -> &str {
     match words.get(place) {
         Some(word) => word.as_str(),
@@ -122,7 +122,7 @@ fn quoted_in(text: &str) -> &str {
     }
 }
 
-/// Of a script's name in the place of a subcommand.
+/// A tip for a script's name where a subcommand belongs; `None` if the word doesn't look like one.
 fn script_tip(alloc: Global, word: &str) -> Result<Option<String>, AllocError> {
     if !word.contains('.') && !word.contains('/') {
         return Ok(None);
@@ -131,7 +131,7 @@ fn script_tip(alloc: Global, word: &str) -> Result<Option<String>, AllocError> {
     Ok(Some(tip))
 }
 
-/// Of an option of another subcommand, or of a second file.
+/// A tip for an option of another subcommand, or for a second file; `None` if there is none.
 fn argument_tip<S: AsStr>(
     alloc: Global,
     words: &[S],
@@ -158,7 +158,7 @@ fn argument_tip<S: AsStr>(
     }
 }
 
-/// The subcommands that have an option which some have and others don't; empty if there is no such option.
+/// The subcommands that have this option; empty if all subcommands have it, or none has.
 fn subcommands_with(name: &str) -> &'static str {
     match name {
         "limit" | "fail" | "also" | "fail-from" | "set" | "follow" | "follow-steps" => "run",
@@ -170,7 +170,7 @@ fn subcommands_with(name: &str) -> &'static str {
     }
 }
 
-/// Of a number after the flag `--every` of a sweep.
+/// A tip for a number after the flag `--every` of `sweep` or `check`; `None` if there is no such number.
 fn flag_tip<S: AsStr>(
     alloc: Global,
     words: &[S],

@@ -1,5 +1,5 @@
-//! What checks and the end of a mark count, and the leaks of a run. Counts are the tally's; the cells are gone over, by place,
-//! where one is to be named, where levels change, and for the leaks.
+//! What checks and the end of a mark count, and the leaks of a run. Counts come from the tally. The code goes through the cells, in order
+//! of place, only to name one, to change levels, to list leaks, and to count a level that the tally doesn't know.
 
 ghost use Rattle.std.specs.Prelude.{◌≡◌, ◌≤◌, None, Some, filter, length, map, not, IfOk, IfErr, OnOk};
 ghost use Rattle.wb_debug.specs.Levels.{is_counted};
@@ -24,7 +24,7 @@ pub enum Levels {
     All,
 }
 
-/// Whether a cell is of a level at all: the cleanup stack's is of none.
+/// Whether a cell of this kind is of a level: all are except the cleanup stack's cell.
 pub fn has_level(kind: Kind) -> bool
     ensures { result ≡ not (is_cleanup kind) }
 {
@@ -34,7 +34,7 @@ pub fn has_level(kind: Kind) -> bool
     }
 }
 
-/// Whether a cell is counted.
+/// Whether a cell is counted: whether it is of one of these levels.
 fn is_counted(levels: Levels, cell: Header) -> bool
     ensures { result ≡ is_counted levels cell }
 {
@@ -44,8 +44,8 @@ fn is_counted(levels: Levels, cell: Header) -> bool
     }
 }
 
-/// How many cells are counted, and a place that none of them is below. It goes over the cells only where the tally doesn't know
-/// the level.
+/// Returns how many cells are counted, and a place such that no counted cell is below it. Goes through the cells only if the tally doesn't
+/// know the level.
 fn count_and_lowest(heap: &Heap, tally: &Tally, levels: Levels) -> (u32, u32)
     requires { IsTally tally.now (headers heap.now.row) }
     ensures number { result.0 ≡ number (is_counted levels) (headers heap.now.row) }
@@ -60,7 +60,7 @@ fn count_and_lowest(heap: &Heap, tally: &Tally, levels: Levels) -> (u32, u32)
     }
 }
 
-/// Counts the cells of each level from the cells themselves, where those of this one aren't known.
+/// Makes the tally anew from the cells themselves, if it doesn't know how many cells this level has.
 pub fn count_anew(heap: &Heap, tally: &mut Tally, level: u32)
     requires { IsTally tally.old (headers heap.now.row) }
     ensures { IsTally tally.new (headers heap.now.row) }
@@ -70,7 +70,7 @@ pub fn count_anew(heap: &Heap, tally: &mut Tally, level: u32)
     }
 }
 
-/// What the live cells come to.
+/// Returns the tally of the live cells, from the cells themselves.
 fn tally_of(heap: &Heap) -> Tally
     ensures { IsTally result (headers heap.now.row) }
 {
@@ -83,7 +83,7 @@ fn tally_of(heap: &Heap) -> Tally
     tally
 }
 
-/// How many cells are counted, from the cells themselves.
+/// Returns how many cells are of these levels, from the cells themselves.
 fn count(heap: &Heap, levels: Levels) -> u32
     ensures { result ≡ number (is_counted levels) (headers heap.now.row) }
 {
@@ -98,7 +98,7 @@ fn count(heap: &Heap, levels: Levels) -> u32
     found
 }
 
-/// The place of the lowest cell that is counted, or 0 where there is none; none of them is below `from`.
+/// Returns the place of the lowest counted cell, or 0 if there is none. No counted cell may be below `from`.
 fn lowest(heap: &Heap, levels: Levels, from: u32) -> u32
     requires { number (is_below (is_counted levels) from) (headers heap.now.row) ≡ 0 }
     ensures { result ≡ lowest (filter (is_counted levels) (headers heap.now.row)) }
@@ -113,8 +113,9 @@ fn lowest(heap: &Heap, levels: Levels, from: u32) -> u32
     0
 }
 
-/// Expects `n` cells to be counted, and returns a place that none of them is below. It goes over the cells only to name the
-/// lowest, where they are fewer or more.
+/// Expects that exactly `n` cells are counted, and returns a place such that none of them is below it. If there are fewer or more, `Err`
+/// names the place of the lowest, or 0 if there is none. Goes through the cells only for that place, and if the tally doesn't know the
+/// level.
 pub fn expect(heap: &Heap, tally: &Tally, levels: Levels, n: u32) -> Result<u32, Panic>
     requires { IsTally tally.now (headers heap.now.row) }
     ensures refused { IfErr result (λ panic.
@@ -132,8 +133,8 @@ pub fn expect(heap: &Heap, tally: &Tally, levels: Levels, n: u32) -> Result<u32,
     Err(Panic::Alloc(lowest(heap, levels, from)))
 }
 
-/// Puts each cell of a level one level lower. They are `n`, and none of them is below `from`, so that no cell below `from`, and
-/// none above the last of them, is looked at.
+/// Puts each cell of a level one level lower. The level has `n` cells, and none of them is below `from`, so no cell below `from` is looked
+/// at, nor any above the last cell of the level.
 pub fn lower(heap: &mut Heap, level: u32, from: u32, n: u32)
     requires sound { IsSoundHeap heap.old }
     requires some { 1 ≤ level }
@@ -157,7 +158,8 @@ pub fn lower(heap: &mut Heap, level: u32, from: u32, n: u32)
     }
 }
 
-/// The live cells but the cleanup stack's, by place. Where the tally has none, the cells aren't gone over.
+/// Returns the live cells except the cleanup stack's, in order of place; `NoMemory` if the workbench's memory runs out. If the tally says
+/// that there is none, the code doesn't go through the cells.
 pub fn leaks(alloc: Global, heap: &Heap, tally: &Tally) -> Result<Leaks, NoMemory>
     requires { IsTally tally.now (headers heap.now.row) }
     ensures { IfOk result (λ leaks.
@@ -169,7 +171,7 @@ pub fn leaks(alloc: Global, heap: &Heap, tally: &Tally) -> Result<Leaks, NoMemor
     list_leaks(alloc, heap)
 }
 
-/// The same, from the cells.
+/// Returns the same list, from the cells themselves.
 fn list_leaks(alloc: Global, heap: &Heap) -> Result<Leaks, NoMemory>
     ensures { IfOk result (λ leaks.
         leaks ≡ map leak_of (cells_of_all_levels (headers heap.now.row))) }

@@ -1,5 +1,5 @@
-//! The debug heap: attempts and releases. Marks are in `checks`, what is to fail in `failing`, notes in `notes`, headers and
-//! the words of payloads in `payloads`, and the cells in the crate below.
+//! The debug heap: attempts and releases. Marks are in `marks`, what is to fail in `failing`, notes in `notes`, headers and the words of
+//! payloads in `payloads`, other readers in `readers`, and the cells in the crate `wb_rheap`.
 
 ghost use Rattle.std.specs.Prelude.{◌≡◌, ◌≢◌, ◌+◌, ◌^◌, ◌<◌, ◌≤◌, ◌↔◌, [], false, true, None, Some, is_some, length};
 ghost use Rattle.std.specs.Prelude.{option_map, IfOk, IfErr, IfSome, IsOk, IsErr, IsOkAnd, IsSome, OnOk, OnErr};
@@ -31,13 +31,12 @@ use wb_rheap::{Heap, HeapFault};
 
 /// A simulated heap that counts attempts, refuses those that are to fail, and checks nested marks.
 ///
-/// An attempt to get a cell has a number, from 1 on, also where it is refused; a granted cell bears it. Its place is
-/// chosen first. Then the script's own setting is asked, which counts the attempt; then the rule; then the ceiling.
-/// Each attempt that the ceiling doesn't cut adds its line to the trace; or, of a heap made by `new_rises`, the rise that
-/// it is.
+/// Every attempt has a number, from 1 on, also if it fails; a cell that it grants or moves has this number, too. First the place of the
+/// cell is chosen. Then the script's own setting is asked, then the rule, then the ceiling. Each attempt that the ceiling doesn't cut is
+/// counted, also by the setting, and adds its line to the trace. In a heap made by `new_rises` it adds the rise that it is, if it is one.
 pub struct DebugHeap {
     pub(crate) alloc: Global,
-    /// Its limit is the rule's.
+    /// The cells. This heap's limit is that of the rule, and at most the ceiling.
     pub(crate) heap: Heap,
     pub(crate) rule: Rule,
     /// How many marks are open.
@@ -46,11 +45,11 @@ pub struct DebugHeap {
     /// How many attempts were made.
     pub(crate) attempts: u32,
     pub(crate) log: Log,
-    /// What the live cells come to.
+    /// The counts of the live cells.
     pub(crate) tally: Tally,
 }
 
-/// Written out, so that other proofs have one call where one is dropped, and its fields are gone over here alone.
+/// Written out, so that the proof of code that drops a debug heap has one call there, and only the proof here goes through the fields.
 impl Drop for DebugHeap {
     fn drop(self) {
         let DebugHeap {
@@ -79,10 +78,10 @@ impl Model for DebugHeap {
 }
 
 impl DebugHeap {
-    /// A heap with no cell, before the first attempt, that keeps a line of each attempt.
+    /// Returns a heap with no cell, before its first attempt, that keeps a line of each attempt.
     ///
-    /// The rule's limit is in bytes. `BadShape` exactly where no heap may have the shape, and else `NoMemory` at worst, and
-    /// not even that where the committed length is 0.
+    /// The rule's limit is in bytes. `BadShape` exactly if no heap may have the shape. Otherwise `NoMemory` if the workbench's memory runs
+    /// out, which can't happen if the committed length is 0.
     pub fn new(alloc: Global, rule: Rule, shape: Shape) -> Result<DebugHeap, DebugFault>
         ensures ok { IfOk result (λ heap. heap ≡ first_debug rule shape) }
         ensures shape { (result ≡ Err DebugFault.BadShape) ↔ (is_shape shape ≡ false) }
@@ -93,8 +92,8 @@ impl DebugHeap {
         with_log(alloc, rule, shape, Log::of_lines(alloc))
     }
 
-    /// A heap with no cell, without a limit, that keeps the rises alone: the attempts that were granted and end past all
-    /// granted before them. So an attempt that isn't a rise adds nothing.
+    /// Returns a heap with no cell and without a limit that keeps only the rises: the granted attempts whose cells end past all granted
+    /// before. So an attempt that isn't a rise adds nothing.
     ///
     /// `BadShape` and `NoMemory` as in `new`.
     pub fn new_rises(alloc: Global, shape: Shape) -> Result<DebugHeap, DebugFault>
@@ -107,15 +106,15 @@ impl DebugHeap {
         with_log(alloc, Rule::Unlimited, shape, Log::of_rises(alloc))
     }
 
-    /// The same heap with its attempts, its trace, its marks and the script's setting, in memory of its own: what is done to one
-    /// changes nothing in the other. `NoMemory` where memory was refused.
+    /// Returns a copy of the heap with its attempts, its trace, its marks and the script's setting, in memory of its own: what is done to
+    /// one heap changes nothing in the other. `NoMemory` if the workbench's memory runs out.
     pub fn try_copy(&self) -> Result<DebugHeap, NoMemory>
         ensures { IfOk result (λ copy. copy ≡ self.now) }
     {
         self.try_copy_over(None)
     }
 
-    /// The same, its cells over the memory of `spare`, whose own are lost, where there is one.
+    /// Returns a copy as `try_copy` does. If there is a `spare` heap, the copy's cells take over its memory, and its own cells are lost.
     pub fn try_copy_over(&self, spare: Option<Heap>) -> Result<DebugHeap, NoMemory>
         ensures { IfOk result (λ copy. copy ≡ self.now) }
     {
@@ -131,9 +130,9 @@ impl DebugHeap {
         })
     }
 
-    /// The live cells but the cleanup stack's, by place: what has leaked, once a run is over.
+    /// Returns the live cells except the cleanup stack's, in order of place: what has leaked, once a run is over.
     ///
-    /// `NoMemory` where there is no room for the list.
+    /// `NoMemory` if the workbench has no memory for the list.
     pub fn leaks(&self) -> Result<Leaks, NoMemory>
         ensures { IfOk result (λ leaks. leaks ≡ leaks_of_heap self.now) }
     {
@@ -147,14 +146,15 @@ impl DebugHeap {
         self.attempts
     }
 
-    /// The attempts that were made, in order; empty where the rises are kept.
+    /// The attempts that were made, in order; empty if the rises are kept.
     pub fn trace(&self) -> &Trace
         ensures { result.now ≡ self.now.trace }
     {
         self.log.trace()
     }
 
-    /// The same, of a run that is over, and the heap, whose memory a copy of another may take. Takes no memory.
+    /// Gives up the debug heap of a run that is over, and returns its trace, and the heap of its cells, whose memory a copy of another heap
+    /// may take over. Needs no memory.
     pub fn into_trace_and_heap(self) -> (Trace, Heap)
         ensures { result.0 ≡ self.trace }
     {
@@ -162,8 +162,7 @@ impl DebugHeap {
         (log.into_trace(), heap)
     }
 
-    /// The rises so far, in order, of a heap made by `new_rises`: those of the trace that a heap made by `new` would
-    /// hold.
+    /// The rises so far, in order, of a heap made by `new_rises`. They are the rises of the trace that a heap made by `new` would have.
     pub fn rises(&self) -> &Rises
         requires { IsSome self.now.rises }
         ensures { Some result.now ≡ self.now.rises }
@@ -171,7 +170,7 @@ impl DebugHeap {
         self.log.rises()
     }
 
-    /// The same, of a run that is over. Takes no memory.
+    /// Gives up the debug heap of a run that is over, and returns its rises. Needs no memory.
     pub fn into_rises(self) -> Rises
         requires { IsSome self.rises }
         ensures { Some result ≡ self.rises }
@@ -180,7 +179,7 @@ impl DebugHeap {
         log.into_rises()
     }
 
-    /// What is kept of the attempts, and the heap.
+    /// Gives up the debug heap, and returns what it kept of its attempts, and the heap of its cells.
     fn into_log_and_heap(self) -> (Log, Heap)
         ensures trace { result.0.trace ≡ self.trace }
         ensures rises { result.0.rises ≡ self.rises }
@@ -199,7 +198,7 @@ impl DebugHeap {
     }
 }
 
-/// A heap with no cell that keeps this of its attempts.
+/// Returns a heap with no cell that records its attempts in `log`, which is empty.
 fn with_log(alloc: Global, rule: Rule, shape: Shape, log: Log) -> Result<DebugHeap, DebugFault>
     requires trace { log.trace ≡ [] }
     requires rises { log.rises ≡ first_rises (is_some log.rises) }
@@ -227,12 +226,12 @@ fn with_log(alloc: Global, rule: Rule, shape: Shape, log: Log) -> Result<DebugHe
 
 /// Attempts to get a cell, and releases.
 impl DebugHeap {
-    /// An attempt to get a cell for `bytes` bytes, with zeros for its payload.
+    /// Attempts to get a cell for `bytes` bytes, with zeros for its payload.
     ///
-    /// `Denied` where the setting or the rule refuses it, which counts it. `Ceiling` where neither does and the cell
-    /// would end past the ceiling: nothing is counted, and the heap is as it was; so it is on `NoMemory`, which never comes
-    /// in place of `Ceiling`, nor, where the rises are kept, of an attempt that isn't one. Source: Symbian OS v9 SDK
-    /// reference, RHeap, for the grant and the refusal, and this project's profile for their order.
+    /// `Denied` if the setting or the rule makes the attempt fail, which is counted all the same. `Ceiling` if neither does, but the cell
+    /// would end past the heap's ceiling. `NoMemory` if the workbench itself runs out of memory; it never comes in place of `Ceiling`, nor,
+    /// if the rises are kept, for an attempt that isn't a rise. After `Ceiling` and `NoMemory` nothing is counted, and the heap is as it
+    /// was. Source: Symbian OS v9 SDK reference, RHeap, for the grant and the refusal, and this project's profile for their order.
     pub fn attempt_alloc(&mut self, bytes: u32, kind: Kind) -> Result<Gave, NoMemory>
         requires bytes { bytes ≤ CEILING }
         requires number { self.old.attempts + 1 < 2 ^ 32 }
@@ -273,12 +272,12 @@ impl DebugHeap {
 
     /// Gives the cell that the pointer names another length, for `bytes` bytes.
     ///
-    /// A cell length that isn't longer is no attempt: it answers `Granted` with the pointer, the tail is free, and what
-    /// was there is dropped. A longer one is an attempt, and is answered as `attempt_alloc` does. Its place is the
-    /// cell's own where the bytes after it are free, and else the lowest that fits beside it; where the shape says that cells
-    /// move, always the latter. What the cell holds is kept and followed by zeros; kind and level are kept; a cell that moved
-    /// bears the attempt's number, so that the old pointer is stale. Source: Symbian OS v9 SDK reference, RHeap, for what is
-    /// kept and for a refusal that leaves the cell, and this project's profile for places and numbers.
+    /// If the cell gets no longer, this is no attempt: the answer is `Granted` with the same pointer, and the end of the cell is freed with
+    /// what it held. If the cell grows, this is an attempt, answered as by `attempt_alloc`. The cell stays at its place if enough bytes
+    /// after it are free. If not, or if the shape says that growing cells always move, it goes to the lowest place that fits while its old
+    /// bytes still count as taken. The cell keeps its kind, its level and what it holds, with zeros after that. A cell that moved has the
+    /// attempt's number, so the old pointer is stale. Source: Symbian OS v9 SDK reference, RHeap, for what is kept and for a refusal that
+    /// leaves the cell, and this project's profile for places and numbers.
     pub fn attempt_realloc(&mut self, ptr: Ptr, bytes: u32) -> Result<Gave, NoMemory>
         requires live { IsSome (cell_at ptr self.old.heap.row) }
         requires bytes { bytes ≤ CEILING }
@@ -321,8 +320,8 @@ impl DebugHeap {
         Ok(gave)
     }
 
-    /// The line that the next attempt adds to the trace, for a cell of this length at this place, both in bytes; `None` if
-    /// the ceiling cuts the run. The setting is asked first, then the rule, then the ceiling.
+    /// Returns the trace line of the next attempt, for a cell of this length at this place, both in bytes; `None` if the ceiling cuts the
+    /// run. The script's setting is asked first, then the rule, then the ceiling.
     #[inline(always)]
     fn next_line(&self, len: u32, place: u32) -> Option<Attempt>
         requires number { self.now.attempts + 1 < 2 ^ 32 }
@@ -343,10 +342,10 @@ impl DebugHeap {
         })
     }
 
-    /// Releases the cell that the pointer names; null is nothing.
+    /// Releases the cell that the pointer names; a null pointer releases nothing.
     ///
-    /// `Panic::BAD_CELL` exactly where the pointer isn't null and names no live cell, and then the heap is as it was. Source:
-    /// Symbian OS v9 SDK reference, RHeap.
+    /// `Panic::BAD_CELL` exactly if the pointer isn't null and names no live cell; the heap is then as it was. Source: Symbian OS v9 SDK
+    /// reference, RHeap.
     pub fn release(&mut self, ptr: Ptr) -> Result<(), Panic>
         ensures refused { IfErr result (λ panic. release_refusal self.old ptr ≡ Some panic) }
         ensures fine { OnOk result (release_refusal self.old ptr ≡ None) }
@@ -367,8 +366,8 @@ impl DebugHeap {
     }
 }
 
-/// What an attempt gives that the heap was asked to grant. Where the workbench's own memory ran out, it is no attempt:
-/// what it added is taken back.
+/// Returns what an attempt gives after the heap was asked to grant it. If the workbench's own memory ran out, it counts as no attempt: what
+/// it added to the log is removed.
 fn answer_or_undo(
     granted: Result<Ptr, HeapFault>,
     log: &mut Log,

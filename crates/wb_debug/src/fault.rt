@@ -1,13 +1,13 @@
-//! Why there is no debug heap.
+//! Why a debug heap was not made.
 
 use wb_model::memory::NoMemory;
 
 /// Why a debug heap was not made.
 #[derive(Clone, Copy, Debug, PartialEq, Eq)]
 pub enum DebugFault {
-    /// The workbench's own memory ran out. This is never a refusal of the simulated heap.
+    /// The workbench's own memory ran out. A full simulated heap never causes this.
     NoMemory = 1,
-    /// A minimum length or a growth step that no heap may have.
+    /// The shape has a least length or a growth step that no heap may have.
     BadShape = 2,
 }
 

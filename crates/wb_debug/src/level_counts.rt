@@ -1,4 +1,4 @@
-//! How many cells there are of each level, and from which place on. Which cells these are is not known here.
+//! How many cells there are of each level, and a place below which the level has no cell. Nothing here knows which cells these are.
 
 ghost use Rattle.std.specs.Prelude.{◌≡◌, ℕ, ◌<◌, ◌≤◌, [], IfErr, IfOk, IfSome, length};
 ghost use Rattle.wb_debug.specs.LevelCounts.{Edits, IsAt, IsGapFor, counted_at, known_at, lowered_at, no_cells};
@@ -7,17 +7,17 @@ ghost use Rattle.wb_debug.specs.LevelCounts.{one_less, set_at, with_more};
 use arrayvec::ArrayVec;
 use std::marker::Model;
 
-/// Cells that were counted.
+/// A count of cells.
 #[derive(Clone, Copy, Debug, Default, PartialEq, Eq)]
 pub struct Counted {
-    /// How many they are.
+    /// How many cells were counted.
     pub count: u32,
-    /// None of them is below this place; 0 where there is none.
+    /// None of these cells is below this place.
     pub lowest: u32,
 }
 
 impl Counted {
-    /// The same with some cells more, none of which is below `lowest`; `None` where they are more than a `u32` says.
+    /// Returns the count with `count` cells more, none of which is below `lowest`; `None` if the total doesn't fit into a `u32`.
     pub fn with_more(self, count: u32, lowest: u32) -> Option<Counted>
         ensures { IfSome result (λ more. more ≡ with_more self count lowest) }
     {
@@ -34,7 +34,7 @@ impl Counted {
         })
     }
 
-    /// The same with a cell less; none where there is none.
+    /// Returns the count with one cell less; a count of 0 stays 0.
     pub fn one_less(self) -> Counted
         ensures { result ≡ one_less self }
     {
@@ -45,22 +45,23 @@ impl Counted {
     }
 }
 
-/// The cells of a level.
+/// What is counted of one level.
 #[derive(Clone, Copy, Debug, Default, PartialEq, Eq)]
 pub struct LevelCount {
     pub level: u32,
     pub cells: Counted,
 }
 
-/// The cells of each of the innermost levels that have had any, 64 at most, in order of level, in a table of fixed room: nothing here takes
-/// memory. Where one more needs a place, the outermost level's count is forgotten, and from then on no level up to that one is known.
+/// A table of counts, in order of level: it has an entry for each of the innermost levels that have had cells. The table has room for 64
+/// entries, so nothing here allocates memory. If one more level needs an entry, the entry of the outermost level is dropped, and from then
+/// on nothing is known of that level and of those outside it.
 ///
-/// The innermost level is found at once, and another by halving. A level whose cells were all released has a count of 0 until its mark
-/// ends; one that never had a cell takes no place.
+/// The entry of the innermost level is found at once, and any other by binary search. A level whose cells were all released keeps an entry
+/// with a count of 0 until its mark ends; a level that never had a cell has no entry.
 #[derive(Drop)]
 pub struct LevelCounts {
     counts: ArrayVec<LevelCount, 64>,
-    /// The levels below this one aren't known. A `u64`, since it may be one past the greatest level.
+    /// The least level of which the counts are known. A `u64`, since it may be one more than the greatest level.
     known_from: u64,
 }
 
@@ -75,7 +76,7 @@ impl Model for LevelCounts {
 }
 
 impl LevelCounts {
-    /// No cell of any level, and each level known.
+    /// Returns the table without entries, in which every level is known to have no cell.
     pub fn new() -> LevelCounts
         ensures { result ≡ record { counts = []; known_from = 0 } }
     {
@@ -85,7 +86,7 @@ impl LevelCounts {
         }
     }
 
-    /// The same once more.
+    /// Returns a copy of the table.
     pub fn copy(&self) -> LevelCounts
         ensures { result ≡ self.now }
     {
@@ -99,7 +100,7 @@ impl LevelCounts {
         }
     }
 
-    /// What is counted of a level; `None` where it isn't known.
+    /// What is counted of a level; `None` if this isn't known.
     pub fn get(&self, level: u32) -> Option<Counted>
         ensures { result ≡ known_at self.now level }
     {
@@ -109,7 +110,7 @@ impl LevelCounts {
         Some(self.counted(level))
     }
 
-    /// What the table says of a level.
+    /// What the table says of a level: no cells if it has no entry for it.
     fn counted(&self, level: u32) -> Counted
         ensures { result ≡ counted_at self.now.counts level }
     {
@@ -122,8 +123,8 @@ impl LevelCounts {
         }
     }
 
-    /// Counts some cells more of a level, none of which is below `lowest`. Where they are more than a `u32` says, the level isn't
-    /// known any more.
+    /// Counts `count` cells more of a level, none of which is below `lowest`. If the total doesn't fit into a `u32`, nothing is known any
+    /// more of this level and of those outside it.
     #[inline(always)]
     pub fn add(&mut self, level: u32, count: u32, lowest: u32)
         ensures { Edits (set_at self.old.counts level
@@ -144,7 +145,7 @@ impl LevelCounts {
         }
     }
 
-    /// The same of a level whose count is at an index.
+    /// Does what `add` does, for a level whose entry has index `at`.
     fn add_at(&mut self, at: usize, level: u32, count: u32, lowest: u32)
         requires { IsAt self.old.counts level at }
         ensures { Edits (set_at self.old.counts level
@@ -156,7 +157,7 @@ impl LevelCounts {
         }
     }
 
-    /// Counts a cell less of a level.
+    /// Counts one cell less of a level.
     pub fn take(&mut self, level: u32)
         ensures { Edits (set_at self.old.counts level (one_less (counted_at self.old.counts level)))
             self.old self.new }
@@ -170,7 +171,7 @@ impl LevelCounts {
         }
     }
 
-    /// Counts the cells of a level under the level below.
+    /// Counts the cells of a level as cells of the level below.
     pub fn lower(&mut self, level: u32)
         requires { 1 ≤ level }
         ensures { Edits (lowered_at self.old.counts level) self.old self.new }
@@ -184,7 +185,7 @@ impl LevelCounts {
         }
     }
 
-    /// Forgets that a level had cells: none is left.
+    /// Removes the entry of a level, which has no cells from now on.
     fn remove(&mut self, level: u32)
         ensures { Edits (set_at self.old.counts level no_cells) self.old self.new }
     {
@@ -193,7 +194,7 @@ impl LevelCounts {
         }
     }
 
-    /// Puts these cells in the place of what is counted of a level, whose count is at an index.
+    /// Replaces what is counted of the level whose entry has index `at`.
     fn replace(&mut self, at: usize, level: u32, cells: Counted)
         requires { IsAt self.old.counts level at }
         ensures { Edits (set_at self.old.counts level cells) self.old self.new }
@@ -201,7 +202,8 @@ impl LevelCounts {
         self.counts[at] = LevelCount { level, cells };
     }
 
-    /// Puts the count of a level into the gap for it. Where the table is full, the outermost level is forgotten.
+    /// Inserts the entry of a level at the index where it belongs. If the table is full, the outermost level is forgotten, which may be
+    /// this level itself.
     #[cold]
     #[inline(never)]
     fn insert(&mut self, at: usize, count: LevelCount)
@@ -219,7 +221,7 @@ impl LevelCounts {
         }
     }
 
-    /// From here on no level up to this one is known.
+    /// Makes this level and all levels outside it unknown.
     fn forget(&mut self, level: u32)
         ensures counts { self.new.counts ≡ self.old.counts }
         ensures known { self.old.known_from ≤ self.new.known_from }
@@ -228,8 +230,8 @@ impl LevelCounts {
         self.known_from = self.known_from.max(u64::from(level) + 1);
     }
 
-    /// The index of a level's count, or where it would go. The innermost level's is the last, and is looked at first: most
-    /// calls are about that level.
+    /// Returns the index of a level's entry, or as `Err` the index where the entry would go. The innermost level has the last entry, which
+    /// is looked at first: most calls are about that level.
     fn search(&self, level: u32) -> Result<usize, usize>
         ensures found { IfOk result (IsAt self.now.counts level) }
         ensures absent { IfErr result (IsGapFor self.now.counts level) }
@@ -248,7 +250,7 @@ impl LevelCounts {
         }
     }
 
-    /// The same among all levels.
+    /// Does what `search` does, by binary search among all entries.
     #[inline(never)]
     fn halve(&self, level: u32) -> Result<usize, usize>
         ensures found { IfOk result (IsAt self.now.counts level) }

@@ -1,8 +1,7 @@
-//! The debug heap: a simulated heap that counts the attempts to get a cell, refuses those that are to fail, and checks
-//! nested marks.
+//! The debug heap: a simulated heap that counts the attempts to get a cell, refuses those that are to fail, and checks nested marks.
 //!
-//! What an attempt asks is in `setting` (the script's own) and `rules` (the run's), what is kept of it in `log`, what the
-//! live cells come to in `tally`, and what a check counts in `checks`.
+//! What decides whether an attempt fails is in `setting` (the script's own) and `rules` (the run's), what is kept of an attempt in `log`,
+//! the counts of the live cells in `tally`, and what a check counts in `checks`.
 #![tactic(auto)]
 
 pub use debug_heap::DebugHeap;

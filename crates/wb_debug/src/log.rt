@@ -1,4 +1,4 @@
-//! What a heap keeps of its attempts: a line of each, or the rises alone. How an attempt is answered is not known here.
+//! What a heap keeps of its attempts: a line of each attempt, or only the rises. Nothing here knows how an attempt is answered.
 
 ghost use Rattle.std.specs.Prelude.{◌≡◌, ◌<◌, ◌^◌, false, true, IfOk, IsOk, OnOk, OnErr, IsSome, Some};
 ghost use Rattle.wb_model.specs.runs.Rises.{end_of_line};
@@ -16,7 +16,7 @@ use wb_model::size::{Rise, Rises, top_of_rises};
 /// What is kept of the attempts that were made.
 #[derive(Drop)]
 pub struct Log {
-    /// Empty where the rises are kept.
+    /// Empty if the rises are kept.
     trace: Trace,
     rises: Option<Rises>,
 }
@@ -30,7 +30,7 @@ impl Model for Log {
 }
 
 impl Log {
-    /// A line of each attempt is kept.
+    /// Returns an empty log that keeps a line of each attempt.
     pub fn of_lines(alloc: Global) -> Log
         ensures { result ≡ first_log false }
     {
@@ -40,7 +40,7 @@ impl Log {
         }
     }
 
-    /// The rises alone are kept.
+    /// Returns an empty log that keeps only the rises.
     pub fn of_rises(alloc: Global) -> Log
         ensures { result ≡ first_log true }
     {
@@ -50,7 +50,7 @@ impl Log {
         }
     }
 
-    /// The same, in memory of its own.
+    /// Returns a copy of the log, in memory of its own; `NoMemory` if the workbench's memory runs out.
     pub fn try_copy(&self) -> Result<Log, NoMemory>
         ensures { IfOk result (λ copy. copy ≡ self.now) }
     {
@@ -69,7 +69,7 @@ impl Log {
         &self.trace
     }
 
-    /// The same, of a run that is over.
+    /// Gives up the log of a run that is over, and returns its lines.
     pub fn into_trace(self) -> Trace
         ensures { result ≡ self.trace }
     {
@@ -85,7 +85,7 @@ impl Log {
         self.rises.as_ref().unwrap()
     }
 
-    /// The same, of a run that is over.
+    /// Gives up the log of a run that is over, and returns its rises.
     pub fn into_rises(self) -> Rises
         requires { IsSome self.rises }
         ensures { Some result ≡ self.rises }
@@ -94,8 +94,8 @@ impl Log {
         rises.unwrap()
     }
 
-    /// One more attempt. Returns whether it added its line, or the rise that it is; one that adds nothing never fails. On
-    /// `Err` nothing has changed.
+    /// Records one more attempt: its line, or, if the rises are kept, the rise that it is, if it is one. Returns whether anything was
+    /// added. A call that adds nothing never fails. On `Err` the log is as it was.
     #[inline(always)]
     pub fn push(&mut self, line: Attempt) -> Result<bool, NoMemory>
         requires { end_of_attempt line < 2 ^ 32 }
@@ -120,7 +120,7 @@ impl Log {
         Ok(true)
     }
 
-    /// Takes back what the last attempt added, where it added anything.
+    /// Removes what the last attempt added; `added` says whether it added anything.
     pub fn take_back(&mut self, added: bool)
         ensures { IsTakenBack self.old added self.new }
     {
@@ -137,7 +137,7 @@ impl Log {
         }
     }
 
-    /// The end of the last rise, in bytes; 0 before the first, and where lines are kept.
+    /// The top of the last rise, in bytes; 0 if there is no rise yet, or if lines are kept.
     fn top(&self) -> u32
         ensures { result ≡ top_in self.now.rises }
     {
@@ -148,7 +148,7 @@ impl Log {
     }
 }
 
-/// Where the cell of a granted attempt ends, in bytes; 0 of another.
+/// Where the cell of an attempt ends, in bytes; 0 if the attempt wasn't granted.
 fn end_of_grant(line: Attempt) -> u32
     requires { end_of_attempt line < 2 ^ 32 }
     ensures { result ≡ end_of_line line }

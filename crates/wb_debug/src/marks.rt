@@ -1,4 +1,4 @@
-//! Nested marks, and the checks that the cells of a level are as many as expected.
+//! Nested marks, and the checks that a level has exactly as many cells as expected.
 
 ghost use Rattle.std.specs.Prelude.{◌≡◌, ◌+◌, ◌<◌, ◌^◌, None, Some, IfErr, OnOk, OnErr};
 ghost use Rattle.wb_model.specs.heap.Debug.{IsSoundDebug, check_all_refusal, check_refusal};
@@ -19,11 +19,10 @@ impl DebugHeap {
         self.level += 1;
     }
 
-    /// Closes the innermost mark, where `n` live cells are of its level: they take the level below.
+    /// Closes the innermost mark if exactly `n` live cells are of its level; these cells are then of the level below.
     ///
-    /// `Panic::NO_OPEN_MARK` where no mark is open, and else what `check` refuses; the heap is then as it was. Source:
-    /// Symbian OS v9 SDK reference, `__UHEAP_MARKEND` and `__UHEAP_MARKENDC`, and this project's profile for the
-    /// levels.
+    /// `Panic::NO_OPEN_MARK` if no mark is open, and otherwise the panic of `check` if there are fewer or more cells; the heap is then as
+    /// it was. Source: Symbian OS v9 SDK reference, `__UHEAP_MARKEND` and `__UHEAP_MARKENDC`, and this project's profile for the levels.
     pub fn mark_end(&mut self, n: u32) -> Result<(), Panic>
         ensures refused { IfErr result (λ panic. mark_end_refusal self.old.heap n ≡ Some panic) }
         ensures fine { OnOk result (mark_end_refusal self.old.heap n ≡ None) }
@@ -44,10 +43,10 @@ impl DebugHeap {
         Ok(())
     }
 
-    /// Expects `n` live cells of the current level.
+    /// Expects exactly `n` live cells of the current level.
     ///
-    /// Where they are fewer or more, `Alloc` names the place of the lowest, or 0 where there is none. Source: Symbian OS
-    /// v9 SDK reference, `__UHEAP_CHECK`, and this project's profile for the cell that is named.
+    /// If there are fewer or more, `Panic::Alloc` names the place of the lowest, or 0 if there is none. Source: Symbian OS v9 SDK
+    /// reference, `__UHEAP_CHECK`, and this project's profile for the cell that is named.
     pub fn check(&self, n: u32) -> Result<(), Panic>
         ensures refused { IfErr result (λ panic. check_refusal self.now n ≡ Some panic) }
         ensures fine { OnOk result (check_refusal self.now n ≡ None) }
@@ -56,7 +55,7 @@ impl DebugHeap {
         Ok(())
     }
 
-    /// Expects `n` live cells of all levels. It refuses as `check` does. Source: Symbian OS v9 SDK reference,
+    /// Expects exactly `n` live cells of all levels together. The errors are those of `check`. Source: Symbian OS v9 SDK reference,
     /// `__UHEAP_CHECKALL`, and this project's profile for the cell that is named.
     pub fn check_all(&self, n: u32) -> Result<(), Panic>
         ensures refused { IfErr result (λ panic. check_all_refusal self.now n ≡ Some panic) }

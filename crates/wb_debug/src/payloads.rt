@@ -1,4 +1,4 @@
-//! Headers, and the words of payloads. Words and their halves are counted from 0; the half 2k is the low half of word k.
+//! Headers, and the words of payloads. Words and half words count from 0; half word 2k is the low half of word k.
 
 ghost use Rattle.std.specs.Prelude.{◌≡◌, ◌+◌, ◌*◌, ◌<◌, ◌≤◌, ◌++◌, true, length, take, drop, replicate, slice_index};
 ghost use Rattle.std.specs.Prelude.{slice_set, option_map, IfSome, IsSome};
@@ -11,8 +11,8 @@ use crate::debug_heap::DebugHeap;
 use wb_model::heap::{Header, Ptr};
 
 impl DebugHeap {
-    /// The header of the cell that the pointer names, or `None` exactly where it names no live cell. Its payload has a
-    /// word for each four bytes of its usable length.
+    /// Returns the header of the cell that the pointer names; `None` exactly if it names no live cell. The cell's payload has one word for
+    /// each four bytes of its usable length.
     pub fn header(&self, ptr: Ptr) -> Option<Header>
         ensures header { result ≡ option_map (λ c. c.head) (cell_at ptr self.now.heap.row) }
         ensures live { IfSome result (IsLiveIn self.now) }
@@ -23,7 +23,7 @@ impl DebugHeap {
         self.heap.header(ptr)
     }
 
-    /// A word of a payload.
+    /// Returns word `i` of a payload.
     pub fn payload(&self, ptr: Ptr, i: u32) -> u32
         requires { i < length (payload_of ptr self.now.heap.row) }
         ensures { result ≡ slice_index (payload_of ptr self.now.heap.row) i }
@@ -31,8 +31,8 @@ impl DebugHeap {
         self.heap.payload(ptr, i)
     }
 
-    /// Whether a payload of so many words is that of another heap, at the same place. Where neither was written since it was zeros,
-    /// nothing is read.
+    /// Whether a payload of `n` words holds the same words as the payload of another heap's cell at the same place. If neither was written
+    /// since it was all zeros, no word is read.
     pub fn has_payload_of(&self, ptr: Ptr, other: &DebugHeap, there: Ptr, n: u32) -> bool
         requires live { IsSome (cell_at ptr self.now.heap.row) }
         requires other_live { IsSome (cell_at there other.now.heap.row) }
@@ -45,7 +45,7 @@ impl DebugHeap {
         self.heap.has_payload_of(ptr, &other.heap, there, n)
     }
 
-    /// Changes a word of a payload, and nothing else.
+    /// Sets word `i` of a payload to `v`, and changes nothing else.
     pub fn set_payload(&mut self, ptr: Ptr, i: u32, v: u32)
         requires { i < length (payload_of ptr self.old.heap.row) }
         ensures changed { self.new
@@ -55,7 +55,7 @@ impl DebugHeap {
         self.heap.set_payload(ptr, i, v);
     }
 
-    /// A half of a payload's words.
+    /// Returns half word `i` of a payload.
     pub fn payload_half(&self, ptr: Ptr, i: u32) -> u16
         requires { i < 2 * length (payload_of ptr self.now.heap.row) }
         ensures { result ≡ half_of (payload_of ptr self.now.heap.row) i }
@@ -63,7 +63,7 @@ impl DebugHeap {
         self.heap.payload_half(ptr, i)
     }
 
-    /// Changes a half of a payload's words, and nothing else.
+    /// Sets half word `i` of a payload to `v`, and changes nothing else.
     pub fn set_payload_half(&mut self, ptr: Ptr, i: u32, v: u16)
         requires { i < 2 * length (payload_of ptr self.old.heap.row) }
         ensures changed { self.new
@@ -73,7 +73,7 @@ impl DebugHeap {
         self.heap.set_payload_half(ptr, i, v);
     }
 
-    /// Copies the first `n` words of one cell's payload to the front of another's, or of its own.
+    /// Copies the first `n` words of the payload of `from` to the start of the payload of `to`, which may be the same cell.
     pub fn copy_payload(&mut self, from: Ptr, to: Ptr, n: u32)
         requires from_live { IsSome (cell_at from self.old.heap.row) }
         requires to_live { IsSome (cell_at to self.old.heap.row) }
@@ -87,7 +87,7 @@ impl DebugHeap {
         self.heap.copy_payload(from, to, n);
     }
 
-    /// Makes the `n` halves of a payload from an index on 0, and changes nothing else.
+    /// Sets `n` half words of a payload to 0, from half word `i` on, and changes nothing else.
     pub fn zero_halves(&mut self, ptr: Ptr, i: u32, n: u32)
         requires live { IsSome (cell_at ptr self.old.heap.row) }
         requires within { i + n ≤ 2 * length (payload_of ptr self.old.heap.row) }
@@ -98,7 +98,7 @@ impl DebugHeap {
         self.heap.zero_halves(ptr, i, n);
     }
 
-    /// Writes halves into a payload from an index on, and changes nothing else.
+    /// Writes half words into a payload, from half word `i` on, and changes nothing else.
     pub fn write_halves(&mut self, ptr: Ptr, i: u32, halves: &[u16])
         requires live { IsSome (cell_at ptr self.old.heap.row) }
         requires within { i + length halves.now ≤ 2 * length (payload_of ptr self.old.heap.row) }
@@ -109,8 +109,8 @@ impl DebugHeap {
         self.heap.write_halves(ptr, i, halves);
     }
 
-    /// Puts the `n` halves of one payload from `fi` on at `ti` of another, or of the same, as if all had been read before
-    /// any was written.
+    /// Copies `n` half words of the payload of `from`, from half word `fi` on, to half word `ti` and on of the payload of `to`, which may
+    /// be the same cell. The result is as if all were read before any was written.
     pub fn copy_halves(&mut self, from: Ptr, fi: u32, to: Ptr, ti: u32, n: u32)
         requires from_live { IsSome (cell_at from self.old.heap.row) }
         requires to_live { IsSome (cell_at to self.old.heap.row) }

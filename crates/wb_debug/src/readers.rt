@@ -1,5 +1,5 @@
-//! Readers for those who watch a run: the live cells by place, what they come to, the committed length, and the marks that are
-//! open, the script's own setting, and how places are chosen. Nothing here changes a heap.
+//! Readers for code that watches a run: the live cells by place, their number and total length, the committed length, the number of open
+//! marks, the script's own setting, and how places are chosen. Nothing here changes a heap.
 
 ghost use Rattle.std.specs.Prelude.{◌≡◌, ◌↔◌, true, length};
 ghost use Rattle.wb_model.specs.heap.LimitedHeap.{next_live_of};
@@ -11,14 +11,14 @@ use wb_model::heap::Header;
 impl DebugHeap {
     /// The first live cell that begins at this place, in bytes, or above it; `None` if there is none.
     ///
-    /// From place 0 on, and then from the end of each cell that came, this gives every live cell in order of place.
+    /// Called with place 0, and then with the end of each cell returned, it gives every live cell in order of place.
     pub fn next_live(&self, from: u32) -> Option<Header>
         ensures { result ≡ next_live_of from (headers self.now.heap.row) }
     {
         self.heap.next_live(from)
     }
 
-    /// The number of live cells, and their cell lengths together, in bytes.
+    /// The number of live cells, and the sum of their cell lengths, in bytes.
     pub fn alloc_size(&self) -> (u32, u32)
         ensures count { result.0 ≡ length self.now.heap.row }
         ensures total { result.1 ≡ total_length (headers self.now.heap.row) }
@@ -40,7 +40,7 @@ impl DebugHeap {
         self.level
     }
 
-    /// Whether the script's own setting is that of another heap, as what is left of it: the same attempts from here on fail in
+    /// Whether the script's own setting is at the same point as in another heap: counted from here on, it makes the same attempts fail in
     /// both.
     pub fn has_setting_of(&self, other: &DebugHeap) -> bool
         ensures { (result ≡ true) ↔ (other.now.heap.setting ≡ self.now.heap.setting) }
@@ -48,7 +48,7 @@ impl DebugHeap {
         other.setting == self.setting
     }
 
-    /// Whether places are chosen as in another heap: cells that are to be longer always move in both, or in neither.
+    /// Whether both heaps choose places alike: cells that grow always move in both, or in neither.
     pub fn chooses_places_of(&self, other: &DebugHeap) -> bool
         ensures { (result ≡ true) ↔ (other.now.heap.placement ≡ self.now.heap.placement) }
     {

@@ -1,4 +1,5 @@
-//! What is answered to an attempt, and how long a cell and a heap may be, in bytes. Nothing here knows a heap.
+//! What is answered to an attempt, how long a heap may be under a rule, and how long the cell for a request is, in bytes. Nothing here
+//! knows a heap.
 
 ghost use Rattle.std.specs.Prelude.{◌≡◌, ◌≤◌, if◌then◌else◌};
 ghost use Rattle.wb_model.specs.heap.LimitedHeap.{IsCellLength};
@@ -9,7 +10,7 @@ ghost use Rattle.wb_model.specs.heap.Space.{limit_under};
 use wb_model::heap::{Answer, Rule};
 use wb_model::limits::CEILING;
 
-/// What a rule says of an attempt whose cell would end here.
+/// Returns how a rule makes the attempt with this number fail, whose cell would end at `end`; `None` if the rule doesn't.
 fn refusal(rule: &Rule, number: u32, end: u32) -> Option<Answer>
     ensures { result ≡ refusal_of rule.now number end }
 {
@@ -31,8 +32,8 @@ fn refusal(rule: &Rule, number: u32, end: u32) -> Option<Answer>
     }
 }
 
-/// The answer to an attempt whose cell would end here, or `None` if the ceiling cuts the run. The script's own setting,
-/// which may be due, is asked before the rule.
+/// Returns the answer to an attempt whose cell would end at `end`; `None` if the ceiling cuts the run. `due` says whether the script's own
+/// setting makes the attempt fail; it is asked before the rule.
 pub fn answer(due: bool, rule: &Rule, number: u32, end: u32) -> Option<Answer>
     ensures { result ≡ (if due then Some Answer.Simulated
         else unless_refused (refusal_of rule.now number end) end) }
@@ -46,7 +47,7 @@ pub fn answer(due: bool, rule: &Rule, number: u32, end: u32) -> Option<Answer>
     }
 }
 
-/// The length that a heap may reach under a rule.
+/// Returns the length that a heap may reach under a rule.
 pub fn limit_under(rule: &Rule) -> u32
     ensures { result ≡ limit_under rule.now }
 {
@@ -61,7 +62,7 @@ pub fn limit_under(rule: &Rule) -> u32
     }
 }
 
-/// The length of the cell for a request of `bytes` bytes.
+/// Returns the cell length for a request of `bytes` bytes, header included.
 pub fn cell_length(bytes: u32) -> u32
     requires { bytes ≤ CEILING }
     ensures exact { result ≡ cell_length bytes }

@@ -4,20 +4,20 @@ ghost use Rattle.std.specs.Prelude.{◌≡◌};
 ghost use Rattle.wb_debug.specs.Setting.{setting_of};
 ghost use Rattle.wb_model.specs.heap.Rules.{is_due, after_attempt};
 
-/// The script's own setting. Source: Symbian OS v9 SDK reference, RHeap, for what it refuses.
+/// The script's own setting. Source: Symbian OS v9 SDK reference, RHeap, for which attempts it makes fail.
 #[derive(Clone, Copy, Debug, PartialEq, Eq)]
 pub enum Setting {
     /// No attempt fails.
     Never,
-    /// The one that is this many attempts ahead, 1 being the next.
+    /// The attempt fails that is this many attempts ahead; 1 is the next attempt.
     Next(u32),
-    /// Every attempt whose number since the setting is a multiple of the first; the second is how many attempts ahead the
-    /// next of them is.
+    /// Every attempt fails whose count since the setting was made is a multiple of the first value. The second value is how many attempts
+    /// ahead the next one is that fails; 1 is the next attempt.
     Each(u32, u32),
 }
 
 impl Setting {
-    /// Whether the attempt at hand is to fail.
+    /// Whether the next attempt is to fail.
     pub fn is_due(self) -> bool
         ensures { result ≡ is_due (setting_of self) }
     {
@@ -27,7 +27,7 @@ impl Setting {
         }
     }
 
-    /// The setting once an attempt was counted.
+    /// Returns the setting after one more attempt was counted.
     pub fn after_attempt(self) -> Setting
         ensures { setting_of result ≡ after_attempt (setting_of self) }
     {

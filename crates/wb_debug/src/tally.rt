@@ -1,5 +1,5 @@
-//! What the live cells come to, kept beside them: how many there are of all levels, and of each one. So a check need not go
-//! over them.
+//! Counts of the live cells, kept beside the cells: how many there are of all levels together, and of each level. So a check needn't go
+//! through the cells.
 
 ghost use Rattle.std.specs.Prelude.{◌≡◌, ℕ, ◌+◌, ◌<◌, ◌≤◌, ◌^◌, List, []};
 ghost use Rattle.wb_model.specs.declared.heap.Header.{Header};
@@ -13,9 +13,10 @@ use crate::level_counts::{Counted, LevelCounts};
 use std::marker::Model;
 use wb_model::heap::Header;
 
-/// How many live cells there are of all levels, and of each, where that is known. The cleanup stack's cells are of none.
+/// How many live cells there are of all levels together, and of each level for which this is known. The cleanup stack's cell is of no
+/// level.
 ///
-/// It takes no memory, and so no call fails for lack of it.
+/// A tally allocates no memory, so no call on it can run out of memory.
 #[derive(Drop)]
 pub struct Tally {
     total: u32,
@@ -31,7 +32,7 @@ impl Model for Tally {
 }
 
 impl Tally {
-    /// Of no cell.
+    /// Returns the tally of no cells.
     pub fn new() -> Tally
         ensures { result ≡ record { total = 0; levels = record { counts = []; known_from = 0 } } }
     {
@@ -41,7 +42,7 @@ impl Tally {
         }
     }
 
-    /// The same once more.
+    /// Returns a copy of the tally.
     pub fn copy(&self) -> Tally
         ensures { result ≡ self.now }
     {
@@ -58,14 +59,14 @@ impl Tally {
         self.total
     }
 
-    /// The cells of a level; `None` where they aren't known.
+    /// What is counted of a level; `None` if this isn't known.
     pub fn of_level(&self, level: u32) -> Option<Counted>
         ensures { result ≡ known_at self.now.levels level }
     {
         self.levels.get(level)
     }
 
-    /// One cell more.
+    /// Counts a cell that was granted.
     pub fn grant(&mut self, cell: Header)
         requires room { self.old.total + 1 < 2 ^ 32 }
         ensures { (row more : List Header) → IsMore row more cell → IsTally self.old row →
@@ -77,7 +78,7 @@ impl Tally {
         }
     }
 
-    /// One cell less.
+    /// No longer counts a cell, which was freed.
     pub fn release(&mut self, cell: Header)
         ensures { (row less : List Header) → IsMore less row cell → IsTally self.old row →
             IsTally self.new less }
@@ -88,7 +89,7 @@ impl Tally {
         }
     }
 
-    /// A cell has another place; its level and its kind stay.
+    /// Takes note that a cell has moved to another place; its level and its kind stay.
     pub fn put_at(&mut self, cell: Header, place: u32)
         ensures { (row new : List Header) (moved : Header) → IsOther row new cell moved →
             moved.kind ≡ cell.kind → moved.level ≡ cell.level → moved.place ≡ place →
@@ -99,7 +100,7 @@ impl Tally {
         }
     }
 
-    /// Each cell of a level is of the level below.
+    /// Counts each cell of a level as one of the level below.
     pub fn lower(&mut self, level: u32)
         requires { 1 ≤ level }
         ensures { (row : List (Cell (List ℕ))) → IsTally self.old (headers row) →

@@ -32,7 +32,7 @@ pub fn file_fault(
     format!(in alloc; "workbench: {file}: {why}{to}\n{tip}")
 }
 
-/// What is wrong, in words; empty where there are none for it.
+/// What is wrong, in words; empty if there are no words for this kind of error.
 fn reason(deed: Deed, kind: ErrorKind) -> &'static str {
     match kind {
         ErrorKind::NotFound => not_found(deed),
@@ -53,7 +53,7 @@ fn reason(deed: Deed, kind: ErrorKind) -> &'static str {
     }
 }
 
-/// What isn't there. A file that is to be written needs its directory alone.
+/// What isn't there. For a file that is to be written, only its directory has to be there.
 fn not_found(deed: Deed) -> &'static str {
     match deed {
         Deed::Opening | Deed::Reading => "no such file",

@@ -55,7 +55,8 @@ use wb_model::lengths::LengthRange;
 use wb_model::number_ends::NumberEnd;
 use wb_model::size::Rise;
 
-/// What a run found, by its lines; empty where there is nothing to say. The only error is that memory ran out.
+/// Returns what a run found, with the lines of the script that it is about; empty if there is nothing to say. The only error is that memory
+/// ran out.
 pub fn run_found(
     alloc: Global,
     lines: &ScriptLines<'_>,
@@ -66,7 +67,7 @@ pub fn run_found(
     page.whole_text()
 }
 
-/// Returns which line made each attempt that a shorter heap refuses first: those of `rises`. `attempts` are those of the run without
+/// Returns which line made each attempt that a shorter heap refuses first: each attempt of `rises`. `attempts` are those of the run without
 /// a limit, up to `last_named`. The only error is that memory ran out.
 pub fn lengths_found(
     alloc: Global,
@@ -79,9 +80,9 @@ pub fn lengths_found(
     page.whole_text()
 }
 
-/// Returns which line's attempt is refused first in heaps of these lengths whose runs leak or panic, and in which heaps runs are cut.
-/// `ranges` are all lengths, and `attempts` those of the run in the longest heap, past `greatest_bad`, if there is one; empty where
-/// none shows anything. The only error is that memory ran out.
+/// Returns which line's attempt is refused first in the heaps whose runs leak or panic, and in which heaps runs are cut; empty if no run
+/// does any of this. `ranges` cover all lengths. `attempts` are those of the run in the longest heap, up to the first rise past
+/// `greatest_bad`; `None` if no run leaks or panics. The only error is that memory ran out.
 pub fn heaps_found(
     alloc: Global,
     lines: &ScriptLines<'_>,
@@ -94,8 +95,8 @@ pub fn heaps_found(
     page.whole_text()
 }
 
-/// Returns at which lines a failed attempt leads to a leak or a panic, by all that a sweep found; empty if none does. `attempts` are
-/// those of the run without failure, up to `last_bad`. The only error is that memory ran out.
+/// Returns at which lines a failed attempt leads to a leak or a panic, according to the ends of all runs of a sweep; empty if none does.
+/// `attempts` are those of the run without failure, up to `last_bad`. The only error is that memory ran out.
 pub fn numbers_found(
     alloc: Global,
     lines: &ScriptLines<'_>,
@@ -108,7 +109,7 @@ pub fn numbers_found(
     page.whole_text()
 }
 
-/// Returns what is known of a search that met more states than it may. The only error is that memory ran out.
+/// Returns what is known after a search met more states than it may. The only error is that memory ran out.
 pub fn states_found(
     alloc: Global,
     lines: &ScriptLines<'_>,
@@ -119,7 +120,8 @@ pub fn states_found(
     page.whole_text()
 }
 
-/// Returns what a check that found nothing found unasked, and the command that shows it. The only error is that memory ran out.
+/// Returns what was shown by one of the further questions that a check tries unasked if it finds nothing, and the command that shows it.
+/// The only error is that memory ran out.
 pub fn unasked_found(
     alloc: Global,
     lines: &ScriptLines<'_>,
@@ -131,7 +133,7 @@ pub fn unasked_found(
     page.whole_text()
 }
 
-/// Returns which question wasn't decided, and how to ask it. The only error is that memory ran out.
+/// Returns which further question of a check wasn't decided, and the command that asks it. The only error is that memory ran out.
 pub fn undecided(
     alloc: Global,
     lines: &ScriptLines<'_>,
@@ -143,14 +145,14 @@ pub fn undecided(
     page.whole_text()
 }
 
-/// Returns that nothing else shows a leak or a panic. The only error is that memory ran out.
+/// Returns the message that no further question of a check shows a leak or a panic. The only error is that memory ran out.
 pub fn nothing_else(alloc: Global, lines: &ScriptLines<'_>) -> Result<String, AllocError> {
     let mut page = ScriptPage::new(alloc, lines);
     put_nothing_else(&mut page);
     page.whole_text()
 }
 
-/// Returns the command that shows a run step by step, of a script with this name. The only error is that memory ran out.
+/// Returns the command that shows a run of this script step by step. The only error is that memory ran out.
 pub fn steps_shown(
     alloc: Global,
     lines: &ScriptLines<'_>,

@@ -1,4 +1,4 @@
-//! What a machine shows before a turn, and no more after it.
+//! What a machine shows before a turn, and no longer shows after that turn.
 
 use wb_history::{Ahead, live_at};
 use wb_machine::Machine;
@@ -8,7 +8,7 @@ use wb_model::script::{Condition, Number, Statement};
 /// What a statement's numbers, or its condition, come to.
 #[derive(Clone, Copy, Debug, PartialEq, Eq)]
 pub(crate) enum Value {
-    /// It has none that is worth saying.
+    /// The statement has no value that is worth saying.
     None,
     Number(i64),
     Holds(bool),
@@ -19,7 +19,8 @@ pub(crate) enum Value {
 pub(crate) struct Before<'a> {
     /// The statement that the turn is to begin; `None` if it begins none.
     pub(crate) ahead: Option<Ahead<'a>>,
-    /// The live cell that the pointer names which that statement reads, or that of the newest item.
+    /// The live cell named by the pointer that this statement reads; if the turn begins no statement, the live cell that the newest item
+    /// frees. `None` if there is none.
     pub(crate) cell: Option<Header>,
     pub(crate) value: Value,
     pub(crate) steps: u32,
@@ -30,7 +31,7 @@ pub(crate) struct Before<'a> {
 }
 
 impl<'a> Before<'a> {
-    /// Looks at a machine, of whose cleanup stack this is the newest item.
+    /// Looks at a machine; `newest` is the newest item on its cleanup stack.
     pub(crate) fn of(machine: &Machine<'a>, newest: Option<Item>) -> Before<'a> {
         let ahead = Ahead::of(machine);
         let (cell, value) = match ahead {
@@ -72,7 +73,7 @@ pub(crate) fn live_cell(machine: &Machine<'_>, pointer: Ptr) -> Option<Header> {
     }
 }
 
-/// The cell that an item frees.
+/// The live cell that an item frees; `None` if it frees none.
 fn cell_of(machine: &Machine<'_>, item: Option<Item>) -> Option<Header> {
     match item {
         Some(Item::Free(pointer)) => live_cell(machine, pointer),

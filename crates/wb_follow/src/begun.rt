@@ -1,9 +1,9 @@
-//! What a turn begins, and where.
+//! What a machine turn begins, and where.
 
 use crate::open::{Doomed, ItemAt, RepeatAt};
 use wb_history::Ahead;
 
-/// What a turn begins.
+/// What a machine turn begins.
 #[derive(Clone, Copy)]
 pub(crate) enum What<'a> {
     /// The run: the cell of the cleanup stack is asked for.
@@ -19,12 +19,12 @@ pub(crate) enum What<'a> {
     Nothing,
 }
 
-/// What a turn begins, at which line, and how many bodies run there.
+/// What a machine turn begins, at which line, and how many bodies run there.
 #[derive(Clone, Copy)]
 pub(crate) struct Begun<'a> {
     pub(crate) what: What<'a>,
     pub(crate) line: u32,
     pub(crate) depth: u32,
-    /// The line that was begun before it while as many bodies ran; 0 if none was.
+    /// The previous line that was begun at the same depth; 0 if none was.
     pub(crate) after: u32,
 }

@@ -1,4 +1,5 @@
-//! What a turn did, as the words of its row: first what it began did, and then what came of that.
+//! What a machine turn did, as the words of its row: first what the statement or the destruction did that it began, and then what came of
+//! that.
 
 use crate::before::{Before, Value};
 use crate::begun::{Begun, What};
@@ -11,7 +12,7 @@ use wb_machine::Machine;
 use wb_model::heap::{Item, KERR_NO_MEMORY};
 use wb_model::script::Statement;
 
-/// Says what a turn did, and keeps what is open. Returns whether it left.
+/// Says what a machine turn did, and keeps `open` up to date. Returns whether the turn's statement left.
 pub(crate) fn put_effects<'a>(
     rows: &mut Rows,
     machine: &Machine<'a>,
@@ -61,7 +62,7 @@ fn put_items(rows: &mut Rows, machine: &Machine<'_>, before: &Before<'_>) {
     }
 }
 
-/// Says with which code a statement left, where it was caught, and how many items are destroyed for that.
+/// Says with which code a statement left, which TRAP caught the leave, and how many items are destroyed because of it.
 fn put_leave<'a>(
     rows: &mut Rows,
     machine: &Machine<'a>,
@@ -113,7 +114,7 @@ fn put_item(rows: &mut Rows, before: &Before<'_>, newest: ItemAt) {
     }
 }
 
-/// Says which objects were released, and whether the heap is longer or shorter than before.
+/// Says which objects were released, and what the committed length and the level are if they have changed.
 fn put_heap(rows: &mut Rows, machine: &Machine<'_>, before: &Before<'_>, open: &mut Open) {
     let (deleted, _) = open.counts();
     for _ in 0..deleted {

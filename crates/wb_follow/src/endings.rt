@@ -1,4 +1,4 @@
-//! How a run that is followed ends, and after how many steps: found by one run before it is followed.
+//! How a run that is followed ends, and after how many steps. A run made beforehand finds this out.
 
 ghost use Rattle.std.specs.Prelude.{◌≤◌, IsTrue};
 ghost use Rattle.wb_model.specs.language.Sound.{is_script};
@@ -18,7 +18,7 @@ use wb_model::script::Script;
 pub(crate) struct Ending {
     pub(crate) steps: u32,
     end: RunEnd,
-    /// The code with which `main` is left.
+    /// The code with which `main` is left; `None` if it isn't left.
     left: Option<i32>,
 }
 
@@ -29,7 +29,7 @@ impl Ending {
     }
 }
 
-/// Runs a script to its end; `None` if the shape is none that a heap may have. The only error is that memory ran out.
+/// Runs a script to its end, and returns how it ends; `None` if no heap may have this shape. The only error is that memory ran out.
 pub(crate) fn ending_of(
     alloc: Global,
     script: &Script,

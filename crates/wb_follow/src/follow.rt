@@ -13,10 +13,10 @@ use wb_model::limits::LARGEST_BUDGET;
 use wb_model::memory::NoMemory;
 use wb_model::script::Script;
 
-/// What is said where memory runs out, after the rows that were written.
+/// What is said if the workbench runs out of memory, after the rows that were written.
 const NO_MEMORY: &str = "note: memory ran out, so the rest of the run isn't followed\n";
 
-/// The least width of the columns of steps and lines, which their headings have.
+/// The least width of the columns of steps and lines: that of their headings.
 const LEAST_WIDTH: usize = 4;
 
 /// The least width of the column of statements, and the greatest.
@@ -24,11 +24,11 @@ const LEAST_STATEMENT: usize = 20;
 
 const MOST_STATEMENT: usize = 44;
 
-/// How many columns are left for what is moved to the right.
+/// How many columns are left for the indentation of statements.
 const MOVED: usize = 4;
 
-/// Writes the run of a script with these parameters as rows, of which the first `most` steps are shown and the last. If memory runs
-/// out, the rows after that are left out, and a note says so.
+/// Writes the run of a script with these parameters as rows, of which those of the first `most` steps and of the last `most` are shown. If
+/// memory runs out, the other rows are left out, and a note says so.
 pub fn follow_run<O: RowSink>(
     alloc: Global,
     lines: &ScriptLines<'_>,
@@ -46,7 +46,7 @@ pub fn follow_run<O: RowSink>(
     }
 }
 
-/// The same. The only error is that memory ran out.
+/// Does what `follow_run` does, without the note. The only error is that memory ran out.
 fn follow_all<O: RowSink>(
     alloc: Global,
     lines: &ScriptLines<'_>,
@@ -111,7 +111,7 @@ fn put_heading(rows: &mut Rows, name: &str) {
     rows.end();
 }
 
-/// The widths of the columns of a run with so many steps.
+/// The widths of the columns for a run of `steps` steps.
 fn widths_of(lines: &ScriptLines<'_>, steps: u32) -> Widths {
     let mut longest: usize = 0;
     for number in 1..=lines.count() {

@@ -1,5 +1,4 @@
-//! What is open in a run: items of the cleanup stack, TRAPs, turns of a `repeat`, and objects whose destructor runs; each with its
-//! line.
+//! What is open in a run: items of the cleanup stack, TRAPs and turns of a `repeat`, each with its line, and objects whose destructor runs.
 
 use crate::before::{Before, Value, live_cell};
 use crate::begun::{Begun, What};
@@ -46,21 +45,22 @@ pub(crate) struct Open {
     items: Vec<ItemAt>,
     traps: Vec<TrapAt>,
     repeats: Vec<RepeatAt>,
-    /// The cells of objects whose destructor runs; those that it freed itself have number 0.
+    /// The cells of objects whose destructor runs, the innermost last. A cell that its own destructor freed has number 0 here.
     deleted: Vec<Header>,
     /// The place of the cleanup stack's cell.
     stack: u32,
-    /// The object that the next turn begins to destroy; `None` if it begins something else.
+    /// The object that the next machine turn begins to destroy; `None` if that turn begins something else.
     doomed: Option<Doomed>,
-    /// The line because of which items are destroyed, and how many bodies run there.
+    /// The line because of which items are being destroyed, and how many bodies run there.
     undone_at: At,
     /// The line and the depth of what was begun last.
     last: At,
-    /// For each number of bodies that run, the line that was begun last.
+    /// For each depth, which is how many bodies run, the line that was begun last there.
     lines: Vec<u32>,
 }
 
-/// Written out, so that other proofs have one call where one is dropped, and its fields are gone over here alone.
+/// Written by hand, so that a proof about a function that drops such a value has a single call there, and only this function goes over
+/// the fields.
 impl Drop for Open {
     fn drop(self) {
         let Open {
@@ -109,17 +109,17 @@ impl Open {
         self.items.last().map(|it| it.item)
     }
 
-    /// Returns how many objects have a destructor that runs, and how many TRAPs are open.
+    /// Returns how many objects' destructors run, and how many TRAPs are open.
     pub(crate) fn counts(&self) -> (usize, usize) {
         (self.deleted.len(), self.traps.len())
     }
 
-    /// The line that was begun last while this many bodies ran; 0 if none was.
+    /// The line that was begun last at this depth; 0 if none was.
     fn line_at(&self, depth: u32) -> u32 {
         self.lines.get(depth as usize).copied().unwrap_or(0)
     }
 
-    /// Sees what the last turn began. The only error is that memory ran out.
+    /// Sees what the last machine turn began, and returns it. The only error is that memory ran out.
     pub(crate) fn begin<'a>(
         &mut self,
         machine: &Machine<'a>,
@@ -143,7 +143,7 @@ impl Open {
         Ok(begun)
     }
 
-    /// Sees an object that is to be destroyed, or that is, and a cell that the cleanup stack frees.
+    /// Sees an object that is to be destroyed or that begins to be, or a cell that the cleanup stack frees.
     fn see_destruction(&mut self, machine: &Machine<'_>, what: What<'_>) -> Result<(), AllocError> {
         match what {
             What::Item(
@@ -199,7 +199,8 @@ impl Open {
         begun_at(What::TurnOf(repeat), at)
     }
 
-    /// The turn of the innermost `repeat` that isn't over. Those that are over, or were left, stay until then.
+    /// The next turn of the innermost `repeat` that isn't over. A `repeat` inside it that is over may have stayed in the list, and is taken
+    /// off.
     fn next_turn(&mut self) -> RepeatAt {
         for _ in 0..self.repeats.len() {
             if let Some(repeat) = self.repeats.last_mut()
@@ -241,7 +242,7 @@ impl Open {
         Ok(())
     }
 
-    /// An object is to be destroyed, in the next turn.
+    /// An object is to be destroyed in the next machine turn, unless the pointer is null.
     fn doom(&mut self, machine: &Machine<'_>, pointer: Ptr) {
         if pointer.number != 0 {
             let cell = live_cell(machine, pointer);
@@ -267,7 +268,7 @@ impl Open {
         Ok(())
     }
 
-    /// The body that runs returns, out of all that it repeats.
+    /// The body that runs returns, which ends all its `repeat`s.
     fn end_repeats(&mut self) {
         for _ in 0..self.repeats.len() {
             let depth = self.repeats.last().map_or(0, |it| it.depth);
@@ -278,8 +279,8 @@ impl Open {
         }
     }
 
-    /// A leave ends all bodies and blocks inside the innermost TRAP, and what it destroys is destroyed because of its line. Returns
-    /// that TRAP; `None` if `main` is left.
+    /// A leave ends the innermost TRAP and all bodies and blocks inside it. The items that are destroyed then are destroyed because of the
+    /// line that left. Returns that TRAP; `None` if `main` is left.
     pub(crate) fn leave(&mut self) -> Option<TrapAt> {
         let caught = self.traps.pop();
         let traps = self.traps.len();
@@ -301,7 +302,7 @@ impl Open {
         caught
     }
 
-    /// Takes the next TRAP off that has ended; `None` if all are open that were.
+    /// Takes off the innermost TRAP that has ended, and returns it; `None` if every TRAP that was open still is.
     pub(crate) fn next_ended(&mut self, machine: &Machine<'_>) -> Option<TrapAt> {
         if self.traps.len() > machine.open_traps() {
             self.traps.pop()
@@ -310,8 +311,8 @@ impl Open {
         }
     }
 
-    /// Takes the next cell off whose object is destroyed; `None` if the newest destructor still runs, and if that freed its own
-    /// cell.
+    /// Takes off the cell of the innermost object, if the object has been destroyed, and returns the cell; `None` if that object's
+    /// destructor still runs, or if it freed the cell itself.
     pub(crate) fn next_released(&mut self, machine: &Machine<'_>) -> Option<Header> {
         let newest = *self.deleted.last()?;
         if live_cell(machine, newest.pointer()).is_some() {
@@ -334,7 +335,7 @@ impl Open {
         }
     }
 
-    /// Returns the place of the cleanup stack's cell, which is at another now.
+    /// Notes the new place of the cleanup stack's cell, and returns its old place.
     pub(crate) fn move_stack(&mut self, place: u32) -> u32 {
         let before = self.stack;
         self.stack = place;

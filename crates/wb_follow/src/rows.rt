@@ -10,15 +10,15 @@ const MOST_KEPT: usize = 8192;
 /// The most columns of a statement that are shown.
 const MOST_COLUMNS: usize = 100;
 
-/// By how many columns a statement is moved to the right for each body that runs around its own.
+/// How many columns a statement is indented for each body that called its own.
 const INDENT: usize = 2;
 
-/// The most bodies for which it is.
+/// The most bodies for which a statement is indented.
 const MOST_INDENTS: u32 = 8;
 
 /// Where rows go.
 pub trait RowSink {
-    /// Takes whole rows. Returns `false` if it takes no more.
+    /// Takes whole rows. Returns `false` if it takes no more of them.
     fn take_rows(&mut self, rows: &str) -> bool;
 }
 
@@ -37,13 +37,14 @@ pub(crate) struct Rows {
     whole: String,
     /// The row that is being written.
     row: String,
-    /// Whether it is to be shown, and whether it says something of what its step does.
+    /// Whether that row is to be shown, and whether it already says something that its step does.
     is_shown: bool,
     has_effect: bool,
     is_cut: bool,
 }
 
-/// Written out, so that other proofs have one call where one is dropped, and its fields are gone over here alone.
+/// Written by hand, so that a proof about a function that drops such a value has a single call there, and only this function goes over
+/// the fields.
 impl Drop for Rows {
     fn drop(self) {
         let Rows {
@@ -70,12 +71,12 @@ impl Rows {
         }
     }
 
-    /// Whether so much is written that it should go out.
+    /// Whether the rows should go out: because they are long enough, or because memory ran out.
     pub(crate) fn is_long(&self) -> bool {
         self.is_cut || self.whole.len() >= MOST_KEPT
     }
 
-    /// Hands whole rows on. Returns `false` if no more are taken. The only error is that memory ran out.
+    /// Hands the whole rows to the sink. Returns `false` if the sink takes no more. The only error is that memory ran out.
     pub(crate) fn hand_to<O: RowSink>(&mut self, sink: &mut O) -> Result<bool, NoMemory> {
         let takes = self.whole.is_empty() || sink.take_rows(self.whole.as_str());
         self.whole.clear();
@@ -103,7 +104,7 @@ impl Rows {
         self.is_shown = false;
     }
 
-    /// Writes what a text says, with nothing around it.
+    /// Writes a text as it is.
     pub(crate) fn text(&mut self, text: &str) {
         if self.is_shown && !self.is_cut {
             self.is_cut = self.row.push_str(text).is_err();
@@ -120,14 +121,14 @@ impl Rows {
         }
     }
 
-    /// Writes a place as panics have it.
+    /// Writes a place as the name of a panic has it: 8 hexadecimal digits.
     pub(crate) fn place(&mut self, place: u32) {
         if self.is_shown && !self.is_cut {
             self.is_cut = write!(self.row, "{place:08x}").is_err();
         }
     }
 
-    /// Writes the columns of a step and of a line: their numbers, or words in the place of these.
+    /// Writes the columns of a step and of a line: their numbers, or words instead of numbers.
     pub(crate) fn head<T: Display + Drop>(&mut self, step: T, line: T) {
         let Widths {
             step: wide,
@@ -139,13 +140,13 @@ impl Rows {
         }
     }
 
-    /// Moves what is written next to the right, by how many bodies run.
+    /// Indents what is written next, by how many bodies run.
     pub(crate) fn indent(&mut self, depth: u32) {
         let levels = depth.saturating_sub(1).min(MOST_INDENTS) as usize;
         self.blanks(levels.saturating_mul(INDENT));
     }
 
-    /// Writes a line of the script without the blanks around it, or its beginning.
+    /// Writes a line of the script without the blanks around it; of a long line only its beginning.
     pub(crate) fn statement(&mut self, line: &str) {
         let mut count: usize = 0;
         for byte in line.trim().as_bytes() {
@@ -158,7 +159,7 @@ impl Rows {
         }
     }
 
-    /// Begins what a row says of its step: in its own column, or after what it already says.
+    /// Begins one thing that the row says of its step: in the column for that, or after what the row already says there.
     pub(crate) fn effect(&mut self) {
         if self.has_effect {
             self.text("; ");

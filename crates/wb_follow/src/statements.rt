@@ -8,7 +8,7 @@ use wb_machine::Machine;
 use wb_model::heap::{Answer, Attempt, Header, Kind, Ptr};
 use wb_model::script::Statement;
 
-/// Says what became of an attempt, for a cell that was at a place before; `None` for a new cell.
+/// Says what became of an attempt. `before` is the place of the cell that it was to make longer; `None` if it was for a new cell.
 pub(crate) fn put_attempt(
     rows: &mut Rows,
     machine: &Machine<'_>,
@@ -73,7 +73,7 @@ pub(crate) fn put_freed(rows: &mut Rows, cell: Header) {
     put_bytes(rows, cell.length, cell.place);
 }
 
-/// Says what becomes of the cell that is freed by a pointer, which may be null.
+/// Says what becomes of the cell that is freed by a pointer; the pointer may be null.
 pub(crate) fn put_free(rows: &mut Rows, pointer: Ptr, cell: Option<Header>) {
     match cell {
         Some(cell) => put_freed(rows, cell),
@@ -92,7 +92,7 @@ pub(crate) fn put_pointer(rows: &mut Rows, pointer: Ptr) {
     }
 }
 
-/// Says what a statement did that hasn't panicked. What a leave does, and what it destroys, is said elsewhere.
+/// Says what a statement did that hasn't panicked. What a leave does, and what is destroyed because of it, is said elsewhere.
 pub(crate) fn put_statement<'a>(
     rows: &mut Rows,
     machine: &Machine<'a>,

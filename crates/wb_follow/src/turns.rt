@@ -1,4 +1,4 @@
-//! The turns of a run that is followed, each as a row, up to its end.
+//! The machine turns of a run that is followed, each as a row, up to the run's end.
 
 use crate::before::Before;
 use crate::begun::{Begun, What};
@@ -12,7 +12,7 @@ use wb_model::heap::{Item, Kind};
 use wb_model::memory::NoMemory;
 use wb_model::script::Script;
 
-/// What is followed: a script's run that ends so, and how many of its first steps and of its last are shown.
+/// What is followed: a script's run, how it ends, and how many of its first steps and of its last steps are shown.
 #[derive(Clone, Copy)]
 pub(crate) struct Plan<'s> {
     pub(crate) lines: &'s ScriptLines<'s>,
@@ -35,15 +35,15 @@ impl<'s> Plan<'s> {
     }
 }
 
-/// How many bodies ran where the last row began, and whether it left.
+/// How many bodies ran where the last row began, and whether its statement left.
 #[derive(Clone, Copy)]
 struct Last {
     depth: u32,
     leaves: bool,
 }
 
-/// Lets the machine take its turns, at most one for each step of the budget, the first, and the one that ends the run, and writes a
-/// row of each. Returns `false` if the sink takes no more rows. The only error is that memory ran out.
+/// Lets the machine take its turns, at most one for each step of the budget, besides the first turn and the one that ends the run, and
+/// writes a row for each turn. Returns `false` if the sink takes no more rows. The only error is that memory ran out.
 pub(crate) fn follow_turns<'a, O: RowSink>(
     machine: &mut Machine<'a>,
     open: &mut Open,
@@ -71,7 +71,8 @@ pub(crate) fn follow_turns<'a, O: RowSink>(
     Ok(true)
 }
 
-/// Ends the row of the turn before, and writes that of a turn but for its end: where the run goes on is known after the next turn.
+/// Ends the row of the previous turn, and writes the row of this turn except for its end: where the run goes on is known only after the
+/// next turn.
 fn put_turn<'a>(
     rows: &mut Rows,
     machine: &Machine<'a>,
@@ -99,7 +100,7 @@ fn put_turn<'a>(
     }
 }
 
-/// Says how a row goes on into the next one: into a body, or back out of one.
+/// Says where the run goes on after a row, if in another body: in one that is entered, or back in one that called.
 fn put_way(rows: &mut Rows, last: Last, next: Begun<'_>) {
     if last.leaves || next.depth == last.depth {
         return;
@@ -113,7 +114,7 @@ fn put_way(rows: &mut Rows, last: Last, next: Begun<'_>) {
     }
 }
 
-/// Writes a row in the place of all that aren't shown, if any aren't.
+/// Writes a row that stands for all rows that aren't shown, if there are any.
 fn put_left_out(rows: &mut Rows, steps: u32) {
     if steps == 0 {
         return;
@@ -125,7 +126,7 @@ fn put_left_out(rows: &mut Rows, steps: u32) {
     rows.end();
 }
 
-/// Writes which step it is, and what it begins.
+/// Writes the number of a step, and what the step begins.
 fn put_begun(rows: &mut Rows, begun: Begun<'_>, step: u32, plan: Plan<'_>) {
     if let What::Run = begun.what {
         rows.head("0", "");

@@ -17,23 +17,21 @@ use wb_script::read;
 /// What was found.
 #[derive(Clone, Copy, Debug, PartialEq, Eq)]
 pub(crate) enum Comparison {
-    /// This many forks were made under numbers, as many under rates and as many in which all attempts fail from one on, and this many
-    /// under pairs, and each comes to what its run does; and as many copies as there are numbers are apart from their sources.
-    /// So many of those under numbers met the run without failure, and came to what it does from there on; those in a heap in which cells
-    /// always move are counted beside the others.
+    /// Each fork has the result of its run: `forks` forks under numbers, `forks` under rates, `forks` in which all attempts from one on
+    /// fail, and `pairs` under pairs. Each of `forks` copies is apart from its source. `met` is how many forks under numbers met the run
+    /// without failure and went on like it, in a heap where cells may stay and in a moving heap together.
     Same { forks: u32, pairs: u32, met: u32 },
-    /// The fork under this failure comes to something else than its run.
+    /// The fork under this failure has another result than its run.
     OtherFork(Failing),
-    /// The run that the forks were taken from comes to something else than without them.
+    /// The run from which the forks were taken has another result than without them.
     OtherRun,
-    /// The fork in which this attempt fails met the run without failure, and came to something else.
+    /// The fork in which this attempt fails met the run without failure, and then went on in another way.
     OtherMeeting(u32),
-    /// A copy that was taken before the attempt with this number differs from its source, or what was done to one of them was
-    /// seen in the other.
+    /// A copy that was taken before the attempt with this number differs from its source, or a change to one of them changed the other.
     OtherCopy(u32),
 }
 
-/// What is found of the script that the bytes spell; `None` where they spell none, and where memory runs out.
+/// What is found for the script that the bytes spell; `None` if they spell no script, or if memory runs out.
 pub(crate) fn compare(alloc: Global, bytes: &[u8]) -> Option<Comparison> {
     match read(alloc, bytes) {
         Ok(script) => compare_script(alloc, &script).ok(),
@@ -50,7 +48,7 @@ fn compare_script(alloc: Global, script: &Script) -> Result<Comparison, RunFault
     }
 }
 
-/// Compares all forks with their runs, and then those that meet the run without failure with it.
+/// Compares all forks with their runs, and then the forks that meet the run without failure with that run.
 fn compare_met_forks(alloc: Global, script: &Script) -> Result<Comparison, RunFault>
     requires { IsTrue (is_script script.now) }
 {
@@ -60,7 +58,7 @@ fn compare_met_forks(alloc: Global, script: &Script) -> Result<Comparison, RunFa
     }
 }
 
-/// Compares those that meet the run without failure with it, where cells may stay and where they always move.
+/// Compares the forks that meet the run without failure with that run, in a heap where cells may stay and in a moving heap.
 fn compare_all_meetings(
     alloc: Global,
     script: &Script,
@@ -78,7 +76,7 @@ fn compare_all_meetings(
     }
 }
 
-/// What was found, with so many more forks that met the run without failure.
+/// What was found, with `more` further forks that met the run without failure.
 fn with_met(found: Comparison, more: u32) -> Comparison {
     match found {
         Comparison::Same { forks, pairs, met } => Comparison::Same {
@@ -90,8 +88,7 @@ fn with_met(found: Comparison, more: u32) -> Comparison {
     }
 }
 
-/// Compares the forks under numbers, those under rates, those in which all attempts fail from one on, and then those under pairs, with
-/// their runs.
+/// Compares the forks under numbers, under rates, in which all attempts from one on fail, and then those under pairs, with their runs.
 fn compare_all_forks(alloc: Global, script: &Script) -> Result<Comparison, RunFault>
     requires { IsTrue (is_script script.now) }
 {
@@ -101,7 +98,7 @@ fn compare_all_forks(alloc: Global, script: &Script) -> Result<Comparison, RunFa
     }
 }
 
-/// Compares the forks under numbers, those under rates, and then those in which all attempts fail from one on, with their runs.
+/// Compares the forks under numbers, under rates, and then those in which all attempts from one on fail, with their runs.
 fn compare_numbered_forks(alloc: Global, script: &Script) -> Result<Comparison, RunFault>
     requires { IsTrue (is_script script.now) }
 {

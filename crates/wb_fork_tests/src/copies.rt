@@ -21,7 +21,7 @@ struct Place {
     asks: bool,
 }
 
-/// Which of the two goes on to its end while the other waits.
+/// Which of a copy and its source goes on to its end while the other waits.
 #[derive(Clone, Copy, Debug, PartialEq, Eq)]
 enum First {
     Source,
@@ -31,9 +31,9 @@ enum First {
 /// The rule of a run without failure.
 const NONE: Rule = Rule::Number(0);
 
-/// Copies a script's run without failure before each of its attempts, of which there are as many as forks under numbers, and
-/// says whether each copy and its source are apart, whichever of the two ends first. So many forks under pairs were compared
-/// before, and so many that met the run.
+/// Copies a script's run without failure before each of its attempts, of which there are `forks`, and says whether each copy and its source
+/// are apart, whichever of the two ends first. `pairs` is how many forks under pairs were compared before, and `met` how many forks met the
+/// run.
 pub(crate) fn compare_copies(
     alloc: Global,
     script: &Script,
@@ -51,7 +51,7 @@ pub(crate) fn compare_copies(
     Ok(Comparison::Same { forks, pairs, met })
 }
 
-/// Whether a copy and its source are apart, where the copy is taken when `made` attempts are made and the next is to come.
+/// Whether a copy and its source are apart, if the copy is taken when `made` attempts are made and the next turn makes another.
 fn are_apart(alloc: Global, script: &Script, made: u32) -> Result<bool, RunFault>
     requires { IsTrue (is_script script.now) }
 {
@@ -61,7 +61,7 @@ fn are_apart(alloc: Global, script: &Script, made: u32) -> Result<bool, RunFault
     )
 }
 
-/// Whether one of the two stays as it is while the other ends, and then each comes to what the whole run does.
+/// Whether one of the two stays as it is while the other goes on to its end, and each has the result of the whole run.
 fn one_waits(alloc: Global, script: &Script, made: u32, first: First) -> Result<bool, RunFault>
     requires { IsTrue (is_script script.now) }
 {
@@ -71,7 +71,8 @@ fn one_waits(alloc: Global, script: &Script, made: u32, first: First) -> Result<
     Ok(is_source_as_run && is_copy_apart?)
 }
 
-/// Copies a run once a number of attempts are made, lets one of the two end, and then the copy. The source is left for its own end.
+/// Copies a run once `made` attempts are made, lets `first` go on to its end, and then the copy. Returns whether the other one stayed as it
+/// was, and the copy has the result of the whole run. The caller lets the source go on to its end.
 fn is_copy_apart(
     alloc: Global,
     script: &Script,
@@ -88,7 +89,7 @@ fn is_copy_apart(
     Ok(is_copy_as_run && stays?)
 }
 
-/// Goes on until a number of attempts are made and the next turn makes one more, or to the end of a run that makes no more.
+/// Goes on until `made` attempts are made and the next turn makes one more, or to the end of a run that makes no more.
 fn go_to_attempt(source: &mut Machine, made: u32) -> Result<(), NoMemory> {
     for _ in 0..MOST_TURNS {
         if source.attempts() == made && source.will_attempt() {
@@ -106,7 +107,7 @@ fn one_stays(first: First, source: &mut Machine, copy: &mut Machine) -> Result<b
     }
 }
 
-/// Whether two machines are at the same place, and one of them is still there when the other has come to its end.
+/// Whether two machines are equally far, and `waiting` is still there when `going` has come to its end.
 fn stays(waiting: &Machine, going: &mut Machine) -> Result<bool, NoMemory> {
     let place = place_of(waiting);
     let is_same = place == place_of(going);

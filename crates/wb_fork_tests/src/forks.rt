@@ -12,8 +12,8 @@ use wb_model::failures::Failures;
 use wb_model::script::Script;
 use wb_sweep::result_under;
 
-/// Compares the forks of a script's run without failure, one under each of these failures, with the runs that they are made
-/// in place of, and that run, once the forks are made, with itself.
+/// Compares the forks of a script's run without failure, one under each of these failures, with the whole runs that they stand for; and
+/// then the run from which the forks were taken with a whole run without failure.
 pub(crate) fn compare_forks(
     alloc: Global,
     script: &Script,
@@ -31,8 +31,8 @@ pub(crate) fn compare_forks(
     }
 }
 
-/// Takes the turns of the run, and compares a fork before each turn that asks for an attempt, up to a fork that comes to
-/// something else. Each fork takes the memory of the one before.
+/// Takes the turns of the run, and compares a fork before each turn that makes an attempt, until a fork has another result than its run.
+/// Each fork takes the memory of the fork before.
 fn walk(
     alloc: Global,
     script: &Script,
@@ -66,8 +66,8 @@ fn walk(
     })
 }
 
-/// Whether the fork in which the next attempt, which has this number, is the first to fail comes to what the whole run under
-/// the same failure does.
+/// Whether the fork in which the next attempt, attempt `number`, is the first to fail has the same result as the whole run under the same
+/// failure.
 fn is_fork_as_run(
     alloc: Global,
     script: &Script,

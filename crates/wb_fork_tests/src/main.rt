@@ -1,10 +1,11 @@
 //! Compares the forks of a script's run with the runs that they stand for, and copies of that run with their source.
 //!
-//! A fork is a copy of the run that goes on under another rule, so that an attempt fails which the run itself is granted: it
-//! alone, or from it on each whose number is a multiple of its own, or each of all. From a fork in which one attempt has failed, further
-//! ones are taken, in each of which a later attempt fails as well. A fork in which one attempt has failed may meet the run without
-//! failure: then it must go on as that does, but for allocation numbers. The program reads the script on standard input, and says how
-//! many forks there are. Where a fork or a copy comes to anything else than it should, the program says which, and ends with status 1.
+//! A fork is a copy of the run that goes on under another rule, so that an attempt fails which the run itself is granted: only that
+//! attempt, or that attempt and every later one whose number is a multiple of its own, or that attempt and all later ones. From a fork in
+//! which one attempt has failed, further forks are taken, in each of which a later attempt fails as well. A fork in which one attempt has
+//! failed may meet the run without failure; from there on it must go on as that run does, except for allocation numbers. The program reads
+//! the script from standard input, and says how many forks there are. If a fork or a copy has another result than it should, the program
+//! says which, and ends with status 1.
 #![tactic(auto)]
 
 mod comparison;
@@ -24,7 +25,7 @@ fn main(rt: HostRuntime) -> ExitCode {
     say(&rt).unwrap_or(ExitCode::FAILURE)
 }
 
-/// Says what was found.
+/// Prints what was found, and returns the status.
 fn say(rt: &HostRuntime) -> io::Result<ExitCode> {
     match compare_input(rt)? {
         Some(Comparison::Same { forks, pairs, met }) => {
@@ -62,7 +63,7 @@ fn say(rt: &HostRuntime) -> io::Result<ExitCode> {
     Ok(ExitCode::FAILURE)
 }
 
-/// What was found of the script on standard input.
+/// What was found for the script on standard input, or `None` if there is no script or memory ran out.
 fn compare_input(rt: &HostRuntime) -> io::Result<Option<Comparison>> {
     let mut bytes = Vec::new(rt.alloc());
     rt.stdin().read_to_end(&mut bytes)?;

@@ -1,5 +1,5 @@
-//! Forks in which one attempt fails, and which come to the same as the run without failure but for allocation numbers: from there on each is
-//! compared with that run.
+//! Forks in which one attempt fails, and which then meet the run without failure: they come to the same state, except for allocation
+//! numbers. From there on, each is compared with that run.
 
 ghost use Rattle.std.specs.Prelude.{◌≡◌, ◌≤◌, false, IsTrue};
 ghost use Rattle.wb_model.specs.language.Sound.{is_script};
@@ -15,11 +15,12 @@ use wb_model::memory::NoMemory;
 use wb_model::run::RunResult;
 use wb_model::script::Script;
 
-/// How many attempts after its own a fork makes at most before it is given up, and how many the other run is ahead at most.
+/// How many attempts a fork may make after its failed one before it is given up, and how many attempts the run without failure may be
+/// ahead.
 const MOST_AFTER: u32 = 8;
 
-/// Compares the forks under single numbers that meet the run without failure with that run, in a heap of a shape, and counts them. So many
-/// forks under numbers and pairs were compared before.
+/// Compares the forks under single numbers that meet the run without failure with that run, in a heap of `shape`, and counts them. `forks`
+/// and `pairs` are how many forks under numbers and under pairs were compared before.
 pub(crate) fn compare_meetings(
     alloc: Global,
     script: &Script,
@@ -44,8 +45,8 @@ pub(crate) fn compare_meetings(
     Ok(Comparison::Same { forks, pairs, met })
 }
 
-/// Whether the fork in which the next attempt fails comes to what the run without failure does from where it meets that; `None` where
-/// the next turn makes no attempt, and where the fork doesn't meet it soon.
+/// Whether the fork in which the next attempt fails goes on like the run without failure from where the two meet. `None` if the next turn
+/// makes no attempt, or if the two don't meet soon.
 fn meets_as_run(lead: &Machine) -> Result<Option<bool>, NoMemory>
     requires rule { lead.now.rule ≡ rules.Number 0 }
     requires few { lead.now.attempts ≤ MOST_TURNS }
@@ -58,7 +59,7 @@ fn meets_as_run(lead: &Machine) -> Result<Option<bool>, NoMemory>
     meets_along(lead, &mut ahead)
 }
 
-/// The same, where the other run goes ahead, attempt by attempt.
+/// Does what `meets_as_run` does, with a copy of the run without failure that goes ahead, attempt by attempt.
 fn meets_along(lead: &Machine, ahead: &mut Machine) -> Result<Option<bool>, NoMemory>
     requires script { ahead.old.script ≡ lead.now.script }
     requires rule { lead.now.rule ≡ rules.Number 0 }
@@ -77,7 +78,7 @@ fn meets_along(lead: &Machine, ahead: &mut Machine) -> Result<Option<bool>, NoMe
     Ok(None)
 }
 
-/// The same, where the other run is where it is.
+/// Does what `meets_along` does, with `ahead` where it is now.
 fn next_meets(lead: &Machine, ahead: &Machine) -> Result<Option<bool>, NoMemory>
     requires script { ahead.now.script ≡ lead.now.script }
     requires rule { lead.now.rule ≡ rules.Number 0 }
@@ -92,7 +93,7 @@ fn next_meets(lead: &Machine, ahead: &Machine) -> Result<Option<bool>, NoMemory>
     meets_then_alike(&mut fork, ahead, number)
 }
 
-/// Whether a fork that meets another run comes to what that does from there on; `None` where it doesn't meet it soon.
+/// Whether a fork goes on like another run from where the two meet. `None` if the two don't meet soon.
 fn meets_then_alike(
     fork: &mut Machine,
     ahead: &Machine,
@@ -106,7 +107,7 @@ fn meets_then_alike(
     Ok(Some(go_on_alike(fork, ahead)?))
 }
 
-/// Takes turns until one more attempt is made and the next turn asks for one, or to the end.
+/// Takes turns until one more attempt has been made and the next turn makes another, or to the end of the run.
 fn go_to_next_attempt(ahead: &mut Machine) -> Result<(), NoMemory>
     ensures { IsSameRun ahead.old ahead.new }
 {
@@ -122,7 +123,7 @@ fn go_to_next_attempt(ahead: &mut Machine) -> Result<(), NoMemory>
     Ok(())
 }
 
-/// Whether a fork in which the attempt of this number fails is, a few attempts later, where another run is.
+/// Whether a fork in which attempt `number` fails is, within a few attempts, in the state of another run.
 fn meets(fork: &mut Machine, ahead: &Machine, number: u32) -> Result<bool, NoMemory>
     requires script { ahead.now.script ≡ fork.old.script }
 {
@@ -141,7 +142,7 @@ fn meets(fork: &mut Machine, ahead: &Machine, number: u32) -> Result<bool, NoMem
     Ok(false)
 }
 
-/// Whether two runs come to the same from where they are, but for allocation numbers.
+/// Whether two runs go on alike from where they are, except for allocation numbers.
 fn go_on_alike(fork: &Machine, ahead: &Machine) -> Result<bool, NoMemory> {
     let here = Reached {
         attempts: fork.attempts(),
@@ -156,7 +157,7 @@ fn go_on_alike(fork: &Machine, ahead: &Machine) -> Result<bool, NoMemory> {
     Ok(is_same_from(&one, here, &other, there))
 }
 
-/// What a run under way comes to. It stays as it is.
+/// The result of a run under way, which itself stays as it is.
 fn end_of(machine: &Machine) -> Result<RunResult, NoMemory> {
     machine.try_copy()?.run_to_end()
 }

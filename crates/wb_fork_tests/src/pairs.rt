@@ -1,5 +1,5 @@
-//! Forks of forks: copies of a run in which one attempt has failed, so that a later one fails too, each beside the whole run in
-//! which both fail.
+//! Forks of forks: each is a copy of a run in which one attempt has failed, and lets a later attempt fail too. Each is compared with the
+//! whole run in which both fail.
 
 ghost use Rattle.std.specs.Prelude.{◌≡◌, ◌+◌, ◌≤◌, false, IsTrue};
 ghost use Rattle.wb_model.specs.language.Sound.{is_script};
@@ -14,11 +14,11 @@ use wb_model::heap::Rule;
 use wb_model::script::Script;
 use wb_sweep::result_under;
 
-/// How many attempts after one that fails are tried as the second at most.
+/// How many attempts after the first failed one are tried as the second of a pair, at most.
 const MOST_AFTER: u32 = 40;
 
-/// Compares the forks of a script's run under pairs with the runs that they are made in place of. So many forks under numbers
-/// were compared before.
+/// Compares the forks of a script's run under pairs with the whole runs that they stand for. `forks` is how many forks under numbers were
+/// compared before.
 pub(crate) fn compare_pairs(
     alloc: Global,
     script: &Script,
@@ -43,9 +43,9 @@ pub(crate) fn compare_pairs(
     })
 }
 
-/// The first pair whose fork comes to something else, of those of which the first attempt is the one that the next turn makes, if
-/// it makes one; or the number of that attempt, where the run in which it alone fails comes to something else once forks were
-/// taken from it. The pairs that are compared are counted.
+/// Of the pairs whose first attempt is the one that the next turn makes, if it makes one: the first pair whose fork has another result than
+/// its run, or `None`. If the run in which that attempt alone fails has another result after forks were taken from it, the attempt's number
+/// is returned instead. Pairs that are compared are counted in `pairs`.
 fn other_with_next(
     alloc: Global,
     script: &Script,
@@ -74,8 +74,8 @@ fn other_with_next(
     }
 }
 
-/// The first pair whose fork comes to something else, of those with this first attempt, which has failed in the run that they
-/// are taken from. Each fork takes the memory of the one before.
+/// Of the pairs with attempt `first`, which has failed in the run `fork`: the first pair whose fork has another result than its run, or
+/// `None`. Each fork takes the memory of the fork before.
 fn other_after(
     alloc: Global,
     script: &Script,
@@ -108,8 +108,7 @@ fn other_after(
     Ok(None)
 }
 
-/// Whether the fork in which the next attempt fails too, which has the second number, comes to what the whole run does in which
-/// both fail.
+/// Whether the fork in which the next attempt, attempt `second`, fails too has the same result as the whole run in which both fail.
 fn is_pair_as_run(
     alloc: Global,
     script: &Script,

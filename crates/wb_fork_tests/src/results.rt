@@ -1,4 +1,4 @@
-//! What runs come to, beside one another: all that a run reports is compared.
+//! Comparisons of the results of runs: all that a run reports is compared.
 
 ghost use Rattle.std.specs.Prelude.{IsTrue};
 ghost use Rattle.wb_model.specs.language.Sound.{is_script};
@@ -17,14 +17,14 @@ pub(crate) const SHAPE: Shape = Shape {
     step: 4096,
     moving: false,
 };
-/// The same, where each cell that grows moves.
+/// Like `SHAPE`, but each cell that grows moves.
 pub(crate) const MOVING: Shape = Shape {
     min: 4096,
     step: 4096,
     moving: true,
 };
 
-/// The first turn, one for each step, and one that cuts the run.
+/// The most turns that a run can take: the first, one for each step of the budget, and one that cuts it.
 pub(crate) const MOST_TURNS: u32 = BUDGET + 2;
 
 /// How far a run has come.
@@ -34,7 +34,7 @@ pub(crate) struct Reached {
     pub(crate) steps: u32,
 }
 
-/// Whether a run under way, of this script and under this rule, comes to what the whole run does.
+/// Whether a run under way, of this script and under this rule, has the same result as the whole run.
 pub(crate) fn comes_to_run(
     alloc: Global,
     script: &Script,
@@ -47,7 +47,7 @@ pub(crate) fn comes_to_run(
     is_result(alloc, script, rule, &run_result)
 }
 
-/// Whether the whole run of a script under this rule comes to this result.
+/// Whether the whole run of a script under this rule has this result.
 pub(crate) fn is_result(
     alloc: Global,
     script: &Script,
@@ -60,7 +60,7 @@ pub(crate) fn is_result(
     Ok(is_same(&whole, run_result))
 }
 
-/// Whether two runs report the same in all that they report.
+/// Whether two results are the same in all that runs report.
 fn is_same(one: &RunResult, other: &RunResult) -> bool {
     let RunResult {
         outcome,
@@ -92,8 +92,9 @@ fn is_same_outcome(one: &Outcome, other: &Outcome) -> bool {
     }
 }
 
-/// Whether two runs come to the same from where they had come, but for allocation numbers: as many further steps and attempts, and
-/// the same end, in which the leaks have the same places and lengths. Where the budget cuts one of them nothing is asked.
+/// Whether two runs went on alike, one from `here` and the other from `there`, except for allocation numbers: they took equally many
+/// further steps and made equally many further attempts, and ended alike, with leaks of the same places and lengths. `true` if the budget
+/// cuts one of them.
 pub(crate) fn is_same_from(
     one: &RunResult,
     here: Reached,
@@ -126,7 +127,7 @@ fn is_past_budget(outcome: &Outcome) -> bool {
     }
 }
 
-/// Whether two outcomes are the same but for the numbers of leaks.
+/// Whether two outcomes are the same except for the allocation numbers of leaks.
 fn is_like_outcome(one: &Outcome, other: &Outcome) -> bool {
     match (one, other) {
         (

@@ -1,4 +1,4 @@
-//! The calls on texts in cells, and the edit of a buffer that may read one.
+//! The calls on texts in cells, and the edit of a buffer, which may read a text in a cell.
 
 ghost use Rattle.std.specs.Prelude.{◌≡◌, ◌+◌, ◌*◌, ◌^◌, ◌<◌, ◌≤◌, ◌++◌, [], length, take, true, None, IfOk, IfSome, IsOk};
 ghost use Rattle.std.specs.Prelude.{OnErr, OnOk};
@@ -24,11 +24,11 @@ use wb_model::memory::NoMemory;
 use wb_model::printed_line::Line;
 use wb_text::Buf;
 
-/// An attempt to get a cell for an empty text that may have `n` units.
+/// Attempts to get a cell for an empty text that may have `n` units.
 ///
-/// `Denied` and `Ceiling` are the heap's answers. `NoMemory` leaves the heap as it was, and never comes in place of
-/// `Ceiling`, nor, where the rises are kept, of an attempt that isn't one. Source: Symbian OS v9 SDK
-/// reference, HBufC::New, and this project's profile for the length of the cell.
+/// `Denied` and `Ceiling` are the heap's answers. `NoMemory` if the workbench itself runs out of memory; it leaves the heap as it was, and
+/// never comes in place of `Ceiling`, nor, if the rises are kept, for an attempt that isn't a rise. Source: Symbian OS v9 SDK reference,
+/// HBufC::New, and this project's profile for the length of the cell.
 pub fn make(heap: &mut DebugHeap, n: u32) -> Result<Gave, NoMemory>
     requires units { n ≤ MOST_UNITS }
     requires number { heap.old.attempts + 1 < 2 ^ 32 }
@@ -45,11 +45,11 @@ pub fn make(heap: &mut DebugHeap, n: u32) -> Result<Gave, NoMemory>
     heap.attempt_alloc(4 + 2 * n, Kind::Text)
 }
 
-/// Gives a text another maximum: a reallocation of its cell for `n` units, which keeps the text.
+/// Gives a text another maximum length: reallocates its cell for `n` units, and keeps the text, which may not be longer than that.
 ///
-/// Its length may not pass them. `Denied` and `Ceiling` are the heap's answers, and leave the cell as it was.
-/// `NoMemory` leaves the heap as it was, and doesn't come where the cell gets no longer or in place of `Ceiling`, nor,
-/// where the rises are kept, of an attempt that isn't one. Source: Symbian OS v9 SDK reference, HBufC::ReAlloc, and this project's profile for the length of the cell.
+/// `Denied` and `Ceiling` are the heap's answers, and leave the cell as it was. `NoMemory` if the workbench itself runs out of memory; it
+/// leaves the heap as it was, and never comes if the cell gets no longer, nor in place of `Ceiling`, nor, if the rises are kept, for an
+/// attempt that isn't a rise. Source: Symbian OS v9 SDK reference, HBufC::ReAlloc, and this project's profile for the length of the cell.
 pub fn remake(heap: &mut DebugHeap, ptr: Ptr, n: u32) -> Result<Gave, NoMemory>
     requires text { IsTextAt ptr heap.old }
     requires fits { length (text_at ptr heap.old) ≤ n }
@@ -90,7 +90,7 @@ pub fn max_len(heap: &DebugHeap, ptr: Ptr) -> u32
     measure(heap, ptr).max
 }
 
-/// The length of the text in a cell, and its maximum.
+/// The length of the text in a cell, and its maximum length, in units.
 #[derive(Clone, Copy)]
 struct Measured {
     length: u32,
@@ -110,11 +110,11 @@ fn measure(heap: &DebugHeap, ptr: Ptr) -> Measured
     }
 }
 
-/// Changes the text in a cell by the units of a source, which count as they were before.
+/// Changes the text in a cell by the units of a source, which are read as they were before the edit.
 ///
-/// `Panic::POSITION_OUT_OF_BOUNDS` where an insertion's position is past the end, then `Panic::TOO_LONG` where the text
-/// would be longer than its maximum. A refusal leaves the heap as it was. Other cells stay. Source: Symbian OS v9 SDK
-/// reference, 16-bit descriptors.
+/// `Panic::POSITION_OUT_OF_BOUNDS` if the position of an insertion is past the text's end, then `Panic::TOO_LONG` if the text would be
+/// longer than its maximum length; the heap is then as it was. Other cells never change. Source: Symbian OS v9 SDK reference, 16-bit
+/// descriptors.
 pub fn edit(heap: &mut DebugHeap, ptr: Ptr, change: Edit, source: Source) -> Result<(), Panic>
     requires text { IsTextAt ptr heap.old }
     requires source { IsSource heap.old source }
@@ -135,7 +135,7 @@ pub fn edit(heap: &mut DebugHeap, ptr: Ptr, change: Edit, source: Source) -> Res
     }
 }
 
-/// Puts the units of a source in place of the text from a position on.
+/// Replaces the text from a position on by the units of a source.
 fn overwrite(heap: &mut DebugHeap, ptr: Ptr, at: u32, source: Source) -> Result<(), Panic>
     requires text { IsTextAt ptr heap.old }
     requires source { IsSource heap.old source }
@@ -188,10 +188,10 @@ fn insert(heap: &mut DebugHeap, ptr: Ptr, at: u32, source: Source) -> Result<(),
     Ok(())
 }
 
-/// Takes `count` units from a position on out of the text in a cell, or all from there where there are fewer.
+/// Removes `count` units from the text in a cell, from a position on, or all units from there on if they are fewer.
 ///
-/// `Panic::POSITION_OUT_OF_BOUNDS` where the position is past the end, and then the heap is as it was. Units past the new
-/// end are zero. Other cells stay. Source: Symbian OS v9 SDK reference, 16-bit descriptors.
+/// `Panic::POSITION_OUT_OF_BOUNDS` if the position is past the text's end; the heap is then as it was. Units past the new end are zero.
+/// Other cells never change. Source: Symbian OS v9 SDK reference, 16-bit descriptors.
 pub fn delete(heap: &mut DebugHeap, ptr: Ptr, position: u32, count: u32) -> Result<(), Panic>
     requires { IsTextAt ptr heap.old }
     ensures answer { result ≡ answer_of (delete_text (text_at ptr heap.old) position count) }
@@ -218,10 +218,10 @@ pub fn delete(heap: &mut DebugHeap, ptr: Ptr, position: u32, count: u32) -> Resu
     Ok(())
 }
 
-/// Gives the text in a cell another length: units past it become zero, and a longer text gains zeros.
+/// Gives the text in a cell another length: units past the new length become zero, and a text that gets longer gains zeros.
 ///
-/// `Panic::TOO_LONG` where the length is above the maximum, and then the heap is as it was. Other cells stay. Source:
-/// Symbian OS v9 SDK reference, 16-bit descriptors.
+/// `Panic::TOO_LONG` if the new length is above the maximum; the heap is then as it was. Other cells never change. Source: Symbian OS v9
+/// SDK reference, 16-bit descriptors.
 pub fn set_length(heap: &mut DebugHeap, ptr: Ptr, n: u32) -> Result<(), Panic>
     requires { IsTextAt ptr heap.old }
     ensures answer { result
@@ -240,12 +240,11 @@ pub fn set_length(heap: &mut DebugHeap, ptr: Ptr, n: u32) -> Result<(), Panic>
     Ok(())
 }
 
-/// Changes a buffer by the units of a source, which count as they were before. The heap is where the source's cell
-/// is.
+/// Changes a buffer by the units of a source, which are read as they were before the edit. `heap` holds the source's cell, if the source is
+/// the text in a cell.
 ///
-/// `Panic::POSITION_OUT_OF_BOUNDS` where an insertion's position is past the end, then `Panic::TOO_LONG` where the text
-/// would be longer than its maximum. A refusal leaves the buffer as it was. Source: Symbian OS v9 SDK reference, 16-bit
-/// descriptors.
+/// `Panic::POSITION_OUT_OF_BOUNDS` if the position of an insertion is past the text's end, then `Panic::TOO_LONG` if the text would be
+/// longer than its maximum length; the buffer is then as it was. Source: Symbian OS v9 SDK reference, 16-bit descriptors.
 pub fn edit_buf(heap: &DebugHeap, buf: &mut Buf, change: Edit, source: Source) -> Result<(), Panic>
     requires source { IsSource heap.now source }
     requires suits { SuitsEdit change source }
@@ -288,7 +287,7 @@ fn edit_by(buf: &mut Buf, change: Edit, part: Part) -> Result<(), Panic>
     }
 }
 
-/// What is printed for a unit: itself where it is a printable ASCII character, and a dot where not.
+/// Returns what is printed for a unit: the unit itself if it is a printable ASCII character, and otherwise a dot.
 fn printed_unit(unit: u16) -> u8
     ensures { result ≡ printed_unit unit }
 {
@@ -299,7 +298,7 @@ fn printed_unit(unit: u16) -> u8
     }
 }
 
-/// The line that a source prints: its first 80 units, each that isn't a printable ASCII character as a dot.
+/// Returns the line that is printed for a source: its first 80 units, with a dot for each unit that isn't a printable ASCII character.
 pub fn print_units(heap: &DebugHeap, source: Source) -> Line
     requires source { IsSource heap.now source }
     requires foreign { IsForeign source }

@@ -1,7 +1,7 @@
 //! HBufC: texts in cells of the debug heap.
 //!
-//! The first word of a cell's payload is the text's length; its units follow, two to a word, the lower half first. The
-//! calls are in `hbuf`, what they read in `sources`, and how units are read and written in `reading` and `writing`.
+//! The first word of a cell's payload is the text's length, in units. The text's units follow, two to a word, the one in the lower half
+//! first. The calls are in `hbuf`, what they read in `sources`, and how units are read and written in `reading` and `writing`.
 #![tactic(auto)]
 
 pub mod hbuf;

@@ -1,4 +1,4 @@
-//! How a text is changed, and what that reads.
+//! How an edit changes a text, and what it reads.
 
 use wb_model::heap::Ptr;
 use wb_model::script::Chars;
@@ -7,24 +7,24 @@ use wb_text::Buf;
 /// How the units of a source change a text.
 #[derive(Clone, Copy, Debug, PartialEq, Eq)]
 pub enum Edit {
-    /// They take its place.
+    /// The units replace the text.
     Copy,
-    /// They go after it.
+    /// The units go after the text.
     Append,
-    /// They go in front of the unit at this position.
+    /// The units go in front of the text's unit at this position.
     Insert(u32),
 }
 
-/// What an edit reads: a part of a text, by the position of its first unit and the number of its units. Units past the
-/// text's end are zero.
+/// What an edit reads: a part of a text. The two numbers are the position of the part's first unit and how many units the part has. Units
+/// past the text's end are zero.
 #[derive(Clone, Copy)]
 pub enum Source<'a> {
-    /// Of a literal.
+    /// A part of a literal.
     Literal(&'a Chars, u32, u32),
-    /// Of a buffer other than the destination.
+    /// A part of a buffer other than the destination.
     Buffer(&'a Buf, u32, u32),
-    /// Of the text in a cell other than the destination.
+    /// A part of the text in a cell other than the destination.
     Cell(Ptr, u32, u32),
-    /// Of the destination's own text, as it was before the edit.
+    /// A part of the destination's own text, as it was before the edit.
     Own(u32, u32),
 }

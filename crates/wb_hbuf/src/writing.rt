@@ -1,5 +1,5 @@
-//! What edits write into a cell. The length word gives the text as it was before until `settle`, the last step of each
-//! edit. Units after the length word are halves of the payload from the third on.
+//! What edits write into a cell. The length word keeps the length from before the edit until `settle`, the last step of each edit. The
+//! units after the length word are the half words of the payload from index 2 on.
 
 ghost use Rattle.std.specs.Prelude.{◌≡◌, ◌+◌, ◌-◌, ◌*◌, ◌^◌, ◌<◌, ◌≤◌, drop, length, replicate, slice_index};
 ghost use Rattle.wb_hbuf.specs.Drafts.{HasUnits, IsDraft, IsPut, put};
@@ -15,7 +15,8 @@ use wb_debug::DebugHeap;
 use wb_model::heap::Ptr;
 use wb_model::script::Chars;
 
-/// Writes the units of a source from a position on. They count as they were before, also where they are the text's own.
+/// Writes the units of a source into a text, from a position on. The units are read as they were before the call, also if they are the
+/// text's own.
 pub fn write_units(heap: &mut DebugHeap, ptr: Ptr, at: u32, source: Source)
     requires units { HasUnits ptr heap.old }
     requires most { 2 * length (payload_of ptr heap.old.heap.row) < 2 ^ 32 }
@@ -34,7 +35,7 @@ pub fn write_units(heap: &mut DebugHeap, ptr: Ptr, at: u32, source: Source)
     }
 }
 
-/// Writes a part of a literal.
+/// Writes `count` bytes of a literal as units, from `from` on, with zeros past the literal's end.
 fn write_literal(heap: &mut DebugHeap, ptr: Ptr, at: u32, chars: &Chars, from: u32, count: u32)
     requires units { HasUnits ptr heap.old }
     requires most { 2 * length (payload_of ptr heap.old.heap.row) < 2 ^ 32 }
@@ -48,7 +49,7 @@ fn write_literal(heap: &mut DebugHeap, ptr: Ptr, at: u32, chars: &Chars, from: u
     }
 }
 
-/// Writes a part of these units, with zeros past their end.
+/// Writes `count` of these units, from `from` on, with zeros past their end.
 fn write_part(heap: &mut DebugHeap, ptr: Ptr, at: u32, units: &[u16], from: u32, count: u32)
     requires units { HasUnits ptr heap.old }
     requires most { 2 * length (payload_of ptr heap.old.heap.row) < 2 ^ 32 }
@@ -62,7 +63,7 @@ fn write_part(heap: &mut DebugHeap, ptr: Ptr, at: u32, units: &[u16], from: u32,
     heap.zero_halves(ptr, end + 2, at + count - end);
 }
 
-/// Copies a part of the text in a cell, with zeros past its end. Both cells may be the same.
+/// Copies `count` units of the text in `cell`, from `from` on, with zeros past the end of this text. Both cells may be the same.
 fn copy_part(heap: &mut DebugHeap, ptr: Ptr, at: u32, cell: Ptr, from: u32, count: u32)
     requires units { HasUnits ptr heap.old }
     requires source { HasUnits cell heap.old }
@@ -78,7 +79,7 @@ fn copy_part(heap: &mut DebugHeap, ptr: Ptr, at: u32, cell: Ptr, from: u32, coun
     heap.zero_halves(ptr, at + there + 2, count - there);
 }
 
-/// Moves the units of the text from a position on up by `gap` places.
+/// Moves the text's units from a position on up by `gap` positions.
 pub fn open_gap(heap: &mut DebugHeap, ptr: Ptr, at: u32, gap: u32)
     requires units { HasUnits ptr heap.old }
     requires most { 2 * length (payload_of ptr heap.old.heap.row) < 2 ^ 32 }
@@ -92,7 +93,7 @@ pub fn open_gap(heap: &mut DebugHeap, ptr: Ptr, at: u32, gap: u32)
     heap.copy_halves(ptr, at + 2, ptr, at + gap + 2, len - at);
 }
 
-/// Writes the length, after zeros for the units of the text that are past it.
+/// Sets the text's length to `n`, after it has set the text's units past `n` to zero.
 pub fn settle(heap: &mut DebugHeap, ptr: Ptr, n: u32)
     requires units { HasUnits ptr heap.old }
     requires most { 2 * length (payload_of ptr heap.old.heap.row) < 2 ^ 32 }

@@ -1,5 +1,5 @@
-//! Copies of heaps, cells and words: each reports what its source does, and what is done to one changes nothing in the other. Those
-//! of heaps are taken before the sixth attempt of a script that frees neighbours and then asks for a cell in their place.
+//! Copies of heaps, cells and words: each reports what its source reports, and no change to one changes the other. Copies of heaps are
+//! taken before the sixth attempt of a script that frees neighbours and then asks for a cell in their place.
 
 use crate::debug_calls::{Call as DebugCall, Marked, WorkedDebugHeap};
 use crate::heap_calls::{Call as HeapCall, Numbered, WorkedHeap};
@@ -123,7 +123,7 @@ static HEAP: Copied<WorkedHeap, HeapCall> = Copied {
     ],
 };
 
-// One function for each step, since a proof grows with the heaps that a function drops.
+// There is one function for each step, since a proof gets longer with each heap that a function drops.
 
 /// Whether a heap reports the same before and after another one changes.
 fn stays_beside<H: Called>(
@@ -137,7 +137,8 @@ fn stays_beside<H: Called>(
     is_same & has_changed & all_answer(heap, told)
 }
 
-/// Whether a copy stays while a second one changes, which takes the memory of `spare`, and then changes as it did.
+/// Whether a copy stays as it is while a second copy, over the memory of `spare`, changes; and whether the first copy then changes in the
+/// same way.
 fn is_apart_over<H: Called>(
     spare: H,
     copy: &mut H,
@@ -149,7 +150,7 @@ fn is_apart_over<H: Called>(
     Ok(stays & all_answer(copy, changes))
 }
 
-/// Whether a copy stays while its source changes, and while a copy of the copy does.
+/// Whether a copy stays as it is while its source changes, and while a copy of the copy changes.
 fn is_apart<H: Called>(
     mut source: H,
     told: &[H::Call],

@@ -1,4 +1,4 @@
-//! Calls of a debug heap with the answers that they must give, so that a worked debug heap is a table of calls.
+//! Calls on a debug heap with the answers that they must give, so that a worked debug heap is a table of calls.
 
 ghost use Rattle.std.specs.Prelude.{◌≡◌};
 
@@ -12,7 +12,7 @@ use wb_model::heap::{Answer, Attempt, Gave, Kind, Panic, Ptr, Shape};
 use wb_model::limits::CEILING;
 use wb_model::run::{Leak, Leaks, Note, Trace};
 
-/// A call of a debug heap, and the answer that it must give, last. Lengths are bytes without a header.
+/// A call on a debug heap. The answer that it must give is last. Lengths are in bytes, without the header.
 #[derive(Clone, Copy)]
 pub(crate) enum Call {
     /// The cell that is granted.
@@ -20,7 +20,7 @@ pub(crate) enum Call {
     /// The attempt is denied.
     NoAlloc(u32),
     AllocPastCeiling(u32),
-    /// Where the cell is then, and with which number.
+    /// Where the cell is afterwards, and its allocation number.
     Realloc(Cell, u32, Cell),
     /// The attempt is denied.
     NoRealloc(Cell, u32),
@@ -29,7 +29,7 @@ pub(crate) enum Call {
     /// The pointer names no cell.
     NoFree(Cell),
     Mark,
-    /// Whether it panics, and with what; so in the next two.
+    /// The panic, if the call panics; so in the next two.
     MarkEnd(u32, Option<Panic>),
     Check(u32, Option<Panic>),
     CheckAll(u32, Option<Panic>),
@@ -38,25 +38,25 @@ pub(crate) enum Call {
     FailNone,
     Store(Cell, u32, u32),
     StoreHalf(Cell, u32, u16),
-    /// From the one to the other, a number of words.
+    /// Copies from the first cell to the second; last, how many words.
     Copy(Cell, Cell, u32),
-    /// So many halves from one on become 0.
+    /// The index of the first half, and how many halves become 0.
     ZeroHalves(Cell, u32, u32),
-    /// Halves from one on.
+    /// The index of the first 16-bit half word to write, and the half words.
     WriteHalves(Cell, u32, &'static [u16]),
-    /// From a half of the one to a half of the other, a number of halves.
+    /// Copies from a half of the first cell to a half of the second; last, how many halves.
     CopyHalves(Cell, u32, Cell, u32, u32),
-    /// A word of the payload.
+    /// The index of a word of the payload, and the word.
     Word(Cell, u32, u32),
     Half(Cell, u32, u16),
     /// The cell's length, header included, and its level.
     Header(Cell, u32, u32),
-    /// Nothing is known of a pointer that names no cell.
+    /// The pointer names no cell, so it has no header.
     NoHeader(Cell),
     Attempts(u32),
-    /// Numbers, lengths, places and answers.
+    /// The number, length, place and answer of each attempt.
     Trace(&'static [(u32, u32, u32, Answer)]),
-    /// Numbers, lengths and places.
+    /// The number, length and place of each cell.
     Leaks(&'static [(u32, u32, u32)]),
     /// Live cells, their bytes, and the committed length.
     Size(u32, u32, u32),
@@ -64,11 +64,10 @@ pub(crate) enum Call {
     Compress(u32),
 }
 
-/// A debug heap under some rule and of some shape, by calls that are made of it after attempt 1, for the cleanup stack's
-/// 128 bytes.
+/// A debug heap under a rule and of a shape, and the calls that are made on it after attempt 1, which gets the cleanup stack's 128 bytes.
 #[derive(Clone, Copy)]
 pub(crate) struct WorkedDebugHeap {
-    /// What it shows.
+    /// What the calls show.
     pub(crate) about: &'static str,
     pub(crate) rule: Refuses,
     pub(crate) shape: Shape,
@@ -124,7 +123,7 @@ impl Called for Marked {
         })
     }
 
-    /// A copy over the memory of a heap that is done with.
+    /// A copy over the memory of `spare`, a heap that is no longer needed.
     fn try_copy_over(&self, spare: Marked) -> Result<Marked, DebugFault> {
         let (_, heap) = spare.heap.into_trace_and_heap();
         Ok(Marked {
@@ -147,7 +146,7 @@ impl Marked {
         }
     }
 
-    /// The same of a call that writes halves of a payload.
+    /// Whether a call that writes halves of a payload gives its answer, or one of the calls below.
     fn writes_halves(&mut self, call: Call) -> bool {
         match call {
             Call::StoreHalf(cell, i, v) => self.store_half(pointer(cell), i, v),
@@ -160,7 +159,7 @@ impl Marked {
         }
     }
 
-    /// The same of a call that sets something for those that come.
+    /// Whether a call that opens or closes a mark, or sets which attempts fail, gives its answer, or one of the calls below.
     fn sets(&mut self, call: Call) -> bool {
         match call {
             Call::Mark => self.mark(),
@@ -181,7 +180,7 @@ impl Marked {
         }
     }
 
-    /// The same of a call that changes nothing.
+    /// Whether a call that changes nothing gives its answer.
     fn tells(&self, call: Call) -> bool {
         match call {
             Call::Check(n, panic) => self.heap.check(n).err() == panic,
@@ -208,7 +207,7 @@ impl Marked {
         }
     }
 
-    /// An attempt to get a cell, or `None` where it can't be made.
+    /// An attempt to get a cell, or `None` if it can't be made.
     fn attempt(&mut self, bytes: u32, kind: Kind) -> Option<Gave> {
         if self.heap.attempts() == u32::MAX || bytes > CEILING {
             return None;
@@ -221,7 +220,7 @@ impl Marked {
         self.attempt(bytes, Kind::Raw)
     }
 
-    /// A reallocation of a cell, where there is one.
+    /// A reallocation of a cell, or `None` if there is no such cell.
     fn realloc(&mut self, cell: Cell, bytes: u32) -> Option<Gave> {
         let ptr = pointer(cell);
         if self.heap.attempts() == u32::MAX || bytes > CEILING || self.heap.header(ptr).is_none() {
@@ -230,7 +229,7 @@ impl Marked {
         self.heap.attempt_realloc(ptr, bytes).ok()
     }
 
-    /// Opens a mark.
+    /// Opens a mark. Returns whether there could be one more.
     fn mark(&mut self) -> bool {
         let Some(marks) = self.marks.checked_add(1) else {
             return false;
@@ -249,7 +248,7 @@ impl Marked {
         closed
     }
 
-    /// Stores a word, where there is one.
+    /// Stores a word. Returns whether the payload has such a word.
     fn store(&mut self, ptr: Ptr, i: u32, v: u32) -> bool {
         match self.heap.header(ptr) {
             Some(header) if i < header.words() => {
@@ -260,7 +259,7 @@ impl Marked {
         }
     }
 
-    /// Stores a half of a word, where there is one.
+    /// Stores a half of a word. Returns whether the payload has such a half.
     fn store_half(&mut self, ptr: Ptr, i: u32, v: u16) -> bool {
         match self.heap.header(ptr) {
             Some(header) if i < 2 * header.words() => {
@@ -271,7 +270,7 @@ impl Marked {
         }
     }
 
-    /// Copies `n` words, where both payloads have them.
+    /// Copies `n` words. Returns whether both payloads have that many.
     fn copy(&mut self, from: Ptr, to: Ptr, n: u32) -> bool {
         match (self.heap.header(from), self.heap.header(to)) {
             (Some(source), Some(target)) if n <= source.words() && n <= target.words() => {
@@ -282,7 +281,7 @@ impl Marked {
         }
     }
 
-    /// Makes halves 0, if there are that many.
+    /// Sets `n` halves to 0. Returns whether the payload has that many from index `i` on.
     fn zero_halves(&mut self, ptr: Ptr, i: u32, n: u32) -> bool {
         match self.heap.header(ptr) {
             Some(header) if i <= 2 * header.words() && n <= 2 * header.words() - i => {
@@ -293,7 +292,7 @@ impl Marked {
         }
     }
 
-    /// Writes halves, if there are that many.
+    /// Writes halves. Returns whether the payload has that many from index `i` on.
     fn write_halves(&mut self, ptr: Ptr, i: u32, halves: &[u16]) -> bool {
         match self.heap.header(ptr) {
             Some(header) if i <= 2 * header.words() => {
@@ -307,7 +306,7 @@ impl Marked {
         }
     }
 
-    /// Copies `n` halves, where both payloads have them.
+    /// Copies `n` halves. Returns whether both payloads have that many from the two indexes on.
     fn copy_halves(&mut self, from: Ptr, fi: u32, to: Ptr, ti: u32, n: u32) -> bool {
         let (Some(source), Some(target)) = (self.heap.header(from), self.heap.header(to)) else {
             return false;
@@ -320,7 +319,7 @@ impl Marked {
         true
     }
 
-    /// A word of a payload, where there is one.
+    /// A word of a payload, or `None` if the payload has no such word.
     fn word(&self, ptr: Ptr, i: u32) -> Option<u32> {
         match self.heap.header(ptr) {
             Some(header) if i < header.words() => Some(self.heap.payload(ptr, i)),
@@ -328,7 +327,7 @@ impl Marked {
         }
     }
 
-    /// A half of a payload's words, where there is one.
+    /// A half of a payload's words, or `None` if the payload has no such half.
     fn half(&self, ptr: Ptr, i: u32) -> Option<u16> {
         match self.heap.header(ptr) {
             Some(header) if i < 2 * header.words() => Some(self.heap.payload_half(ptr, i)),
@@ -358,7 +357,7 @@ fn has_lines(trace: &Trace, lines: &[(u32, u32, u32, Answer)]) -> bool {
     trace.len() == lines.len()
 }
 
-/// Whether exactly these cells leaked.
+/// Whether the leaks are exactly these cells.
 fn has_cells(leaks: &Leaks, cells: &[(u32, u32, u32)]) -> bool {
     for (index, (number, length, place)) in cells.iter().enumerate() {
         let leak = Leak {

@@ -1,4 +1,4 @@
-//! `wb_chunk`: runs of halves from odd and even places on, of odd and even lengths, and copies that overlap their source.
+//! `wb_chunk`: ranges of halves that begin at odd and even indexes and have odd and even lengths, and copies that overlap their source.
 
 ghost use Rattle.std.specs.Prelude.{◌≡◌, length, IfOk};
 
@@ -7,18 +7,18 @@ use std::alloc::{AllocError, Global};
 use std::test::Fail;
 use wb_chunk::Chunk;
 
-/// What is done to the halves 1 to 12.
+/// A call on the halves 1 to 12.
 #[derive(Clone, Copy)]
 enum Run {
-    /// So many from a place on become 0.
+    /// The first index, and how many halves become 0 from there on.
     Zero(u32, u32),
-    /// These are from a place on.
+    /// The first index, and the halves that are written from there on.
     Write(u32, &'static [u16]),
-    /// From, to, and how many.
+    /// The first index that is read, the first that is written, and how many halves are copied.
     Copy(u32, u32, u32),
 }
 
-/// Each run, and the words that it leaves.
+/// Calls, and the words that each leaves.
 static RUNS: [(Run, [u32; 6]); 31] = [
     (
         Run::Zero(0, 0),
@@ -158,7 +158,7 @@ fn twelve_halves(alloc: Global) -> Result<Chunk, AllocError>
     Ok(chunk)
 }
 
-/// Whether a run leaves these words.
+/// Whether a call leaves these words.
 fn leaves(alloc: Global, run: Run, words: &[u32]) -> Result<bool, AllocError> {
     let mut chunk = twelve_halves(alloc)?;
     match run {

@@ -1,4 +1,4 @@
-//! Calls of a heap with the answers that they must give, so that a worked heap is a table of calls.
+//! Calls on a heap with the answers that they must give, so that a worked heap is a table of calls.
 
 ghost use Rattle.std.specs.Prelude.{◌<◌, ◌≤◌, All, IsTrue};
 ghost use Rattle.wb_model.specs.heap.LimitedHeap.{IsCellLength};
@@ -11,7 +11,7 @@ use wb_model::heap::{Header, Kind, Ptr, Shape};
 use wb_model::limits::CEILING;
 use wb_rheap::{Heap, HeapFault};
 
-/// A cell by its place and its number.
+/// A cell, by its place and its allocation number.
 pub(crate) type Cell = (u32, u32);
 
 /// The pointer to a cell.
@@ -22,14 +22,14 @@ pub(crate) fn pointer(cell: Cell) -> Ptr {
     }
 }
 
-/// A call of a heap, and the answer that it must give, last. Lengths are those of cells.
+/// A call on a heap. The answer that it must give is last. Lengths are those of cells, in bytes, with the header.
 #[derive(Clone, Copy)]
 pub(crate) enum Call {
     /// The cell that is granted.
     Alloc(u32, Cell),
-    /// The limit forbids it.
+    /// The attempt is denied, since the cell would end past the limit.
     NoAlloc(u32),
-    /// Where the cell is then, and with which number.
+    /// Where the cell is afterwards, and its allocation number.
     Realloc(Cell, u32, Cell),
     /// Why the cell stays as it is.
     NoRealloc(Cell, u32, HeapFault),
@@ -39,28 +39,28 @@ pub(crate) enum Call {
     SetLevel(Cell, u32),
     Store(Cell, u32, u32),
     StoreHalf(Cell, u32, u16),
-    /// From the one to the other, a number of words.
+    /// Copies from the first cell to the second; last, how many words.
     Copy(Cell, Cell, u32),
-    /// So many halves from one on become 0.
+    /// The index of the first half, and how many halves become 0.
     ZeroHalves(Cell, u32, u32),
-    /// Halves from one on.
+    /// The index of the first half, and the halves that are written.
     WriteHalves(Cell, u32, &'static [u16]),
-    /// From a half of the one to a half of the other, a number of halves.
+    /// Copies from a half of the first cell to a half of the second; last, how many halves.
     CopyHalves(Cell, u32, Cell, u32, u32),
-    /// A word of the payload.
+    /// The index of a word of the payload, and the word.
     Word(Cell, u32, u32),
     /// The payload has no such word.
     NoWord(Cell, u32),
     Half(Cell, u32, u16),
     PlaceFor(u32, u32),
     PlaceForRealloc(Cell, u32, u32),
-    /// The usable length.
+    /// The length of the cell's payload, in bytes.
     AllocLen(Cell, u32),
     /// The cell's length and its level.
     Header(Cell, u32, u32),
-    /// Nothing is known of a pointer that names no cell.
+    /// The pointer names no cell, so it has no header.
     NoHeader(Cell),
-    /// The first cell from a place on.
+    /// The first live cell that begins at a place or above it.
     NextLive(u32, Cell),
     NoneLive(u32),
     /// Live cells, their bytes, and the committed length.
@@ -70,11 +70,11 @@ pub(crate) enum Call {
     Held(u32),
 }
 
-/// A heap of some limit and shape, by calls that are made of it after its first attempt, for the cleanup stack's 144 bytes
-/// at place 0.
+/// A heap of a limit and a shape, and the calls that are made on it after its first attempt, which gets the cleanup stack's cell of 144
+/// bytes at place 0.
 #[derive(Clone, Copy)]
 pub(crate) struct WorkedHeap {
-    /// What it shows.
+    /// What the calls show.
     pub(crate) about: &'static str,
     pub(crate) limit: u32,
     pub(crate) shape: Shape,
@@ -130,7 +130,7 @@ impl Called for Numbered {
         }
     }
 
-    /// A copy over the memory of a heap that is done with.
+    /// A copy over the memory of `spare`, a heap that is no longer needed.
     fn try_copy_over(&self, spare: Numbered) -> Result<Numbered, HeapFault> {
         match self.heap.try_copy_over(Some(spare.heap)) {
             Ok(heap) => Ok(Numbered {
@@ -156,7 +156,7 @@ impl Numbered {
         Ok(numbered)
     }
 
-    /// The same of a call that writes halves of a payload.
+    /// Whether a call that writes halves of a payload gives its answer, or one of the calls below.
     fn writes_halves(&mut self, call: Call) -> bool {
         match call {
             Call::StoreHalf(cell, i, v) => self.store_half(pointer(cell), i, v),
@@ -169,7 +169,7 @@ impl Numbered {
         }
     }
 
-    /// The same of a call that changes nothing.
+    /// Whether a call that changes nothing and reads one cell gives its answer, or one of the calls below.
     fn tells(&self, call: Call) -> bool {
         match call {
             Call::Word(cell, i, v) => self.word(pointer(cell), i) == Some(v),
@@ -189,7 +189,7 @@ impl Numbered {
         }
     }
 
-    /// The same of a call that asks for more than one cell.
+    /// Whether a call that finds no cell, or looks at the whole heap, gives its answer.
     fn tells_of_all(&self, call: Call) -> bool {
         match call {
             Call::NoHeader(cell) => {
@@ -212,7 +212,7 @@ impl Numbered {
         }
     }
 
-    /// An attempt for a raw cell of this length.
+    /// An attempt to get a raw cell of this length.
     fn grant(&mut self, length: u32) -> Result<Ptr, HeapFault> {
         if !is_cell_length(length) {
             return Err(HeapFault::BadShape);
@@ -240,7 +240,7 @@ impl Numbered {
         granted
     }
 
-    /// Puts a cell under a level, where there is one.
+    /// Gives a cell another level. Returns whether there is such a cell.
     fn put_under(&mut self, ptr: Ptr, level: u32) -> bool {
         match self.heap.header(ptr) {
             Some(_) => {
@@ -256,7 +256,7 @@ impl Numbered {
         self.heap.free(ptr)
     }
 
-    /// Stores a word, where there is one.
+    /// Stores a word. Returns whether the payload has such a word.
     fn store(&mut self, ptr: Ptr, i: u32, v: u32) -> bool {
         match self.heap.header(ptr) {
             Some(header) if i < header.words() => {
@@ -267,7 +267,7 @@ impl Numbered {
         }
     }
 
-    /// Stores a half of a word, where there is one.
+    /// Stores a half of a word. Returns whether the payload has such a half.
     fn store_half(&mut self, ptr: Ptr, i: u32, v: u16) -> bool {
         match self.heap.header(ptr) {
             Some(header) if i < 2 * header.words() => {
@@ -278,7 +278,7 @@ impl Numbered {
         }
     }
 
-    /// Copies `n` words, where both payloads have them.
+    /// Copies `n` words. Returns whether both payloads have that many.
     fn copy(&mut self, from: Ptr, to: Ptr, n: u32) -> bool {
         match (self.heap.header(from), self.heap.header(to)) {
             (Some(source), Some(target)) if n <= source.words() && n <= target.words() => {
@@ -289,7 +289,7 @@ impl Numbered {
         }
     }
 
-    /// Makes halves 0, if there are that many.
+    /// Sets `n` halves to 0. Returns whether the payload has that many from index `i` on.
     fn zero_halves(&mut self, ptr: Ptr, i: u32, n: u32) -> bool {
         match self.heap.header(ptr) {
             Some(header) if i <= 2 * header.words() && n <= 2 * header.words() - i => {
@@ -300,7 +300,7 @@ impl Numbered {
         }
     }
 
-    /// Writes halves, if there are that many.
+    /// Writes halves. Returns whether the payload has that many from index `i` on.
     fn write_halves(&mut self, ptr: Ptr, i: u32, halves: &[u16]) -> bool {
         match self.heap.header(ptr) {
             Some(header) if i <= 2 * header.words() => {
@@ -314,7 +314,7 @@ impl Numbered {
         }
     }
 
-    /// Copies `n` halves, where both payloads have them.
+    /// Copies `n` halves. Returns whether both payloads have that many from the two indexes on.
     fn copy_halves(&mut self, from: Ptr, fi: u32, to: Ptr, ti: u32, n: u32) -> bool {
         let (Some(source), Some(target)) = (self.heap.header(from), self.heap.header(to)) else {
             return false;
@@ -327,7 +327,7 @@ impl Numbered {
         true
     }
 
-    /// A word of a payload, where there is one.
+    /// A word of a payload, or `None` if the payload has no such word.
     fn word(&self, ptr: Ptr, i: u32) -> Option<u32> {
         match self.heap.header(ptr) {
             Some(header) if i < header.words() => Some(self.heap.payload(ptr, i)),
@@ -335,7 +335,7 @@ impl Numbered {
         }
     }
 
-    /// A half of a payload's words, where there is one.
+    /// A half of a payload's words, or `None` if the payload has no such half.
     fn half(&self, ptr: Ptr, i: u32) -> Option<u16> {
         match self.heap.header(ptr) {
             Some(header) if i < 2 * header.words() => Some(self.heap.payload_half(ptr, i)),
@@ -343,7 +343,7 @@ impl Numbered {
         }
     }
 
-    /// Where a cell goes that is to be so long, where it is shorter.
+    /// The place that a cell gets if it grows to `length` bytes, or `None` if there is no such cell or it is that long already.
     fn longer_place(&self, ptr: Ptr, length: u32) -> Option<u32> {
         match self.heap.header(ptr) {
             Some(cell) if cell.length < length && is_cell_length(length) => Some(
@@ -365,7 +365,7 @@ pub(crate) fn header(cell: Cell, length: u32, level: u32) -> Header {
     }
 }
 
-/// Whether a cell may be so long.
+/// Whether a cell may be `length` bytes long.
 fn is_cell_length(length: u32) -> bool
     ensures { IsTrue result → IsCellLength length }
 {

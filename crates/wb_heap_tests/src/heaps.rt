@@ -190,7 +190,7 @@ static GRANTS_AND_RELEASES: [WorkedHeap; 10] = [
     },
 ];
 
-/// Where cells go that get longer, what they hold then, and what shorter ones leave.
+/// Where cells go that grow, what they hold afterwards, and what cells that shrink leave.
 static REALLOCATIONS: [WorkedHeap; 9] = [
     WorkedHeap {
         about: "a cell grows into a hole that just fits",

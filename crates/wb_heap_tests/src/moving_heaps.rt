@@ -1,11 +1,11 @@
-//! `wb_rheap`: worked heaps in which a cell that is to be longer moves.
+//! `wb_rheap`: worked heaps in which each cell that grows moves.
 
 use crate::heap_calls::{Call, WorkedHeap, first_other};
 use crate::shapes::MOVING;
 use std::test::Fail;
 use wb_rheap::HeapFault;
 
-/// Where cells go that get longer, though each time the bytes after them are free.
+/// Where cells go that grow, though the bytes after them are free each time.
 static MOVES: [WorkedHeap; 2] = [
     WorkedHeap {
         about: "a cell that has room moves, and a lower hole takes it back",

@@ -1,10 +1,10 @@
-//! Rules as rows of tables name them: a static has no list of its own, but may borrow one.
+//! Rules as the tests' tables name them. A static can't own a list, as a [`Rule`] may, but it can borrow one.
 
 use std::alloc::Global;
 use wb_model::heap::{Numbers, Rule};
 use wb_model::memory::NoMemory;
 
-/// Which attempts are refused.
+/// Which attempts are denied or made to fail.
 #[derive(Clone, Copy)]
 pub(crate) enum Refuses {
     Nothing,

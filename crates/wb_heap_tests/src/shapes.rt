@@ -1,29 +1,29 @@
-//! Shapes of heaps that tables name. In each of them but the last a cell stays where it can.
+//! Shapes of heaps that the tests' tables name. In all but the last, a cell that grows stays at its place if it can.
 
 use wb_model::heap::Shape;
 
-/// That of most heaps here.
+/// The shape of most heaps in the tables.
 pub(crate) const SHAPE: Shape = Shape {
     min: 0,
     step: 4096,
     moving: false,
 };
 
-/// The heap grows by as little as any may.
+/// The heap has the least growth step that a heap may have.
 pub(crate) const SMALL_STEP: Shape = Shape {
     min: 0,
     step: 16,
     moving: false,
 };
 
-/// The heap has a minimum length, and grows by less than that.
+/// The heap has a least length, and a growth step that is less.
 pub(crate) const WITH_MINIMUM: Shape = Shape {
     min: 256,
     step: 64,
     moving: false,
 };
 
-/// The heap grows by as little as any may, and a cell that is to be longer moves.
+/// The heap has the least growth step that a heap may have, and each cell that grows moves.
 pub(crate) const MOVING: Shape = Shape {
     min: 0,
     step: 16,

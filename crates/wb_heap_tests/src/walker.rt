@@ -1,6 +1,6 @@
 //! Walks tables of calls. Beside each call stands the answer that it must give.
 
-/// A heap of which calls are made.
+/// A heap on which calls are made.
 pub(crate) trait Called: Drop {
     /// A call, and the answer that it must give.
     type Call: Copy;
@@ -13,7 +13,7 @@ pub(crate) trait Called: Drop {
 
     fn try_copy(&self) -> Result<Self, Self::Fault>;
 
-    /// A copy over the memory of a heap that is done with.
+    /// A copy over the memory of `spare`, a heap that is no longer needed.
     fn try_copy_over(&self, spare: Self) -> Result<Self, Self::Fault>;
 }
 

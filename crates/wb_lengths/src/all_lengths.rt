@@ -1,4 +1,4 @@
-//! How the runs of a script end in heaps of every length, by whole runs from the longest heap down.
+//! How the runs of a script end in heaps of every length, found by whole runs from the longest heap down.
 
 ghost use Rattle.std.specs.Prelude.{◌≡◌, ◌≢◌, ◌↔◌, ◌+◌, ◌-◌, ◌<◌, ◌≤◌, None, false, IfOk, IfSome, IsTrue};
 ghost use Rattle.wb_model.specs.heap.Space.{is_shape};
@@ -22,7 +22,7 @@ use wb_model::run::RunResult;
 use wb_model::run_end::RunEnd;
 use wb_model::script::Script;
 
-/// The least length of heap whose run leaks or panics, in bytes, and that run.
+/// The least length of heap whose run leaks or panics, in bytes, and the result of that run.
 #[derive(Debug, Drop)]
 pub struct BadLength {
     pub length: u32,
@@ -33,19 +33,20 @@ pub struct BadLength {
 #[derive(Debug, Drop)]
 pub struct LengthFindings {
     pub table: LengthTable,
-    /// `None` if no length's run leaks or panics.
+    /// The least length whose run leaks or panics; `None` if there is no such length.
     pub bad: Option<BadLength>,
     /// Whether the run of some length is cut.
     pub is_cut: bool,
 }
 
-/// How the runs of a script end in heaps of all lengths from 0 to the ceiling, and the least of these lengths whose run leaks or
-/// panics, with that run. Runs that are cut by the budget, which counts steps, are ranges like others. `BadShape` comes exactly where
-/// the shape is none that a heap may have, and before `NoMemory`. `progress` is notified of each run that the table is made of.
+/// Finds how the runs of a script end in heaps of all lengths from 0 to the ceiling, 16 MiB, and the least of these lengths whose run leaks
+/// or panics, with the result of that run. Lengths whose runs are cut at the budget, a number of steps, make ranges of the table like
+/// others. `BadShape` is returned exactly if no heap may have this shape, even if memory would run out as well. `progress` is notified of
+/// each run from which the table is made.
 ///
-/// One run answers for many lengths: what a heap refuses ends past it, so a run in which no granted cell ends past a shorter
-/// length is the run in a heap of that length too, but for notes. So there is one run for each range of lengths whose runs have the
-/// same trace, and one more for the length that is found, if there is one.
+/// One run answers for many lengths. A cell that a heap denies would end past that heap, so if no granted cell of a run ends past some
+/// shorter length, the run in a heap of that shorter length is the same except for notes. So one run is made for each range of lengths
+/// whose runs have the same trace, and one more for the least length whose run leaks or panics, if there is one.
 pub fn lengths<P: Progress>(
     alloc: Global,
     script: &Script,
@@ -65,8 +66,8 @@ pub fn lengths<P: Progress>(
     found
 }
 
-/// The table alone, without any report of progress. `steps` bounds the steps of all runs together: `None` comes where they would
-/// take more. That it comes nowhere else is in no clause.
+/// Makes the table alone, without any report of progress. `steps` bounds the steps of all runs together: returns `None` if they would take
+/// more. No clause says that `None` is returned in no other case.
 pub fn lengths_within(
     alloc: Global,
     script: &Script,
@@ -85,7 +86,7 @@ pub fn lengths_within(
     find_table(&mut runs, script, budget, shape, &mut Silent)
 }
 
-/// The table, of all lengths, and what it shows.
+/// Makes the table of all lengths, and finds what it shows: the least length whose run leaks or panics, and whether a run is cut.
 fn find_lengths<P: Progress>(
     alloc: Global,
     script: &Script,
@@ -106,12 +107,12 @@ fn find_lengths<P: Progress>(
             is_cut: has_cut(&table),
             table,
         }),
-        // Only a bound on the steps gives a table up.
+        // `find_table` returns `None` only if the steps are bounded, and here they aren't.
         None => unreachable!(),
     }
 }
 
-/// The least length whose run leaks or panics by this table, and that run.
+/// The least length whose run leaks or panics, by this table, and the result of that run; `None` if there is no such length.
 fn find_bad(
     alloc: Global,
     script: &Script,
@@ -135,7 +136,7 @@ fn find_bad(
     Ok(Some(BadLength { length, result }))
 }
 
-/// Where the first range begins whose runs leak or panic, in bytes; `None` if there is no such range.
+/// The least length, in bytes, of the first range whose runs leak or panic; `None` if there is no such range.
 fn first_bad(table: &LengthTable) -> Option<u32>
     ensures { result ≡ first_bad table.now }
 {
@@ -147,7 +148,7 @@ fn first_bad(table: &LengthTable) -> Option<u32>
     None
 }
 
-/// Whether the runs of a range are cut.
+/// Whether the runs of some range are cut.
 fn has_cut(table: &LengthTable) -> bool
     ensures { result ≡ has_cut table.now }
 {
@@ -159,7 +160,7 @@ fn has_cut(table: &LengthTable) -> bool
     false
 }
 
-/// The table of all lengths; `None` if the runs take more steps than are left to them.
+/// Makes the table of all lengths; returns `None` if the runs take more steps than are left.
 fn find_table<P: Progress>(
     runs: &mut HeapRuns,
     script: &Script,
@@ -187,8 +188,8 @@ fn find_table<P: Progress>(
     Ok(Some(table.into_table()))
 }
 
-/// Puts the lengths below one, from where the runs end alike, before the others, and returns the least of them, in bytes; `None` if the
-/// run takes more steps than are left.
+/// Makes the run in a heap that is one byte shorter than `next`, and puts the range of the lengths below `next` for which this run answers
+/// before the other ranges. Returns the least length of the new range, in bytes; `None` if the run takes more steps than are left.
 fn put_lengths_below(
     runs: &mut HeapRuns,
     table: &mut TableSoFar,

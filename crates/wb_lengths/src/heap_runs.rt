@@ -16,18 +16,18 @@ use wb_model::memory::NoMemory;
 use wb_model::run::RunResult;
 use wb_model::script::Script;
 
-/// What runs that are made one after another share.
+/// What the runs that are made one after another share.
 #[derive(Drop)]
 pub(crate) struct HeapRuns {
     pub(crate) alloc: Global,
-    /// The heap of the run before, whose memory the next one takes.
+    /// The heap of the run before, whose memory the next run takes over.
     pub(crate) spare: Option<Heap>,
-    /// How many steps they may still take, all together; `None` if as many as they want.
+    /// How many steps the runs still to be made may take together; `None` if there is no bound.
     pub(crate) steps_left: Option<u32>,
 }
 
 impl HeapRuns {
-    /// No run yet.
+    /// Before the first run.
     pub(crate) fn new(alloc: Global, steps_left: Option<u32>) -> HeapRuns
         ensures { result.steps_left ≡ steps_left }
     {
@@ -38,7 +38,7 @@ impl HeapRuns {
         }
     }
 
-    /// The run in a heap of this length, in bytes; `None` if it takes more steps than are left.
+    /// Makes the run in a heap of this length, in bytes; returns `None` if it takes more steps than are left.
     pub(crate) fn run(
         &mut self,
         script: &Script,
@@ -70,7 +70,7 @@ impl HeapRuns {
     }
 }
 
-/// How many steps are left of these, if there is a bound, once so many more were taken.
+/// How many steps are left after a run that took `taken` steps, if `left` steps were left before it; `None` if there is no bound.
 fn steps_after(left: Option<u32>, taken: u32) -> Option<u32>
     ensures { result ≡ steps_after taken left }
 {
@@ -80,7 +80,7 @@ fn steps_after(left: Option<u32>, taken: u32) -> Option<u32>
     }
 }
 
-/// What the machine leaves at the end of its run; `None` if that takes more steps than these.
+/// Finishes the run of the machine, and returns what the machine leaves; `None` if there is a bound and the run takes more steps.
 fn finish_within(machine: Machine, left: Option<u32>) -> Result<Option<Finished>, NoMemory>
     requires lines { machine.keeps_rises ≡ false }
     ensures ran { IfOk result (λ found. IfSome found (λ finished. finished.result
@@ -93,7 +93,7 @@ fn finish_within(machine: Machine, left: Option<u32>) -> Result<Option<Finished>
     }
 }
 
-/// The same, of a bound that there is.
+/// Finishes the run of the machine, and returns what the machine leaves; `None` if the run takes more than `steps` steps.
 fn finish_within_steps(mut machine: Machine, steps: u32) -> Result<Option<Finished>, NoMemory>
     requires lines { machine.keeps_rises ≡ false }
     ensures ran { IfOk result (λ found. IfSome found (λ finished. finished.result
@@ -101,7 +101,8 @@ fn finish_within_steps(mut machine: Machine, steps: u32) -> Result<Option<Finish
     ensures within { IfOk result (λ found. IfSome found (λ finished.
         finished.result.steps ≤ steps)) }
 {
-    // The first turn counts no step, nor does one that cuts the run at its budget.
+    // The first machine turn counts no step, and neither does one that cuts the run at its budget, so there may be two machine turns more
+    // than steps.
     for _turn in 0..u64::from(steps) + 2 {
         if machine.step()? == Turn::Ended {
             return finish_if_within(machine, steps);
@@ -110,7 +111,7 @@ fn finish_within_steps(mut machine: Machine, steps: u32) -> Result<Option<Finish
     Ok(None)
 }
 
-/// What the machine leaves at the end of its run; `None` if that took more steps than these.
+/// Returns what the machine leaves after a run that has ended; `None` if the run took more than `steps` steps.
 fn finish_if_within(machine: Machine, steps: u32) -> Result<Option<Finished>, NoMemory>
     requires lines { machine.keeps_rises ≡ false }
     ensures ran { IfOk result (λ found. IfSome found (λ finished. finished.result

@@ -11,7 +11,7 @@ ghost use Rattle.wb_lengths.specs.Walk.{GrantsWithin};
 use wb_model::heap::{Answer, Attempt};
 use wb_model::run::Trace;
 
-/// The greatest end of a granted cell, in bytes from the heap's start; 0 if none is granted.
+/// The greatest end of a granted cell in a trace, in bytes from the heap's start; 0 if no attempt is granted.
 pub(crate) fn highest_end(trace: &Trace) -> u32
     requires { GrantsWithin CEILING trace.now }
     ensures { result ≡ highest_end trace.now }
@@ -23,7 +23,7 @@ pub(crate) fn highest_end(trace: &Trace) -> u32
     highest
 }
 
-/// Where the cell of an attempt ends, in bytes; 0 if it isn't granted.
+/// Where the cell of an attempt ends, in bytes from the heap's start; 0 if the attempt isn't granted.
 fn granted_end(attempt: &Attempt) -> u32
     requires { attempt.now.answer ≡ Granted → end_of_attempt attempt.now ≤ CEILING }
     ensures { result ≡ end_of_line attempt.now }

@@ -1,4 +1,4 @@
-//! A table of lengths that is made from its end on.
+//! A table of lengths that is made backwards, from its last range to its first.
 
 ghost use Rattle.std.specs.Option.{option_to_list};
 ghost use Rattle.std.specs.Prelude.{◌≡◌, [], ◌∷◌, ◌++◌, None, OnOk};
@@ -11,7 +11,8 @@ use wb_model::lengths::{LengthRange, LengthTable};
 use wb_model::memory::NoMemory;
 use wb_model::run_end::RunEnd;
 
-/// The last ranges of a table, of which the first one is at the end of the `Vec`. Contracts see them in their order in the table.
+/// The last ranges of a table, those found so far. The `Vec` holds them in reverse order, so the first range is its last element; contracts
+/// see the ranges in the order of the table.
 #[derive(Drop)]
 pub(crate) struct TableSoFar {
     ranges: Vec<LengthRange>,
@@ -27,7 +28,7 @@ impl Model for TableSoFar {
 }
 
 impl TableSoFar {
-    /// No range. It takes no memory.
+    /// No ranges yet, which takes no memory.
     pub(crate) fn new(alloc: Global) -> TableSoFar
         ensures { result ≡ [] }
     {
@@ -36,8 +37,8 @@ impl TableSoFar {
         }
     }
 
-    /// Puts a range before the others; if the first of these ends alike, both become one. On `Err` memory was refused, and the table
-    /// is no longer right.
+    /// Puts a range before the others. If its runs end as those of the next range do, the two ranges become one. On `Err` memory ran out,
+    /// and the table is no longer right.
     pub(crate) fn put_before(&mut self, from: u32, end: RunEnd) -> Result<(), NoMemory>
         ensures { OnOk result (IsPutBefore (range from end) self.old self.new) }
     {
@@ -52,7 +53,7 @@ impl TableSoFar {
         }
     }
 
-    /// Takes the first range off; `None` if there is none.
+    /// Takes the first range off the table; returns `None` if there is no range.
     fn take_first(&mut self) -> Option<LengthRange>
         ensures first { self.old ≡ option_to_list result ++ self.new }
         ensures none { result ≡ None → self.old ≡ [] }
@@ -60,14 +61,14 @@ impl TableSoFar {
         self.ranges.pop()
     }
 
-    /// Puts a range before the others as it is.
+    /// Puts a range before the others, without joining it to the next.
     fn put_first(&mut self, range: LengthRange) -> Result<(), NoMemory>
         ensures { OnOk result (self.new ≡ range ∷ self.old) }
     {
         self.ranges.push(range).map_err(|_| NoMemory)
     }
 
-    /// The ranges in their order.
+    /// The ranges as a table, in ascending order.
     pub(crate) fn into_table(mut self) -> LengthTable
         ensures { result ≡ self }
     {

@@ -1,4 +1,4 @@
-//! Bytes of which no script is made: too many, or ones that no line holds.
+//! Bytes that can't be a script: there are too many, or one of them is a byte that no line holds.
 
 ghost use Rattle.std.specs.Prelude.{◌≡◌, false};
 ghost use Rattle.std.specs.List.{list_any};
@@ -6,14 +6,14 @@ ghost use Rattle.wb_model.specs.language.Lines.{is_foreign, first_foreign_line, 
 
 use wb_model::limits::LONGEST_SCRIPT;
 
-/// More bytes than a script may have.
+/// Whether there are more bytes than a script may have.
 pub fn is_too_long(bytes: &[u8]) -> bool
     ensures { result ≡ is_too_long bytes.now }
 {
     bytes.len() > LONGEST_SCRIPT as usize
 }
 
-/// Whether a byte is none that may be in a line or end one. Nothing here is a branch, so that many bytes are looked at in one step.
+/// Whether a byte can neither be in a line nor end a line. The code has no branch, so that many bytes can be tested in one instruction.
 pub fn is_foreign(byte: u8) -> bool
     ensures { result ≡ is_foreign byte }
 {
@@ -21,7 +21,7 @@ pub fn is_foreign(byte: u8) -> bool
     !(is_printable | (byte == b'\t') | (byte == b'\n') | (byte == b'\r'))
 }
 
-/// Whether a byte is one that no line holds. All bytes are looked at, many at a time.
+/// Whether one of the bytes can neither be in a line nor end a line. All bytes are tested, many at a time.
 fn has_foreign(bytes: &[u8]) -> bool
     ensures { result ≡ list_any is_foreign bytes.now }
 {
@@ -32,8 +32,8 @@ fn has_foreign(bytes: &[u8]) -> bool
     found
 }
 
-/// The number of the first line that holds a byte other than a tab, a carriage return or printable
-/// ASCII; lines count from 1.
+/// The number of the first line that holds a byte other than a tab, a carriage return or printable ASCII; `None` if no line does. Lines
+/// count from 1.
 pub fn first_foreign_line(bytes: &[u8]) -> Option<u32>
     requires { is_too_long bytes.now ≡ false }
     ensures { result ≡ first_foreign_line bytes.now }

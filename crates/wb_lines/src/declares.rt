@@ -1,4 +1,4 @@
-//! What a line declares, by its form alone: a class, a procedure or an operation, a local, parameters, or what its body is of.
+//! What a line declares or begins, by its form alone: a class, a procedure, an operation, a local, parameters, or a kind of body.
 
 ghost use Rattle.std.specs.Prelude.{◌≡◌};
 ghost use Rattle.std.specs.Option.{option_map, option_to_list};
@@ -13,7 +13,7 @@ use wb_model::script_lines::{
     BodyKind, Form, ItemKind, LineKind, LocalKind, Operand, ParameterType,
 };
 
-/// Which of a class, a procedure and an operation a line of a line kind begins; `None` if it begins none of these.
+/// Which of a class, a procedure and an operation a line of this kind begins; `None` if it begins none of these.
 fn item_kind_of(line_kind: LineKind) -> Option<ItemKind>
     ensures { result ≡ item_kind_of line_kind }
 {
@@ -35,7 +35,7 @@ pub fn item_kind_in(form: &Form<&[u8]>) -> Option<ItemKind>
     }
 }
 
-/// The name that the first operand of a line is: what a line declares, if it declares anything; `None` if it is no name.
+/// The name that is the first operand of a line; `None` if the first operand is no name. If the line declares a name, it is this one.
 pub fn first_name<'a>(form: &Form<&'a [u8]>) -> Option<&'a [u8]>
     ensures { option_to_list (option_map bytes_of_text result)
         ≡ first_name (bytes_of_form form.now) }
@@ -49,7 +49,7 @@ pub fn first_name<'a>(form: &Form<&'a [u8]>) -> Option<&'a [u8]>
     }
 }
 
-/// The name that the second operand is; `None` if it is no name.
+/// The name that is the second operand of a line; `None` if the second operand is no name.
 fn second_name<'a>(operands: &[Operand<&'a [u8]>]) -> Option<&'a [u8]>
     ensures { option_map bytes_of_text result ≡ second_name (bytes_of_operands operands.now) }
 {
@@ -59,7 +59,7 @@ fn second_name<'a>(operands: &[Operand<&'a [u8]>]) -> Option<&'a [u8]>
     }
 }
 
-/// What the local holds that a line of a line kind declares; `None` if it declares none.
+/// What is held by the local that a line of this kind, with these operands, declares; `None` if such a line declares no local.
 fn local_kind_of<'a>(
     line_kind: LineKind,
     operands: &[Operand<&'a [u8]>],
@@ -77,7 +77,8 @@ fn local_kind_of<'a>(
     }
 }
 
-/// What the local holds that a line declares; `None` if it declares none, as the first line of a body with its parameters.
+/// What is held by the local that a line declares; `None` if the line declares no local. Parameters, which the first line of a body
+/// declares, don't count here.
 pub fn local_kind_in<'a>(form: &Form<&'a [u8]>) -> Option<LocalKind<&'a [u8]>>
     ensures { option_map bytes_of_kind result ≡ local_kind_in (bytes_of_form form.now) }
 {
@@ -99,7 +100,7 @@ pub fn kind_of_parameter<'a>(parameter_type: ParameterType<&'a [u8]>) -> LocalKi
     }
 }
 
-/// What a parameter takes; `None` if the operand is none.
+/// What a parameter takes; `None` if the operand declares no parameter.
 pub fn parameter_type_of<'a>(operand: &Operand<&'a [u8]>) -> Option<ParameterType<&'a [u8]>>
     ensures { option_to_list (option_map (renamed_parameter_type bytes_of_text) result)
         ≡ parameter_type_of (bytes_of_operand operand.now) }
@@ -110,7 +111,7 @@ pub fn parameter_type_of<'a>(operand: &Operand<&'a [u8]>) -> Option<ParameterTyp
     }
 }
 
-/// What the body is of that a line of a line kind begins; `None` if it begins none.
+/// The kind of body that a line of this kind begins; `None` if it begins no body.
 fn body_kind_of(line_kind: LineKind) -> Option<BodyKind>
     ensures { result ≡ body_kind_of line_kind }
 {
@@ -123,7 +124,7 @@ fn body_kind_of(line_kind: LineKind) -> Option<BodyKind>
     }
 }
 
-/// What the body is of that a line begins; `None` if it begins none.
+/// The kind of body that a line begins; `None` if it begins no body.
 pub fn body_in(form: &Form<&[u8]>) -> Option<BodyKind>
     ensures { result ≡ body_in (bytes_of_form form.now) }
 {

@@ -1,4 +1,4 @@
-//! What a line says: the first line kind whose text and operand places fit its words, and its operands.
+//! The form of a line: the first line kind whose text and operand places fit the words of the line, and the operands of the line.
 
 ghost use Rattle.std.specs.Prelude.{◌≡◌, ◌<◌, ℕ, [], ◌∷◌, ◌++◌, length, slice_get, IfOk, IfErr, OnOk};
 ghost use Rattle.std.specs.Option.{option_and_then, option_map};
@@ -27,7 +27,7 @@ use wb_model::script_lines::{
     Form, Keyword, LineKind, Operand, OperandPlace, ParameterType, Role, WordKind,
 };
 
-/// A name, where there is one.
+/// A name as an operand; `None` if there is no name.
 fn name_operand<'a>(name: Option<&'a [u8]>) -> Option<Operand<&'a [u8]>>
     ensures { option_map bytes_of_operand result
         ≡ option_map Name (option_map bytes_of_text name.entry) }
@@ -38,7 +38,7 @@ fn name_operand<'a>(name: Option<&'a [u8]>) -> Option<Operand<&'a [u8]>>
     }
 }
 
-/// A field, where there is what holds a pointer and the field's own name.
+/// A field as an operand; `None` if the name before the dot or the name of the field is missing.
 fn field_operand<'a>(base: Option<&'a [u8]>, field: Option<&'a [u8]>) -> Option<Operand<&'a [u8]>>
     ensures { option_map bytes_of_operand result
         ≡ field_of (option_map bytes_of_text base.entry) (option_map bytes_of_text field.entry) }
@@ -49,7 +49,7 @@ fn field_operand<'a>(base: Option<&'a [u8]>, field: Option<&'a [u8]>) -> Option<
     }
 }
 
-/// A number, where there is one.
+/// A number as an operand; `None` if there is no number.
 fn number_operand<'a>(number: Option<i32>) -> Option<Operand<&'a [u8]>>
     ensures { option_map bytes_of_operand result ≡ option_map Number number }
 {
@@ -59,7 +59,7 @@ fn number_operand<'a>(number: Option<i32>) -> Option<Operand<&'a [u8]>>
     }
 }
 
-/// A size, where there is a number that isn't negative.
+/// A number as an operand that is a size; `None` if there is no number, or it is negative.
 fn size_operand<'a>(number: Option<i32>) -> Option<Operand<&'a [u8]>>
     ensures { option_map bytes_of_operand result ≡ size_of number }
 {
@@ -69,7 +69,7 @@ fn size_operand<'a>(number: Option<i32>) -> Option<Operand<&'a [u8]>>
     }
 }
 
-/// A literal, where there is its text.
+/// A literal as an operand; `None` if there is no text.
 fn literal_operand<'a>(text: Option<&'a [u8]>) -> Option<Operand<&'a [u8]>>
     ensures { option_map bytes_of_operand result
         ≡ option_map Literal (option_map bytes_of_text text.entry) }
@@ -80,7 +80,7 @@ fn literal_operand<'a>(text: Option<&'a [u8]>) -> Option<Operand<&'a [u8]>>
     }
 }
 
-/// A parameter, where there is a name and what it takes.
+/// A parameter as an operand; `None` if its name or what it takes is missing.
 fn parameter_operand<'a>(
     name: Option<&'a [u8]>,
     parameter_type: Option<ParameterType<&'a [u8]>>,
@@ -95,7 +95,7 @@ fn parameter_operand<'a>(
     }
 }
 
-/// A word of the line's own.
+/// A keyword as an operand; `None` if the word isn't this keyword.
 fn keyword_as<'a>(keyword: Keyword, word: &[u8]) -> Option<Operand<&'a [u8]>>
     ensures { option_map bytes_of_operand result ≡ operand_as (kind.Keyword keyword) word.now }
 {
@@ -106,7 +106,7 @@ fn keyword_as<'a>(keyword: Keyword, word: &[u8]) -> Option<Operand<&'a [u8]>>
     }
 }
 
-/// The operand that a word of a kind is.
+/// A word as an operand, read as a word of this kind; `None` if it isn't of this kind.
 fn operand_as<'a>(kind: WordKind, word: &'a [u8]) -> Option<Operand<&'a [u8]>>
     ensures { option_map bytes_of_operand result ≡ operand_as kind word.now }
 {
@@ -129,7 +129,7 @@ fn operand_as<'a>(kind: WordKind, word: &'a [u8]) -> Option<Operand<&'a [u8]>>
     }
 }
 
-/// The operand by the first of the kinds that the word is of.
+/// A word as an operand, read as a word of the first of these kinds that it is of; `None` if it is of none of them.
 fn operand_among<'a>(kinds: &[WordKind], word: &'a [u8]) -> Option<Operand<&'a [u8]>>
     ensures { option_map bytes_of_operand result ≡ operand_among kinds.now word.now }
 {
@@ -142,14 +142,15 @@ fn operand_among<'a>(kinds: &[WordKind], word: &'a [u8]) -> Option<Operand<&'a [
     None
 }
 
-/// What a word is in a place of a line.
+/// A word as an operand in this operand place; `None` if the word isn't grammatical there.
 pub fn operand_of<'a>(operand_place: OperandPlace, word: &'a [u8]) -> Option<Operand<&'a [u8]>>
     ensures { option_map bytes_of_operand result ≡ operand_of operand_place word.now }
 {
     operand_among(word_kinds(operand_place), word)
 }
 
-/// What a word is by its index after a line kind; `None` if there is no such word.
+/// A word as an operand, by its index among the words after the first word of the line; `None` if there is no operand place with this
+/// index, or the word isn't grammatical there.
 fn operand_at<'a>(
     operand_places: OperandPlaces,
     index: usize,
@@ -167,7 +168,8 @@ fn operand_at<'a>(
     }
 }
 
-/// What the words after a line kind are; `None` if they do not fit. Memory is asked for only if there may be that many words.
+/// The words after the first word of a line, as operands in these places; `None` if they don't fit. Memory is asked for only if the places
+/// admit this number of words.
 fn operands_of<'a>(
     alloc: Global,
     operand_places: OperandPlaces,
@@ -193,7 +195,8 @@ fn operands_of<'a>(
     Ok(Some(found))
 }
 
-/// The operands of a line kind whose text the first word is; `None` if a word does not fit.
+/// The operands of a line of this kind, by its first word and the words after it; `None` if the first word isn't the text of the line kind,
+/// or the other words don't fit.
 fn operands_if<'a>(
     alloc: Global,
     line_kind: LineKind,
@@ -211,7 +214,7 @@ fn operands_if<'a>(
     }
 }
 
-/// The line of the first of the line kinds that fits a first word and the words after it.
+/// The form of a line by the first of these line kinds that fits its first word and the words after it; `Unknown` if none of them fits.
 fn form_in<'a>(
     alloc: Global,
     line_kinds: &[LineKind],
@@ -230,7 +233,7 @@ fn form_in<'a>(
     Ok(Form::Unknown)
 }
 
-/// The form of words that are no comment, by the tables: of the line kinds whose words begin as the first word does.
+/// The form of a line that is no comment, by the tables. Only line kinds whose text begins with the first byte of the first word are tried.
 fn form_by_tables<'a>(
     alloc: Global,
     first: &[u8],
@@ -245,14 +248,14 @@ fn form_by_tables<'a>(
     }
 }
 
-/// Whether a line whose first word this is says nothing.
+/// Whether a line with this first word is a comment.
 pub fn begins_comment(word: &[u8]) -> bool
     ensures { result ≡ begins_comment word.now }
 {
     matches!(word, [b'#', ..])
 }
 
-/// The form of the words of a line.
+/// The form of a line, by all its words.
 pub fn form_of<'a>(alloc: Global, words: &[&'a [u8]]) -> Result<Form<&'a [u8]>, AllocError>
     ensures { IfOk result (λ form. bytes_of_form form ≡ form_of (bytes_of_texts words.now)) }
 {
@@ -267,7 +270,8 @@ pub fn form_of<'a>(alloc: Global, words: &[&'a [u8]]) -> Result<Form<&'a [u8]>, 
     }
 }
 
-/// The form of a line, without its line feed. The words are made anew in what held those of another line.
+/// The form of a line, which is given without its line feed. `words` is a buffer that is used for one line after another: it is cleared and
+/// then filled with the words of this line.
 fn line_form<'a>(
     alloc: Global,
     words: &mut Vec<&'a [u8]>,
@@ -292,7 +296,8 @@ fn add_form<'a>(
     add(forms, line_form(alloc, words, line)?)
 }
 
-/// The forms of lines, one for each. It is never inlined: what is at hand for each line is the most that registers hold.
+/// The forms of lines, one for each line. The function is never inlined, since the values that it uses for each line just fit into the
+/// registers.
 #[inline(never)]
 pub fn forms<'a>(alloc: Global, lines: &[&'a [u8]]) -> Result<Vec<Form<&'a [u8]>>, AllocError>
     ensures { IfOk result (λ found.
@@ -306,7 +311,7 @@ pub fn forms<'a>(alloc: Global, lines: &[&'a [u8]]) -> Result<Vec<Form<&'a [u8]>
     Ok(found)
 }
 
-/// What a line is to the grammar of blocks.
+/// The role of a line in the grammar of blocks.
 pub fn role<N>(form: &Form<N>) -> Role
     ensures { result ≡ role_of_form form.now }
 {

@@ -1,4 +1,4 @@
-//! Which lines may leave where nothing may.
+//! Which lines count as lines that may leave, in a body that must not leave.
 
 ghost use Rattle.std.specs.Prelude.{◌≡◌};
 ghost use Rattle.wb_model.specs.language.LineKinds.{is_loud, is_outside, may_leave_in};
@@ -6,7 +6,7 @@ ghost use Rattle.wb_model.specs.language.LineKinds.{is_loud, is_outside, may_lea
 use crate::line_kinds::{is_quiet, role_of};
 use wb_model::script_lines::{BodyKind, LineKind, Role};
 
-/// Whether a line of a line kind is one of the script or of a class, and of no body.
+/// Whether lines of this kind belong to the script or to a class, and not to a body.
 fn is_outside(line_kind: LineKind) -> bool
     ensures { result ≡ is_outside line_kind }
 {
@@ -22,7 +22,7 @@ fn is_loud(line_kind: LineKind) -> bool
     !(is_outside(line_kind) || is_quiet(line_kind))
 }
 
-/// Whether a line of a line kind may leave in a body that must not.
+/// Whether a line of this kind counts as one that may leave, in a body of this kind; false for bodies that are allowed to leave.
 pub fn may_leave_in(body: BodyKind, line_kind: LineKind) -> bool
     ensures { result ≡ may_leave_in body line_kind }
 {

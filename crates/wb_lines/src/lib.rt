@@ -1,5 +1,5 @@
-//! What lines are: which bytes they hold, lines and words, what a word is, the tables of the language, the one form that each
-//! line has by them, and what that form declares.
+//! The lines of a script: which bytes they may hold, how bytes are cut into lines and words, what a word is, the tables of the language,
+//! the one form that each line has by these tables, and what a form declares.
 #![tactic(auto)]
 
 pub mod bytes;

@@ -1,4 +1,4 @@
-//! The tables of the language that have a row for each line kind. No line's meaning is here.
+//! The tables of the language that have a row for each line kind. What a line means is not said here.
 
 ghost use Rattle.std.specs.Prelude.{◌≡◌};
 ghost use Rattle.wb_model.specs.language.LineKinds.{is_quiet, line_kinds, operand_places_of, rest_of, role_of};
@@ -12,7 +12,7 @@ use wb_model::script_lines::OperandPlace::{
 };
 use wb_model::script_lines::{Keyword, LineKind, OperandPlace, Role};
 
-/// Every line kind, in the order in which a line tries them.
+/// Every line kind, in the order in which they are tried on a line.
 pub fn line_kinds() -> &'static [LineKind]
     ensures { result.now ≡ line_kinds }
 {
@@ -93,7 +93,7 @@ pub fn line_kinds() -> &'static [LineKind]
     ]
 }
 
-/// The line kinds whose words begin with this byte, in the order in which a line tries them.
+/// The line kinds whose text begins with this byte, in the order in which they are tried on a line.
 pub(crate) fn line_kinds_with_first(byte: u8) -> &'static [LineKind]
     ensures { result.now ≡ line_kinds_with_first byte }
 {
@@ -258,7 +258,7 @@ pub fn text_of(line_kind: LineKind) -> &'static [u8]
     }
 }
 
-/// What follows a line kind.
+/// The operand places that every line of a line kind has, in order.
 pub fn operand_places_of(line_kind: LineKind) -> &'static [OperandPlace]
     ensures { result.now ≡ operand_places_of line_kind }
 {
@@ -310,7 +310,7 @@ pub fn operand_places_of(line_kind: LineKind) -> &'static [OperandPlace]
     }
 }
 
-/// What any number of further words is.
+/// The operand place of any number of further words; `None` if there may be no further words.
 pub fn rest_of(line_kind: LineKind) -> Option<OperandPlace>
     ensures { result ≡ rest_of line_kind }
 {
@@ -321,7 +321,7 @@ pub fn rest_of(line_kind: LineKind) -> Option<OperandPlace>
     }
 }
 
-/// What the lines of a line kind are to the grammar of blocks.
+/// The role that the lines of a line kind have in the grammar of blocks.
 #[inline(always)]
 pub fn role_of(line_kind: LineKind) -> Role
     ensures { result ≡ role_of line_kind }
@@ -359,7 +359,7 @@ pub fn role_of(line_kind: LineKind) -> Role
     }
 }
 
-/// Whether no line of a line kind can leave, so that it may be in the body of an operation or of a destructor.
+/// Whether lines of a line kind are allowed in the body of an operation or of a destructor. None of these lines can leave.
 pub fn is_quiet(line_kind: LineKind) -> bool
     ensures { result ≡ is_quiet line_kind }
 {

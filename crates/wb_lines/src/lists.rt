@@ -1,11 +1,11 @@
-//! Lists that grow.
+//! Appends to lists.
 
 ghost use Rattle.std.specs.Prelude.{◌≡◌, [], ◌∷◌, ◌++◌, OnOk};
 ghost use Rattle.std.specs.Option.{option_to_list};
 
 use std::alloc::AllocError;
 
-/// Appends an element, which is gone where memory runs out.
+/// Appends an element; if memory runs out, the element is dropped.
 pub fn add<T: Drop>(items: &mut Vec<T>, item: T) -> Result<(), AllocError>
     ensures { OnOk result (items.new.items ≡ items.old.items ++ item ∷ []) }
 {
@@ -13,7 +13,7 @@ pub fn add<T: Drop>(items: &mut Vec<T>, item: T) -> Result<(), AllocError>
     Ok(())
 }
 
-/// Appends the element that there is, or nothing.
+/// Appends the element of a `Some`, and nothing for `None`.
 pub fn add_some<T: Drop>(items: &mut Vec<T>, item: Option<T>) -> Result<(), AllocError>
     ensures { OnOk result (items.new.items ≡ items.old.items ++ option_to_list item) }
 {

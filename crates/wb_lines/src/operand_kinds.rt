@@ -1,4 +1,4 @@
-//! What kinds of operands there are in a line, and which are right in a place of it.
+//! The kind of an operand, and which kinds are right in which operand place of a line.
 
 ghost use Rattle.std.specs.Prelude.{◌≡◌};
 ghost use Rattle.wb_model.specs.language.Kinds.{operand_kind_of, operand_kind_of_class, operand_kind_of_field};
@@ -8,7 +8,7 @@ ghost use Rattle.wb_model.specs.declared.script_lines.OperandPlace.TheVariants a
 
 use wb_model::script_lines::{Operand, OperandKind, OperandPlace, ParameterType, Referent};
 
-/// Whether an operand of an operand kind is a pointer that can be read.
+/// Whether an operand of this kind is a pointer that can be read.
 pub fn is_pointer_kind(operand_kind: OperandKind) -> bool
     ensures { result ≡ is_pointer_kind operand_kind }
 {
@@ -18,14 +18,14 @@ pub fn is_pointer_kind(operand_kind: OperandKind) -> bool
     )
 }
 
-/// Whether an operand of an operand kind is a number that can be read.
+/// Whether an operand of this kind is a number that can be read.
 pub fn is_number_kind(operand_kind: OperandKind) -> bool
     ensures { result ≡ takes operand_place.Value operand_kind }
 {
     matches!(operand_kind, OperandKind::Number | OperandKind::Variable)
 }
 
-/// Whether an operand of an operand kind is a text that can be read, or a pointer, which may be one to a text.
+/// Whether an operand of this kind is a text that can be read, or a pointer, which may be a pointer to a text.
 fn is_text_kind(operand_kind: OperandKind) -> bool
     ensures { result ≡ takes operand_place.Readable operand_kind }
 {
@@ -35,7 +35,7 @@ fn is_text_kind(operand_kind: OperandKind) -> bool
     ) || is_pointer_kind(operand_kind)
 }
 
-/// Whether an operand of this kind is right in a place of a line.
+/// Whether an operand of this kind is right in this operand place.
 pub fn takes(operand_place: OperandPlace, operand_kind: OperandKind) -> bool
     ensures { result ≡ takes operand_place operand_kind }
 {
@@ -70,7 +70,7 @@ pub fn takes(operand_place: OperandPlace, operand_kind: OperandKind) -> bool
     }
 }
 
-/// What an operand is that is a name.
+/// The kind of an operand that is a name, by what the name stands for.
 fn operand_kind_of_name(referent: Referent) -> OperandKind
     ensures { result ≡ operand_kind_of_name referent }
 {
@@ -89,7 +89,7 @@ fn operand_kind_of_name(referent: Referent) -> OperandKind
     }
 }
 
-/// What an operand is whose field stands for this.
+/// The kind of an operand that is a field, by what the name of the field stands for.
 fn operand_kind_of_field(field: Referent) -> OperandKind
     ensures { result ≡ operand_kind_of_field field }
 {
@@ -99,7 +99,7 @@ fn operand_kind_of_field(field: Referent) -> OperandKind
     }
 }
 
-/// What a parameter is that takes this: nothing if its class is not a class.
+/// The kind of an operand that declares a parameter, by what the parameter takes: `Nothing` if its class is not a class.
 fn operand_kind_of_type(parameter_type: ParameterType<Referent>) -> OperandKind
     ensures { result ≡ operand_kind_of_type parameter_type }
 {
@@ -110,7 +110,7 @@ fn operand_kind_of_type(parameter_type: ParameterType<Referent>) -> OperandKind
     }
 }
 
-/// What an operand is, by what its names refer to.
+/// The kind of an operand, by what its names refer to.
 pub fn operand_kind_of(operand: &Operand<Referent>) -> OperandKind
     ensures { result ≡ operand_kind_of operand.now }
 {

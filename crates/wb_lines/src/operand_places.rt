@@ -1,4 +1,4 @@
-//! The words after a line kind: which operand place each of them has, and what is grammatical in an operand place.
+//! The words after the first word of a line: which operand place each of them has, and which words are grammatical in an operand place.
 
 ghost use Rattle.std.specs.Prelude.{◌≡◌, ◌<◌, ℕ, length, nat_eq, slice_get};
 ghost use Rattle.wb_model.specs.language.LineKinds.{operand_places_with, operand_places_for, word_kinds};
@@ -6,7 +6,8 @@ ghost use Rattle.wb_model.specs.language.LineKinds.{operand_places_with, operand
 use crate::line_kinds::{operand_places_of, rest_of};
 use wb_model::script_lines::{Keyword, LineKind, OperandPlace, WordKind};
 
-/// What the words after a line kind are, by how many there are.
+/// The operand places of a line kind: the `fixed` ones, which every line has, and the place of any number of further words, if there may be
+/// some.
 #[derive(Clone, Copy)]
 pub struct OperandPlaces {
     pub fixed: &'static [OperandPlace],
@@ -14,7 +15,7 @@ pub struct OperandPlaces {
 }
 
 impl OperandPlaces {
-    /// What the words after this line kind are.
+    /// The operand places of this line kind.
     pub fn of(line_kind: LineKind) -> OperandPlaces
         ensures { (count : ℕ) → operand_places_with result.fixed.now result.rest count
             ≡ operand_places_for line_kind count }
@@ -25,7 +26,7 @@ impl OperandPlaces {
         }
     }
 
-    /// The operand place of a word by its index; `None` if no such word follows the line kind.
+    /// The operand place of a word, by its index among the words after the first word of the line; `None` if there may be no such word.
     pub fn at(self, index: usize) -> Option<OperandPlace>
         ensures { (count : ℕ) → index < count →
             slice_get (operand_places_with self.fixed.now self.rest count) index ≡ result }
@@ -37,7 +38,7 @@ impl OperandPlaces {
         }
     }
 
-    /// Whether there may be `count` words.
+    /// Whether there may be `count` words after the first word of the line.
     pub fn admit(self, count: usize) -> bool
         ensures { result
             ≡ nat_eq (length (operand_places_with self.fixed.now self.rest count)) count }
@@ -49,7 +50,7 @@ impl OperandPlaces {
     }
 }
 
-/// The words that are grammatical in a place of a line; a word is of the first kind that admits it.
+/// The kinds of words that are grammatical in an operand place. A word counts as one of the first kind that admits it.
 pub(crate) fn word_kinds(operand_place: OperandPlace) -> &'static [WordKind]
     ensures { result.now ≡ word_kinds operand_place }
 {

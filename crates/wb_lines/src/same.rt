@@ -9,8 +9,8 @@ fn have_same_bytes(one: &[u8], other: &[u8]) -> bool
     one == other
 }
 
-/// Whether two texts are the same. Names of a script often begin alike and differ in their length or their last byte, so
-/// these are looked at first.
+/// Whether two texts are the same. Names of a script often begin alike and differ in their length or their last byte, so the length and the
+/// last byte are compared first.
 pub fn are_same(one: &[u8], other: &[u8]) -> bool
     ensures { result ≡ bytes_eq one.now other.now }
 {

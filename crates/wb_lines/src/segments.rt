@@ -1,4 +1,4 @@
-//! Bytes cut into lines, and lines into words.
+//! Cuts bytes into lines, and lines into words.
 
 ghost use Rattle.std.specs.Prelude.{◌≡◌, ◌≢◌, ◌∷◌, ◌++◌, ◌<◌, [], length, IfOk, OnOk};
 ghost use Rattle.std.specs.Option.{option_map, option_to_list};
@@ -9,14 +9,14 @@ ghost use Rattle.wb_lines.specs.Segments.{ends_of};
 use crate::lists::{add, add_some};
 use std::alloc::{AllocError, Global};
 
-/// Whether a byte is a blank, a tab or a carriage return.
+/// Whether a byte is a blank: a space, a tab or a carriage return.
 pub fn is_blank(byte: u8) -> bool
     ensures { result ≡ is_blank byte }
 {
     matches!(byte, b' ' | b'\t' | b'\r')
 }
 
-/// How long a line mostly is: there is room at once for as many lines as bytes of this length make.
+/// The usual length of a line, in bytes. A list of lines begins with room for as many lines of this length as the bytes would make.
 const USUAL_LENGTH: usize = 16;
 
 /// What bytes are cut into.
@@ -43,7 +43,7 @@ fn quoted_after(quoted: bool, byte: u8) -> bool
     if byte == b'"' { !quoted } else { quoted }
 }
 
-/// The first piece, and the bytes after its end.
+/// Returns the first piece of some bytes, and the bytes after the byte that ends the piece; none are left if no byte ends it.
 fn first_segment<'a>(cut: Cut, bytes: &'a [u8]) -> (&'a [u8], &'a [u8])
     requires { bytes.now ≢ [] }
     ensures pieces { pieces (ends_of cut) bytes.now
@@ -52,7 +52,7 @@ fn first_segment<'a>(cut: Cut, bytes: &'a [u8]) -> (&'a [u8], &'a [u8])
 {
     let mut quoted = false;
     for (index, byte) in bytes.iter().enumerate() {
-        // What ends a line or a word, and a quote, are at most a quote; most bytes are above it.
+        // No byte above `"` ends a line or a word, or is a quote; most bytes are above it.
         if *byte <= b'"' {
             if cut.ends_at(quoted, *byte) {
                 return (&bytes[..index], &bytes[index + 1..]);

@@ -1,4 +1,4 @@
-//! What a word after a line kind is: a name, a field, a number, a literal, a parameter, a word of the line's own.
+//! What a word after the first word of a line is: a name, a field, a number, a literal, a parameter, or the keyword of a condition.
 
 ghost use Rattle.std.specs.Prelude.{◌≡◌, ◌<◌, ◌≤◌, ◌^◌, IfSome, length};
 ghost use Rattle.std.specs.List.{list_all, list_any};
@@ -15,7 +15,7 @@ ghost use Rattle.wb_lines.specs.BytesOf.{bytes_of_text};
 
 use wb_model::script_lines::{Keyword, ParameterType};
 
-/// The names that nothing may be declared with.
+/// The names that can't be declared.
 const RESERVED: [&[u8]; 7] = [b"self", b"ptr", b"int", b"null", b"some", b"eq", b"less"];
 
 fn is_letter(byte: u8) -> bool
@@ -65,14 +65,14 @@ fn is_among(words: &[&[u8]], word: &[u8]) -> bool
     words.iter().any(|w| word == *w)
 }
 
-/// Whether a word is one that nothing may be declared with.
+/// Whether a word is one of the names that can't be declared.
 pub fn is_reserved(word: &[u8]) -> bool
     ensures { result ≡ is_reserved word.now }
 {
     is_among(&RESERVED, word)
 }
 
-/// The name that a line declares by this word.
+/// The name that a word declares; `None` if the word is no name, or is a name that can't be declared.
 pub fn declared_name<'a>(word: &'a [u8]) -> Option<&'a [u8]>
     ensures { option_copied result ≡ declared_name word.now }
 {
@@ -83,14 +83,14 @@ pub fn declared_name<'a>(word: &'a [u8]) -> Option<&'a [u8]>
     }
 }
 
-/// The name that a line uses by this word; `self` is one.
+/// The name that a word uses, which may be `self` or another name that can't be declared; `None` if the word is no name.
 pub fn used_name<'a>(word: &'a [u8]) -> Option<&'a [u8]>
     ensures { option_copied result ≡ used_name word.now }
 {
     if is_name(word) { Some(word) } else { None }
 }
 
-/// How many bytes of a word are before the first that is this one.
+/// How many bytes of a word come before the first `byte` in it; the length of the word if it has no such byte.
 fn length_before(byte: u8, word: &[u8]) -> usize
     ensures length { result ≡ length_before byte word.now }
     ensures within { result ≤ length word.now }
@@ -103,14 +103,14 @@ fn length_before(byte: u8, word: &[u8]) -> usize
     word.len()
 }
 
-/// What comes before the first of a byte.
+/// The part of a word before the first `byte` in it; the whole word if it has no such byte.
 pub fn before_first<'a>(byte: u8, word: &'a [u8]) -> &'a [u8]
     ensures { result.now ≡ before_first byte word.now }
 {
     &word[..length_before(byte, word)]
 }
 
-/// What follows the first of a byte: nothing if there is none.
+/// The part of a word after the first `byte` in it; empty if it has no such byte.
 pub fn after_first_of<'a>(byte: u8, word: &'a [u8]) -> &'a [u8]
     ensures { result.now ≡ after_first_of byte word.now }
 {
@@ -122,7 +122,7 @@ pub fn after_first_of<'a>(byte: u8, word: &'a [u8]) -> &'a [u8]
     }
 }
 
-/// One to nine digits as their number.
+/// The number that one to nine digits spell; `None` if the word is anything else.
 fn digits_of(word: &[u8]) -> Option<u32>
     ensures number { result ≡ digits_of word.now }
     ensures bound { IfSome result (λ n. n < 10 ^ 9) }
@@ -140,7 +140,7 @@ fn digits_of(word: &[u8]) -> Option<u32>
     Some(value)
 }
 
-/// The number that the word is: one to nine digits, `-` before them or not.
+/// The number that a word spells: one to nine digits, perhaps after a `-`; `None` if the word is anything else.
 pub fn number_of(word: &[u8]) -> Option<i32>
     ensures { result ≡ number_spelled word.now }
 {
@@ -162,7 +162,7 @@ fn are_quotable(bytes: &[u8]) -> bool
     bytes.iter().all(|byte| is_quotable(*byte))
 }
 
-/// The text of the literal that the word is, without its quotes.
+/// The text of a literal, without its quotes; `None` if the word is no literal.
 pub fn literal_of<'a>(word: &'a [u8]) -> Option<&'a [u8]>
     ensures { option_copied result ≡ literal_spelled word.now }
 {
@@ -172,21 +172,22 @@ pub fn literal_of<'a>(word: &'a [u8]) -> Option<&'a [u8]>
     }
 }
 
-/// What comes before the dot of a field: the name of what holds a pointer.
+/// The name before the dot of a field, which is `self` or the name of a pointer; `None` if the part before the dot is no name.
 pub fn base_name<'a>(word: &'a [u8]) -> Option<&'a [u8]>
     ensures { option_copied result ≡ base_name word.now }
 {
     used_name(before_first(b'.', word))
 }
 
-/// What follows the dot: the name of the field.
+/// The name after the dot of a field; `None` if the part after the dot is no name.
 pub fn field_name<'a>(word: &'a [u8]) -> Option<&'a [u8]>
     ensures { option_copied result ≡ field_name word.now }
 {
     used_name(after_first_of(b'.', word))
 }
 
-/// What a parameter takes by the word after its colon. Any name but `ptr` and `int` is that of a class.
+/// What a parameter takes, by the part of its word after the colon: any name but `ptr` and `int` is the name of a class. `None` if that
+/// part is no name.
 fn parameter_type_after_colon<'a>(word: &'a [u8]) -> Option<ParameterType<&'a [u8]>>
     ensures { option_map (renamed_parameter_type bytes_of_text) result
         ≡ parameter_type_after_colon word.now }
@@ -203,14 +204,14 @@ fn parameter_type_after_colon<'a>(word: &'a [u8]) -> Option<ParameterType<&'a [u
     }
 }
 
-/// The name of the parameter that the word declares, before its colon.
+/// The name of the parameter that a word declares: the part before the colon. `None` if that part can't be declared.
 pub fn parameter_name<'a>(word: &'a [u8]) -> Option<&'a [u8]>
     ensures { option_copied result ≡ parameter_name word.now }
 {
     declared_name(before_first(b':', word))
 }
 
-/// What the parameter takes that the word declares.
+/// What is taken by the parameter that a word declares; `None` if the part after the colon is no name.
 pub fn parameter_type_of_word<'a>(word: &'a [u8]) -> Option<ParameterType<&'a [u8]>>
     ensures { option_map (renamed_parameter_type bytes_of_text) result
         ≡ parameter_type_of_word word.now }
@@ -218,7 +219,7 @@ pub fn parameter_type_of_word<'a>(word: &'a [u8]) -> Option<ParameterType<&'a [u
     parameter_type_after_colon(after_first_of(b':', word))
 }
 
-/// The word that a keyword is.
+/// The text of a keyword.
 pub fn text_of_keyword(keyword: Keyword) -> &'static [u8]
     ensures { result.now ≡ text_of_keyword keyword }
 {
@@ -230,7 +231,7 @@ pub fn text_of_keyword(keyword: Keyword) -> &'static [u8]
     }
 }
 
-/// Whether the word is this one of a line's own.
+/// Whether a word is this keyword.
 pub(crate) fn is_keyword(keyword: Keyword, word: &[u8]) -> bool
     ensures { result ≡ bytes_eq word.now (text_of_keyword keyword) }
 {

@@ -1,4 +1,4 @@
-//! What a body is handed by whoever calls it.
+//! What the parameters of a body get from its caller.
 
 ghost use Rattle.std.specs.Prelude.{◌≡◌, ℕ, ◌≤◌, List, ◌++◌, map, drop, vec_len, OnOk};
 ghost use Rattle.wb_model.specs.meaning.Texts.{Buffer};
@@ -11,16 +11,16 @@ use std::alloc::AllocError;
 use wb_model::heap::Ptr;
 use wb_model::script::{Argument, Number};
 
-/// What a body is handed.
+/// What the parameters of a body get.
 #[derive(Clone, Copy)]
 pub enum CallArguments<'b> {
-    /// Arguments of its caller, one for each parameter.
+    /// The arguments of a call, one for each parameter.
     Arguments(&'b [Argument]),
-    /// The pointer of an item, which an operation destroys.
+    /// The pointer of an item of the cleanup stack, for the operation that destroys the item.
     Item(Ptr),
 }
 
-/// The number of an operand, over the locals of a frame.
+/// The value of a number operand, over the locals of a frame; 0 if the operand names no number.
 #[inline(always)]
 pub fn number_over(frame: &[Stored], operand: Number) -> i32
     ensures { (buffers : List Buffer) →
@@ -35,7 +35,7 @@ pub fn number_over(frame: &[Stored], operand: Number) -> i32
     }
 }
 
-/// What a parameter gets, over the caller's locals.
+/// The value that a parameter gets for an argument, over the caller's locals.
 fn argument_slot(context: ReadContext, frame: &[Stored], argument: Argument) -> Slot
     ensures { (buffers : List Buffer) →
         value_of result ≡ passed_over context.entry.script.now context.entry.heap.now
@@ -47,7 +47,7 @@ fn argument_slot(context: ReadContext, frame: &[Stored], argument: Argument) -> 
     }
 }
 
-/// Puts what the arguments give, from left to right, after the caller's locals, which begin at `base`.
+/// Adds the values of the arguments after the caller's locals, from left to right. The caller's locals begin at `base`.
 fn pass(
     slots: &mut Vec<Stored>,
     base: usize,
@@ -72,7 +72,7 @@ fn pass(
     Ok(())
 }
 
-/// Puts what a body is handed after the caller's locals, which begin at `base`.
+/// Adds what a body's parameters get after the caller's locals, which begin at `base`.
 pub fn hand(
     slots: &mut Vec<Stored>,
     base: usize,

@@ -1,4 +1,4 @@
-//! Whether a statement that is to begin asks for an attempt. Nothing here changes a state.
+//! Whether a statement that is about to begin asks for an attempt. Nothing here changes a state.
 
 ghost use Rattle.std.specs.Prelude.{◌≡◌, ◌≤◌};
 ghost use Rattle.wb_model.specs.meaning.Operands.{within};
@@ -17,7 +17,7 @@ use wb_model::heap::Ptr;
 use wb_model::limits::{LARGEST_REQUEST, MOST_UNITS};
 use wb_model::script::{Number, Pointer, Script, Statement};
 
-/// The length of the cell for a request of `bytes` bytes.
+/// The length of the cell for a request of `bytes` bytes, in bytes.
 fn cell_length(bytes: u32) -> u32
     requires { bytes ≤ CEILING }
     ensures { result ≡ cell_length bytes }
@@ -26,7 +26,7 @@ fn cell_length(bytes: u32) -> u32
 }
 
 impl State {
-    /// Whether a Raw cell is to be longer, to hold `bytes` bytes.
+    /// Whether a pointer names a Raw cell that must become longer to hold `bytes` bytes.
     fn cell_asks(&self, ptr: Ptr, bytes: u32) -> bool
         requires { bytes ≤ LARGEST_REQUEST }
         ensures { result ≡ cell_asks bytes (cell_at ptr self.now.debug.heap.row) }
@@ -37,7 +37,7 @@ impl State {
         }
     }
 
-    /// Whether a text's cell is to be longer, to hold `units` units, of which the text has no more.
+    /// Whether a pointer names the cell of a text that has at most `units` units, and the cell must become longer to hold `units` units.
     fn text_asks(&self, ptr: Ptr, units: u32) -> bool
         requires { units ≤ MOST_UNITS }
         ensures { result ≡ text_asks units (cell_at ptr self.now.debug.heap.row) }
@@ -51,7 +51,8 @@ impl State {
         }
     }
 
-    /// Whether a reallocation of a source to `bytes` bytes asks for an attempt; of null it is an allocation.
+    /// Whether reallocating the source's cell to `bytes` bytes asks for an attempt. If the source is null, a new cell is allocated, which
+    /// asks for one too. A number of bytes that is out of range asks for none.
     fn realloc_asks(&self, script: &Script, source: Pointer, bytes: Number) -> bool
         ensures { result ≡ realloc_asks self.now (pointer_read script.now self.now source)
             (within LARGEST_REQUEST (number_read self.now bytes)) }
@@ -63,7 +64,7 @@ impl State {
         }
     }
 
-    /// Whether a reallocation of a source's text for `units` units asks for an attempt.
+    /// Whether reallocating the source's text for `units` units asks for an attempt.
     fn realloc_text_asks(&self, script: &Script, source: Pointer, units: Number) -> bool
         ensures { result ≡ realloc_text_asks self.now (pointer_read script.now self.now source)
             (within MOST_UNITS (number_read self.now units)) }
@@ -75,7 +76,8 @@ impl State {
         }
     }
 
-    /// Whether a push asks for an attempt: where it fills the last slot, the stack's cell always is to be longer.
+    /// Whether a push asks for an attempt, which it does exactly if it fills the last slot: then the cleanup stack's cell must become
+    /// longer.
     fn push_asks(&self) -> bool
         ensures { result ≡ push_asks self.now }
     {
@@ -85,7 +87,7 @@ impl State {
         }
     }
 
-    /// Whether a statement asks for an attempt where it is carried out now.
+    /// Whether a statement none of whose operands panics asks for an attempt if it is carried out now.
     fn effect_asks(&self, script: &Script, statement: &Statement) -> bool
         ensures { result ≡ effect_asks script.now self.now (out-Statement statement.now) }
     {
@@ -108,7 +110,7 @@ impl State {
         }
     }
 
-    /// Whether a statement asks for an attempt where it begins now. One that is refused for an operand asks for none.
+    /// Whether a statement asks for an attempt if it begins now. A statement with an operand that panics asks for none.
     pub fn asks(&self, script: &Script, statement: &Statement) -> bool
         ensures { result ≡ statement_asks script.now self.now (out-Statement statement.now) }
     {

@@ -1,4 +1,4 @@
-//! The bodies of a script. One that it doesn't have is a body without a line.
+//! The bodies of a script. A body that the script doesn't have counts as a body without a line.
 
 ghost use Rattle.wb_model.specs.meaning.Bodies.{class_at, no_body, operation_at};
 ghost use Rattle.std.specs.Prelude.{unwrap_or};
@@ -6,7 +6,7 @@ ghost use Rattle.wb_machine.specs.Bodies.{IsBody};
 
 use wb_model::script::{Body, Class, Local, Script, StatementAt};
 
-/// What a body declares, and what it does.
+/// The locals that a body declares, and its statements.
 #[derive(Clone, Copy)]
 pub struct BodyContent<'a> {
     pub locals: &'a [Local],
@@ -23,7 +23,7 @@ fn no_content<'a>() -> BodyContent<'a>
     }
 }
 
-/// The lines of a body.
+/// The locals and the statements of a body.
 pub fn content_of(body: &Body) -> BodyContent
     ensures { IsBody result body.now }
 {
@@ -33,7 +33,7 @@ pub fn content_of(body: &Body) -> BodyContent
     }
 }
 
-/// The body of an operation.
+/// The body of the operation with this index.
 pub fn operation_at(script: &Script, index: u16) -> BodyContent
     ensures { IsBody result (operation_at script.now index) }
 {
@@ -43,7 +43,7 @@ pub fn operation_at(script: &Script, index: u16) -> BodyContent
     }
 }
 
-/// The body that makes an object of a class.
+/// The `construct` body of the class with this index.
 pub fn construct_at(script: &Script, class: u16) -> BodyContent
     ensures { IsBody result (unwrap_or (class_at script.now class).construct no_body) }
 {
@@ -58,7 +58,7 @@ pub fn construct_at(script: &Script, class: u16) -> BodyContent
     }
 }
 
-/// The body that destroys an object of a class.
+/// The `destroy` body of the class with this index.
 pub fn destroy_at(script: &Script, class: u16) -> BodyContent
     ensures { IsBody result (unwrap_or (class_at script.now class).destroy no_body) }
 {

@@ -1,4 +1,4 @@
-//! Which function carries out which statement. Those on texts are in `carry_text`.
+//! Which function carries out which statement. The statements on texts are in `carry_text`.
 
 ghost use Rattle.std.specs.Prelude.{◌≡◌, ◌+◌, ◌^◌, ◌<◌, length, None, IfOk, IsOk, OnOk, IsTrue};
 ghost use Rattle.wb_model.specs.language.Sound.{is_script};
@@ -17,7 +17,7 @@ use wb_model::script::{Script, Statement};
 impl State {
     /// Carries out a statement that runs no other, and returns how it ends.
     ///
-    /// The `floor` is how many items were at the entry of the innermost TRAP.
+    /// `floor` is how many items were on the cleanup stack at the entry of the innermost TRAP.
     #[inline(always)]
     pub fn carry_out(
         &mut self,
@@ -89,8 +89,8 @@ impl State {
         }
     }
 
-    /// Carries out a statement that takes no memory, as `carry_out` does any other. What it ends in is written once, and not into a
-    /// place of its own for each kind of statement, which each step would have to clear.
+    /// Carries out a statement that asks for no memory, as `carry_out` does any other. In this function all these statements write how they
+    /// end to the same place. As arms of `carry_out` each kind would have a place of its own, and each step would have to clear them all.
     #[inline(always)]
     fn carry_out_in_place(&mut self, script: &Script, floor: u32, first: &Statement) -> Ending
         requires script { IsTrue (is_script script.now) }

@@ -16,8 +16,8 @@ use wb_model::memory::NoMemory;
 use wb_model::script::{Script, Statement};
 
 impl State {
-    /// Carries out a statement on texts, as `carry_out` does any other. It is a function of its own, so that others don't pay for
-    /// the room of its operands.
+    /// Carries out a statement on texts, as `carry_out` does any other. This is a function of its own, so that other statements don't pay
+    /// for the stack space of its operands.
     #[inline(never)]
     pub fn carry_out_text(&mut self, script: &Script, first: &Statement) -> Result<Ending, NoMemory>
         requires script { IsTrue (is_script script.now) }

@@ -34,10 +34,11 @@ fn is_cleanup(kind: Kind) -> bool
 }
 
 impl State {
-    /// An attempt to get a cell for `bytes` bytes.
+    /// Makes an attempt to get a cell for `bytes` bytes.
     ///
-    /// The heap chooses the place first, then the setting is asked, the rule, and the ceiling. Past the
-    /// ceiling nothing is counted; nor is it where memory runs out, and then nothing changes.
+    /// The heap chooses the place first. Then the script's setting decides, then the run's rule, and then the ceiling. An attempt whose
+    /// cell would end past the heap's ceiling isn't counted, and neither is one for which the workbench itself runs out of memory. Both
+    /// leave everything as it was.
     pub fn attempt(&mut self, bytes: u32, kind: Kind) -> Result<Gave, NoMemory>
         requires bytes { bytes ≤ CEILING }
         requires text { kind ≡ Text → 1 ≤ bytes }
@@ -54,10 +55,9 @@ impl State {
         self.heap.attempt_alloc(bytes, kind)
     }
 
-    /// An attempt to reallocate a cell to `bytes` bytes. A cell that is to be no longer is shortened, which
-    /// is no attempt.
+    /// Reallocates a cell to `bytes` bytes. Making the cell longer is an attempt; making it shorter, or leaving its length, is none.
     ///
-    /// Where memory runs out, nothing is counted and nothing changes.
+    /// If the workbench itself runs out of memory, the attempt isn't counted, and nothing changes.
     fn attempt_again(&mut self, ptr: Ptr, bytes: u32) -> Result<Gave, NoMemory>
         requires live { IsSome (cell_at ptr self.old.debug.heap.row) }
         requires raw { IfSome (cell_at ptr self.old.debug.heap.row) (λ c. c.head.kind ≡ Raw) }
@@ -76,7 +76,8 @@ impl State {
         self.heap.attempt_realloc(ptr, bytes)
     }
 
-    /// A target gets null for a refused attempt, or it is a leave with `KErrNoMemory` and the target stays.
+    /// Ends a statement whose attempt failed: the target gets null, or the statement leaves with `KErrNoMemory` and the target stays as it
+    /// was.
     #[inline(always)]
     fn refuse(&mut self, target: &Pointer, refusal: Refusal) -> Ending
         ensures { CarriesOut self.old (refused_effect self.old target.now refusal) result self.new }
@@ -90,7 +91,8 @@ impl State {
         }
     }
 
-    /// A target gets what an attempt gave.
+    /// Ends a statement by what its attempt gave: the target gets a granted cell, a failure does what `refusal` says, and the ceiling cuts
+    /// the run.
     #[inline(always)]
     pub fn give(&mut self, target: &Pointer, refusal: Refusal, gave: Gave) -> Ending
         ensures { CarriesOut self.old (given_effect self.old target.now refusal gave) result
@@ -106,7 +108,7 @@ impl State {
         }
     }
 
-    /// A target gets a cell for `bytes` bytes.
+    /// Allocates a cell for `bytes` bytes, which the target gets.
     #[inline(never)]
     pub fn alloc(
         &mut self,
@@ -131,7 +133,7 @@ impl State {
         Ok(self.give(target, refusal, gave))
     }
 
-    /// A target gets a cell, reallocated to `bytes` bytes.
+    /// Reallocates a cell to `bytes` bytes, and gives the target its pointer.
     fn resize(
         &mut self,
         target: &Pointer,
@@ -159,7 +161,7 @@ impl State {
         Ok(self.give(target, refusal, gave))
     }
 
-    /// A target gets the cell of a source, reallocated to `bytes` bytes; of null it is an allocation.
+    /// Reallocates the source's cell to `bytes` bytes, and gives the target its pointer. If the source is null, a new cell is allocated.
     #[inline(never)]
     pub fn realloc(
         &mut self,
@@ -194,7 +196,7 @@ impl State {
         self.resize(target, ptr, bytes, refusal)
     }
 
-    /// A number local gets how many bytes of a cell are usable.
+    /// Puts the number of a cell's usable bytes into a number local.
     pub fn alloc_len(&mut self, script: &Script, local: u8, pointer: &Pointer) -> Ending
         ensures { CarriesOut self.old (usable_effect self.old local
             (pointer_read script.now self.old pointer.now)) result self.new }
@@ -207,7 +209,7 @@ impl State {
         Ending::GoesOn
     }
 
-    /// Takes a cell that isn't the cleanup stack's out of the heap.
+    /// Frees a cell that isn't the cleanup stack's.
     fn drop_cell(&mut self, ptr: Ptr)
         requires number { ptr.number ≢ 0 }
         requires live { IsSome (cell_at ptr self.old.debug.heap.row) }
@@ -222,7 +224,8 @@ impl State {
         }
     }
 
-    /// Releases a pointer; null is nothing. One that names no cell, or the cleanup stack's own, is invalid.
+    /// Frees the cell that a pointer names; for null there is nothing to do. Panics with USER 42 if the pointer names no live cell, or the
+    /// cleanup stack's.
     pub fn release(&mut self, ptr: Ptr) -> Ending
         ensures { CarriesOut self.old (free_effect self.old ptr) result self.new }
     {
@@ -239,7 +242,7 @@ impl State {
         Ending::GoesOn
     }
 
-    /// Releases the pointer of an operand.
+    /// Frees the cell that an operand names.
     #[inline(never)]
     pub fn free(&mut self, script: &Script, pointer: &Pointer) -> Ending
         ensures { CarriesOut self.old

@@ -26,7 +26,7 @@ use wb_model::run::Why;
 use wb_model::script::{Number, Pointer, Script};
 
 impl State {
-    /// Attempt 1, for the stack's cell. Answers whether it was granted.
+    /// Makes attempt 1, for the cleanup stack's cell. Returns whether it was granted.
     pub fn start(&mut self) -> Result<bool, NoMemory>
         requires { self.old
             ≡ first_state (keeps_rises self.old.debug) self.old.debug.rule self.old.debug.shape }
@@ -41,7 +41,7 @@ impl State {
         Ok(self.cleanup.is_some())
     }
 
-    /// How many items are on the stack.
+    /// How many items are on the cleanup stack; 0 if there is no stack.
     pub fn items(&self) -> u32
         ensures items { result ≡ length self.now.items }
         ensures small { length self.now.items < 2 ^ 32 }
@@ -52,7 +52,7 @@ impl State {
         }
     }
 
-    /// Takes the newest item off; `None` if there is none.
+    /// Takes off the newest item and returns it; `None` if there is none.
     pub fn take_newest(&mut self) -> Option<Item>
         ensures item { result ≡ newest self.old.items }
         ensures taken { self.new
@@ -64,7 +64,8 @@ impl State {
         }
     }
 
-    /// Puts an item on the stack. Where the growth would end past the ceiling, or memory runs out, nothing changes.
+    /// Puts an item on the cleanup stack. If the stack's cell would grow past the heap's ceiling, or the workbench runs out of memory,
+    /// nothing changes.
     fn put_item(&mut self, item: Item) -> Result<Pushed, NoMemory>
         requires stack { HasStack self.old }
         requires room { length self.old.items < self.old.slots }
@@ -87,7 +88,8 @@ impl State {
         }
     }
 
-    /// Pushes an item. A growth that is refused leaves, and the item is on the stack.
+    /// Pushes an item. If the attempt to make the cleanup stack's cell longer fails, the push leaves with `KErrNoMemory`, but the item is
+    /// on the stack.
     pub fn push_item(&mut self, item: Item) -> Result<Ending, NoMemory>
         requires stack { HasStack self.old }
         requires room { length self.old.items < self.old.slots }
@@ -109,7 +111,7 @@ impl State {
         }
     }
 
-    /// Pushes a pointer that is to be freed.
+    /// Pushes a pointer whose cell is to be freed.
     #[inline(never)]
     pub fn push(&mut self, script: &Script, pointer: &Pointer) -> Result<Ending, NoMemory>
         requires stack { HasStack self.old }
@@ -128,7 +130,7 @@ impl State {
         self.push_item(Item::Free(self.pointer(script, *pointer)))
     }
 
-    /// Pushes an object that is to be destroyed by its class.
+    /// Pushes a pointer to an object that is to be deleted.
     #[inline(never)]
     pub fn push_object(&mut self, script: &Script, pointer: &Pointer) -> Result<Ending, NoMemory>
         requires stack { HasStack self.old }
@@ -171,7 +173,8 @@ impl State {
         self.push_item(Item::Call(self.pointer(script, *pointer), operation))
     }
 
-    /// Takes the `count` newest items off, if there are that many above the `floor` first ones.
+    /// Takes off the `count` newest items, if at least that many are above the `floor` oldest ones. Otherwise returns the panic, and
+    /// changes nothing.
     fn take_off(&mut self, floor: u32, count: u32) -> Result<(), Panic>
         requires { HasStack self.old }
         ensures refused { IfErr result (λ panic.
@@ -186,7 +189,8 @@ impl State {
         }
     }
 
-    /// Takes the newest item off, if it is above the `floor` first ones and is of this pointer.
+    /// Takes off the newest item, if it is above the `floor` oldest ones and holds this pointer. Otherwise returns the panic, and changes
+    /// nothing.
     fn take_expected(&mut self, floor: u32, ptr: Ptr) -> Result<(), Panic>
         requires { HasStack self.old }
         ensures refused { IfErr result (λ panic.
@@ -201,7 +205,7 @@ impl State {
         }
     }
 
-    /// Pops a number of items. What is done with them is the script's.
+    /// Pops a number of items. They aren't destroyed: what becomes of them is the script's affair.
     pub fn pop(&mut self, floor: u32, count: &Number) -> Ending
         requires { HasStack self.old }
         ensures { CarriesOut self.old (pop_within self.old floor
@@ -216,7 +220,7 @@ impl State {
         }
     }
 
-    /// Pops the newest item, which must be of a pointer.
+    /// Pops the newest item, which must hold the operand's pointer.
     pub fn pop_check(&mut self, script: &Script, floor: u32, pointer: &Pointer) -> Ending
         requires { HasStack self.old }
         ensures { CarriesOut self.old (pop_check_effect self.old floor

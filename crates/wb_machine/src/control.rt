@@ -1,6 +1,6 @@
-//! What is still to do, as explicit pieces, and its steps. What the pieces act on is in `state`, how a statement begins in `frequent`, what
-//! its head leaves in `heads` and `calls`, the steps that destroy in `destroying`, what becomes of pieces that are done in `unwinding`, and
-//! turns in `running`.
+//! What a run has still to do, as a stack of pending pieces, and the steps of the pieces. What the pieces act on is in `state`, how a
+//! statement begins in `frequent`, which pieces it adds in `heads` and `calls`, the steps that destroy in `destroying`, what becomes of
+//! pieces that are done in `unwinding`, and machine turns in `running`.
 
 ghost use Rattle.std.specs.Prelude.{IfOk, List, take, vec_len, ◌-◌, ◌≡◌, ◌+◌, ◌^◌, ◌<◌, ◌≤◌, ◌⊎◌, ◌++◌, ◌∷◌, [], ℕ};
 ghost use Rattle.std.specs.Prelude.{true, false, if◌then◌else◌, length, unwrap_or, max, vec_capacity, IsOk, IsTrue, OnOk};
@@ -46,21 +46,22 @@ use std::alloc::{AllocError, Global};
 use wb_model::memory::NoMemory;
 use wb_model::script::{Body, Script, Statement, StatementAt};
 
-/// The pending pieces, the last of them on top, how the piece above them ended, and the statement begun last.
+/// The pending pieces, of which the last is on top, how the piece that was above them ended, and the statement begun last.
 #[derive(Drop)]
 pub struct Control<'a> {
     pieces: Vec<PendingPiece<'a>>,
     ending: Ending,
-    /// The line of the statement begun last.
+    /// The script line of the statement begun last.
     line: u32,
-    /// That statement, and how many bodies ran when it began.
+    /// The statement begun last.
     statement: Option<&'a Statement>,
+    /// How many bodies were running when that statement began.
     depth: u32,
-    /// What raises a panic that comes next.
+    /// What raises the next panic, if one comes.
     raiser: Raiser,
 }
 
-/// The body of a procedure.
+/// The body of the procedure with this index.
 fn procedure_at(script: &Script, index: u16) -> &Body
     requires { index < length script.now.procedures }
     ensures { result.now ≡ procedure_at script.now index }
@@ -71,7 +72,8 @@ fn procedure_at(script: &Script, index: u16) -> &Body
     }
 }
 
-/// How many bodies run where this piece is on top; 0 where there is none. What ends a body is never on top in a panic.
+/// How many bodies run while this piece is on top; 0 if there is no piece. The kinds of piece without a `Context` are never on top when a
+/// run panics.
 fn depth_of(top: Option<&PendingPiece>) -> u32 {
     match top {
         Some(PendingPiece::Code(at, _))
@@ -84,7 +86,7 @@ fn depth_of(top: Option<&PendingPiece>) -> u32 {
 }
 
 impl<'a> Control<'a> {
-    /// Nothing is to do yet.
+    /// No pending pieces: the run hasn't begun.
     pub fn new(alloc: Global) -> Control<'a>
         ensures pieces { result.pieces.items ≡ [] }
         ensures ending { result.ending ≡ GoesOn }
@@ -100,7 +102,7 @@ impl<'a> Control<'a> {
         }
     }
 
-    /// The same pieces, in memory of their own. On `Err` memory was refused.
+    /// Copies the pieces into memory of their own. `Err` if the workbench runs out of memory.
     pub fn try_copy(&self) -> Result<Control<'a>, AllocError>
         ensures pieces { IfOk result (λ copy. copy.pieces.items ≡ self.now.pieces.items) }
         ensures ending { IfOk result (λ copy. copy.ending ≡ self.now.ending) }
@@ -118,14 +120,14 @@ impl<'a> Control<'a> {
         })
     }
 
-    /// How the piece above the pending ones ended.
+    /// How the piece that was above the pending ones ended.
     pub fn ending(&self) -> Ending
         ensures { result ≡ self.now.ending }
     {
         self.ending
     }
 
-    /// The line of the statement begun last; 0 before the first.
+    /// The script line of the statement begun last; 0 before the first statement.
     pub fn line(&self) -> u32
         ensures { result ≡ self.now.line }
     {
@@ -137,7 +139,7 @@ impl<'a> Control<'a> {
         self.statement
     }
 
-    /// The statement that the next turn begins if the budget lasts; `None` if that turn begins none.
+    /// The statement that the next machine turn begins if the budget lasts; `None` if the machine turn begins none.
     pub fn next_statement(&self) -> Option<&'a Statement> {
         if self.is_over() {
             return None;
@@ -146,7 +148,7 @@ impl<'a> Control<'a> {
         Some(&first.statement)
     }
 
-    /// How many bodies ran when that statement began; 0 before the first.
+    /// How many bodies were running when the last statement began; 0 before the first statement.
     pub fn depth(&self) -> u32 {
         self.depth
     }
@@ -163,7 +165,7 @@ impl<'a> Control<'a> {
         })
     }
 
-    /// Whether nothing more is to do.
+    /// Whether the run is over: it was stopped, or nothing is left to do.
     #[inline(always)]
     pub fn is_over(&self) -> bool
         ensures { result ≡ is_over self.now.ending self.now.pieces.items }
@@ -171,7 +173,7 @@ impl<'a> Control<'a> {
         self.ending.is_stop() || self.pieces.is_empty()
     }
 
-    /// One more piece on top.
+    /// Puts a piece on top.
     #[inline(always)]
     fn push(&mut self, piece: PendingPiece<'a>) -> Result<(), AllocError>
         ensures pieces { OnOk result (self.new.pieces.items
@@ -190,7 +192,7 @@ impl<'a> Control<'a> {
         Ok(())
     }
 
-    /// The piece on top, where a step is to come.
+    /// The piece on top, which has a step to take.
     #[inline(always)]
     fn top(&self) -> PendingPiece<'a>
         requires { IsReady self.now.ending self.now.pieces.items }
@@ -202,7 +204,7 @@ impl<'a> Control<'a> {
         self.pieces[self.pieces.len() - 1]
     }
 
-    /// Takes the piece on top off.
+    /// Takes off the piece on top.
     #[inline(always)]
     fn drop_top(&mut self)
         requires { 0 < vec_len self.old.pieces }
@@ -214,7 +216,7 @@ impl<'a> Control<'a> {
         self.pieces.truncate(self.pieces.len() - 1);
     }
 
-    /// Another piece in the place of the one on top.
+    /// Replaces the piece on top.
     #[inline(always)]
     fn replace_top(&mut self, piece: PendingPiece<'a>)
         requires { 0 < vec_len self.old.pieces }
@@ -228,7 +230,7 @@ impl<'a> Control<'a> {
         self.pieces[top] = piece;
     }
 
-    /// The first turn: attempt 1, and `main` begins under its TRAP where it is granted.
+    /// The first machine turn: makes attempt 1 and, if it is granted, begins `main` under `main`'s own TRAP.
     #[inline(never)]
     pub fn begin(&mut self, script: &'a Script, state: &mut State) -> Result<(), NoMemory>
         requires script { IsTrue (is_script script.now) }
@@ -258,7 +260,7 @@ impl<'a> Control<'a> {
         Ok(())
     }
 
-    /// A statement begins, whose block is on top with what comes after it.
+    /// Begins a statement. On top is the rest of its block, which comes after it.
     #[inline(always)]
     fn step_code(
         &mut self,
@@ -294,7 +296,7 @@ impl<'a> Control<'a> {
         self.begin_any(script, at, &first.statement, state)
     }
 
-    /// A turn of a `repeat`, of whose turns on top one less is left.
+    /// Begins a turn of a `repeat`, whose piece is on top and then has one turn less.
     #[inline(always)]
     fn step_turns(
         &mut self,
@@ -333,7 +335,7 @@ impl<'a> Control<'a> {
 }
 
 impl<'a> Control<'a> {
-    /// A step, of the piece on top.
+    /// Takes a step: the next one of the piece on top.
     #[inline(always)]
     pub fn step(&mut self, script: &'a Script, state: &mut State) -> Result<(), NoMemory>
         requires script { IsTrue (is_script script.now) }
@@ -371,7 +373,7 @@ impl<'a> Control<'a> {
         }
     }
 
-    /// Whether a step asks for an attempt: it does where it begins a statement that asks.
+    /// Whether the next step asks for an attempt, which it does exactly if it begins a statement that asks for one.
     pub fn asks(&self, script: &Script, state: &State) -> bool
         requires { (is_over self.now.ending self.now.pieces.items ≡ true)
             ⊎ IsReady self.now.ending self.now.pieces.items }

@@ -14,7 +14,7 @@ use wb_model::limits::LARGEST_BUDGET;
 use wb_model::run::RisesResult;
 use wb_model::script::Script;
 
-/// The same as `run_rises`, with how many attempts the run makes.
+/// Runs a script as `run_rises` does, and also returns how many attempts the run makes.
 pub fn run_rises_counted(
     alloc: Global,
     script: &Script,

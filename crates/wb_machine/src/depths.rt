@@ -1,5 +1,5 @@
-//! Readers of a run under way, which its view pins: the attempt made last and the one that is asked for next, the depth of the cleanup
-//! stack, and the TRAPs that are open. Nothing here takes a turn.
+//! Readers of a run under way: the attempt made last, the attempt that is asked for next, the depth of the cleanup stack, and how many
+//! TRAPs are open. Contracts state each answer in terms of the machine's view. Nothing here takes a machine turn.
 
 ghost use Rattle.std.specs.Prelude.{◌≡◌, ◌+◌, false, true, IfSome, None};
 
@@ -7,7 +7,7 @@ use crate::machine::Machine;
 use wb_model::heap::Attempt;
 
 impl<'a> Machine<'a> {
-    /// The attempt that was made last, whatever was answered; `None` before the first, and if the machine keeps the rises alone.
+    /// The attempt made last, granted or failed; `None` before the first attempt, and if the machine keeps its rises and no trace.
     pub fn last_attempt(&self) -> Option<Attempt>
         ensures last { result ≡ self.now.last }
         ensures rises { self.now.keeps_rises ≡ true → result ≡ None }
@@ -15,7 +15,8 @@ impl<'a> Machine<'a> {
         self.state.heap.trace().as_slice().last().copied()
     }
 
-    /// The number of the attempt that the next turn asks for, if it finds memory; `None` if it asks for none.
+    /// The number of the attempt that the next machine turn asks for, unless the workbench runs out of memory; `None` if the turn asks for
+    /// none.
     pub fn next_attempt(&self) -> Option<u32>
         ensures number { IfSome result (λ n.
             (n ≡ self.now.attempts + 1) × (self.now.asks ≡ true)) }
@@ -27,14 +28,14 @@ impl<'a> Machine<'a> {
         Some(self.state.attempts() + 1)
     }
 
-    /// How many items are on the cleanup stack; 0 if there is none yet.
+    /// How many items are on the cleanup stack; 0 if there is no stack.
     pub fn cleanup_depth(&self) -> u32
         ensures { result ≡ self.now.items }
     {
         self.state.items()
     }
 
-    /// How many TRAPs of the script are open. This goes over all that is pending.
+    /// How many TRAPs of the script are open, not counting `main`'s own. Goes over all pending pieces.
     pub fn open_traps(&self) -> usize
         ensures { result ≡ self.now.traps }
     {

@@ -1,5 +1,6 @@
-//! A number of a run under way by which runs that go on alike are looked for: such runs have the same one, and most others have
-//! another. Nothing here changes a run, or decides whether two runs go on alike: `alike` does.
+//! The fingerprint of a run under way: a number by which runs that go on alike are looked for. Runs that go on alike have the same
+//! fingerprint, and most other runs have different ones. Nothing here changes a run, or decides whether two runs go on alike, which `alike`
+//! does.
 
 ghost use Rattle.std.specs.Prelude.{◌≡◌, length};
 ghost use Rattle.wb_model.specs.cells.CellRow.{payload_of};
@@ -9,30 +10,30 @@ use crate::state::State;
 use wb_debug::DebugHeap;
 use wb_model::heap::{Header, Kind, Ptr};
 
-/// How many words of a cell, and how many units of a buffer, are looked at.
+/// How many words of a cell, and how many units of a buffer, go into the fingerprint at most.
 pub const MOST_WORDS: u32 = 16;
 
 /// An odd number whose ones and zeros are spread over all of its bits.
 const FACTOR: u64 = 0x9e37_79b9_7f4a_7c15;
 
-/// A number that is made of others, one after another.
+/// A fingerprint in the making: a number that is made of other numbers, which are added one pair after another.
 #[derive(Drop)]
 pub struct Fingerprint {
     value: u64,
 }
 
 impl Fingerprint {
-    /// Of nothing.
+    /// The fingerprint to which nothing was added yet.
     pub fn new() -> Fingerprint {
         Fingerprint { value: FACTOR }
     }
 
-    /// What it has come to.
+    /// The fingerprint of all numbers that were added.
     pub fn value(&self) -> u64 {
         self.value
     }
 
-    /// Two more numbers.
+    /// Adds two numbers.
     pub fn add(&mut self, one: u32, other: u32) {
         let word = (u64::from(one) << 32) | u64::from(other);
         let product = (self.value ^ word).wrapping_mul(FACTOR);
@@ -50,7 +51,7 @@ fn number_of(kind: Kind) -> u32 {
     }
 }
 
-/// The first of so many words of a payload.
+/// Adds the first words of a payload of `count` words.
 fn add_words(print: &mut Fingerprint, heap: &DebugHeap, ptr: Ptr, count: u32)
     requires { length (payload_of ptr heap.now.heap.row) ≡ count }
 {
@@ -59,7 +60,8 @@ fn add_words(print: &mut Fingerprint, heap: &DebugHeap, ptr: Ptr, count: u32)
     }
 }
 
-/// The places that the first fields of an object name, whose payload has so many words: two words each, from the third on.
+/// Adds the places that the first fields of an object name. The object's payload has `count` words, and each field takes two of them, from
+/// the third word on: a place and an allocation number.
 fn add_fields(print: &mut Fingerprint, heap: &DebugHeap, ptr: Ptr, count: u32)
     requires { length (payload_of ptr heap.now.heap.row) ≡ count }
 {
@@ -68,7 +70,8 @@ fn add_fields(print: &mut Fingerprint, heap: &DebugHeap, ptr: Ptr, count: u32)
     }
 }
 
-/// What a payload of so many words holds but for allocation numbers. The items of the cleanup stack aren't looked at.
+/// Adds the first words of a payload of `count` words, in an object the places of its fields alone. The items of the cleanup stack aren't
+/// added.
 fn add_content(print: &mut Fingerprint, heap: &DebugHeap, kind: Kind, ptr: Ptr, count: u32)
     requires { length (payload_of ptr heap.now.heap.row) ≡ count }
 {
@@ -80,7 +83,7 @@ fn add_content(print: &mut Fingerprint, heap: &DebugHeap, kind: Kind, ptr: Ptr, 
     }
 }
 
-/// The cell that a pointer names. Answers where it ends; `None` if there is none.
+/// Adds the cell that a pointer names. Returns where the cell ends; `None` if there is no such cell.
 fn add_cell(print: &mut Fingerprint, heap: &DebugHeap, ptr: Ptr) -> Option<u32> {
     let Some(cell) = heap.header(ptr) else {
         return None;
@@ -91,7 +94,7 @@ fn add_cell(print: &mut Fingerprint, heap: &DebugHeap, ptr: Ptr) -> Option<u32> 
     Some(cell.end())
 }
 
-/// All live cells, by place.
+/// Adds all live cells, in order of place.
 fn add_cells(print: &mut Fingerprint, heap: &DebugHeap) {
     let (count, total) = heap.alloc_size();
     print.add(count, total);
@@ -108,7 +111,7 @@ fn add_cells(print: &mut Fingerprint, heap: &DebugHeap) {
 }
 
 impl State {
-    /// What this state has in common with all that are the same but for allocation numbers.
+    /// Adds the state to a fingerprint. States that are the same except for allocation numbers add the same.
     fn add_to(&self, print: &mut Fingerprint) {
         print.add(self.items(), self.heap.level());
         print.add(0, self.this.place);
@@ -118,9 +121,9 @@ impl State {
 }
 
 impl<'a> Machine<'a> {
-    /// A number of this run: where `goes_on_like` says of two runs that they go on alike, both have the same one. It is of what is
-    /// pending, the cleanup stack, the locals, and the live cells with the first words of what they hold; of a pointer it is the
-    /// place, and never the allocation number. It takes no memory.
+    /// The fingerprint of this run: if `goes_on_like` says of two runs that they go on alike, both have the same one. It is made of the
+    /// pending pieces, the number of items and of open marks, the locals, and the live cells with the first words of what they hold. Of a
+    /// pointer it takes the place, and never the allocation number. Asks for no memory.
     pub fn fingerprint(&self) -> u64 {
         let mut print = Fingerprint::new();
         self.control.add_to(&mut print);

@@ -1,4 +1,4 @@
-//! What a run leaves once it is over.
+//! What remains of a run once it is over.
 
 ghost use Rattle.std.specs.Prelude.{◌≡◌, ◌+◌, ◌≤◌, ◌↔◌, true, false, length, IfOk};
 ghost use Rattle.wb_model.specs.runs.Run.{rises_result_of, run};
@@ -11,18 +11,18 @@ use wb_debug::Heap;
 use wb_model::memory::NoMemory;
 use wb_model::run::{RisesResult, RunResult};
 
-/// What a run leaves.
+/// What remains of a run.
 #[derive(Drop)]
 pub struct Finished {
-    /// What the run comes to.
+    /// The result of the run.
     pub result: RunResult,
     /// Its heap, whose memory a copy of another machine may take.
     pub heap: Heap,
 }
 
 impl<'a> Machine<'a> {
-    /// Takes all turns that are left. An Ok is what the run comes to under the machine's rule: exactly what the definitions
-    /// say of a whole run, but without a trace where the machine keeps the rises.
+    /// Takes all machine turns that are left, and returns the result of the run. An `Ok` is exactly what the definitions say of a whole run
+    /// under the machine's rule, but without a trace if the machine keeps its rises alone.
     pub fn run_to_end(self) -> Result<RunResult, NoMemory>
         ensures { IfOk result (λ run_result. run_result
             ≡ (whole_run_of self.entry).result) }
@@ -30,7 +30,7 @@ impl<'a> Machine<'a> {
         Ok(self.finish()?.result)
     }
 
-    /// The same, with the run's heap.
+    /// Takes all machine turns that are left, as `run_to_end` does, and returns the run's heap with its result.
     pub fn finish(mut self) -> Result<Finished, NoMemory>
         ensures { IfOk result (λ finished. finished.result
             ≡ (whole_run_of self.entry).result) }
@@ -39,8 +39,8 @@ impl<'a> Machine<'a> {
         Ok(self.into_finished())
     }
 
-    /// What the run reports, once it is over: exactly what the definitions say of the script, the rule, the
-    /// budget and the shape. Its trace has a line for each attempt, one more than the budget at most. The machine is one made by `new`.
+    /// The result of a run that is over, of a machine made by `new`: exactly what the definitions say of the script, the rule, the budget
+    /// and the shape. The trace has a line for each attempt, and at most one line more than the budget has steps.
     pub fn result(self) -> RunResult
         requires over { self.over ≡ true }
         requires well { self.failed ≡ false }
@@ -54,7 +54,7 @@ impl<'a> Machine<'a> {
         self.into_finished().result
     }
 
-    /// The same of every machine, with its heap; the trace is empty where the rises are kept.
+    /// The result of a run that is over, with its heap, of any machine. The trace is empty if the machine keeps its rises alone.
     fn into_finished(self) -> Finished
         requires over { self.over ≡ true }
         requires well { self.failed ≡ false }
@@ -89,8 +89,8 @@ impl<'a> Machine<'a> {
         state.into_heap()
     }
 
-    /// Returns the outcome, the rises and the steps of a run that is over, of a machine made by `new_rises`: those of what
-    /// the definitions say of a whole run.
+    /// Returns the outcome, the rises and the steps of a run that is over, of a machine made by `new_rises`: exactly those that the
+    /// definitions say of a whole run.
     pub fn rises_result(self) -> RisesResult
         requires over { self.over ≡ true }
         requires well { self.failed ≡ false }

@@ -1,4 +1,4 @@
-//! What an `if` asks, and statements that end a body or leave.
+//! Conditions of an `if`, and statements that end a body or leave.
 
 ghost use Rattle.std.specs.Prelude.{◌≡◌, pos, int_lt};
 ghost use Rattle.wb_model.specs.meaning.State.{null};
@@ -27,7 +27,7 @@ impl State {
         }
     }
 
-    /// A leave with a code.
+    /// Leaves with a code.
     #[inline(always)]
     pub fn leave(&mut self, code: &Number) -> Ending
         ensures { CarriesOut self.old (left_with self.old (number_read self.old code.now)) result
@@ -36,7 +36,7 @@ impl State {
         Ending::Leaves(self.number(*code))
     }
 
-    /// A leave with a code that is negative.
+    /// Leaves with a code if the code is negative, and otherwise goes on.
     #[inline(always)]
     pub fn leave_if_error(&mut self, code: &Number) -> Ending
         ensures { CarriesOut self.old (left_where self.old
@@ -51,7 +51,7 @@ impl State {
         }
     }
 
-    /// A leave with `KErrNoMemory` where a pointer is null.
+    /// Leaves with `KErrNoMemory` if a pointer is null, and otherwise goes on.
     pub fn leave_if_null(&mut self, script: &Script, pointer: &Pointer) -> Ending
         ensures { CarriesOut self.old (left_where self.old
             (is_null (pointer_read script.now self.old pointer.now)) KERR_NO_MEMORY) result
@@ -64,7 +64,7 @@ impl State {
         }
     }
 
-    /// The end of a body, without a result.
+    /// Ends a body without a result, so that a caller gets null.
     #[inline(always)]
     pub fn end_body(&mut self) -> Ending
         ensures { CarriesOut self.old (returned self.old null) result self.new }
@@ -72,7 +72,7 @@ impl State {
         Ending::Returns(NULL)
     }
 
-    /// The end of a body, with a pointer.
+    /// Ends a body with a pointer as its result.
     pub fn end_body_with(&mut self, script: &Script, pointer: &Pointer) -> Ending
         ensures { CarriesOut self.old
             (returned self.old (pointer_read script.now self.old pointer.now)) result self.new }

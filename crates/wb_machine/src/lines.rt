@@ -1,4 +1,4 @@
-//! Statements that print and note.
+//! Statements that print, and statements that note figures of the heap.
 
 ghost use Rattle.std.specs.Prelude.{◌≡◌, IfOk, OnOk};
 ghost use Rattle.std.specs.Fmt.{signed_decimal};
@@ -38,7 +38,7 @@ impl State {
         self.print(line)
     }
 
-    /// Makes a note.
+    /// Adds a note to those of the run.
     fn note(&mut self, note: Note) -> Result<Ending, NoMemory>
         ensures effect { IfOk result (λ ending.
             CarriesOut self.old (gone_on (with_note self.old note)) ending self.new) }
@@ -58,7 +58,7 @@ impl State {
         self.note(note)
     }
 
-    /// Notes the total and the longest of the free runs.
+    /// Notes how many bytes are free below the committed length, in all and in the longest free stretch.
     pub fn note_available(&mut self) -> Result<Ending, NoMemory>
         ensures effect { IfOk result (λ ending.
             CarriesOut self.old (gone_on (available_noted self.old)) ending self.new) }
@@ -68,7 +68,7 @@ impl State {
         self.note(note)
     }
 
-    /// Compresses the heap, and notes what that reclaims.
+    /// Compresses the heap, and notes how many bytes of committed length that gives up.
     pub fn note_compress(&mut self) -> Result<Ending, NoMemory>
         ensures effect { IfOk result (λ ending.
             CarriesOut self.old (gone_on (compress_noted self.old)) ending self.new) }

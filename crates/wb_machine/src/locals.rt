@@ -30,7 +30,7 @@ pub const NULL: Ptr = Ptr {
     number: 0,
 };
 
-/// What a local holds that isn't a buffer of its own; a buffer of maximum 0 takes no room.
+/// What a local holds unless it holds a buffer. `NoBuffer` reads as an empty buffer of maximum 0, and takes no room.
 #[derive(Clone, Copy)]
 pub enum Slot {
     Pointer(Ptr),
@@ -39,31 +39,32 @@ pub enum Slot {
     NoBuffer,
 }
 
-/// Where a buffer is among those of all frames.
+/// The index of a buffer among the buffers of all frames.
 #[derive(Clone, Copy)]
 pub struct BufferIndex {
     at: usize,
 }
 
-/// A local as it is stored.
+/// A local as it is stored: what it holds, or the index of its buffer.
 #[derive(Clone, Copy)]
 pub enum Stored {
     Small(Slot),
     Buffer(BufferIndex),
 }
 
-/// The locals of all frames, those of the innermost last. Each is named by its index in its frame.
+/// The locals of all frames, those of the innermost frame last. A local is named by its index in its frame.
 pub struct Locals {
     slots: Vec<Stored>,
     /// The buffers of all frames, in the order of their locals.
     buffers: Vec<Buf>,
-    /// What a local reads as that holds no buffer: an empty one of maximum 0.
+    /// The empty buffer of maximum 0 that is read if a local holds no buffer.
     none: Buf,
-    /// Where the innermost frame begins.
+    /// Where the innermost frame begins in `slots`.
     base: usize,
 }
 
-/// Written out, so that other proofs have one call where one is dropped, and its fields are gone over here alone.
+/// Written by hand, so that a proof about a function that drops such a value has a single call there, and only this function goes over the
+/// fields.
 impl Drop for Locals {
     fn drop(self) {
         let Locals {
@@ -85,7 +86,7 @@ impl Model for Locals {
     ghost invariant = { IsWithin };
 }
 
-/// Another buffer of the same maximum, with the same text.
+/// A copy of a buffer, with the same maximum and the same text.
 pub fn copy_of(buf: &Buf) -> Buf
     ensures { result ≡ buf.now }
 {
@@ -96,7 +97,7 @@ pub fn copy_of(buf: &Buf) -> Buf
     }
 }
 
-/// The same buffers, in memory of their own.
+/// Copies of the buffers, in memory of their own.
 fn copies_of(buffers: &Vec<Buf>) -> Result<Vec<Buf>, AllocError>
     ensures { IfOk result (λ copies. copies.items ≡ buffers.now.items) }
 {
@@ -107,7 +108,7 @@ fn copies_of(buffers: &Vec<Buf>) -> Result<Vec<Buf>, AllocError>
     Ok(copies)
 }
 
-/// Puts a value that isn't a buffer of its own after the locals.
+/// Adds a local after the others, with a value that isn't a buffer.
 pub fn push_slot(slots: &mut Vec<Stored>, slot: Slot) -> Result<(), AllocError>
     ensures pushed { (buffers : List Buffer) →
         OnOk result (values_stored buffers slots.new.items
@@ -120,7 +121,7 @@ pub fn push_slot(slots: &mut Vec<Stored>, slot: Slot) -> Result<(), AllocError>
     Ok(())
 }
 
-/// Puts a local after others, with what it holds at first.
+/// Adds a local after the others, with its initial value.
 fn declare_one(
     slots: &mut Vec<Stored>,
     buffers: &mut Vec<Buf>,
@@ -146,7 +147,7 @@ fn declare_one(
     }
 }
 
-/// Puts locals after others, with what they hold at first.
+/// Adds locals after the others, with their initial values.
 fn declare(
     slots: &mut Vec<Stored>,
     buffers: &mut Vec<Buf>,
@@ -165,7 +166,7 @@ fn declare(
     Ok(())
 }
 
-/// What is stored at a place; the number 0 where nothing is.
+/// The local that is stored at this index; the number 0 if there is none.
 #[inline(always)]
 fn stored_at(slots: &[Stored], at: usize) -> Stored
     ensures { result ≡ stored_at slots.now at }
@@ -176,7 +177,7 @@ fn stored_at(slots: &[Stored], at: usize) -> Stored
     }
 }
 
-/// Where the first buffer of a frame is among all; their end where the frame has none.
+/// The index of a frame's first buffer among the buffers of all frames; `end` if the frame has no buffer.
 fn first_buffer(frame: &[Stored], end: usize) -> usize
     ensures { result ≡ first_buffer end frame.now }
 {
@@ -189,7 +190,7 @@ fn first_buffer(frame: &[Stored], end: usize) -> usize
 }
 
 impl Locals {
-    /// No locals, which take no memory.
+    /// No locals. Takes no memory.
     pub fn new(alloc: Global) -> Locals
         ensures { result ≡ record { callers = []; locals = [] } }
     {
@@ -201,7 +202,7 @@ impl Locals {
         }
     }
 
-    /// The same locals, in memory of their own. On `Err` memory was refused.
+    /// Copies the locals into memory of their own. `Err` if the workbench runs out of memory.
     pub fn try_copy(&self) -> Result<Locals, AllocError>
         ensures { IfOk result (λ copy. copy ≡ self.now) }
     {
@@ -215,7 +216,8 @@ impl Locals {
         })
     }
 
-    /// A frame on top, for a body. Returns where the caller's begins. Asks for memory only where it is deeper than all before.
+    /// Adds a frame for a body, as the innermost one. Returns where the caller's frame begins. Asks for memory only if the room for locals
+    /// or that for buffers is used up.
     #[inline(always)]
     pub fn call(
         &mut self,
@@ -237,7 +239,8 @@ impl Locals {
         Ok(caller)
     }
 
-    /// Drops the innermost frame. The caller's is the innermost again: it begins at `base`, no later than the dropped one.
+    /// Drops the innermost frame. The caller's frame is the innermost again: it begins at `base`, or where the dropped frame began if that
+    /// is lower.
     #[inline(always)]
     pub fn end_call(&mut self, base: usize)
         ensures { self.new ≡ unframed self.old base }
@@ -248,7 +251,7 @@ impl Locals {
         self.base = base.min(self.base);
     }
 
-    /// What a holder holds, in a body of this object; null where it holds no pointer.
+    /// The pointer that a holder, which is a local or `self`, holds in a body of the object `this`; null if the local holds no pointer.
     #[inline(always)]
     pub fn holder_pointer(&self, this: Ptr, holder: Holder) -> Ptr
         ensures { result ≡ holder_pointer_over this self.now.locals holder }
@@ -256,7 +259,7 @@ impl Locals {
         holder_pointer_over(this, &self.slots[self.base..], holder)
     }
 
-    /// The pointer of an operand; null where it names no pointer.
+    /// The value of a pointer operand, over the innermost frame; null if the operand names no pointer.
     #[inline(always)]
     pub fn pointer(&self, context: ReadContext, operand: Pointer) -> Ptr
         ensures { result ≡ pointer_over context.entry.script.now context.entry.heap.now
@@ -265,7 +268,7 @@ impl Locals {
         pointer_over(context, &self.slots[self.base..], operand)
     }
 
-    /// The number of an operand; 0 where it names none.
+    /// The value of a number operand, over the innermost frame; 0 if the operand names no number.
     #[inline(always)]
     pub fn number(&self, operand: Number) -> i32
         ensures { result ≡ number_over self.now.locals operand }
@@ -273,7 +276,7 @@ impl Locals {
         number_over(&self.slots[self.base..], operand)
     }
 
-    /// The buffer in a local; an empty one of maximum 0 where it holds none.
+    /// The buffer in a local of the innermost frame; an empty buffer of maximum 0 if the local holds none.
     pub fn buffer(&self, index: u8) -> &Buf
         ensures { result.now ≡ buffer_in (value_in self.now.locals index) }
     {
@@ -290,7 +293,7 @@ impl Locals {
         &self.none
     }
 
-    /// The view in a local; an empty one of nothing if it holds none.
+    /// The view in a local of the innermost frame; the empty view of no text if the local holds none.
     pub fn view(&self, index: u8) -> Window
         ensures { result ≡ window_in (value_in self.now.locals index) }
     {
@@ -300,7 +303,7 @@ impl Locals {
         }
     }
 
-    /// A local gets a value; one that isn't there stays so.
+    /// Puts a value into a local of the innermost frame. If the frame has no such local, nothing changes.
     #[inline(always)]
     pub fn set(&mut self, index: u8, slot: Slot)
         ensures { self.new
@@ -312,7 +315,8 @@ impl Locals {
         }
     }
 
-    /// A buffer takes the place of the one in a local, which has the same maximum; one that isn't there stays so.
+    /// Replaces the buffer in a local of the innermost frame by one of the same maximum; a local without a buffer counts as one of maximum
+    /// 0. If the frame has no such local, nothing changes.
     fn set_buffer(&mut self, index: u8, buf: Buf)
         requires { buf.max ≡ max_in (value_in self.old.locals index) }
         ensures { self.new

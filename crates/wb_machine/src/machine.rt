@@ -1,4 +1,4 @@
-//! The machine that callers see, and a whole run. What a turn does is in `control`, and what a run leaves in `finished`.
+//! The machine that callers see, and whole runs. What a machine turn does is in `control`, and what remains of a run in `finished`.
 
 ghost use Rattle.std.specs.Prelude.{◌≡◌, ◌+◌, ◌≤◌, ◌↔◌, true, false, length, is_err, IsTrue};
 ghost use Rattle.std.specs.Prelude.{IfOk, IsOk, OnOk, OnErr};
@@ -29,10 +29,10 @@ use wb_model::memory::NoMemory;
 use wb_model::run::{Leaks, RisesResult, RunResult};
 use wb_model::script::Script;
 
-/// What a turn leaves.
+/// What a machine turn comes to.
 #[derive(Clone, Copy, Debug, PartialEq, Eq)]
 pub enum Turn {
-    /// A further turn is to come.
+    /// A further machine turn is to come.
     GoesOn,
     /// The run is over.
     Ended,
@@ -67,10 +67,10 @@ impl<'a> Model for Machine<'a> {
 }
 
 impl<'a> Machine<'a> {
-    /// A machine at the start of a run: no attempt is made yet. It keeps a line of each attempt.
+    /// A machine at the start of a run, before its first attempt. It keeps a trace: a line for each attempt.
     ///
-    /// The budget counts steps. The shape's lengths are bytes. `BadShape` comes exactly where the shape is
-    /// none that a heap may have, and before `NoMemory`.
+    /// The budget is in steps, the shape's lengths are in bytes. Returns `BadShape` exactly if no heap may have the shape, and never
+    /// `NoMemory` in its place.
     pub fn new(
         alloc: Global,
         script: &'a Script,
@@ -87,11 +87,11 @@ impl<'a> Machine<'a> {
         Ok(at_start(alloc, script, budget, State::new(alloc, rule, shape)?))
     }
 
-    /// A machine at the start of a run without a limit, which keeps the rises alone: the attempts that were granted and end
-    /// past all granted before them.
+    /// A machine at the start of a run without a limit. It keeps no trace, but the rises: the granted attempts whose cells end past those
+    /// of all attempts granted before.
     ///
-    /// The budget counts steps. The shape's lengths are bytes. `BadShape` comes exactly where the shape is none that a heap
-    /// may have, and before `NoMemory`.
+    /// The budget is in steps, the shape's lengths are in bytes. Returns `BadShape` exactly if no heap may have the shape, and never
+    /// `NoMemory` in its place.
     pub fn new_rises(
         alloc: Global,
         script: &'a Script,
@@ -146,15 +146,15 @@ impl<'a> Machine<'a> {
         Ok(Turn::Ended)
     }
 
-    /// The same run, in memory of its own: what is done to one changes nothing in the other. `NoMemory` where memory was
-    /// refused.
+    /// Copies the run into memory of its own: what is done to one of the two changes nothing in the other. `NoMemory` if the workbench runs
+    /// out of memory.
     pub fn try_copy(&self) -> Result<Machine<'a>, NoMemory>
         ensures { IfOk result (λ copy. copy ≡ self.now) }
     {
         self.try_copy_over(None)
     }
 
-    /// The same, its cells over the memory of `spare`, whose own are lost, where there is one.
+    /// Copies the run as `try_copy` does, but its heap into the memory of `spare`, if there is one. What `spare` held is lost.
     pub fn try_copy_over(&self, spare: Option<Heap>) -> Result<Machine<'a>, NoMemory>
         ensures { IfOk result (λ copy. copy ≡ self.now) }
     {
@@ -169,8 +169,8 @@ impl<'a> Machine<'a> {
         })
     }
 
-    /// Goes on under another rule. Neither is a limit, and both refuse the same of the attempts made so far: so the run comes to
-    /// what it would have come to under the new rule from its start on. The machine keeps a line of each attempt.
+    /// Goes on under another rule. Neither the old rule nor the new one is a limit, and of the attempts made so far both make the same ones
+    /// fail: so the run comes to what it would have come to under the new rule from its start. The machine must be one that keeps a trace.
     pub fn set_rule(&mut self, rule: Rule)
         requires lines { self.old.keeps_rises ≡ false }
         requires same { SameSoFar rule self.old.rule self.old.attempts }
@@ -197,8 +197,9 @@ impl<'a> Machine<'a> {
         self.state.steps() < self.budget && self.control.asks(self.script, &self.state)
     }
 
-    /// How many attempts were made so far; once the run is over, how many it makes. One that the ceiling cuts isn't counted. Each
-    /// takes a step, but for the first, so they are one more than the budget at most.
+    /// How many attempts the run has made so far; once the run is over, how many it makes in all. An attempt at which the ceiling cuts the
+    /// run isn't counted. Each attempt but the first is made in a step of its own, so there is at most one attempt more than the budget has
+    /// steps.
     pub fn attempts(&self) -> u32
         ensures so_far { result ≡ self.now.attempts }
         ensures all { self.now.over ≡ true → self.now.failed ≡ false →
@@ -209,7 +210,7 @@ impl<'a> Machine<'a> {
         self.state.attempts()
     }
 
-    /// The line of the statement begun last; 0 before the first.
+    /// The script line of the statement begun last; 0 before the first statement.
     pub fn line(&self) -> u32
         ensures { result ≡ self.now.line }
     {
@@ -247,7 +248,7 @@ impl<'a> Machine<'a> {
     }
 }
 
-/// A machine over a state in which nothing is done yet.
+/// The machine at the start of a run, over a state in which nothing has been done yet.
 fn at_start<'a>(alloc: Global, script: &'a Script, budget: u32, state: State) -> Machine<'a>
     requires script { IsTrue (is_script script.now) }
     requires greatest { budget ≤ LARGEST_BUDGET }
@@ -268,8 +269,8 @@ fn at_start<'a>(alloc: Global, script: &'a Script, budget: u32, state: State) ->
     }
 }
 
-/// Lists the leaks of a run that ended so, where its outcome says so. For any other outcome no memory is
-/// asked for.
+/// Lists the leaks of a run with this ending. A run that was stopped, by a panic, a cut or a failed attempt 1, has no list: then `leaks`
+/// stays as it was, and no memory is asked for.
 fn list_leaks(leaks: &mut Leaks, ending: Ending, state: &State) -> Result<(), NoMemory>
     ensures run_result { OnOk result (is_stop ending ≡ false → leaks.new ≡ leaks_at_end state.now) }
     ensures untold { is_stop ending ≡ true → (IsOk result) × (leaks.new ≡ leaks.old) }
@@ -280,11 +281,11 @@ fn list_leaks(leaks: &mut Leaks, ending: Ending, state: &State) -> Result<(), No
     Ok(())
 }
 
-/// A whole run.
+/// Runs a script from its first attempt to its end, or until it is cut.
 ///
-/// An Ok is exactly what the definitions say of the script, the rule, the budget (in steps) and the shape
-/// (in bytes); a run that is cut is an outcome. Its trace has at most one line more than the budget has steps. `BadShape`
-/// comes exactly where the shape is none that a heap may have, and before `NoMemory`.
+/// An `Ok` is exactly what the definitions say of the script, the rule, the budget (in steps) and the shape (in bytes); a run that is cut
+/// gives an `Ok` too. Its trace has at most one line more than the budget has steps. Returns `BadShape` exactly if no heap may have the
+/// shape, and never `NoMemory` in its place.
 pub fn run(
     alloc: Global,
     script: &Script,
@@ -304,11 +305,10 @@ pub fn run(
     Ok(machine.result())
 }
 
-/// A whole run without a limit, of which the rises are kept and no trace, so that an attempt that isn't a rise adds
-/// nothing.
+/// Runs a script without a limit. The rises are kept and no trace, so that an attempt that isn't a rise adds nothing to what is kept.
 ///
-/// An Ok is exactly what the definitions say of the script, the budget (in steps) and the shape (in bytes); a run that is
-/// cut is an outcome. `BadShape` comes exactly where the shape is none that a heap may have, and before `NoMemory`.
+/// An `Ok` is exactly what the definitions say of the script, the budget (in steps) and the shape (in bytes); a run that is cut gives an
+/// `Ok` too. Returns `BadShape` exactly if no heap may have the shape, and never `NoMemory` in its place.
 pub fn run_rises(
     alloc: Global,
     script: &Script,

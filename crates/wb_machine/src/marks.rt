@@ -18,7 +18,7 @@ use wb_model::heap::Panic;
 use wb_model::script::Number;
 
 impl State {
-    /// Sets a mark: cells that are allocated from now on are of the next level.
+    /// Opens a mark: cells that are allocated from now on are of the next level.
     pub fn mark(&mut self) -> Ending
         requires { self.old.debug.heap.level + 1 < 2 ^ 32 }
         ensures { CarriesOut self.old (gone_on (marked self.old)) result self.new }
@@ -27,7 +27,8 @@ impl State {
         Ending::GoesOn
     }
 
-    /// Ends the last mark, unless that is refused, and then nothing changes.
+    /// Closes the innermost mark, if exactly `count` cells of its level are live. Otherwise, or if no mark is open, returns the panic and
+    /// changes nothing.
     fn end_mark(&mut self, count: u32) -> Result<(), Panic>
         ensures refused { IfErr result (λ panic.
             mark_end_refusal self.old.debug.heap count ≡ Some panic) }
@@ -40,7 +41,7 @@ impl State {
         self.heap.mark_end(count)
     }
 
-    /// Ends the last mark, where `count` cells of its level are live.
+    /// Closes the innermost mark. Panics if no mark is open, or not exactly `count` cells of its level are live.
     pub fn mark_end(&mut self, count: &Number) -> Ending
         ensures { CarriesOut self.old (mark_end_within self.old
             (not_negative (number_read self.old count.now))) result self.new }
@@ -54,7 +55,7 @@ impl State {
         }
     }
 
-    /// Stops the run unless `count` cells of the current level are live.
+    /// Panics unless exactly `count` cells of the current level are live.
     pub fn check(&mut self, count: &Number) -> Ending
         ensures { CarriesOut self.old (check_within self.old (check_refusal self.old.debug)
             (not_negative (number_read self.old count.now))) result self.new }
@@ -68,7 +69,7 @@ impl State {
         }
     }
 
-    /// Stops the run unless `count` cells of all levels are live.
+    /// Panics unless exactly `count` cells of all levels are live.
     pub fn check_all(&mut self, count: &Number) -> Ending
         ensures { CarriesOut self.old (check_within self.old (check_all_refusal self.old.debug)
             (not_negative (number_read self.old count.now))) result self.new }
@@ -82,7 +83,7 @@ impl State {
         }
     }
 
-    /// The `rate`-th attempt from here on is to fail, and no later one.
+    /// Makes the `rate`-th attempt from here on fail, and no later one.
     pub fn fail_next(&mut self, rate: &Number) -> Ending
         ensures { CarriesOut self.old (set_within self.old (λ n.
             next n) (at_least_one (number_read self.old rate.now))) result self.new }
@@ -94,7 +95,7 @@ impl State {
         Ending::GoesOn
     }
 
-    /// Every `rate`-th attempt from here on is to fail.
+    /// Makes every `rate`-th attempt from here on fail.
     pub fn fail_every(&mut self, rate: &Number) -> Ending
         ensures { CarriesOut self.old (set_within self.old (λ n.
             each n n) (at_least_one (number_read self.old rate.now))) result self.new }
@@ -106,7 +107,7 @@ impl State {
         Ending::GoesOn
     }
 
-    /// No attempt is to fail but for the run's own rule.
+    /// Ends the script's setting, so that only the run's rule makes attempts fail.
     pub fn fail_none(&mut self) -> Ending
         ensures { CarriesOut self.old
             (gone_on (with_debug self.old (with_setting self.old.debug never))) result self.new }

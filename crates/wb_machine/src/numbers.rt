@@ -1,4 +1,4 @@
-//! Statements that set locals.
+//! Statements that set pointers and number locals.
 
 ghost use Rattle.std.specs.Prelude.{◌≡◌};
 ghost use Rattle.wb_model.specs.meaning.State.{number, null};
@@ -45,7 +45,7 @@ impl State {
         Ending::GoesOn
     }
 
-    /// A number is added to a number local. A sum that no int holds stops the run.
+    /// Adds a number to a number local. Panics with WORKBENCH 9 if the sum doesn't fit into an int.
     #[inline(always)]
     pub fn add(&mut self, local: u8, value: &Number) -> Ending
         ensures { CarriesOut self.old (add_effect self.old local (number_read self.old value.now))

@@ -1,4 +1,4 @@
-//! Statements that make objects, what objects say of themselves, and their fields.
+//! Statements that make objects, the class of an object, and its fields.
 
 ghost use Rattle.std.specs.Prelude.{◌≡◌, ◌+◌, ◌*◌, ◌^◌, ◌<◌, ◌≤◌, true, Ok, length, IfOk, IsOk, OnErr, OnOk, IsTrue};
 ghost use Rattle.wb_model.specs.meaning.Bodies.{class_at};
@@ -22,14 +22,15 @@ use wb_model::script::{Pointer, Refusal, Script};
 use wb_objects::set_field;
 
 impl State {
-    /// The class of an object. WORKBENCH 1 where the pointer names no cell, and WORKBENCH 2 where its cell is no object's.
+    /// The class of the object that a pointer names. WORKBENCH 1 if the pointer names no live cell, and WORKBENCH 2 if the cell holds no
+    /// object.
     pub fn class(&self, ptr: Ptr) -> Result<u16, Panic>
         ensures { result ≡ class_read self.now ptr }
     {
         wb_objects::class_of(&self.heap, ptr)
     }
 
-    /// Puts a pointer into a field of an object of this class, which has words for it.
+    /// Puts a pointer into a field of an object of this class, whose cell has words for the field.
     fn put_field(&mut self, object: Ptr, class: u16, index: u8, to: Ptr)
         requires class { class_read self.old object ≡ Ok class }
         requires room { 4 + 2 * index ≤ length (payload_of object self.old.debug.heap.row) }
@@ -44,8 +45,9 @@ impl State {
         }
     }
 
-    /// Puts a pointer into a field of an object, whatever its class. A cell that is no object, or has no words for the field,
-    /// stays as it is; a script that was read has neither, since the object is asked for before the statement is carried out.
+    /// Puts a pointer into a field of an object, whatever its class. A cell that holds no object, or has no words for the field, stays as
+    /// it is. Neither comes up in a run of a script that was read, because the field's object is tested before the statement is carried
+    /// out.
     pub fn set_field(&mut self, object: Ptr, index: u8, to: Ptr)
         ensures set { self.new ≡ with_debug self.old
             (with_row self.old.debug (row_with_field object index to self.old.debug.heap.row)) }
@@ -58,9 +60,10 @@ impl State {
             self.put_field(object, class, index, to);
         }
     }
-    /// An attempt to get a cell for an object of a class.
+    /// Makes an attempt to get a cell for an object of a class.
     ///
-    /// Past the ceiling nothing is counted; nor is it where memory runs out, and then nothing changes.
+    /// An attempt whose cell would end past the heap's ceiling isn't counted, and neither is one for which the workbench itself runs out of
+    /// memory. Both leave everything as it was.
     fn attempt_object(&mut self, script: &Script, class: u16) -> Result<Gave, NoMemory>
         requires script { IsTrue (is_script script.now) }
         requires class { class < length script.now.classes }
@@ -77,7 +80,7 @@ impl State {
         wb_objects::make(&mut self.heap, script, class)
     }
 
-    /// A target gets a new object of a class.
+    /// Makes an object of a class, which the target gets.
     #[inline(never)]
     pub fn new_object(
         &mut self,

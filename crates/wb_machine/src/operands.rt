@@ -1,10 +1,10 @@
-//! The ranges that numbers are asked for, and the units of literals. Nothing here changes a state.
+//! The ranges in which the numbers of statements must be. Nothing here changes a state.
 
 ghost use Rattle.std.specs.Prelude.{◌≡◌, ◌≤◌, IfSome};
 ghost use Rattle.wb_model.specs.meaning.Operands.{within, not_negative};
 ghost use Rattle.wb_model.specs.meaning.Statements.{index_in, at_least_one};
 
-/// A number from 0 to a greatest one.
+/// The number, if it is from 0 to `greatest`; `None` otherwise.
 pub fn number_within(greatest: u32, number: i32) -> Option<u32>
     ensures value { result ≡ within greatest number }
     ensures most { IfSome result (λ n. n ≤ greatest) }
@@ -16,7 +16,7 @@ pub fn number_within(greatest: u32, number: i32) -> Option<u32>
     }
 }
 
-/// A number that isn't negative.
+/// The number, if it isn't negative; `None` otherwise.
 pub fn not_negative(number: i32) -> Option<u32>
     ensures { result ≡ not_negative number }
 {
@@ -27,7 +27,7 @@ pub fn not_negative(number: i32) -> Option<u32>
     }
 }
 
-/// A number from 1 on.
+/// The number, if it is 1 or greater; `None` otherwise.
 pub fn at_least_one(number: i32) -> Option<u32>
     ensures value { result ≡ at_least_one number }
     ensures least { IfSome result (λ n. 1 ≤ n) }
@@ -39,7 +39,7 @@ pub fn at_least_one(number: i32) -> Option<u32>
     }
 }
 
-/// The word that an index names, in a payload of `usable` bytes.
+/// The index of a word, if a payload of `usable` bytes has that word; `None` otherwise. A word has 4 bytes.
 pub fn word_within(usable: u32, index: i32) -> Option<u32>
     ensures { result ≡ index_in usable index }
 {

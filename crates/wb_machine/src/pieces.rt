@@ -1,4 +1,4 @@
-//! What is still to do, as pieces, and how a piece ends.
+//! The pieces of what a run has still to do, and how a piece ends.
 
 ghost use Rattle.std.specs.Prelude.{◌≡◌};
 ghost use Rattle.std.specs.Option.{option_copied};
@@ -8,23 +8,23 @@ use wb_model::heap::{Panic, Ptr};
 use wb_model::run::Why;
 use wb_model::script::StatementAt;
 
-/// How the piece above the pending ones ended.
+/// How the piece that was above the pending ones ended.
 #[derive(Clone, Copy)]
 pub enum Ending {
     /// Plainly: the piece on top goes on.
     GoesOn,
-    /// The body ends, with a pointer.
+    /// The body returns, with a pointer.
     Returns(Ptr),
     /// A leave, with a code.
     Leaves(i32),
     Panics(Panic),
     Cut(Why),
-    /// The cleanup stack's own cell was refused.
+    /// Attempt 1, for the cleanup stack's own cell, failed.
     NoCleanup,
 }
 
 impl Ending {
-    /// Whether the run is stopped.
+    /// Whether the run is stopped: by a panic, a cut or a failed attempt 1.
     #[inline(always)]
     pub fn is_stop(self) -> bool
         ensures { result ≡ is_stop self }
@@ -38,15 +38,14 @@ impl Ending {
     }
 }
 
-/// Where a piece is: how many frames there are, and how many items were at the entry of the innermost
-/// TRAP.
+/// Where a piece is: how many frames there are, and how many items were on the cleanup stack at the entry of the innermost TRAP.
 #[derive(Clone, Copy)]
 pub struct Context {
     pub depth: u32,
     pub floor: u32,
 }
 
-/// Where `main` is.
+/// The context of `main`'s body.
 pub const IN_MAIN: Context = Context { depth: 1, floor: 0 };
 
 /// What follows the end of a body.
@@ -64,25 +63,25 @@ pub enum After {
 pub enum PendingPiece<'a> {
     /// The rest of a block.
     Code(Context, &'a [StatementAt]),
-    /// The turns that a `repeat` has left.
+    /// How many turns a `repeat` has left, and its body.
     Turns(Context, u32, &'a [StatementAt]),
     /// How many items are left to destroy, the newest first.
     Items(Context, u32),
     /// The destruction of an object, by a pointer that isn't null.
     Object(Context, Ptr),
-    /// A TRAP: its local, which gets the code, and how many items were at its entry.
+    /// A TRAP: the index of its local, which gets 0 or a leave's code, and how many items were at the TRAP's entry.
     Trap(Context, u8, u32),
-    /// The code that a TRAP's local gets once the items are destroyed.
+    /// A TRAP whose body was left: the index of its local, and the code that the local gets once the items are destroyed.
     Caught(u8, i32),
     /// `main`'s own TRAP.
     MainTrap,
-    /// The code with which `main` was left, once the items are destroyed.
+    /// `main`'s own TRAP, after `main` was left: the code of the leave, which ends the run once the items are destroyed.
     MainCaught(i32),
     /// A call: where the caller's frame begins among the locals, the object whose body the caller runs, and what follows.
     Call(usize, Ptr, After),
 }
 
-/// Whether a piece begins with a step.
+/// Whether a piece has a step to take.
 #[inline(always)]
 pub fn needs_step(piece: &PendingPiece) -> bool
     ensures { result ≡ needs_step piece.now }
@@ -100,7 +99,7 @@ pub fn needs_step(piece: &PendingPiece) -> bool
     }
 }
 
-/// The statement that a piece begins with, where it begins with one.
+/// The statement that a piece begins with; `None` if it begins with none.
 pub fn first_statement<'a>(piece: &PendingPiece<'a>) -> Option<&'a StatementAt>
     ensures { option_copied result ≡ first_statement piece.now }
 {

@@ -14,7 +14,7 @@ use wb_model::heap::Ptr;
 use wb_model::script::{Holder, Pointer, Script};
 use wb_objects::field;
 
-/// What operands see beside the locals of their frame: the script, the heap, and the object whose body runs.
+/// What operands are read from besides the locals of their frame: the script, the heap, and the object whose body runs.
 #[derive(Clone, Copy)]
 pub struct ReadContext<'b> {
     pub script: &'b Script,
@@ -22,7 +22,7 @@ pub struct ReadContext<'b> {
     pub this: Ptr,
 }
 
-/// What a holder holds.
+/// The pointer that a holder holds: that of a local in `frame`, or `this` for `self`; null if the local holds no pointer.
 #[inline(always)]
 pub fn holder_pointer_over(this: Ptr, frame: &[Stored], holder: Holder) -> Ptr
     ensures { (buffers : List Buffer) →
@@ -47,7 +47,7 @@ fn field_count(script: &Script, class: u16) -> usize
     }
 }
 
-/// Whether a cell has words for the field with this index of an object.
+/// Whether a pointer names a live cell that is long enough to have words for an object's field with this index.
 pub fn has_words(heap: &DebugHeap, ptr: Ptr, index: u8) -> bool
     ensures { result ≡ nat_le (4 + 2 * index) (length (payload_of ptr heap.now.heap.row)) }
 {
@@ -57,9 +57,10 @@ pub fn has_words(heap: &DebugHeap, ptr: Ptr, index: u8) -> bool
     }
 }
 
-/// A field of an object; null where the pointer names no object of the class.
+/// The pointer in a field of an object; null if `object` names no object of the class, or there is no such field.
 ///
-/// An object is made with room for all fields of its class, and a script names no other. So it always is there.
+/// An object is made with room for all fields of its class, and a script names no field that the class doesn't have. So the field is always
+/// there in a run of a script that was read.
 #[inline(never)]
 fn field_over(script: &Script, heap: &DebugHeap, object: Ptr, class: u16, index: u8) -> Ptr
     ensures { result
@@ -77,7 +78,7 @@ fn field_over(script: &Script, heap: &DebugHeap, object: Ptr, class: u16, index:
     }
 }
 
-/// The pointer of an operand; null where it names none.
+/// The value of a pointer operand, over the locals of a frame; null if the operand names no pointer.
 #[inline(always)]
 pub fn pointer_over(context: ReadContext, frame: &[Stored], operand: Pointer) -> Ptr
     ensures { (buffers : List Buffer) →

@@ -7,7 +7,7 @@ use arrayvec::ArrayVec;
 use itoa::Buffer;
 use wb_model::printed_line::Line;
 
-/// The line that a number prints: its decimal digits, after a minus where it is negative.
+/// The line that a number prints: its decimal digits, after a minus sign if it is negative.
 pub fn number_line(number: i32) -> Line
     ensures { result ≡ signed_decimal number }
 {

@@ -1,4 +1,4 @@
-//! What raises a panic, for those who explain a run. Contracts speak of it where a TRAP, `main` or a call ends, and nowhere else.
+//! What raises a panic, for callers that explain a run. Contracts say what raised a panic only where a TRAP, `main` or a call ends.
 
 use wb_model::heap::Panic;
 
@@ -7,7 +7,8 @@ use wb_model::heap::Panic;
 pub enum Raiser {
     /// The statement begun last.
     Statement,
-    /// The statement begun last, by a field that it names: what holds the field is no object of the field's class.
+    /// The statement begun last, by a field among its operands: the holder of the field names no live cell, or no object of the field's
+    /// class.
     Holder,
     /// The end of a TRAP.
     TrapEnd,
@@ -24,6 +25,7 @@ pub enum Raiser {
 pub struct Raised {
     pub panic: Panic,
     pub raiser: Raiser,
-    /// How many bodies were running: 1 in `main`, and 0 at its end. The body that ended before a release counts no more.
+    /// How many bodies were running: 1 in `main`, and 0 at the end of `main`. At a release, the destructor that ended before it isn't
+    /// counted.
     pub depth: u32,
 }

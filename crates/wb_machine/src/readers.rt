@@ -1,5 +1,5 @@
-//! Readers for those who watch a run turn by turn, which its view pins: the live cells, the committed length, the marks that are
-//! open, and the steps. Nothing here takes a turn.
+//! Readers for callers that watch a run turn by turn: the live cells, the committed length, the open marks, and the steps. Contracts state
+//! each answer in terms of the machine's view. Nothing here takes a machine turn.
 
 ghost use Rattle.std.specs.Prelude.{◌≡◌, length};
 ghost use Rattle.wb_model.specs.heap.LimitedHeap.{next_live_of};
@@ -9,17 +9,17 @@ use crate::machine::Machine;
 use wb_model::heap::Header;
 
 impl<'a> Machine<'a> {
-    /// The first live cell that begins at this place, in bytes, or above it; `None` if there is none. The cleanup stack's own
-    /// cell is one of them.
+    /// The first live cell that begins at the place `from`, in bytes, or above it; `None` if there is none. The cleanup stack's own cell is
+    /// one of the cells.
     ///
-    /// From place 0 on, and then from the end of each cell that came, this gives every live cell in order of place.
+    /// Called for place 0, and then for the end of each cell that it returned, it returns every live cell in order of place.
     pub fn next_live(&self, from: u32) -> Option<Header>
         ensures { result ≡ next_live_of from self.now.live }
     {
         self.state.heap.next_live(from)
     }
 
-    /// The number of live cells, and their cell lengths together, in bytes.
+    /// The number of live cells, and the sum of their cell lengths, in bytes.
     pub fn alloc_size(&self) -> (u32, u32)
         ensures count { result.0 ≡ length self.now.live }
         ensures total { result.1 ≡ total_length self.now.live }

@@ -1,5 +1,5 @@
-//! What refuses a statement for its pointer operands, before it is carried out: a field whose holder names no cell, or no object of
-//! the class that the holder is declared with. Nothing here changes a state.
+//! Panics of a statement's pointer operands, which are found before the statement is carried out: an operand panics if it is a field whose
+//! holder names no live cell, or no object of the class that the holder is declared with. Nothing here changes a state.
 
 ghost use Rattle.std.specs.Prelude.{◌≡◌, [], ◌∷◌, ◌++◌};
 ghost use Rattle.wb_model.specs.declared.script.Statement.TheViews.{out-Statement};
@@ -12,9 +12,9 @@ use wb_model::heap::{Kind, Panic, Ptr};
 use wb_model::items::Items;
 use wb_model::script::{Argument, Condition, Pointer, Readable, Statement, Writable};
 
-/// Single operands.
+/// Panics of single operands.
 impl State {
-    /// What refuses the object that a field is read of, or written in.
+    /// The panic of a field of `object` that is read or written; `None` if `object` names an object of this class.
     #[cold]
     #[inline(never)]
     fn object_refusal(&self, object: Ptr, class: u16) -> Option<Panic>
@@ -27,7 +27,8 @@ impl State {
         }
     }
 
-    /// What refuses a pointer operand. Few are fields, so that one is asked for out of the way.
+    /// The panic of a pointer operand; `None` if it has none. Only a field can panic, and few operands are fields: so fields are tested in
+    /// a function of their own, which isn't inlined.
     #[inline(always)]
     pub(crate) fn pointer_refusal(&self, operand: &Pointer) -> Option<Panic>
         ensures refused { result ≡ pointer_refusal self.now operand.now }
@@ -42,7 +43,7 @@ impl State {
         }
     }
 
-    /// What refuses the first of two pointer operands, and else the second.
+    /// The panic of the first of two pointer operands, or else that of the second.
     #[inline(always)]
     fn either_refusal(&self, one: &Pointer, other: &Pointer) -> Option<Panic>
         ensures { result ≡ first_refusal self.now (one.now ∷ other.now ∷ []) }
@@ -53,7 +54,7 @@ impl State {
         }
     }
 
-    /// What refuses a text that can be changed.
+    /// The panic of the pointer in a text operand that can be changed.
     #[inline(always)]
     fn target_refusal(&self, target: &Writable) -> Option<Panic>
         ensures { result ≡ first_refusal self.now (of_writable target.now) }
@@ -64,7 +65,7 @@ impl State {
         }
     }
 
-    /// What refuses a text that can be read.
+    /// The panic of the pointer in a text operand that can be read.
     #[inline(never)]
     fn readable_refusal(&self, text: &Readable) -> Option<Panic>
         ensures { result ≡ first_refusal self.now (of_readable text.now) }
@@ -75,7 +76,7 @@ impl State {
         }
     }
 
-    /// What refuses a text that is to be changed, and else the one that it is changed by.
+    /// The panic of a text operand that is to be changed, or else that of the one that it is changed by.
     #[inline(never)]
     fn edit_refusal(&self, target: &Writable, text: &Readable) -> Option<Panic>
         ensures { result ≡ first_refusal self.now (of_writable target.now ++ of_readable text.now) }
@@ -86,7 +87,7 @@ impl State {
         }
     }
 
-    /// What refuses a condition.
+    /// The panic of a condition's operand.
     #[inline(always)]
     pub(crate) fn condition_refusal(&self, condition: &Condition) -> Option<Panic>
         ensures { result ≡ first_refusal self.now (of_condition condition.now) }
@@ -98,7 +99,7 @@ impl State {
         }
     }
 
-    /// What refuses an argument.
+    /// The panic of an argument.
     #[inline(always)]
     fn argument_refusal(&self, argument: &Argument) -> Option<Panic>
         ensures { result ≡ first_refusal self.now (of_arguments (argument.now ∷ [])) }
@@ -109,7 +110,7 @@ impl State {
         }
     }
 
-    /// What refuses the arguments of a call, from left to right.
+    /// The first panic among the arguments of a call, from left to right.
     #[inline(always)]
     fn arguments_refusal(&self, arguments: &[Argument]) -> Option<Panic>
         ensures { result ≡ first_refusal self.now (of_arguments arguments.now) }
@@ -123,7 +124,7 @@ impl State {
         None
     }
 
-    /// What refuses the arguments of a call.
+    /// The first panic among the arguments of a call, from left to right.
     #[inline(always)]
     pub(crate) fn call_refusal(&self, arguments: &Items<Argument>) -> Option<Panic>
         ensures { result ≡ first_refusal self.now (of_arguments arguments.now) }
@@ -132,9 +133,9 @@ impl State {
     }
 }
 
-/// Whole statements.
+/// Panics of whole statements.
 impl State {
-    /// What refuses a statement for its operands, its target among them: the first refusal, from left to right.
+    /// The first panic among the operands of a statement, from left to right, its target among them; `None` if none panics.
     #[inline(always)]
     pub fn operands_refusal(&self, statement: &Statement) -> Option<Panic>
         ensures { result ≡ operands_refusal self.now (out-Statement statement.now) }

@@ -1,5 +1,5 @@
-//! What all bodies of a script share. What each statement does with it is in files by subject, and what
-//! is still to do in `control`.
+//! The state that all bodies of a running script share. What each statement does with the state is in files by subject, and what a run has
+//! still to do is in `control`.
 
 ghost use Rattle.std.specs.Prelude.{◌≡◌, ◌+◌, ◌^◌, ◌<◌, ◌↔◌, [], length, false, true, IfOk, OnOk, IsSome, IsTrue, Some};
 ghost use Rattle.std.specs.List.{list_all};
@@ -34,12 +34,12 @@ use wb_model::printed_line::copy_of_lines;
 use wb_model::run::{Leaks, Lines, Notes, Outcome, RisesResult, RunResult};
 use wb_model::script::{Holder, Local, Number, Pointer, Script};
 
-/// What all bodies share.
+/// The state that all bodies share.
 pub struct State {
     pub heap: DebugHeap,
-    /// Where there is none yet, attempt 1 is still to come, or was refused.
+    /// The cleanup stack; `None` before attempt 1, and if attempt 1 failed.
     pub cleanup: Option<Cleanup>,
-    /// The object whose body the innermost frame runs; null where it runs none.
+    /// The object whose `construct` or `destroy` runs in the innermost frame; null if that frame runs another body.
     pub this: Ptr,
     pub locals: Locals,
     pub lines: Lines,
@@ -47,7 +47,8 @@ pub struct State {
     pub steps: u32,
 }
 
-/// Written out, so that other proofs have one call where one is dropped, and its fields are gone over here alone.
+/// Written by hand, so that a proof about a function that drops such a value has a single call there, and only this function goes over the
+/// fields.
 impl Drop for State {
     fn drop(self) {
         let State {
@@ -77,7 +78,7 @@ impl Model for State {
 }
 
 impl State {
-    /// The state before the first attempt, of a run that keeps a line of each attempt.
+    /// The state before the first attempt, of a run that keeps a trace: a line for each attempt.
     pub fn new(alloc: Global, rule: Rule, shape: Shape) -> Result<State, DebugFault>
         ensures ok { IfOk result (λ state. state ≡ first_state false rule shape) }
         ensures shape { (result ≡ Err DebugFault.BadShape) ↔ (is_shape shape ≡ false) }
@@ -85,7 +86,7 @@ impl State {
         Ok(over_heap(alloc, DebugHeap::new(alloc, rule, shape)?))
     }
 
-    /// The same without a limit, of a run that keeps the rises alone.
+    /// The state before the first attempt, of a run without a limit that keeps its rises and no trace.
     pub fn new_rises(alloc: Global, shape: Shape) -> Result<State, DebugFault>
         ensures ok { IfOk result (λ state. state ≡ first_state true Unlimited shape) }
         ensures shape { (result ≡ Err DebugFault.BadShape) ↔ (is_shape shape ≡ false) }
@@ -93,8 +94,8 @@ impl State {
         Ok(over_heap(alloc, DebugHeap::new_rises(alloc, shape)?))
     }
 
-    /// The same state, in memory of its own, or that of its cells over the memory of `spare`, whose own are lost, where there is
-    /// one: what is done to one changes nothing in the other.
+    /// Copies the state: what is done to one of the two changes nothing in the other. The copy's heap takes the memory of `spare`, if there
+    /// is one, and what `spare` held is lost; all else gets memory of its own.
     pub fn try_copy_over(&self, spare: Option<Heap>) -> Result<State, NoMemory>
         ensures { IfOk result (λ copy. copy ≡ self.now) }
     {
@@ -109,7 +110,8 @@ impl State {
         })
     }
 
-    /// Another rule from here on, which refuses the same of the attempts made so far; neither is a limit.
+    /// Sets another rule for the attempts to come. Neither the old rule nor the new one is a limit, and of the attempts made so far both
+    /// make the same ones fail.
     pub fn set_rule(&mut self, rule: Rule)
         requires lines { keeps_rises self.old.debug ≡ false }
         requires same { SameSoFar rule self.old.debug.rule self.old.debug.attempts }
@@ -141,7 +143,7 @@ impl State {
         self.steps += 1;
     }
 
-    /// `main` begins, with its locals.
+    /// Adds the frame of `main`, with its locals.
     pub fn enter(&mut self, script: &Script, locals: &[Local]) -> Result<(), NoMemory>
         requires none { self.old.locals ≡ [] }
         requires no_caller { self.old.callers ≡ [] }
@@ -160,15 +162,15 @@ impl State {
         Ok(())
     }
 
-    /// The object whose body the innermost frame runs; null where it runs none.
+    /// The object whose `construct` or `destroy` runs in the innermost frame; null if that frame runs another body.
     pub fn this(&self) -> Ptr
         ensures { result ≡ self.now.this }
     {
         self.this
     }
 
-    /// A body is called, of an object or of none, with what it is handed, in a frame of its own. Answers where the caller's
-    /// frame begins.
+    /// Adds a frame for a body that is called. `this` is the object whose body it is, or null, and `call_arguments` are what the parameters
+    /// get. Returns where the caller's frame begins among the locals.
     pub fn call(
         &mut self,
         script: &Script,
@@ -192,7 +194,8 @@ impl State {
         Ok(caller)
     }
 
-    /// A body has ended, and its frame is dropped. The caller's begins at `base` and runs a body of `this`.
+    /// Drops the frame of a body that has ended. The caller's frame, which begins at `base` and runs a body of `this`, is the innermost
+    /// again.
     pub fn end_call(&mut self, this: Ptr, base: usize)
         ensures { self.new ≡ called_back self.old this base }
     {
@@ -200,7 +203,7 @@ impl State {
         self.this = this;
     }
 
-    /// The pointer of an operand.
+    /// The value of a pointer operand, over the innermost frame.
     #[inline(always)]
     pub fn pointer(&self, script: &Script, operand: Pointer) -> Ptr
         ensures { result ≡ pointer_read script.now self.now operand }
@@ -213,7 +216,7 @@ impl State {
         self.locals.pointer(context, operand)
     }
 
-    /// What a holder holds.
+    /// The pointer that a holder, which is a local or `self`, holds.
     #[inline(always)]
     pub fn holder_pointer(&self, holder: Holder) -> Ptr
         ensures { result ≡ holder_pointer_in self.now holder }
@@ -221,7 +224,7 @@ impl State {
         self.locals.holder_pointer(self.this, holder)
     }
 
-    /// The number of an operand.
+    /// The value of a number operand, over the innermost frame.
     #[inline(always)]
     pub fn number(&self, operand: Number) -> i32
         ensures { result ≡ number_read self.now operand }
@@ -229,7 +232,7 @@ impl State {
         self.locals.number(operand)
     }
 
-    /// A local gets a value.
+    /// Puts a value into a local of the innermost frame.
     #[inline(always)]
     pub fn set(&mut self, index: u8, slot: Slot)
         ensures { self.new ≡ stored self.old index (value_of slot) }
@@ -237,7 +240,7 @@ impl State {
         self.locals.set(index, slot);
     }
 
-    /// A pointer operand gets a pointer.
+    /// Puts a pointer into the local or the field that an operand names. `self` can't be set, and stays as it is.
     #[inline(always)]
     pub fn set_pointer(&mut self, target: Pointer, ptr: Ptr)
         ensures stored { self.new ≡ pointer_stored self.old target ptr }
@@ -254,14 +257,14 @@ impl State {
         }
     }
 
-    /// The live cells but the cleanup stack's, by place.
+    /// The live cells except the cleanup stack's, in order of place.
     pub fn leaks(&self) -> Result<Leaks, NoMemory>
         ensures { IfOk result (λ leaks. leaks ≡ leaks_at_end self.now) }
     {
         self.heap.leaks()
     }
 
-    /// What a run reports that kept the rises, by how it ended and by its leaks.
+    /// The result of a run that kept its rises and no trace, by its ending and its leaks.
     pub fn finish_rises(self, ending: Ending, leaks: Leaks) -> RisesResult
         requires { IsSome self.debug.rises }
         ensures outcome { result.outcome ≡ outcome_by ending leaks }
@@ -284,7 +287,7 @@ impl State {
         }
     }
 
-    /// The heap, whose memory a copy of another may take.
+    /// Gives the state up and returns its heap, whose memory a copy of another state may take.
     pub fn into_heap(self) -> Heap {
         let State {
             heap,
@@ -298,7 +301,7 @@ impl State {
         heap.into_trace_and_heap().1
     }
 
-    /// What a run leaves, by how it ended and by its leaks.
+    /// What remains of a run, by its ending and its leaks.
     pub fn finish(self, ending: Ending, leaks: Leaks) -> Finished
         ensures { result.result ≡ run_result_by ending leaks self }
     {
@@ -325,7 +328,7 @@ impl State {
     }
 }
 
-/// A state over a heap of which nothing was asked yet.
+/// The state before the first attempt, over a heap that wasn't asked for anything yet.
 fn over_heap(alloc: Global, heap: DebugHeap) -> State
     requires { heap ≡ first_debug_of (keeps_rises heap) heap.rule heap.shape }
     ensures { result ≡ first_state (keeps_rises heap) heap.rule heap.shape }
@@ -341,7 +344,7 @@ fn over_heap(alloc: Global, heap: DebugHeap) -> State
     }
 }
 
-/// How a run ended, with these leaks.
+/// The outcome of a run with this ending, which lists the leaks unless the run was stopped.
 fn outcome_by(ending: Ending, leaks: Leaks) -> Outcome
     ensures { result ≡ outcome_by ending leaks }
 {

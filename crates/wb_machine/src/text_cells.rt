@@ -1,4 +1,4 @@
-//! Statements that allocate and reallocate texts.
+//! Statements that allocate and reallocate texts in cells, and edits of such texts.
 
 ghost use Rattle.std.specs.Prelude.{◌≡◌, ◌+◌, ◌*◌, ◌^◌, ◌<◌, ◌≤◌, true, None, Some, length, IfOk, IfSome, IsOk, OnErr, OnOk};
 ghost use Rattle.wb_model.specs.declared.limits.TheConstants.{MOST_UNITS};
@@ -27,7 +27,8 @@ use wb_model::script::{Number, Pointer, Refusal, Script};
 use wb_text::Base;
 
 impl State {
-    /// An attempt to give the text in a cell room for `units` units. Where memory runs out, nothing changes.
+    /// Reallocates the cell of a text to hold `units` units, which is an attempt if the cell must become longer. If the workbench runs out
+    /// of memory, nothing changes.
     fn remake(&mut self, ptr: Ptr, units: u32) -> Result<Gave, NoMemory>
         requires text { text_refusal (cell_at ptr self.old.debug.heap.row) ≡ None }
         requires fits { length (text_at ptr self.old.debug) ≤ units }
@@ -45,7 +46,7 @@ impl State {
         wb_hbuf::remake(&mut self.heap, ptr, units)
     }
 
-    /// A target gets a cell for an empty text of `units` units.
+    /// Allocates a cell for an empty text of at most `units` units, which the target gets.
     pub fn new_text(
         &mut self,
         target: Pointer,
@@ -69,7 +70,7 @@ impl State {
         Ok(self.give(&target, refusal, gave))
     }
 
-    /// A target gets the text of a source, reallocated for `units` units, or null where that is refused.
+    /// Reallocates the source's text for at most `units` units. The target gets its pointer, or null if the attempt fails.
     pub fn realloc_text(
         &mut self,
         script: &Script,
@@ -104,9 +105,9 @@ impl State {
     }
 }
 
-/// Edits of the text in a cell. Where one is refused, nothing changes.
+/// Edits of the text in a cell. An edit that panics changes nothing.
 impl State {
-    /// Changes the text by a source.
+    /// Changes the text by the units of a source.
     pub fn edit_cell(&mut self, ptr: Ptr, change: Edit, source: Source) -> Result<(), Panic>
         requires text { text_refusal (cell_at ptr self.old.debug.heap.row) ≡ None }
         requires source { IsSource self.old.debug source }
@@ -121,7 +122,7 @@ impl State {
         wb_hbuf::edit(&mut self.heap, ptr, change, source)
     }
 
-    /// Takes `count` units from a position on out of it.
+    /// Deletes `count` units of the text, from `position` on.
     pub fn delete_in_cell(&mut self, ptr: Ptr, position: u32, count: u32) -> Result<(), Panic>
         requires { text_refusal (cell_at ptr self.old.debug.heap.row) ≡ None }
         ensures answer { result
@@ -135,7 +136,7 @@ impl State {
         wb_hbuf::delete(&mut self.heap, ptr, position, count)
     }
 
-    /// Gives it another length.
+    /// Gives the text another length, in units.
     pub fn set_cell_length(&mut self, ptr: Ptr, length: u32) -> Result<(), Panic>
         requires { text_refusal (cell_at ptr self.old.debug.heap.row) ≡ None }
         ensures answer { result ≡ answer_of

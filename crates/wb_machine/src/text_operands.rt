@@ -27,7 +27,7 @@ pub fn is_text(kind: Kind) -> bool
     }
 }
 
-/// Whether two names are of one text that can be changed.
+/// Whether two bases name the same text that can be changed.
 pub fn is_same_base(one: Base, other: Base) -> bool
     ensures { result ≡ is_same_base one other }
 {
@@ -52,7 +52,7 @@ fn literal_length(script: &Script, index: u32) -> u32
 }
 
 impl State {
-    /// The text that can be changed.
+    /// The base of a text operand that can be changed: a buffer in a local, or a cell.
     pub fn base(&self, script: &Script, text: Writable) -> Base
         ensures { result ≡ base_named script.now self.now text }
     {
@@ -62,7 +62,7 @@ impl State {
         }
     }
 
-    /// What is refused of a base: a cell may be gone, or hold no text.
+    /// The panic of a base: of a cell that is gone, or that holds no text; `None` for any other base.
     pub fn refusal(&self, base: Base) -> Option<Panic>
         ensures { result ≡ base_refusal self.now base }
     {
@@ -76,7 +76,7 @@ impl State {
         }
     }
 
-    /// The buffer of a base, and an empty one where it is no buffer.
+    /// The buffer that a base names; an empty buffer if the base is no buffer.
     pub fn buffer(&self, base: Base) -> &Buf
         ensures { result.now ≡ buffer_under self.now base }
     {
@@ -104,7 +104,7 @@ impl State {
         }
     }
 
-    /// A view, or what is refused of its base.
+    /// A view, or the panic of its base.
     fn view_or_refusal(&self, window: Window) -> Result<Window, Panic>
         ensures { result ≡ unless_gone (base_refusal self.now window.base) window }
     {
@@ -114,7 +114,7 @@ impl State {
         }
     }
 
-    /// The whole of a base, or what is refused of it.
+    /// A view of the whole text of a base, or the panic of the base.
     fn whole_or_refusal(&self, script: &Script, base: Base) -> Result<Window, Panic>
         requires { IsTrue (is_script script.now) }
         ensures { result ≡ unless_gone (base_refusal self.now base)
@@ -126,7 +126,7 @@ impl State {
         }
     }
 
-    /// What a readable text shows, or what is refused of its base.
+    /// A view of what a readable text shows, or the panic of its base.
     pub fn window(&self, script: &Script, text: Readable) -> Result<Window, Panic>
         requires { IsTrue (is_script script.now) }
         ensures { result ≡ window_found script.now self.now text }
@@ -138,7 +138,7 @@ impl State {
         }
     }
 
-    /// What a view shows, to be read by itself; `buf` is its base's buffer, or a copy.
+    /// The units that a view shows, as the source of an edit or of a printed line. `buf` is the buffer of the view's base, or a copy of it.
     pub fn source<'a>(&self, script: &'a Script, buf: &'a Buf, view: View) -> Source<'a>
         requires base { base_refusal self.now view.base ≡ None }
         requires buf { buf.now ≡ buffer_under self.now view.base }

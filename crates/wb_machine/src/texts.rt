@@ -24,7 +24,7 @@ use wb_model::heap::{Panic, Ptr};
 use wb_model::script::{Number, Readable, Script, Writable};
 use wb_text::{Base, Buf};
 
-/// How a statement ends, by the answer to its edit.
+/// How a statement ends whose edit gave this answer: plainly, or with the edit's panic.
 fn ending_of(answer: Result<(), Panic>) -> Ending
     ensures { result ≡ ending_by answer }
 {
@@ -34,9 +34,9 @@ fn ending_of(answer: Result<(), Panic>) -> Ending
     }
 }
 
-/// Edits of a text that can be changed.
+/// Edits of texts that can be changed, which are in buffers and in cells.
 impl State {
-    /// A copy of the buffer of a base, and an empty one where it is no buffer.
+    /// A copy of the buffer that a base names; an empty buffer if the base is no buffer.
     fn buffer_copy(&self, base: Base) -> Buf
         ensures { result ≡ buffer_under self.now base }
     {
@@ -46,7 +46,7 @@ impl State {
         }
     }
 
-    /// Changes the text in a cell by what a view shows.
+    /// Changes the text in a cell by the units that a view shows.
     fn write_cell(&mut self, script: &Script, ptr: Ptr, change: Edit, window: Window) -> Ending
         requires target { base_refusal self.old (B.Cell ptr) ≡ None }
         requires source { base_refusal self.old window.base ≡ None }
@@ -67,7 +67,7 @@ impl State {
         ending_of(self.edit_cell(ptr, change, source))
     }
 
-    /// Changes a buffer by what a view shows.
+    /// Changes a buffer by the units that a view shows.
     fn write_buffer(&mut self, script: &Script, index: u8, change: Edit, window: Window) -> Ending
         requires source { base_refusal self.old window.base ≡ None }
         ensures written { IsWritten self.old (B.Local index)
@@ -82,7 +82,7 @@ impl State {
         ending_of(self.locals.edit_buffer(index, &self.heap, change, source))
     }
 
-    /// Changes a text by what a view shows.
+    /// Changes a text by the units that a view shows.
     fn write(&mut self, script: &Script, to: Base, change: Edit, window: Window) -> Ending
         requires writable { IsTrue (is_writable_base to) }
         requires target { base_refusal self.old to ≡ None }
@@ -100,7 +100,7 @@ impl State {
         }
     }
 
-    /// A text is copied to another, or appended to it.
+    /// Copies a text to another, or appends it, as `change` says.
     pub fn edit(
         &mut self,
         script: &Script,
@@ -126,7 +126,7 @@ impl State {
         }
     }
 
-    /// A text is put into another, in front of the unit at a position.
+    /// Inserts a text into another, before the unit at a position.
     pub fn insert(
         &mut self,
         script: &Script,
@@ -160,7 +160,7 @@ impl State {
 
 /// Deletions, and lengths that are set.
 impl State {
-    /// Takes `count` units from a position on out of a text.
+    /// Deletes `count` units of a text, from `position` on.
     fn take_out(&mut self, to: Base, position: u32, count: u32) -> Ending
         requires writable { IsTrue (is_writable_base to) }
         requires target { base_refusal self.old to ≡ None }
@@ -177,7 +177,7 @@ impl State {
         }
     }
 
-    /// Gives a text another length.
+    /// Gives a text another length, in units.
     fn cut_to(&mut self, to: Base, length: u32) -> Ending
         requires writable { IsTrue (is_writable_base to) }
         requires target { base_refusal self.old to ≡ None }
@@ -192,7 +192,7 @@ impl State {
         }
     }
 
-    /// `count` units of a text from a position on are taken out.
+    /// Carries out a deletion: takes `count` units of a text out, from a position on.
     pub fn delete_text(
         &mut self,
         script: &Script,
@@ -217,7 +217,7 @@ impl State {
         self.take_out(to, position, count)
     }
 
-    /// A text gets another length.
+    /// Carries out the statement that gives a text another length, in units.
     pub fn set_length(&mut self, script: &Script, target: Writable, length: Number) -> Ending
         ensures set { IsLengthSet self.old (base_named script.now self.old target)
             (number_read self.old length) result self.new }

@@ -1,5 +1,5 @@
-//! What a machine shows to those who explain a run: the statement begun last, what its operands hold, and the panic that ended
-//! the run. A statement that panics changes nothing before it does, so that its operands hold what they held when it began.
+//! What a machine shows to callers that explain a run: the statement begun last, what its operands hold, and the panic that ended the run.
+//! A statement that panics changes nothing before the panic, so its operands hold what they held when the statement began.
 
 ghost use Rattle.std.specs.Prelude.{◌≡◌, option_map, Any, IfSome};
 ghost use Rattle.wb_model.specs.heap.Row.{cell_at, usable_of};
@@ -17,12 +17,12 @@ impl<'a> Machine<'a> {
         self.control.statement()
     }
 
-    /// The statement that the next turn begins if the budget lasts; `None` if that turn begins none.
+    /// The statement that the next machine turn begins if the budget lasts; `None` if the machine turn begins none.
     pub fn next_statement(&self) -> Option<&'a Statement> {
         self.control.next_statement()
     }
 
-    /// How many bodies ran when that statement began, 1 in `main`; 0 before the first.
+    /// How many bodies were running when the last statement began, 1 in `main`; 0 before the first statement.
     pub fn depth(&self) -> u32 {
         self.control.depth()
     }
@@ -32,17 +32,17 @@ impl<'a> Machine<'a> {
         self.control.raised_panic()
     }
 
-    /// What a pointer operand names, in the innermost body; null if it names nothing.
+    /// The value of a pointer operand, in the innermost body; null if the operand names no pointer.
     pub fn pointer(&self, operand: Pointer) -> Ptr {
         self.state.pointer(self.script, operand)
     }
 
-    /// The number of an operand, in the innermost body.
+    /// The value of a number operand, in the innermost body; 0 if the operand names no number.
     pub fn number(&self, operand: Number) -> i32 {
         self.state.number(operand)
     }
 
-    /// How many units a text has; `None` if it can't be read.
+    /// How many units a text has; `None` if the text can't be read, or after `NoMemory`.
     pub fn length(&self, text: Readable) -> Option<u32> {
         if self.failed {
             return None;
@@ -53,7 +53,7 @@ impl<'a> Machine<'a> {
         }
     }
 
-    /// How many units a text may have; `None` if it can't be read.
+    /// How many units a text may have; `None` if the text can't be read.
     pub fn maximum(&self, text: Writable) -> Option<u32> {
         let base = self.state.base(self.script, text);
         match self.state.refusal(base) {
@@ -62,7 +62,7 @@ impl<'a> Machine<'a> {
         }
     }
 
-    /// How many bytes of a cell can be used; `None` if the pointer names none.
+    /// How many bytes of a cell can be used; `None` if the pointer names no live cell.
     pub fn bytes(&self, pointer: Pointer) -> Option<u32>
         ensures { IfSome result (λ bytes. Any (λ h. usable_of h ≡ bytes) self.now.live) }
     {
@@ -71,7 +71,7 @@ impl<'a> Machine<'a> {
 }
 
 impl State {
-    /// The same, of the cell that an operand names.
+    /// How many bytes can be used of the cell that an operand names; `None` if it names no live cell.
     fn usable(&self, script: &Script, operand: Pointer) -> Option<u32>
         ensures { result ≡ option_map (λ c. usable_of c.head)
             (cell_at (pointer_read script.now self.now operand) self.now.debug.heap.row) }

@@ -19,9 +19,9 @@ use wb_model::memory::NoMemory;
 use wb_model::script::{Number, Readable, Script, Writable};
 use wb_text::Base;
 
-/// Views of parts.
+/// Views of parts of texts.
 impl State {
-    /// A view local gets a part, unless it was refused.
+    /// Ends a statement that makes a view: the view local gets the part, or the statement panics.
     fn set_part(&mut self, local: u8, part: Result<Window, Panic>) -> Ending
         ensures { CarriesOut self.old (part_stored self.old local part) result self.new }
     {
@@ -34,7 +34,7 @@ impl State {
         }
     }
 
-    /// A number that isn't negative, or the panic that refuses it.
+    /// The value of a number operand; `Panic::NUMBER_OUT_OF_RANGE` if it is negative.
     fn count(&self, number: Number) -> Result<u32, Panic>
         ensures { result ≡ count_read self.now number }
     {
@@ -44,7 +44,7 @@ impl State {
         }
     }
 
-    /// The first `count` units of a text, or what refuses them.
+    /// A view of the first `count` units of a text, or the panic of the statement.
     fn left_part(&self, script: &Script, text: Readable, count: Number) -> Result<Window, Panic>
         requires { IsTrue (is_script script.now) }
         ensures { result ≡ left_read script.now self.now text count }
@@ -53,7 +53,7 @@ impl State {
         window.left(self.count(count)?)
     }
 
-    /// The last `count` units of a text, or what refuses them.
+    /// A view of the last `count` units of a text, or the panic of the statement.
     fn right_part(&self, script: &Script, text: Readable, count: Number) -> Result<Window, Panic>
         requires { IsTrue (is_script script.now) }
         ensures { result ≡ right_read script.now self.now text count }
@@ -62,7 +62,7 @@ impl State {
         window.right(self.count(count)?)
     }
 
-    /// So many units of a text from a position on, or what refuses them.
+    /// A view of `count` units of a text from `position` on, or the panic of the statement.
     fn mid_part(
         &self,
         script: &Script,
@@ -116,9 +116,9 @@ impl State {
     }
 }
 
-/// Lengths, maxima, and lines.
+/// Lengths, maxima, and texts that are printed.
 impl State {
-    /// A number local gets the length of a text.
+    /// A number local gets the length of a text, in units.
     pub fn get_length(&mut self, script: &Script, local: u8, text: Readable) -> Ending
         requires { IsTrue (is_script script.now) }
         ensures { CarriesOut self.old (length_effect script.now self.old local text) result
@@ -134,7 +134,7 @@ impl State {
         }
     }
 
-    /// How many units a text may have.
+    /// The maximum of a base's text, in units; 0 if the base is a literal or nothing.
     pub fn max_of(&self, base: Base) -> u32
         requires { base_refusal self.now base ≡ None }
         ensures max { result ≡ base_max self.now base }
@@ -150,7 +150,7 @@ impl State {
         }
     }
 
-    /// A number local gets the maximum of a text.
+    /// A number local gets the maximum of a text, in units.
     pub fn get_maximum(&mut self, script: &Script, local: u8, target: Writable) -> Ending
         ensures { CarriesOut self.old
             (max_effect self.old local (base_named script.now self.old target)) result self.new }

@@ -1,4 +1,4 @@
-//! Parts of texts that a script names.
+//! Views: parts of texts that a script names.
 
 ghost use Rattle.std.specs.Prelude.{◌≡◌, ◌+◌, ◌^◌, ◌<◌};
 ghost use Rattle.wb_model.specs.meaning.Texts.{left_part, right_part, mid_part, view_of_part};
@@ -8,7 +8,7 @@ use std::marker::Model;
 use wb_model::heap::Panic;
 use wb_text::{Base, View};
 
-/// A view whose end an int holds.
+/// A view whose end, in units, fits into an int.
 #[derive(Clone, Copy)]
 pub struct Window {
     view: View,
@@ -28,14 +28,14 @@ impl Model for Window {
 }
 
 impl Window {
-    /// The empty part of nothing.
+    /// The empty view of no text.
     pub fn nothing() -> Window
         ensures { result ≡ no_window }
     {
         Window::whole(Base::Nothing, 0)
     }
 
-    /// The first `length` units of a base.
+    /// A view of the first `length` units of a base's text.
     pub fn whole(base: Base, length: u32) -> Window
         requires { length < 2 ^ 31 }
         ensures { result ≡ whole_window base length }
@@ -57,7 +57,7 @@ impl Window {
         self.view
     }
 
-    /// The first `count` units of it. `Panic::POSITION_OUT_OF_BOUNDS` where there are fewer.
+    /// The first `count` units of the view; `Panic::POSITION_OUT_OF_BOUNDS` if it has fewer.
     pub fn left(self, count: u32) -> Result<Window, Panic>
         ensures { result ≡ view_of_part self (left_part self.length count) }
     {
@@ -65,7 +65,7 @@ impl Window {
         Ok(Window { view })
     }
 
-    /// The last `count` units of it. `Panic::POSITION_OUT_OF_BOUNDS` where there are fewer.
+    /// The last `count` units of the view; `Panic::POSITION_OUT_OF_BOUNDS` if it has fewer.
     pub fn right(self, count: u32) -> Result<Window, Panic>
         ensures { result ≡ view_of_part self (right_part self.length count) }
     {
@@ -73,7 +73,7 @@ impl Window {
         Ok(Window { view })
     }
 
-    /// `count` units of it from a position on. `Panic::POSITION_OUT_OF_BOUNDS` where there are fewer.
+    /// `count` units of the view from `position` on; `Panic::POSITION_OUT_OF_BOUNDS` if it has fewer from there on.
     pub fn mid(self, position: u32, count: u32) -> Result<Window, Panic>
         ensures { result ≡ view_of_part self (mid_part self.length position count) }
     {

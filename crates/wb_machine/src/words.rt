@@ -18,7 +18,7 @@ use crate::state::State;
 use wb_model::heap::{Kind, Panic, Ptr};
 use wb_model::script::{Number, Pointer, Script};
 
-/// Whether a cell holds words that the script stores itself.
+/// Whether cells of a kind hold words that the script stores itself.
 pub fn is_raw(kind: Kind) -> bool
     ensures { result ≡ is_raw kind }
 {

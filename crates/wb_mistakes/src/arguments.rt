@@ -26,7 +26,8 @@ fn fits_parameter(lines: &[Line], index: usize, parameter: Word, word: &[u8]) ->
     }
 }
 
-/// The place, in the procedure's first line, of the first parameter that is given something else; `None` if there is none.
+/// The place, in the procedure's first line, of the first parameter whose argument is of another kind; `None` if there is no such
+/// parameter.
 fn first_wrong_argument(
     lines: &[Line],
     index: usize,
@@ -69,7 +70,7 @@ fn explain_argument(page: &mut Page, lines: &[Line], index: usize, spot: Spot, p
     mark_declaration(page, lines, index, before_first(b'.', spot.word));
 }
 
-/// The first line of the procedure that a line calls; `None` if no procedure has the name.
+/// The first line of the procedure that a line calls; `None` if nothing in the script has the name of that procedure.
 fn procedure_of<'l, 'a>(lines: &'l [Line<'a>], line: &Line) -> Option<&'l Line<'a>> {
     let item = find_item(lines, line.text_at(procedure_place(line)))?;
     lines.get(item.line)

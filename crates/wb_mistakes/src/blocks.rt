@@ -5,7 +5,7 @@ use std::alloc::{AllocError, Global};
 use wb_lines::line_kinds::role_of;
 use wb_model::script_lines::Role;
 
-/// How far an open block is, and so what may come next in it.
+/// How far an open block has come, and so what may come next in it.
 #[derive(Clone, Copy)]
 pub enum BlockState {
     /// A class: fields, bodies or the end.
@@ -25,7 +25,7 @@ pub enum BlockState {
     LoopBody,
 }
 
-/// An open block: how far it is, and the index of its first line.
+/// An open block: how far it has come, and the index of its first line.
 #[derive(Clone, Copy)]
 pub struct Block {
     pub state: BlockState,
@@ -39,8 +39,8 @@ pub struct ClosedBlock {
     pub end: usize,
 }
 
-/// The blocks that are open, the innermost last; the block that was closed last; and the first one whose `end` is indented more or
-/// less than its first line, of those that a mistake may come from.
+/// The blocks that are open, the innermost last; the block that was closed last; and the first closed block whose `end` is indented more or
+/// less than its first line, among those of the class, procedure or operation that was begun last.
 #[derive(Drop)]
 pub struct Blocks {
     pub open: Vec<Block>,
@@ -48,7 +48,7 @@ pub struct Blocks {
     pub misaligned: Option<ClosedBlock>,
 }
 
-/// The role of a line in the nesting of blocks, by its form.
+/// The role of a line in the nesting of blocks, by its form; that of a comment if the line has no form.
 pub fn role(line: &Line) -> Role {
     match line.line_kind() {
         Some(line_kind) => role_of(line_kind),
@@ -64,7 +64,7 @@ pub fn role_at(lines: &[Line], index: usize) -> Role {
     }
 }
 
-/// How far a block is after a statement in it.
+/// How far a block has come after a statement in it.
 fn state_after_statement(state: BlockState) -> BlockState {
     match state {
         BlockState::Declarations => BlockState::Statements,
@@ -72,7 +72,7 @@ fn state_after_statement(state: BlockState) -> BlockState {
     }
 }
 
-/// How far a block is after its first line; `None` if a line with this role opens none.
+/// How far a block has come after its first line; `None` if a line with this role opens no block.
 fn initial_state(role: Role) -> Option<BlockState> {
     match role {
         Role::Class => Some(BlockState::Fields),
@@ -83,7 +83,7 @@ fn initial_state(role: Role) -> Option<BlockState> {
     }
 }
 
-/// How far a block is after a line inside it that isn't its end.
+/// How far a block has come after a line inside it that isn't its end.
 fn state_after(state: BlockState, role: Role) -> BlockState {
     match role {
         Role::Construct => BlockState::AfterConstruct,
@@ -117,7 +117,7 @@ impl Blocks {
         }
     }
 
-    /// Takes the innermost block past a line with this role.
+    /// Moves the innermost block on past a line with this role.
     fn advance(&mut self, role: Role) {
         if let Some(block) = self.open.last_mut() {
             block.state = state_after(block.state, role);
@@ -127,7 +127,7 @@ impl Blocks {
     fn pass_line(&mut self, index: usize, role: Role) -> Result<(), AllocError> {
         self.advance(role);
         if self.open.is_empty() {
-            // all that is above is finished, so none of it lacks an `end`
+            // the classes, procedures and operations above are finished, so none of their blocks lacks an `end`
             self.misaligned = None;
         }
         if let Some(state) = initial_state(role) {

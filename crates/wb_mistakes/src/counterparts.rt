@@ -1,14 +1,14 @@
-//! What words of Symbian C++ are in a script: the table that "Line by line" in `docs/IDIOMS.md` has too, in the same order.
+//! What a script has in place of words of Symbian C++. "Line by line" in `docs/IDIOMS.md` has the same table, in the same order.
 
 use wb_model::script_lines::LineKind;
 
-/// Words of C++, the lines of a script that do the same, and what else there is to say. There are no lines where that says it all, and
-/// it may be empty.
+/// Words of C++, the kinds of script lines that do the same, and a hint. There are no line kinds if the hint says it all, and the hint may
+/// be empty.
 #[derive(Clone, Copy)]
 pub struct Counterpart(&'static [&'static str], &'static [LineKind], &'static str);
 
 impl Counterpart {
-    /// Whether it is that of this word of C++.
+    /// Whether this is the counterpart of a word of C++.
     fn is_of(self, word: &[u8]) -> bool {
         self.0.iter().any(|it| it.as_bytes() == word)
     }
@@ -22,24 +22,24 @@ impl Counterpart {
     }
 }
 
-/// Where a class says how large its members are that are no pointers.
+/// The hint that says how a class counts its members that are no pointers.
 pub const EXTRA_BYTES: &str =
     "a member that is no pointer adds to the extra bytes of its class: NUMBER in `class NAME NUMBER`";
 
-/// How a class declares its members that are pointers.
+/// The hint that says how a class declares its members that are pointers.
 pub const POINTER_MEMBER: &str = "`field NAME` is for a member";
 
-/// A procedure that gives back a number.
+/// The hint that says what a procedure does instead of returning a number.
 pub const NUMBER_RETURNED: &str =
     "a procedure returns no number: `leave NUMBER` hands a code to the `trap INT` of its caller";
 
-/// How an error code is written.
+/// The hint that says how an error code is written.
 pub const CODE_AS_NUMBER: &str = "a code is written as its number: `KErrNoMemory` is -4";
 
-/// How words are written.
+/// The hint that says how words are separated.
 pub const WORDS_APART: &str = "words are separated by blanks, without brackets, `,` or `;`";
 
-/// What is to be done with a new cell that is to be on the cleanup stack.
+/// The hint that says how a new cell is put on the cleanup stack.
 const THEN_PUSHED: &str = "`push POINTER` is a line of its own, after it";
 
 static COUNTERPARTS: [Counterpart; 46] = [
@@ -163,7 +163,7 @@ static COUNTERPARTS: [Counterpart; 46] = [
     Counterpart(&["__UHEAP_RESET"], &[LineKind::FailNone], ""),
 ];
 
-/// What a script has in the place of a word of C++; `None` if the table has no such word.
+/// What a script has in place of a word of C++; `None` if the table has no such word.
 pub fn counterpart_named(word: &[u8]) -> Option<Counterpart> {
     for counterpart in &COUNTERPARTS {
         if counterpart.is_of(word) {

@@ -16,7 +16,7 @@ pub struct CppWord<'a> {
     counterpart: Counterpart,
 }
 
-/// What comes after an arrow, if there is one.
+/// The part of a name after an arrow; the whole name if it has no arrow.
 fn after_arrow<'a>(name: &'a [u8]) -> &'a [u8] {
     if has_byte(b'>', name) {
         after_first_of(b'>', name)
@@ -25,7 +25,8 @@ fn after_arrow<'a>(name: &'a [u8]) -> &'a [u8] {
     }
 }
 
-/// The name that a word of C++ begins with, without what it is called with; of `(ELeave)` what the brackets hold.
+/// The name in a word of C++, without its arguments: `ConstructL` in `note->ConstructL();`, `TBuf` in `TBuf<16>`. In a word such as
+/// `(ELeave)` it is what the brackets hold.
 pub fn name_in<'a>(word: &'a [u8]) -> &'a [u8] {
     match word {
         [b'(', inside @ ..] => before_first(b')', inside),
@@ -43,7 +44,7 @@ fn is_destructor(word: &[u8]) -> bool {
     has_byte(b'~', word) && matches!(before_first(b'~', word), [] | [.., b':'])
 }
 
-/// What the table calls a word: by its name, or by what marks a comment, a destructor or a pointer.
+/// The key of a word in the table: the name in the word, or the sign of a comment, a destructor or a pointer.
 fn key_of<'a>(word: &'a [u8]) -> &'a [u8] {
     match word {
         _ if begins_cpp_comment(word) => b"//",
@@ -53,7 +54,7 @@ fn key_of<'a>(word: &'a [u8]) -> &'a [u8] {
     }
 }
 
-/// A word that the table has; `None` if it has none such.
+/// A word with its entry in the table; `None` if the table doesn't have the word.
 pub fn cpp_word<'a>(word: &'a [u8]) -> Option<CppWord<'a>> {
     let counterpart = counterpart_named(key_of(word))?;
     Some(CppWord {
@@ -62,7 +63,8 @@ pub fn cpp_word<'a>(word: &'a [u8]) -> Option<CppWord<'a>> {
     })
 }
 
-/// A word that calls something with brackets; `None` for other words, and for statements of a script that are written so.
+/// A word that calls something with brackets, as C++ does; `None` for any other word, and for a statement of scripts that is written with
+/// brackets.
 fn call_in<'a>(word: &'a [u8]) -> Option<CppWord<'a>> {
     let name = before_first(b'(', word);
     if name.is_empty() || name.len() == word.len() || begins_statement(name) {
@@ -72,7 +74,7 @@ fn call_in<'a>(word: &'a [u8]) -> Option<CppWord<'a>> {
     Some(CppWord { name, counterpart })
 }
 
-/// A word that the table has, or one that calls something.
+/// A word that the table has, or one that calls something with brackets; `None` if it is neither.
 fn word_or_call<'a>(word: &'a [u8]) -> Option<CppWord<'a>> {
     match cpp_word(word) {
         Some(found) => Some(found),
@@ -80,7 +82,7 @@ fn word_or_call<'a>(word: &'a [u8]) -> Option<CppWord<'a>> {
     }
 }
 
-/// Whether a word of C++ declares what it is followed by.
+/// Whether a word of C++ declares what follows it.
 fn is_declaring(found: CppWord) -> bool {
     match found.counterpart.line_kinds().first() {
         Some(line_kind) => matches!(role_of(*line_kind), Role::Declaration),
@@ -88,7 +90,7 @@ fn is_declaring(found: CppWord) -> bool {
     }
 }
 
-/// The place of the word that assigns something; `None` if there is none.
+/// The place of the word `=`, `+=` or `-=` in a line; `None` if there is none.
 fn place_of_assignment(line: &Line) -> Option<usize> {
     for (place, word) in line.words.iter().enumerate() {
         if matches!(word.text, [b'='] | [b'+' | b'-', b'=']) {
@@ -110,12 +112,12 @@ fn first_after<'a>(line: &Line<'a>, place: usize) -> Option<CppWord<'a>> {
     None
 }
 
-/// What a line assigns; `None` if that isn't C++, or it assigns nothing.
+/// The first word of C++ after the sign by which a line assigns something; `None` if there is no such word, or the line assigns nothing.
 fn assigned_word<'a>(line: &Line<'a>) -> Option<CppWord<'a>> {
     first_after(line, place_of_assignment(line)?)
 }
 
-/// The sign by which a line assigns something, perhaps without blanks around it; `None` if it doesn't.
+/// The sign by which a line assigns something, perhaps without blanks around it; `None` if the line assigns nothing.
 fn assigning_word<'a>(line: &Line<'a>) -> Option<CppWord<'a>> {
     match place_of_assignment(line) {
         Some(place) => cpp_word(line.text_at(place)),
@@ -124,8 +126,8 @@ fn assigning_word<'a>(line: &Line<'a>) -> Option<CppWord<'a>> {
     }
 }
 
-/// The word by which a line of no statement is C++: its first, but of one that declares or assigns what it is given. `None` if there
-/// is none.
+/// The word that shows that a line without a statement is C++. It is, in this order: the assigned word, if the first word declares
+/// something; the first word; the assigned word; the sign by which the line assigns something. `None` if the line has none of these.
 pub fn cpp_word_of<'a>(line: &Line<'a>) -> Option<CppWord<'a>> {
     match (word_or_call(line.text_at(0)), assigned_word(line)) {
         (Some(first), Some(assigned)) if is_declaring(first) => Some(assigned),
@@ -142,7 +144,7 @@ pub fn help_with_hint(page: &mut Page, hint: &str) {
     }
 }
 
-/// Says what a script has in the place of a word of C++.
+/// Says what a script has in place of a word of C++.
 pub fn help_with_cpp(page: &mut Page, found: CppWord) {
     let line_kinds = found.counterpart.line_kinds();
     if !line_kinds.is_empty() {

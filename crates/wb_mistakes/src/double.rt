@@ -1,4 +1,4 @@
-//! A name that is declared twice: where it was declared first.
+//! A name that is declared twice, and where it was declared first.
 
 use crate::blocks::role;
 use crate::further_lines::mark_name;
@@ -9,7 +9,7 @@ use wb_lines::words::before_first;
 use wb_model::script_lines::Role;
 use wb_pages::{Page, Spot, Word};
 
-/// Says of a name that it is declared a second time.
+/// Says that a name is declared a second time, and shows it.
 fn mark_again(page: &mut Page, spot: Spot) {
     page.mark(
         spot,
@@ -17,7 +17,7 @@ fn mark_again(page: &mut Page, spot: Spot) {
     );
 }
 
-/// The index of an earlier line that declares what a line declares, in the same space; `None` if there is none.
+/// The index of the earlier line that declares the same name as a line, in the same space; `None` if there is no such line.
 fn first_declaration(lines: &[Line], index: usize, line: &Line) -> Option<usize> {
     let name = line.text_at(1);
     let first = match role(line) {

@@ -1,4 +1,4 @@
-//! What a name that isn't known where it is used is elsewhere in the script.
+//! What a name means elsewhere in the script if it is unknown where it is used.
 
 use crate::further_lines::mark_name;
 use crate::lines::Line;
@@ -6,12 +6,12 @@ use crate::spaces::{find_item, find_local, find_local_anywhere, has_self, line_o
 use wb_model::script_lines::{ItemKind, LocalKind};
 use wb_pages::{Page, Shown};
 
-/// What a name is elsewhere, and the line that declares it.
+/// What a name means elsewhere in the script, and the index of the line that declares it there.
 #[derive(Clone, Copy)]
 pub enum Elsewhere {
     /// A field of the class in whose body the name is used.
     FieldOfClass(usize),
-    /// Something other than what is expected where the name is used, and what that is.
+    /// Something of another kind than is expected where the name is used: a message that says what it is, and the line.
     OtherKind(&'static str, usize),
     /// A local of another body.
     OtherBody(usize),
@@ -34,7 +34,8 @@ fn local_problem(kind: LocalKind<&[u8]>) -> &'static str {
     }
 }
 
-/// The index of the line that declares the field with a name, if a line is in a body of its class; else `None`.
+/// The index of the line that declares the field with this name, if the line at `index` is in a body of the class with that field; `None`
+/// otherwise.
 fn field_of_class(lines: &[Line], index: usize, name: &[u8]) -> Option<usize> {
     if has_self(lines, index) {
         line_of_field(lines, index, name)
@@ -43,7 +44,8 @@ fn field_of_class(lines: &[Line], index: usize, name: &[u8]) -> Option<usize> {
     }
 }
 
-/// What a name is that no local of the body has; `None` if it is nothing elsewhere either.
+/// What a name that no local of the body has means elsewhere: a field of the body's class, a class, a procedure, an operation, or a local
+/// of another body. `None` if it is none of these.
 pub fn elsewhere_of_local(lines: &[Line], index: usize, name: &[u8]) -> Option<Elsewhere> {
     if let Some(field) = field_of_class(lines, index, name) {
         return Some(Elsewhere::FieldOfClass(field));
@@ -55,13 +57,14 @@ pub fn elsewhere_of_local(lines: &[Line], index: usize, name: &[u8]) -> Option<E
     Some(Elsewhere::OtherBody(local.line))
 }
 
-/// What a name is that no class, procedure or operation has; `None` if it is nothing elsewhere either.
+/// What a name that no class, procedure or operation has means elsewhere: a local of the body. `None` if the body has no such local before
+/// the line.
 pub fn elsewhere_of_item(lines: &[Line], index: usize, name: &[u8]) -> Option<Elsewhere> {
     let local = find_local(lines, index, name)?;
     Some(Elsewhere::OtherKind(local_problem(local.kind), local.line))
 }
 
-/// Says what a name is elsewhere.
+/// Says what a name means elsewhere.
 pub fn explain_elsewhere(page: &mut Page, lines: &[Line], name: &[u8], found: Elsewhere) {
     match found {
         Elsewhere::FieldOfClass(line) => {

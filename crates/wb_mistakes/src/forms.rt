@@ -8,7 +8,8 @@ use wb_lines::words::text_of_keyword;
 use wb_model::script_lines::{LineKind, OperandPlace};
 use wb_pages::{Page, Shown, Word};
 
-/// The operand that a form has at a place after its first word, counted from 1; `None` at place 0 and where it has none.
+/// The operand place of the word at `place` in lines of this kind: `place` is 0 for the first word, and counts operands from 1. `None` for
+/// the first word, and if there may be no such word.
 pub fn operand_place_at(line_kind: LineKind, place: usize) -> Option<OperandPlace> {
     if place == 0 {
         return None;
@@ -16,12 +17,13 @@ pub fn operand_place_at(line_kind: LineKind, place: usize) -> Option<OperandPlac
     OperandPlaces::of(line_kind).at(place - 1)
 }
 
-/// The operand at a place of a line, by the line's form; `None` if it has none there.
+/// The operand place of the word at `place` in a line, by the kind of the line; `None` for the first word, and if there may be no such
+/// word.
 pub fn operand_place_of(line: &Line, place: usize) -> Option<OperandPlace> {
     operand_place_at(line.line_kind()?, place)
 }
 
-/// Whether a line of this form may have this number of words, its first one included.
+/// Whether a line of this kind may have this number of words, the first word included.
 pub fn admits_count(line_kind: LineKind, words: usize) -> bool {
     OperandPlaces::of(line_kind).admit(words.saturating_sub(1))
 }
@@ -57,7 +59,7 @@ pub fn first_wrong_word(line_kind: LineKind, words: &[Word]) -> Option<usize> {
     None
 }
 
-/// The placeholder for an operand, in a form as it is written.
+/// The placeholder for an operand in a form that a message shows.
 fn placeholder_of(operand_place: OperandPlace) -> &'static [u8] {
     match operand_place {
         OperandPlace::Declared => b"NAME",
@@ -82,7 +84,7 @@ fn write_placeholder(page: &mut Page, operand_place: OperandPlace) {
     page.write(format_args!(" {}", Shown::word(placeholder_of(operand_place))));
 }
 
-/// Writes a form between backquotes, as `alloc POINTER NUMBER`.
+/// Writes a form between backquotes, such as `alloc POINTER NUMBER`.
 pub fn write_form(page: &mut Page, line_kind: LineKind) {
     page.write(format_args!("`{}", Shown::word(text_of(line_kind))));
     for operand_place in operand_places_of(line_kind) {

@@ -1,4 +1,4 @@
-//! Messages about further lines of the script.
+//! Messages about lines of the script other than the one with the fault.
 
 use crate::lines::Line;
 use crate::spaces::line_of_local;
@@ -12,8 +12,8 @@ pub fn mark_line(page: &mut Page, lines: &[Line], index: usize, text: &str) {
     }
 }
 
-/// The part of a line that declares a name: after its first word, and without the kind of a parameter. The whole line if it doesn't
-/// declare it.
+/// The part of a line that declares a name: a word after the first one, without the kind if it is a parameter. The whole line if the line
+/// doesn't declare the name.
 fn span_of(line: &Line, name: &[u8]) -> Span {
     for word in &line.words {
         if word.column > 0 && before_first(b':', word.text) == name {
@@ -26,7 +26,7 @@ fn span_of(line: &Line, name: &[u8]) -> Span {
     line.span()
 }
 
-/// Writes a message about another line of the script, and shows that line with a name marked that it declares.
+/// Writes a message about another line of the script, and shows that line with the name marked that the line declares.
 pub fn mark_name(page: &mut Page, lines: &[Line], index: usize, name: &[u8], text: &str) {
     if let Some(line) = lines.get(index) {
         page.mark(line.spot_of(span_of(line, name), &[]), text);

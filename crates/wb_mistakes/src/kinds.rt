@@ -1,4 +1,4 @@
-//! An operand of a wrong kind: what is expected in its place, what it is, and where it is declared.
+//! An operand of a wrong kind: what is expected in its place, what the operand is, and where it is declared.
 
 use crate::arguments::explain_arguments;
 use crate::blocks::{Blocks, role, role_at};
@@ -16,7 +16,7 @@ use wb_lines::words::{after_first_of, before_first};
 use wb_model::script_lines::{LineKind, OperandKind, OperandPlace, Role};
 use wb_pages::{Page, Shown, Spot, Word};
 
-/// Whether what a word refers to is right for an operand.
+/// Whether what a word refers to is right in this operand place.
 fn fits_letter(lines: &[Line], index: usize, operand_place: OperandPlace, word: &[u8]) -> bool {
     takes(
         operand_place,
@@ -24,7 +24,7 @@ fn fits_letter(lines: &[Line], index: usize, operand_place: OperandPlace, word: 
     )
 }
 
-/// The same of a word that may be no operand; such a word is right.
+/// Whether what a word refers to is right in its operand place; true if the word has no operand place.
 fn fits_place(
     lines: &[Line],
     index: usize,
@@ -55,12 +55,12 @@ fn mark_kind(page: &mut Page, spot: Spot, is: &str) {
     );
 }
 
-/// The part before the dot of a field.
+/// The part of a field before its dot, to be shown.
 fn spot_of_holder<'a>(line: &Line<'a>, word: Word<'a>) -> Spot<'a> {
     line.part(word.column, before_first(b'.', word.text))
 }
 
-/// The class in the word of a parameter.
+/// The name of the class in the word of a parameter, to be shown.
 fn spot_of_class<'a>(line: &Line<'a>, word: Word<'a>) -> Spot<'a> {
     let class = after_first_of(b':', word.text);
     let end = word.column.saturating_add(word.text.len());
@@ -130,7 +130,7 @@ fn explain_operand(page: &mut Page, lines: &[Line], index: usize, line: &Line, p
     }
 }
 
-/// Whether the two sides of a `set` are of different kinds.
+/// Whether a line is a `set` with a pointer on one side only.
 fn sides_differ(lines: &[Line], index: usize, line: &Line) -> bool {
     let target = operand_kind_in_body(lines, index, line.text_at(1));
     let source = operand_kind_in_body(lines, index, line.text_at(2));
@@ -201,7 +201,7 @@ fn explain_return(page: &mut Page, lines: &[Line], index: usize, line: &Line, bl
     }
 }
 
-/// How a body ends that isn't a procedure's. A body that must not leave has no `return` at all.
+/// The help on how to end a body that isn't a procedure's. A body that must not leave has no `return` at all.
 fn help_of_return(body: Role) -> &'static str {
     match body {
         Role::Construct => "`return` without a pointer ends the body",

@@ -7,12 +7,14 @@ use wb_lines::line_kinds::{is_quiet, line_kinds, role_of, text_of};
 use wb_model::script_lines::{LineKind, Role};
 use wb_pages::{Page, Shown};
 
-/// Whether a line kind is to be named among those that no body forbids: an `else` and an `end` go with the line that they belong to.
+/// Whether a message names this line kind among those that are allowed in every body. `else` and `end` aren't named, since they go with the
+/// first line of their block.
 fn is_listed(line_kind: LineKind) -> bool {
     is_quiet(line_kind) && !matches!(role_of(line_kind), Role::Else | Role::End)
 }
 
-/// Writes the words of these line kinds, each once, with `and` before the last. Line kinds with the same word follow one another.
+/// Writes the first words of the line kinds that are named, each word once, with `and` before the last. In the table, line kinds with the
+/// same word follow one another.
 fn write_allowed_words(page: &mut Page) {
     let mut before = "`";
     let mut word: &[u8] = b"";

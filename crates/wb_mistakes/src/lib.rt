@@ -1,6 +1,6 @@
 //! Why a script was refused: which line and word, what is wrong with it, and what to write instead, as text for standard error.
 //!
-//! Plain functions from values to text. No report rests on them.
+//! All of this is plain functions from values to text. No report depends on them.
 #![tactic(auto)]
 
 mod arguments;

@@ -14,7 +14,7 @@ use wb_model::limits::{
 use wb_model::script_lines::{LineKind, Operand, OperandPlace, Role};
 use wb_pages::{Page, Span};
 
-/// More than a limit allows: of what, the count, the limit, and the part of the line that exceeds it.
+/// An excess over a limit: what was counted, the count, the limit, and the part of the line that exceeds the limit.
 #[derive(Clone, Copy)]
 struct Excess {
     what: &'static str,
@@ -27,7 +27,7 @@ fn is_long(name: &[u8]) -> bool {
     name.len() > LONGEST_NAME as usize && is_name(name)
 }
 
-/// The length in bytes of the part of a word that is a name longer than names may be; 0 if there is none.
+/// The length in bytes of the part of a word that is a name longer than names may be; 0 if no part is.
 fn long_name_length(word: &[u8]) -> usize {
     let byte = if is_parameter(word) { b':' } else { b'.' };
     if is_long(before_first(byte, word)) {
@@ -54,7 +54,7 @@ fn name_excess(line: &Line) -> Option<Excess> {
     None
 }
 
-/// The number of parameters that a line declares, of an operation its pointer.
+/// The number of parameters that a line declares. The pointer of an operation counts as one.
 fn parameter_count(line: &Line) -> usize {
     let mut count: usize = 0;
     for operand in line.operands() {
@@ -65,7 +65,8 @@ fn parameter_count(line: &Line) -> usize {
     count
 }
 
-/// Whether a line has this role, if it is one of which there may be only so many.
+/// Whether a line has the wanted role: that of classes, fields, procedures with operations, or declarations. False if any other role is
+/// wanted.
 fn has_role(line: &Line, wanted: Role) -> bool {
     matches!(
         (role(line), wanted),
@@ -128,7 +129,8 @@ fn size_excess(line: &Line) -> Option<Excess> {
     excess_over(what, size_of(line.text_at(2)), most, line.span_at(2))
 }
 
-/// What a line adds one too many of; `None` if there is nothing.
+/// The excess over a limit on a number of things: classes, fields, procedures with operations, locals, or blocks inside one another. `None`
+/// if the line exceeds none of these limits.
 fn count_excess(lines: &[Line], index: usize, line: &Line, blocks: &Blocks) -> Option<Excess> {
     let role = role(line);
     let (what, counted, most) = match role {
@@ -167,7 +169,7 @@ fn count_excess(lines: &[Line], index: usize, line: &Line, blocks: &Blocks) -> O
     excess_over(what, counted, most, line.span_at(place))
 }
 
-/// The number of blocks inside one another, with one more inside those that are open.
+/// How deep blocks are nested if one more is opened inside the open ones.
 fn block_count(lines: &[Line], blocks: &Blocks) -> usize {
     let mut count: usize = 1;
     for block in &blocks.open {

@@ -8,8 +8,8 @@ use wb_model::script_lines::{Form, LineKind, Operand};
 use wb_pages::words::{count_blanks, place_words, trim};
 use wb_pages::{Shown, Span, Spot, Word};
 
-/// A line: its number, its text without the blanks around it, the number of blanks before it, its words, its form, and the index of
-/// the line that begins its body, which may be itself.
+/// A line: its number, its text without the blanks around it, the number of blanks before it, its words, its form, and the index of the
+/// line that begins its body. The last is the nearest line, from this one upwards, that begins a body; 0 if there is none.
 #[derive(Drop)]
 pub struct Line<'a> {
     pub number: usize,
@@ -20,7 +20,7 @@ pub struct Line<'a> {
     pub body: usize,
 }
 
-/// The index of the line that begins the body of a line with this form, after these lines.
+/// The index of the line that begins the body of the next line, which has this form and comes after these lines.
 fn body_after(lines: &[Line], form: &Form<&[u8]>) -> usize {
     match (body_in(form), lines.last()) {
         (Some(_), _) => lines.len(),
@@ -69,7 +69,7 @@ pub fn lines_of<'a>(alloc: Global, bytes: &'a [u8]) -> Result<Vec<Line<'a>>, All
 }
 
 impl<'a> Line<'a> {
-    /// Which kind of line it is; `None` if it has no form, or is blank or a comment.
+    /// The kind of the line; `None` if the line has no form, is blank, or is a comment.
     pub fn line_kind(&self) -> Option<LineKind> {
         match &self.form {
             Form::Line(line_kind, _) => Some(*line_kind),
@@ -77,7 +77,7 @@ impl<'a> Line<'a> {
         }
     }
 
-    /// Its operands; `None` if it has no form.
+    /// The operands of the line; empty if the line has no form, is blank, or is a comment.
     pub fn operands(&self) -> &[Operand<&'a [u8]>] {
         match &self.form {
             Form::Line(_, operands) => operands.as_slice(),
@@ -119,7 +119,7 @@ impl<'a> Line<'a> {
         }
     }
 
-    /// The part of the line that is the word with an index; the whole line if there is none.
+    /// The columns of the word with an index; those of the whole line if there is no such word.
     pub fn span_at(&self, index: usize) -> Span {
         match self.word(index) {
             Some(word) => word.span(),
@@ -127,12 +127,12 @@ impl<'a> Line<'a> {
         }
     }
 
-    /// The word with an index, to be shown; the whole line if there is none.
+    /// The word with an index, to be shown; the whole line if there is no such word.
     pub fn spot(&self, index: usize) -> Spot<'a> {
         Spot::of_word(self.number, self.text, &self.words, index)
     }
 
-    /// A part of the line, to be shown, and the word that is meant.
+    /// A part of the line, to be shown, and the word that a message about this part names.
     pub fn spot_of(&self, span: Span, word: &'a [u8]) -> Spot<'a> {
         Spot {
             number: self.number,
@@ -142,7 +142,7 @@ impl<'a> Line<'a> {
         }
     }
 
-    /// A word that begins in a column of the line, or a part of one, to be shown.
+    /// A word of the line that begins in this column, or a part of a word, to be shown.
     pub fn part(&self, column: usize, word: &'a [u8]) -> Spot<'a> {
         let length = word.len();
         self.spot_of(Span { column, length }, word)
@@ -153,7 +153,7 @@ impl<'a> Line<'a> {
         Spot::of_line(self.number, self.text)
     }
 
-    /// The whole line as a part of it.
+    /// The columns of the whole line.
     pub fn span(&self) -> Span {
         Span {
             column: 0,

@@ -1,4 +1,4 @@
-//! A script without the procedure that its run begins with.
+//! A script without `main`, the procedure with which a run begins.
 
 use crate::further_lines::mark_line;
 use crate::lines::Line;
@@ -7,7 +7,7 @@ use crate::spaces::find_item;
 use wb_model::script_lines::ItemKind;
 use wb_pages::Page;
 
-/// Says that there is no `main`, and which procedure may be meant to be it.
+/// Says that there is no `main`, and which procedure may be meant to be `main`.
 pub fn explain_no_main(page: &mut Page, lines: &[Line]) {
     page.write_file_text("the script has no procedure `main`");
     let near = nearest_item(lines, ItemKind::Procedure, b"main");

@@ -12,7 +12,8 @@ fn is_further_left(lines: &[Line], closed: ClosedBlock) -> bool {
     indent_at(lines, closed.end) < indent_at(lines, closed.first)
 }
 
-/// Says which block lacks its `end`: the one whose `end` is further left than its first line, or else the innermost.
+/// Says which block seems to lack its `end`: the closed one whose `end` is further left than its first line, or else the innermost open
+/// one.
 fn mark_unclosed(page: &mut Page, lines: &[Line], blocks: &Blocks) {
     match blocks.misaligned {
         Some(closed) if is_further_left(lines, closed) => {
@@ -39,7 +40,8 @@ fn mark_open(page: &mut Page, lines: &[Line], block: Option<&Block>) {
     }
 }
 
-/// Says which `end` closed the last block, or one too early.
+/// Says which `end` closes which block: that of the first block whose `end` and first line are indented differently, or else that of the
+/// block closed last.
 fn mark_closed(page: &mut Page, lines: &[Line], blocks: &Blocks) {
     if let Some(closed) = blocks.misaligned.or(blocks.last_closed) {
         mark_line(page, lines, closed.end, "this `end` closes");
@@ -134,13 +136,14 @@ fn explain_late_declaration(page: &mut Page, lines: &[Line], blocks: &Blocks, li
     page.write_help_text("all declarations of a body come before its first statement");
 }
 
-/// Whether a closed block is an `if` that is indented as a line is.
+/// Whether a closed block is an `if` with the same indentation as this line.
 fn is_if_above(lines: &[Line], closed: ClosedBlock, line: &Line) -> bool {
     matches!(role_at(lines, closed.first), Role::If)
         && line.indent == indent_at(lines, closed.first)
 }
 
-/// The `if` in an open block that was closed last, if an `else` is indented as it is and so seems to be meant for it.
+/// The block that was closed last, if it is an `if` inside this open block with the same indentation as this `else`, which then seems to be
+/// meant for that `if`; `None` otherwise.
 fn find_ended_if(
     lines: &[Line],
     blocks: &Blocks,
@@ -183,7 +186,7 @@ fn explain_late_else(page: &mut Page, lines: &[Line], blocks: &Blocks, block: Bl
     }
 }
 
-/// What to write in a body in the place of a line of a class.
+/// What to write in a body in place of a line that belongs in a class.
 fn help_in_body(line: &Line) -> &'static str {
     match role(line) {
         Role::Construct => "`construct POINTER` completes an object",
@@ -200,7 +203,7 @@ fn is_in_class(lines: &[Line], blocks: &Blocks) -> bool {
     }
 }
 
-/// Explains a line of a class that is in one of its bodies.
+/// Explains a line that belongs in a class and is in a body of the class.
 fn explain_in_class_body(page: &mut Page, lines: &[Line], blocks: &Blocks, line: &Line) {
     refuse(page, line, "is not allowed in a body");
     mark_unclosed(page, lines, blocks);
@@ -210,7 +213,7 @@ fn explain_in_class_body(page: &mut Page, lines: &[Line], blocks: &Blocks, line:
     }
 }
 
-/// Explains a line of a class that is in a procedure or an operation.
+/// Explains a line that belongs in a class and is in a procedure or an operation.
 fn explain_in_procedure(page: &mut Page, lines: &[Line], blocks: &Blocks, line: &Line) {
     let problem = match role(line) {
         Role::Construct => "without a pointer begins a body of a class, but no class is open",
@@ -252,7 +255,7 @@ fn explain_missing_end(page: &mut Page, lines: &[Line], blocks: &Blocks, line: &
     );
 }
 
-/// Explains a line in a block, the innermost one that is open.
+/// Explains a line that is not allowed in this block, the innermost open one.
 fn explain_in_block(page: &mut Page, lines: &[Line], blocks: &Blocks, block: Block, line: &Line) {
     let is_complete = is_class_state(block.state) && blocks.misaligned.is_none();
     match role(line) {

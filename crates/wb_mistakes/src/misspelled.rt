@@ -1,4 +1,4 @@
-//! A line that is of no form: no such statement, too few or too many words, or a word that doesn't fit.
+//! A line that has no form: there is no such statement, there are too few or too many words, or a word doesn't fit.
 
 use crate::counterparts::{NUMBER_RETURNED, WORDS_APART};
 use crate::cpp_lines::{
@@ -18,10 +18,10 @@ use wb_lines::words::text_of_keyword;
 use wb_model::script_lines::{Keyword, LineKind, OperandPlace};
 use wb_pages::{Page, Shown, Span, Spot, Word};
 
-/// What a condition asks.
+/// The keywords of conditions.
 static CONDITIONS: [Keyword; 4] = [Keyword::Null, Keyword::Some, Keyword::Equal, Keyword::Less];
 
-/// The part of a line from a word on to its end.
+/// The part of a line from a word to the end of the line.
 fn spot_from<'a>(line: &Line<'a>, word: Word<'a>) -> Spot<'a> {
     let span = Span {
         column: word.column,
@@ -56,7 +56,7 @@ fn open_quote<'a>(line: &Line<'a>) -> Option<Word<'a>> {
     }
 }
 
-/// The first word of a form that is nearest to this word; `None` if none is near.
+/// The nearest to this word among the words that begin forms; `None` if no such word is near.
 fn nearest_statement(word: &[u8]) -> Option<Candidate<'static>> {
     let mut search = Search::of(word);
     for line_kind in line_kinds() {
@@ -144,8 +144,8 @@ fn has_no_condition(line: &Line) -> bool {
     line.text_at(0) == b"if".as_slice() && !condition.is_empty() && !is_condition(condition)
 }
 
-/// Whether a line may be meant to have a form, whatever the number of its words: the word of a condition, and the field of a `set`,
-/// must be right.
+/// Whether a line may be meant as a line of this kind, whatever the number of its words. The first word must be right, the keyword of a
+/// condition too, and a `set` must have a field as its target just if the line kind does.
 fn is_intended(line_kind: LineKind, line: &Line) -> bool {
     let is_right = match operand_places_of(line_kind).first() {
         Some(OperandPlace::Keyword(_) | OperandPlace::FieldTarget) => first_wrong_word(
@@ -158,8 +158,8 @@ fn is_intended(line_kind: LineKind, line: &Line) -> bool {
     begins_with(line_kind, line.text_at(0)) && is_right
 }
 
-/// The form that a line is meant to have: one that may have as many words, or else the last of those that begin as it does; `None` if
-/// there is none.
+/// The line kind that a line is meant to be of. Of those that may be meant, it is the first that admits the number of words in the line, or
+/// else the last; `None` if none may be meant.
 fn intended_key(line: &Line) -> Option<LineKind> {
     let mut found = None;
     for line_kind in line_kinds() {
@@ -177,7 +177,7 @@ fn is_else_if(line: &Line) -> bool {
     line.text_at(0) == b"else".as_slice() && line.text_at(1) == b"if".as_slice()
 }
 
-/// The first word too many, or the whole line if it has too few.
+/// The first word too many, or the whole line if the line has too few words.
 fn spot_of_count<'a>(line: &Line<'a>, line_kind: LineKind, is_more: bool) -> Spot<'a> {
     match first_wrong_word(line_kind, &line.words) {
         Some(place) if is_more => line.spot_of(line.span_at(place), line.text_at(0)),
@@ -193,7 +193,7 @@ fn first_wrong_text<'a>(line: &Line<'a>, line_kind: LineKind) -> &'a [u8] {
     }
 }
 
-/// Says what a script has in the place of a wrong word of C++, or else a hint, which may be empty.
+/// Says what a script has in place of a wrong word, if the word is C++; otherwise writes the hint, which may be empty.
 fn help_with_wrong_word(page: &mut Page, word: &[u8], hint: &str) {
     match cpp_word(word) {
         Some(found) => help_with_cpp(page, found),
@@ -218,7 +218,7 @@ fn explain_word_count(page: &mut Page, line: &Line, line_kind: LineKind) {
     help_with_forms(page, line.text_at(0));
 }
 
-/// Says what is expected as an operand, and the form of its line.
+/// Says what is expected in an operand place, and what the form of the line is.
 fn help_with_place(page: &mut Page, line_kind: LineKind, operand_place: OperandPlace) {
     page.begin_help();
     page.write(format_args!("{} is expected here: ", expectation_of(operand_place)));
@@ -229,14 +229,14 @@ fn help_with_place(page: &mut Page, line_kind: LineKind, operand_place: OperandP
     }
 }
 
-/// The same of a line, if it has a form.
+/// Says what is expected in an operand place of a line, and what the form of the line is; says nothing if the line has no form.
 pub fn help_with_operand(page: &mut Page, line: &Line, operand_place: OperandPlace) {
     if let Some(line_kind) = line.line_kind() {
         help_with_place(page, line_kind, operand_place);
     }
 }
 
-/// Says what is wrong with the word at a place of a form.
+/// Says what is wrong with a word in an operand place.
 fn explain_word(page: &mut Page, line_kind: LineKind, operand_place: OperandPlace, spot: Spot) {
     let (problem, hint) = complaint_of(operand_place, spot.word);
     page.mark(spot, format_args!("{problem}: `{}`", spot.shown_word()));
@@ -259,7 +259,8 @@ fn explain_open_quote(page: &mut Page, spot: Spot) {
     );
 }
 
-/// The word of a class's first line that names a base class, or comes before one; `None` if there is none.
+/// The first word with a colon in the first line of a class: it names a base class or comes before one. `None` if there is no such word, or
+/// the line begins no class.
 fn first_of_base<'a>(line: &Line<'a>, line_kind: LineKind) -> Option<Word<'a>> {
     for word in &line.words {
         if matches!(line_kind, LineKind::Class) && has_byte(b':', word.text) {
@@ -275,7 +276,7 @@ fn explain_base(page: &mut Page, spot: Spot) {
     help_with_forms(page, b"class");
 }
 
-/// Says what is wrong with the words of a line that begins as some form does.
+/// Says what is wrong with the words of a line whose first word begins a form.
 fn explain_words(page: &mut Page, line: &Line, line_kind: LineKind) {
     if let Some(word) = first_of_base(line, line_kind) {
         return explain_base(page, spot_from(line, word));
@@ -291,7 +292,7 @@ fn explain_words(page: &mut Page, line: &Line, line_kind: LineKind) {
     }
 }
 
-/// Says why a line is of no form.
+/// Says why a line has no form.
 pub fn explain_misspelled(page: &mut Page, line: &Line) {
     if line.first().is_none() {
         return;

@@ -16,7 +16,8 @@ fn is_item(line: &Line, kind: ItemKind) -> bool {
     )
 }
 
-/// The class, procedure or operation with the nearest name; `None` if none is near.
+/// The class, the procedure or the operation with the nearest name; `kind` says which of the three is searched for. `None` if no name is
+/// near.
 pub fn nearest_item<'a>(lines: &[Line<'a>], kind: ItemKind, name: &[u8]) -> Option<Candidate<'a>> {
     let mut search = Search::of(name);
     for (index, line) in lines.iter().enumerate() {
@@ -47,7 +48,7 @@ impl<'w, 'a> Search<'w, 'a> {
     }
 }
 
-/// The local of a line's body with the nearest name, declared before that line; `None` if none is near.
+/// The local with the nearest name, in the body of the line at `index` and declared before that line; `None` if no name is near.
 pub fn nearest_local<'a>(lines: &[Line<'a>], index: usize, name: &[u8]) -> Option<Candidate<'a>> {
     let body = body_of(lines, index);
     let mut search = Search::of(name);
@@ -59,7 +60,7 @@ pub fn nearest_local<'a>(lines: &[Line<'a>], index: usize, name: &[u8]) -> Optio
     search.found
 }
 
-/// The field with the nearest name, of the class that begins at an index; `None` if none is near.
+/// The field with the nearest name, in the class that begins at line index `class`; `None` if no name is near.
 pub fn nearest_field<'a>(lines: &[Line<'a>], class: usize, name: &[u8]) -> Option<Candidate<'a>> {
     let mut search = Search::of(name);
     for (index, line) in lines.iter().enumerate() {

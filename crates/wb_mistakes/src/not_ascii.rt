@@ -9,14 +9,14 @@ static DIGITS: [&str; 16] = [
     "0", "1", "2", "3", "4", "5", "6", "7", "8", "9", "a", "b", "c", "d", "e", "f",
 ];
 
-/// What to do about a file in another encoding.
+/// The help for a file in another encoding.
 const SAVED_AS: &str = "save it as ASCII, or as UTF-8 without a byte order mark";
 
 fn hex_digit(value: u8) -> &'static str {
     DIGITS.get(value as usize).copied().unwrap_or("?")
 }
 
-/// The column of the first such byte, counted from 0, and the byte; `None` if there is none.
+/// The column, counted from 0, of the first byte that no script may hold, and this byte; `None` if there is no such byte.
 fn first_foreign_byte(line: &[u8]) -> Option<(usize, u8)> {
     for (column, byte) in line.iter().enumerate() {
         if is_foreign(*byte) {
@@ -26,7 +26,7 @@ fn first_foreign_byte(line: &[u8]) -> Option<(usize, u8)> {
     None
 }
 
-/// What a file is by the bytes that it begins with.
+/// The encoding of a file, by the bytes at its beginning.
 #[derive(Clone, Copy)]
 enum Beginning {
     /// A byte order mark in UTF-8.
@@ -36,7 +36,7 @@ enum Beginning {
     Other,
 }
 
-/// What a file is, by its first line without the blanks around it.
+/// The encoding of a file, by its first line without the blanks around it.
 fn beginning_of(text: &[u8]) -> Beginning {
     match text {
         [0xef, 0xbb, 0xbf, ..] => Beginning::Mark,
@@ -46,7 +46,8 @@ fn beginning_of(text: &[u8]) -> Beginning {
     }
 }
 
-/// Says that a line has a byte outside printable ASCII: of the file's first line, in which encoding the file seems to be.
+/// Says that a line has a byte outside printable ASCII. If it is the first line of the file, and the file seems to be in another encoding,
+/// says that instead.
 pub fn explain_not_ascii(page: &mut Page, lines: &[Line], index: usize) {
     let Some(line) = lines.get(index) else {
         return;

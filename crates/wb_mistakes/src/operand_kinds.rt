@@ -1,4 +1,5 @@
-//! What a word of a line is, as far as its place asks: a pointer, an int, a class and so on. Referents have the indexes of lines.
+//! The kind of a word in an operand place of a line: a pointer, an int, a class and so on. A `Referent` here holds the index of the line
+//! that declares the name.
 
 use crate::lines::Line;
 use crate::spaces::{
@@ -88,7 +89,7 @@ fn resolved_type(lines: &[Line], parameter_type: ParameterType<&[u8]>) -> Parame
     }
 }
 
-/// An operand in this place, with what its names refer to.
+/// An operand in this operand place, with what its names refer to.
 fn resolved_operand(
     lines: &[Line],
     index: usize,
@@ -112,7 +113,7 @@ fn resolved_operand(
     }
 }
 
-/// What a word is in this place; nothing if it isn't grammatical there.
+/// The kind of a word in this operand place; `Nothing` if the word isn't grammatical there.
 pub fn operand_kind_of(
     lines: &[Line],
     index: usize,
@@ -130,12 +131,12 @@ pub fn operand_kind_of(
     }
 }
 
-/// What a word is that a body uses: `print` takes the most kinds.
+/// The kind of a word that a line of a body uses. The word is read as an operand of `print`, which takes the most kinds.
 pub fn operand_kind_in_body(lines: &[Line], index: usize, word: &[u8]) -> OperandKind {
     operand_kind_of(lines, index, OperandPlace::Printed, word)
 }
 
-/// What a word refers to, in words.
+/// The words by which messages describe an operand of this kind.
 pub fn description_of(operand_kind: OperandKind) -> &'static str {
     match operand_kind {
         OperandKind::Pointer => "a pointer",
@@ -153,7 +154,7 @@ pub fn description_of(operand_kind: OperandKind) -> &'static str {
     }
 }
 
-/// The index of the line that declares what a word refers to as this operand; `None` if no line does.
+/// The index of the line that declares what a word in this operand place refers to; `None` if no line does.
 pub fn line_of_declaration(
     lines: &[Line],
     index: usize,

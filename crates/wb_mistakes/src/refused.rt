@@ -15,7 +15,7 @@ use std::alloc::{AllocError, Global};
 use wb_model::fault::ScriptFault;
 use wb_pages::Page;
 
-/// Says why a line is not allowed where it is, or is of no form; or that the file ends too early.
+/// Says why a line is not allowed where it is, or has no form; or that the file ends too early.
 fn explain_grammar(page: &mut Page, lines: &[Line], index: usize, blocks: &Blocks) {
     let number = index.saturating_add(1);
     match lines.get(index) {
@@ -44,7 +44,7 @@ fn line_of(fault: ScriptFault) -> u32 {
     }
 }
 
-/// Says what is wrong with the line at an index, by the blocks that are open before it.
+/// Says what is wrong with the line at an index. `blocks` are those that are open before this line.
 fn explain_line(
     page: &mut Page,
     lines: &[Line],
@@ -83,10 +83,11 @@ fn explain_too_long(page: &mut Page) {
     page.write_help_text("split it into scripts that can be run separately");
 }
 
-/// Returns why a script was refused: the whole text for a person, in lines that end with a line feed; empty if there is nothing to say.
+/// Returns why a script was refused, as the whole text for a person, in lines that end with a line feed; the text is empty if there is
+/// nothing to say.
 ///
-/// `file` is the script's name as it is shown, `bytes` what was read of it, and `fault` the fault that `wb_script::read` found in
-/// them. The only error is that memory ran out.
+/// `file` is the name of the script's file as messages show it, `bytes` is what was read from that file, and `fault` is the fault that
+/// `wb_script::read` found in these bytes. The only error is that memory ran out.
 pub fn refused_script(
     alloc: Global,
     file: &str,

@@ -1,4 +1,4 @@
-//! What the names of a script refer to, and the line that declares each. Lines are named by their indexes.
+//! What the names of a script refer to, and the line that declares each name. Lines are given by their indexes.
 
 use crate::blocks::{role, role_at};
 use crate::lines::Line;
@@ -19,7 +19,7 @@ pub struct ItemAt {
     pub line: usize,
 }
 
-/// The kind of the line with an index; `None` if there is no such line, or it has none.
+/// The kind of the line with an index; `None` if there is no such line, or the line has no kind.
 pub fn line_kind_at(lines: &[Line], index: usize) -> Option<LineKind> {
     lines.get(index)?.line_kind()
 }
@@ -36,7 +36,7 @@ pub fn find_item(lines: &[Line], name: &[u8]) -> Option<ItemAt> {
     None
 }
 
-/// Returns the index of the line of the class with a name; `None` if the name is not that of a class.
+/// Returns the index of the line that begins the class with a name; `None` if the name is not that of a class.
 fn find_class(lines: &[Line], name: &[u8]) -> Option<usize> {
     match find_item(lines, name) {
         Some(
@@ -57,7 +57,7 @@ pub fn body_of(lines: &[Line], index: usize) -> usize {
     }
 }
 
-/// The index of the last line, up to a line, that begins a class; `None` if there is none.
+/// The index of the last line, up to and including the line at `index`, that begins a class; `None` if there is none.
 pub fn class_before(lines: &[Line], index: usize) -> Option<usize> {
     let mut class = None;
     for (at, line) in lines.iter().enumerate() {
@@ -76,7 +76,7 @@ pub fn has_self(lines: &[Line], index: usize) -> bool {
     )
 }
 
-/// What the parameter with a name takes, among operands; `None` if there is none.
+/// What the parameter with this name among the operands takes; `None` if there is no such parameter.
 fn parameter_named<'a>(
     operands: &[Operand<&'a [u8]>],
     name: &[u8],
@@ -92,7 +92,7 @@ fn parameter_named<'a>(
     None
 }
 
-/// What a name holds by one line, which declares it or has it as a parameter; `None` if the line doesn't declare it.
+/// What the local or parameter with this name holds, if this line declares it; `None` if the line doesn't.
 fn kind_by_line<'a>(line: &Line<'a>, name: &[u8]) -> Option<LocalKind<&'a [u8]>> {
     match parameter_named(line.operands(), name) {
         Some(parameter_type) => Some(kind_of_parameter(parameter_type)),
@@ -101,12 +101,12 @@ fn kind_by_line<'a>(line: &Line<'a>, name: &[u8]) -> Option<LocalKind<&'a [u8]>>
     }
 }
 
-/// Whether a line is a statement, after which its body declares nothing.
+/// Whether a line is a statement. No declaration of the body may come after one.
 pub fn is_statement(line: &Line) -> bool {
     matches!(role(line), Role::Plain | Role::Loop | Role::If)
 }
 
-/// Returns the local with a name in the body of a line, declared before that line; `None` if there is none.
+/// Returns the local with a name, in the body of the line at `index` and declared before that line; `None` if there is none.
 pub fn find_local<'a>(lines: &[Line<'a>], index: usize, name: &[u8]) -> Option<LocalAt<'a>> {
     for at in body_of(lines, index)..index {
         let line = lines.get(at)?;
@@ -130,7 +130,8 @@ pub fn find_local_anywhere<'a>(lines: &[Line<'a>], name: &[u8]) -> Option<LocalA
     None
 }
 
-/// The index of the line of the class with which the name before a dot is declared; `None` if it has no class.
+/// The index of the line that begins the class of what the name before a dot refers to, a pointer or `self`; `None` if there is no such
+/// class.
 pub fn class_of_holder(lines: &[Line], index: usize, base: &[u8]) -> Option<usize> {
     if base == b"self".as_slice() {
         return if has_self(lines, index) {
@@ -150,7 +151,8 @@ pub fn class_of_holder(lines: &[Line], index: usize, base: &[u8]) -> Option<usiz
     }
 }
 
-/// Returns the index of the line that declares a field with a name, of the class that begins at an index; `None` if there is none.
+/// Returns the index of the line that declares the field with a name, in the class that begins at line index `class`; `None` if there is
+/// none.
 pub fn find_field(lines: &[Line], class: usize, name: &[u8]) -> Option<usize> {
     for (index, line) in lines.iter().enumerate() {
         if index > class {
@@ -170,12 +172,14 @@ pub fn line_of_item(lines: &[Line], name: &[u8]) -> Option<usize> {
     Some(find_item(lines, name)?.line)
 }
 
-/// The index of the line that declares the local with a name, in the body of a line and before that line; `None` if there is none.
+/// The index of the line that declares the local with a name, in the body of the line at `index` and before that line; `None` if there is
+/// none.
 pub fn line_of_local(lines: &[Line], index: usize, name: &[u8]) -> Option<usize> {
     Some(find_local(lines, index, name)?.line)
 }
 
-/// The index of the line that declares the field with a name, of the class that begins last up to a line; `None` if there is none.
+/// The index of the line that declares the field with a name, in the last class that begins at or before the line at `index`; `None` if
+/// there is none.
 pub fn line_of_field(lines: &[Line], index: usize, name: &[u8]) -> Option<usize> {
     find_field(lines, class_before(lines, index)?, name)
 }

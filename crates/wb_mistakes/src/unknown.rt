@@ -1,4 +1,4 @@
-//! A name that is declared nowhere: in which space it was looked for, and what is nearest there.
+//! A name that is declared nowhere: the space in which it was looked for, and the nearest name in that space.
 
 use crate::counterparts::{CODE_AS_NUMBER, EXTRA_BYTES, NUMBER_RETURNED};
 use crate::elsewhere::{Elsewhere, elsewhere_of_item, elsewhere_of_local, explain_elsewhere};
@@ -14,16 +14,16 @@ use wb_lines::words::{after_first_of, before_first, is_name, is_reserved, parame
 use wb_model::script_lines::{ItemKind, LineKind, OperandPlace, ParameterType};
 use wb_pages::{Page, Shown, Spot};
 
-/// What is said of a name that nothing can have.
+/// The help for a name that can't be declared.
 const RESERVED: &str = "the name is reserved and can't be declared";
 
 /// Where a name was looked for.
 #[derive(Clone, Copy)]
 enum Space {
     Items(ItemKind),
-    /// What a body declares.
+    /// The parameters and locals of a body.
     Locals,
-    /// The fields of the class that a line begins.
+    /// The fields of the class that the line with this index begins.
     Fields(usize),
 }
 
@@ -51,7 +51,7 @@ fn is_local(lines: &[Line], index: usize, name: &[u8]) -> bool {
     }
 }
 
-/// A name of a class, a procedure or an operation, if it is unknown.
+/// The name of a class, a procedure or an operation, if nothing in the script has it; `None` if something has.
 fn unknown_item<'a>(
     lines: &[Line],
     name: &'a [u8],
@@ -64,7 +64,7 @@ fn unknown_item<'a>(
     }
 }
 
-/// The name of a field, if it is unknown; the name before the dot is known.
+/// The name of a field, if its class doesn't declare it; `None` if the class does, or there is no class. The name before the dot is known.
 fn unknown_field<'a>(
     lines: &[Line],
     index: usize,
@@ -106,7 +106,7 @@ fn unknown_in_body<'a>(
     }
 }
 
-/// The class of a parameter, if it is unknown.
+/// The name of the class of a parameter, if nothing in the script has it; `None` otherwise.
 fn unknown_class<'a>(lines: &[Line], word: &'a [u8], column: usize) -> Option<Unknown<'a>> {
     if !is_parameter(word) {
         return None;
@@ -120,7 +120,7 @@ fn unknown_class<'a>(lines: &[Line], word: &'a [u8], column: usize) -> Option<Un
     unknown_item(lines, class, column, ItemKind::Class)
 }
 
-/// The unknown name in a word that is this operand; `None` if there is none.
+/// The unknown name in a word in this operand place; `None` if there is none.
 fn unknown_in_word<'a>(
     lines: &[Line],
     index: usize,
@@ -141,7 +141,7 @@ fn unknown_in_word<'a>(
     }
 }
 
-/// The first unknown name of a line, and the operand that it is in; `None` if there is none.
+/// The first unknown name of a line, and the operand place that it is in; `None` if there is none.
 fn first_unknown<'a>(
     lines: &[Line<'a>],
     index: usize,
@@ -225,7 +225,7 @@ fn mark_space(page: &mut Page, lines: &[Line], index: usize, space: Space) {
     }
 }
 
-/// Returns what an unknown name is elsewhere in the script; `None` if it is nothing.
+/// Returns what an unknown name means elsewhere in the script; `None` if nothing was found.
 fn find_elsewhere(lines: &[Line], index: usize, found: Unknown) -> Option<Elsewhere> {
     match found.space {
         Space::Items(_) => elsewhere_of_item(lines, index, found.name),
@@ -234,7 +234,7 @@ fn find_elsewhere(lines: &[Line], index: usize, found: Unknown) -> Option<Elsewh
     }
 }
 
-/// What to do about a local that isn't declared.
+/// The help for a local that isn't declared.
 fn help_of_local(name: &[u8]) -> &'static str {
     if name == b"self".as_slice() {
         "`self` is known only in `construct` and `destroy`"
@@ -249,7 +249,7 @@ fn help_of_local(name: &[u8]) -> &'static str {
     }
 }
 
-/// What to do about a kind of number where a class is wanted; `None` if the name is none.
+/// The help for `int` in place of the name of a class; `None` for any other name.
 fn help_of_number_kind(line: &Line, name: &[u8]) -> Option<&'static str> {
     if name != b"int".as_slice() {
         return None;
@@ -302,7 +302,7 @@ pub fn explain_unknown_name(page: &mut Page, lines: &[Line], index: usize) {
     }
 }
 
-/// Says what is known of an unknown name, in this operand.
+/// Says what is known about an unknown name in this operand place.
 fn explain_unknown<'a>(
     page: &mut Page,
     lines: &[Line<'a>],

@@ -4,7 +4,7 @@ use wb_lines::words::{
     base_name, field_name, is_digit, literal_of, parameter_name, parameter_type_of_word,
 };
 
-/// Whether a word has a byte.
+/// Whether a word contains a byte.
 pub fn has_byte(byte: u8, word: &[u8]) -> bool {
     word.contains(&byte)
 }
@@ -21,7 +21,7 @@ pub fn digits<'a>(word: &'a [u8]) -> &'a [u8] {
     }
 }
 
-/// Whether a word is some digits, with or without `-` before them.
+/// Whether a word is one or more digits, perhaps after a `-`.
 pub fn is_numeral(word: &[u8]) -> bool {
     let digits = digits(word);
     for byte in digits {
@@ -40,7 +40,7 @@ pub fn is_parameter(word: &[u8]) -> bool {
     parameter_name(word).is_some() && parameter_type_of_word(word).is_some()
 }
 
-/// Whether a word is a parameter with a name.
+/// Whether a word declares a parameter with this name.
 pub fn is_parameter_named(word: &[u8], name: &[u8]) -> bool {
     matches!(word.strip_prefix(name), Some([b':', ..])) && is_parameter(word)
 }

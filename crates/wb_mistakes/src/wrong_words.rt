@@ -1,4 +1,4 @@
-//! What is wrong with a word that is not allowed where it is, by its bytes alone, and what is expected there.
+//! What is wrong with a word that is not allowed where it is, by the bytes of the word alone, and what is expected in its place.
 
 use crate::words::{digits, has_byte, is_field, is_literal, is_numeral};
 use wb_lines::words::{after_first_of, before_first, is_digit, is_name, is_reserved};
@@ -7,7 +7,7 @@ use wb_model::script_lines::{Keyword, OperandPlace};
 /// What is wrong with a word, and a hint, which may be empty.
 pub type Complaint = (&'static str, &'static str);
 
-/// What is expected as an operand.
+/// The words by which messages describe what is expected in an operand place.
 pub fn expectation_of(operand_place: OperandPlace) -> &'static str {
     match operand_place {
         OperandPlace::Declared => "the name to declare",
@@ -42,7 +42,7 @@ pub fn expectation_of(operand_place: OperandPlace) -> &'static str {
     }
 }
 
-/// Whether an operand may be a number.
+/// Whether an operand in this place may be a number.
 fn takes_number(operand_place: OperandPlace) -> bool {
     matches!(
         operand_place,
@@ -98,12 +98,12 @@ fn parameter_complaint(operand_place: OperandPlace, word: &[u8]) -> Complaint {
     }
 }
 
-/// Whether a word ends as a part of a line does in C++.
+/// Whether a word ends with `;` or `,`, as in C++.
 fn ends_as_in_c(word: &[u8]) -> bool {
     matches!(word.last(), Some(b';' | b','))
 }
 
-/// What to do about the end of a word, if that is what is wrong; else another hint.
+/// The hint about a `;` or `,` at the end of a word, if there is one; otherwise the other hint.
 pub fn hint_at_end(word: &[u8], other: &'static str) -> &'static str {
     if ends_as_in_c(word) {
         "words are separated by blanks, without `,` or `;`"
@@ -163,7 +163,7 @@ fn other_complaint(word: &[u8]) -> Complaint {
     }
 }
 
-/// What is wrong with a word that isn't allowed as this operand.
+/// What is wrong with a word that isn't allowed in this operand place.
 pub fn complaint_of(operand_place: OperandPlace, word: &[u8]) -> Complaint {
     if matches!(word, [b'"', ..]) {
         quoted_complaint(word)

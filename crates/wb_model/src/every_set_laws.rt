@@ -19,8 +19,8 @@ ghost use Rattle.wb_model.specs.declared.run.RunResult.{RunResult};
 ghost use Rattle.wb_model.specs.declared.run.Why.{Why};
 ghost use Rattle.wb_model.specs.declared.script.Script.{Script};
 
-/// A sweep over the sets of a part that begins with number 0, and goes to the last attempt of the run without failure at least,
-/// answers what one over all sets does.
+/// If a part begins with number 0 and goes at least to the last attempt of the run without failure, a sweep over its sets answers what a
+/// sweep over all sets answers.
 pub fn a_whole_part_has_every_set()
     ensures found { (part : Part) (script : Script) (budget : ℕ) (shape : Shape)
         (numbers : List ℕ) (result : RunResult) → part.from ≡ 0 →
@@ -49,8 +49,8 @@ pub fn parts_of_every_set_have_one_answer()
         IsEverySetAnswerIn both script budget shape (least_set_of answer another) }
 {}
 
-/// Where no set of failures shows a leak, a panic or a cut, no run under any rule does: no length of the heap, and no sweep of any
-/// kind over any part.
+/// If no set of failures shows a leak, a panic or a cut, no run under any rule does. So no heap length shows a leak or a panic, and no
+/// sweep of any kind over any part finds anything.
 pub fn nothing_shows_where_no_set_does()
     ensures run { (script : Script) (budget : ℕ) (shape : Shape) (r : Rule) →
         AreAllSetsFine script budget shape → is_fine (run script r budget shape) ≡ true }

@@ -1,26 +1,26 @@
-//! Which failures a sweep tries, and which one it speaks of.
+//! Which failures a sweep tries, and how it names one of them.
 
 ghost use Rattle.std.specs.Prelude.{◌≡◌};
 ghost use Rattle.wb_model.specs.runs.Sweeps.{failing_at, rule_for};
 
 use crate::heap::Rule;
 
-/// The failures that a sweep tries one by one, from the least on. Source: this project's profile.
+/// Which failures a sweep tries one by one, the least first. Source: this project's profile.
 #[derive(Clone, Copy, Debug, PartialEq, Eq)]
 pub enum Failures {
-    /// One attempt fails: its number is tried.
+    /// One attempt fails. The sweep tries each attempt number.
     Single,
-    /// Every n-th attempt fails: the rate n is tried.
+    /// Every n-th attempt fails. The sweep tries each rate n.
     Every,
-    /// One attempt fails, and once that shows nothing, two do: each pair of them is tried.
+    /// One attempt fails, as for `Single`. If no single failure shows anything, the sweep goes on to all pairs of attempts.
     Pairs,
-    /// The n-th attempt and all after it fail: their first number n is tried.
+    /// The n-th attempt and all after it fail. The sweep tries each number n.
     Persistent,
 }
 
 impl Failures {
-    /// The failure that is tried as `n`; for `Pairs` a single one, since these are tried before any pair. As 0, each kind
-    /// is the run without failure.
+    /// Returns the failure that is tried for the number or rate `n`; for `Pairs` it is a single failure, since these are tried before any
+    /// pair. For `n` 0, each kind gives the run without failure.
     pub fn at(self, n: u32) -> Failing
         ensures { result ≡ failing_at self n }
     {
@@ -32,21 +32,21 @@ impl Failures {
     }
 }
 
-/// A failure of memory that a run is made under.
+/// A failure: which attempts the rule of a run makes fail.
 #[derive(Clone, Copy, Debug, PartialEq, Eq)]
 pub enum Failing {
-    /// The attempt with this number fails. Attempts count from 1.
+    /// The attempt with this number fails. Attempts count from 1, so with number 0 none fails.
     Number(u32),
-    /// Each attempt fails whose number is a multiple of this rate.
+    /// Each attempt whose number is a multiple of this rate fails; with rate 0 none fails.
     Every(u32),
-    /// The attempts with these two numbers fail, of which the second is the greater.
+    /// The attempts with these two numbers fail. The second number is the greater.
     Pair(u32, u32),
-    /// Each attempt fails whose number is this or greater; of number 0 none does.
+    /// Each attempt whose number is this or greater fails; with number 0 none fails.
     From(u32),
 }
 
 impl Failing {
-    /// The rule under which the run meets this failure and no other.
+    /// Returns the rule that makes exactly these attempts fail.
     pub fn rule(self) -> Rule
         ensures { result ≡ rule_for self }
     {

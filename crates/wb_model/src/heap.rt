@@ -1,5 +1,5 @@
-//! What a heap is made of, what is asked of it, and what it answers. All places and lengths are in bytes, a
-//! place from where the chunk begins; the first attempt has number 1.
+//! What a simulated heap is made of, what is asked of it, and what it answers. All places and lengths are in bytes, and places count from
+//! the start of the chunk. The first attempt has number 1.
 
 ghost use Rattle.std.specs.Prelude.{◌≡◌, ◌+◌, ◌/◌, ◌^◌, ◌<◌, ◌≤◌, false, IfOk};
 ghost use Rattle.wb_model.specs.heap.Row.{end_of, pointer_to, usable_of};
@@ -7,7 +7,7 @@ ghost use Rattle.wb_model.specs.heap.Row.{end_of, pointer_to, usable_of};
 use crate::items::Items;
 use crate::memory::NoMemory;
 
-/// A cell, by its place and its allocation number. Number 0 is null.
+/// A pointer: it names a cell by place and allocation number. Number 0 is null.
 #[derive(Clone, Copy, Debug, PartialEq, Eq)]
 pub struct Ptr {
     pub place: u32,
@@ -17,7 +17,7 @@ pub struct Ptr {
 /// What a cell was allocated for.
 #[derive(Clone, Copy, Debug, PartialEq, Eq)]
 pub enum Kind {
-    /// Words that the script stores itself.
+    /// A cell of words, which the script stores itself.
     Raw,
     /// An object of the class with this index.
     Object(u16),
@@ -27,13 +27,13 @@ pub enum Kind {
     Cleanup,
 }
 
-/// A live cell without what it holds. The length is the cell length, in bytes, header included.
+/// What describes a live cell: all but what it holds. `length` is the cell length in bytes, header included.
 #[derive(Clone, Copy, Debug, PartialEq, Eq)]
 pub struct Header {
     pub place: u32,
     pub length: u32,
     pub kind: Kind,
-    /// The nesting level of heap marks that the cell belongs to.
+    /// The level of heap marks that the cell belongs to.
     pub level: u32,
     /// The allocation number: the number of the attempt that granted the cell, or that last moved it.
     pub number: u32,
@@ -56,7 +56,7 @@ impl Header {
         self.usable() / 4
     }
 
-    /// The place where the cell ends.
+    /// The place where the cell ends: that of the first byte after it.
     pub fn end(self) -> u32
         requires { self.place + self.length < 2 ^ 32 }
         ensures { result ≡ end_of self }
@@ -75,28 +75,28 @@ impl Header {
     }
 }
 
-/// Which attempts a run refuses, beside what the script itself asks for.
+/// Which attempts fail in a run, besides those that the script's own setting makes fail.
 #[derive(Debug, Drop)]
 pub enum Rule {
-    /// None.
+    /// No attempt fails.
     Unlimited,
-    /// Those whose cell would end past this length, in bytes.
+    /// Each attempt whose cell would end past this length, in bytes, is denied.
     Limit(u32),
-    /// The one with this number. Attempts count from 1, so number 0 refuses nothing.
+    /// The attempt with this number fails. Attempts count from 1, so with number 0 none fails.
     Number(u32),
-    /// Those whose number is a multiple of this rate; rate 0 refuses nothing. The attempts count from the run's first, whatever
-    /// the script's own setting counts from.
+    /// Each attempt whose number is a multiple of this rate fails; with rate 0 none fails. Numbers count from the run's first attempt,
+    /// unlike the count of the script's own setting, which begins where the script sets it.
     Every(u32),
-    /// Those whose number is this or greater; number 0 refuses nothing.
+    /// Each attempt whose number is this or greater fails; with number 0 none fails.
     From(u32),
-    /// The two with these numbers.
+    /// The attempts with these two numbers fail.
     Pair(u32, u32),
-    /// Those with these numbers, however many.
+    /// The attempts with these numbers fail, however many they are.
     Set(Numbers),
 }
 
 impl Rule {
-    /// The same rule, its numbers in memory of their own. `NoMemory` where memory was refused.
+    /// Returns a copy of the rule, whose numbers have memory of their own; `NoMemory` if the workbench's memory runs out.
     pub fn try_copy(&self) -> Result<Rule, NoMemory>
         ensures { IfOk result (λ copy. copy ≡ self.now) }
     {
@@ -112,24 +112,23 @@ impl Rule {
     }
 }
 
-/// Numbers of attempts.
+/// Attempt numbers.
 pub type Numbers = Items<u32>;
 
-/// The heap's minimum length and growth step, in bytes, and whether cells that grow always move.
+/// The heap's least length and growth step, in bytes, and whether cells that grow always move.
 ///
-/// Multiples of 16: the minimum from 0 to `LARGEST_MINIMUM`, the step from `SMALLEST_STEP` to `LARGEST_STEP`.
+/// Both lengths are multiples of 16: `min` from 0 to `LARGEST_MINIMUM`, `step` from `SMALLEST_STEP` to `LARGEST_STEP`.
 #[derive(Clone, Copy, Debug, PartialEq, Eq)]
 pub struct Shape {
     pub min: u32,
     pub step: u32,
-    /// Whether a cell that is to be longer moves, even where the bytes after it are free. Source: this project's profile; RHeap
-    /// lets such a cell stay.
+    /// Whether a cell that grows moves even if the bytes after it are free. Source: this project's profile; RHeap lets such a cell stay.
     pub moving: bool,
 }
 
 impl Shape {
-    /// The shape with this minimum and step in which a cell stays where it can. They are lengths in bytes, in the ranges above; it isn't
-    /// asked whether they are.
+    /// Returns the shape with this least length and growth step, in bytes, in which a cell that grows stays if it can. Both should be in
+    /// the ranges above, but `new` doesn't check that.
     pub fn new(min: u32, step: u32) -> Shape
         ensures { result ≡ record { min = min; step = step; moving = false } }
     {
@@ -145,14 +144,15 @@ impl Shape {
 #[derive(Clone, Copy, Debug, PartialEq, Eq)]
 pub enum Answer {
     Granted,
-    /// Refused by the script's own setting, or by `Rule::Number`, `Rule::Every`, `Rule::From`, `Rule::Pair` or `Rule::Set`.
+    /// The attempt was made to fail: by the script's own setting, or by `Rule::Number`, `Rule::Every`, `Rule::From`, `Rule::Pair` or
+    /// `Rule::Set`.
     Simulated,
-    /// Refused by `Rule::Limit`.
+    /// The attempt was denied: by `Rule::Limit`.
     Refused,
 }
 
-/// A line of the trace. The length is the cell length, in bytes; the place is the one chosen, also where
-/// the attempt was refused.
+/// A line of the trace. `length` is the cell length, in bytes, and `place` the place that was chosen for the cell, also if the attempt
+/// failed.
 #[derive(Clone, Copy, Debug, PartialEq, Eq)]
 pub struct Attempt {
     pub number: u32,
@@ -165,17 +165,17 @@ pub struct Attempt {
 #[derive(Clone, Copy, Debug, PartialEq, Eq)]
 pub enum Gave {
     Granted(Ptr),
-    /// The setting or the rule refused.
+    /// The attempt fails: the script's setting or the run's rule says so.
     Denied,
-    /// Nothing refused, but the cell would end past the ceiling. The attempt is not counted.
+    /// Neither of them makes the attempt fail, but its cell would end past the heap's ceiling. The attempt is not counted.
     Ceiling,
 }
 
-/// What ends a run at once. Source of the numbers: EUSER's for `User`, this project's for `Workbench`.
+/// What ends a run at once. Source of the numbers: EUSER for `User`, this project for `Workbench`.
 #[derive(Clone, Copy, Debug, PartialEq, Eq)]
 pub enum Panic {
     User(u8),
-    /// A heap check failed; the place of the lowest cell counted, or 0.
+    /// A heap check failed. The value is the place of the lowest cell that was counted, or 0 if none was.
     Alloc(u32),
     Workbench(u8),
 }
@@ -192,11 +192,11 @@ impl Panic {
     pub const NULL_OR_STALE: Panic = Self::Workbench(1);
     /// WORKBENCH 2: the cell is of another kind, or the object of another class.
     pub const WRONG_KIND: Panic = Self::Workbench(2);
-    /// WORKBENCH 3: fewer items are above the entry of the innermost TRAP than a pop takes.
+    /// WORKBENCH 3: more items were to be popped than are left of those pushed since the innermost TRAP began.
     pub const POP_BELOW_TRAP: Panic = Self::Workbench(3);
-    /// WORKBENCH 4: another item than the expected one is on top.
+    /// WORKBENCH 4: the newest item isn't the one expected.
     pub const ANOTHER_ITEM_ON_TOP: Panic = Self::Workbench(4);
-    /// WORKBENCH 5: items are left at the plain end of a TRAP.
+    /// WORKBENCH 5: a TRAP ended plainly, with items left that were pushed since it began.
     pub const ITEMS_LEFT: Panic = Self::Workbench(5);
     /// WORKBENCH 6: a mark was closed where none is open.
     pub const NO_OPEN_MARK: Panic = Self::Workbench(6);
@@ -204,20 +204,20 @@ impl Panic {
     pub const TOO_MANY_FRAMES: Panic = Self::Workbench(7);
     /// WORKBENCH 8: an HBufC would be shorter than its text.
     pub const SHORTER_THAN_TEXT: Panic = Self::Workbench(8);
-    /// WORKBENCH 9: a number out of its range.
+    /// WORKBENCH 9: a number is out of its range, or a text was to be inserted into itself.
     pub const NUMBER_OUT_OF_RANGE: Panic = Self::Workbench(9);
 }
 
-/// `KErrNoMemory`, the code with which a refused allocation leaves.
+/// `KErrNoMemory`, the code with which an allocation leaves if its attempt fails.
 pub const KERR_NO_MEMORY: i32 = -4;
 
 /// An item of the cleanup stack.
 #[derive(Clone, Copy, Debug, PartialEq, Eq)]
 pub enum Item {
-    /// Freed without a destructor.
+    /// A cell that is freed, without a destructor.
     Free(Ptr),
-    /// An object, deleted through its destructor.
+    /// An object that is deleted, with its destructor.
     Delete(Ptr),
-    /// Runs the operation with this index on the pointer.
+    /// A pointer on which the operation with this index is run.
     Call(Ptr, u16),
 }

@@ -40,29 +40,29 @@ ghost use Rattle.wb_model.specs.declared.run.Outcome.TheVariants.{Ended, Cut};
 ghost use Rattle.wb_model.specs.declared.run.Why.TheVariants.{Ceiling};
 ghost use Rattle.wb_model.specs.declared.script.Script.{Script};
 
-/// The place of a request is the least multiple of 16 from which on no cell of the row meets its bytes.
+/// The place of a request is the least multiple of 16 at which the bytes of its cell meet no cell of the row.
 pub fn place_is_least()
     ensures { (row : List Header) (length : ℕ) → 0 < length → IsSpacedFrom 0 row →
         IsLeastPlace row length (place_of row length) }
 {}
 
-/// What the script's own settings refuse: one for the k-th next attempt refuses that attempt and no other, and one for
-/// every k-th attempt refuses those whose count from the setting on is a multiple of k.
+/// The script's own setting for the k-th next attempt makes this attempt fail and no other; its setting for every k-th attempt makes those
+/// fail whose count since the setting is a multiple of k.
 pub fn settings_refuse()
     ensures next { (k n : ℕ) → is_due (after_attempts n (next k)) ≡ nat_eq k (n + 1) }
     ensures every { (k n : ℕ) → 1 ≤ k →
         is_due (after_attempts n (each k k)) ≡ nat_eq ((n + 1) % k) 0 }
 {}
 
-/// The free runs below a committed length are what the cells leave of it: the runs and the cells together make it up,
-/// the longest run is a stretch of bytes that no cell meets, and no stretch that no cell meets is longer.
+/// The free runs below a committed length are the bytes that the cells leave free: the lengths of runs and cells add up to the committed
+/// length, the longest run is a stretch of bytes that no cell meets, and no such stretch is longer.
 pub fn free_runs_are()
     ensures { (row : List Header) (committed : ℕ) → IsSpacedFrom 0 row → top_of row ≤ committed →
         AreFreeRuns row committed (free_runs 0 row committed) }
 {}
 
-/// What a part of a text reads as: as many units as it is long, each of them the base's at its place, or zero past the
-/// base's end. A part of a part reads as that stretch of it, whatever the base holds.
+/// A part of a text reads as exactly as many units as it is long, each of them the base's unit at that position, or zero past the base's
+/// end. A part of a part reads as that stretch of the larger part, whatever the base holds.
 pub fn parts_are_read()
     ensures long { (base : List ℕ) (from count : ℕ) →
         length (units_of_part base from count) ≡ count }
@@ -72,16 +72,16 @@ pub fn parts_are_read()
         units_of_part base (from + at) n ≡ take n (drop at (units_of_part base from count)) }
 {}
 
-/// The Agreement law: two rules, of which the second refuses at least what the first refuses, give the same
-/// run up to the first attempt that they answer differently.
+/// The Agreement law: two rules, of which the second refuses at least what the first refuses, give the same run up to the first attempt
+/// that they answer differently, unless the ceiling cuts the first run. Notes may differ if one of the rules is a limit.
 pub fn rules_agree()
     ensures { (script : Script) (budget : ℕ) (shape : Shape) (r : Rule) (s : Rule) →
         Agrees script budget shape r s }
 {}
 
-/// The lines of a run's trace are those of the attempts that it asks for, in order: the number is the line's index, from 1; a
-/// granted attempt is one that the rule leaves open and that ends within the ceiling; a refused one ends past the limit that
-/// the rule is; a simulated one is refused by the script's own setting, or by the rule.
+/// The trace of a run has one line for each attempt that the run asks for, in order and numbered from 1, except for one that the ceiling
+/// cuts. A granted attempt is one that the rule doesn't refuse and whose cell ends within the ceiling; the cell of a refused one would end
+/// past the limit that the rule sets; a simulated one is refused by the script's own setting, or by the rule.
 pub fn lines_are_answered()
     ensures lines { (script : Script) (budget : ℕ) (shape : Shape) (r : Rule) →
         AreAnsweredLines r 0 (asked_for r 0 (process script budget (placement_of shape)))
@@ -92,8 +92,8 @@ pub fn lines_are_answered()
         TellsSettings (process script budget placement) }
 {}
 
-/// What is measured of a trace, in words: the number of the first line that the heap's limit refused, and none if no line
-/// is; and the greatest end of a granted line.
+/// The first refusal computed from a trace is the number of the first line that the heap's limit refused, `None` if there is no such line;
+/// the highest end is the greatest end of a granted line.
 pub fn traces_are_measured()
     ensures refused { (trace : List Attempt) (number : ℕ) →
         (first_refusal trace ≡ Some number) ↔ IsFirstRefused trace number }
@@ -101,9 +101,9 @@ pub fn traces_are_measured()
     ensures end { (trace : List Attempt) → IsGreatestEnd trace (highest_end trace) }
 {}
 
-/// A run that keeps the rises alone is the run that keeps a line of each attempt: but for its trace it comes to the
-/// same, with as many attempts, and the rises that it keeps are those of that trace. So is a debug heap, at first and
-/// after each attempt. The last rise's top is the greatest end of a granted line.
+/// A run that keeps only its rises comes to the same as the run that keeps a line of each attempt, except for the trace: both make the same
+/// number of attempts, and the rises are those of that trace. The same holds of a debug heap, when it is made and after each attempt. The
+/// top of the last rise is the greatest end of a granted line.
 pub fn rises_are_kept()
     ensures runs { (script : Script) (budget : ℕ) (shape : Shape) (r : Rule) →
         whole_run true script r budget shape ≡ run_with_rises (run script r budget shape) }
@@ -116,9 +116,9 @@ pub fn rises_are_kept()
     ensures top { (trace : List Attempt) → top_of_rises (rises_above 0 trace) ≡ highest_end trace }
 {}
 
-/// What a heap of each length refuses first, where the ceiling doesn't cut the run without a limit: the attempt that the
-/// rises of that run name; nothing exactly from the required length on; and what the table of the rises says. From the
-/// required length on the run is the one without a limit, but for notes.
+/// If the ceiling doesn't cut the run without a limit, the rises of this run tell which attempt a heap of each length denies first. They
+/// name none exactly for lengths from the required length on, in which the run is the one without a limit, except for notes. The required
+/// length is at most the ceiling.
 pub fn limits_refuse()
     ensures first { (script : Script) (budget : ℕ) (shape : Shape) (length : ℕ) →
         (run script Unlimited budget shape).outcome ≢ Cut Ceiling →
@@ -164,9 +164,10 @@ pub fn sweeps_end()
         ↔ AreAllFine (runs_of failures script budget shape) }
 {}
 
-/// The live cells that a run of any script passes through are a row, whatever its attempts are answered: they ascend
-/// without meeting, at multiples of 16, and have different numbers, each that of an attempt made before. Each cell
-/// holds what its kind holds, an object a pointer for each field of its class. So the leaks that a run reports are cells of a row.
+/// At every moment of a run of any script the live cells are a row, whatever is answered to its attempts. The cells of a row ascend without
+/// overlapping, at multiples of 16, and no two have the same number. Here each number is that of an attempt made before, and each cell
+/// holds what its kind says: an object, for example, has a pointer for each field of its class. So the leaks that a run reports are cells
+/// of a row.
 pub fn cells_stay_a_row()
     ensures throughout { (script : Script) (budget : ℕ) (shape : Shape) →
         Throughout (λ made st. AreCellsAfter script made st.heap.row) 0
@@ -182,9 +183,9 @@ pub fn printed_lines_are_ascii()
         All ArePrintable (run script r budget shape).lines }
 {}
 
-/// Wherever a run of any script goes on, the cleanup stack has fewer items than slots: where it asks for an attempt, and where it
-/// comes to a plain end or returns. And what begins so, a statement or all that is left of a block, goes on so; from which it
-/// follows, statement by statement, that each push finds a free slot.
+/// Whenever a run of any script asks for an attempt, comes to a plain end or returns, the cleanup stack has fewer items than slots. A
+/// statement, or the rest of a block, that begins with a free slot goes on with a free slot, too. From this it follows, statement by
+/// statement, that each push finds a free slot.
 pub fn a_slot_stays_free()
     ensures run { (script : Script) (budget : ℕ) (placement : Placement) →
         WhereverItGoesOn HasFreeSlot (process script budget placement) }
@@ -192,14 +193,14 @@ pub fn a_slot_stays_free()
         HasFreeSlot st → WhereverItGoesOn HasFreeSlot (meaning_of script budget at p st) }
 {}
 
-/// The meaning of a piece is its first step, and then the meaning of what that leaves.
+/// The meaning of a piece of a script is its first step, and then the meaning of what is left to do, unless the budget is passed.
 pub fn meaning_unfolds()
     ensures { (script : Script) (budget : ℕ) → Unfolds script budget }
 {}
 
-/// Where no operation and no destructor of a script may do what can leave, the destruction of items, and that of an object, asks
-/// for no attempt, and neither leaves nor returns. It may panic, or be cut at the budget; where it goes on, the items destroyed are
-/// off the cleanup stack, and no others.
+/// If no operation and no destructor of a script has a statement that can leave, the destruction of items, or of an object, asks for no
+/// attempt, and neither leaves nor returns. It may panic, or be cut at the budget. If it goes on, the destroyed items are off the cleanup
+/// stack, and no others are.
 pub fn destructions_never_leave()
     ensures items { (script : Script) (budget : ℕ) (at : Context) (n : ℕ) (st : State) →
         IsTrue (is_quiet script) →

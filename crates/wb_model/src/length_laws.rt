@@ -19,9 +19,9 @@ ghost use Rattle.wb_model.specs.declared.run.Why.TheVariants.{Ceiling};
 ghost use Rattle.wb_model.specs.declared.run_end.RunEnd.{RunEnd};
 ghost use Rattle.wb_model.specs.declared.script.Script.{Script};
 
-/// A heap's limit is asked before the ceiling, so in a heap up to the ceiling's length the ceiling cuts no run. What a heap grants
-/// ends within it. And two heaps, in the longer of which no granted cell ends past the shorter one's length, give the same run but
-/// for notes: what the longer one refuses ends past both, and what it grants fits into both.
+/// In a heap no longer than the ceiling, the ceiling cuts no run, since the heap's limit is asked first. Every cell that a heap grants ends
+/// within the heap. If no granted cell of the longer of two heaps ends past the length of the shorter one, both give the same run, except
+/// for notes: a cell that the longer heap denies would end past both, and a cell that it grants fits into both.
 pub fn heaps_agree()
     ensures uncut { (script : Script) (budget : ℕ) (shape : Shape) (length : ℕ) →
         length ≤ CEILING → (run_in script budget shape length).outcome ≢ Cut Ceiling }
@@ -45,7 +45,8 @@ pub fn tables_are_one()
         last_from 0 table ≤ required script budget shape }
 {}
 
-/// Of all lengths whose run leaks or panics there is one least, with one run; or no length's run does.
+/// The search for the least length whose run leaks or panics has at most one answer: that length and its run, or that there is no such
+/// length.
 pub fn lengths_answer_once()
     ensures found { (script : Script) (budget : ℕ) (shape : Shape) (length other : ℕ)
         (result another : RunResult) →
@@ -57,7 +58,7 @@ pub fn lengths_answer_once()
         IsNoBadLength script budget shape → ⊥ }
 {}
 
-/// How a run ended says whether it leaked or panicked, and whether it was cut.
+/// A run's `RunEnd` and its outcome agree on whether the run leaked or panicked, and on whether it was cut.
 pub fn ends_are_judged()
     ensures bad { (outcome : Outcome) → is_bad_end (end_of outcome) ≡ is_bad_outcome outcome }
     ensures cut { (outcome : Outcome) → is_cut_end (end_of outcome) ≡ is_cut_outcome outcome }

@@ -3,12 +3,12 @@
 use crate::items::Items;
 use crate::run_end::RunEnd;
 
-/// Lengths of heap in which a script's runs end alike, up to the next range.
+/// A range of heap lengths in which a script's runs end alike. It reaches up to where the next range begins.
 #[derive(Clone, Copy, Debug, PartialEq, Eq)]
 pub struct LengthRange {
-    /// The least of them, in bytes.
+    /// The least length of the range, in bytes.
     pub from: u32,
-    /// How the runs end.
+    /// How the runs in these lengths end.
     pub end: RunEnd,
 }
 

@@ -1,8 +1,7 @@
-//! The plain types of the out-of-memory testing workbench, the definitions of what a script means,
-//! and the laws of these definitions.
+//! The plain types of the out-of-memory testing workbench, the definitions of what a script means, and the laws of these definitions.
 //!
-//! The definitions are in `specs/`, one subject a file; `docs/ARCHITECTURE.md` says which. No code of
-//! the workbench but small lists is here.
+//! The definitions are in `specs/`, one subject to a file; `docs/ARCHITECTURE.md` lists these files. The only code here is that of the
+//! types themselves, such as the lists.
 #![tactic(auto)]
 
 pub mod every_set_laws;

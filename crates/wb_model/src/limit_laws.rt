@@ -1,6 +1,6 @@
-//! The numbers that the limits and the panics are. Definitions and code cite each by its name, and follow it wherever it
-//! goes; what `docs/LANGUAGE.md` and `docs/REPORTS.md` say of them is a law here. Each is the contract of a
-//! function that does nothing, so that the gate proves it.
+//! Laws of the numbers of limits and panics. Definitions and code cite each number by its name, so they would follow a change; the values
+//! that `docs/LANGUAGE.md` and `docs/REPORTS.md` give are laws here. Each law is the contract of a function that does nothing, so that the
+//! gate proves it.
 
 ghost use Rattle.std.specs.Prelude.{◌≡◌, pos, neg_ℤ};
 ghost use Rattle.wb_model.specs.declared.heap.Panic.TheVariants.{User, Workbench};
@@ -19,7 +19,7 @@ ghost use Rattle.wb_model.specs.declared.limits.TheConstants.{MOST_PROCEDURES, M
 ghost use Rattle.wb_model.specs.declared.limits.TheConstants.{MOST_PARAMETERS, MOST_LOCALS, DEEPEST_BLOCK};
 ghost use Rattle.wb_model.specs.declared.limits.TheConstants.{LARGEST_BUFFER, LONGEST_PRINTED};
 
-/// What a script may have, in the order of "Limits" in `docs/LANGUAGE.md`.
+/// The limits of a script, in the order of "Limits" in `docs/LANGUAGE.md`.
 pub fn script_limits_are()
     ensures script { LONGEST_SCRIPT ≡ 65_536 }
     ensures name { LONGEST_NAME ≡ 32 }
@@ -35,7 +35,7 @@ pub fn script_limits_are()
     ensures literal { LONGEST_LITERAL ≡ 65_536 }
 {}
 
-/// What a run may have, and what its statements may ask for.
+/// The limits of a run, and of what its statements may ask for.
 pub fn run_limits_are()
     ensures frames { MOST_FRAMES ≡ 128 }
     ensures request { LARGEST_REQUEST ≡ 1_048_576 }
@@ -44,7 +44,7 @@ pub fn run_limits_are()
     ensures printed { LONGEST_PRINTED ≡ 80 }
 {}
 
-/// The lengths of heap, and what the options of `docs/REPORTS.md` may say.
+/// The limits of heap lengths, and of the values of options in `docs/REPORTS.md`.
 pub fn option_limits_are()
     ensures ceiling { CEILING ≡ 16_777_216 }
     ensures budget { LARGEST_BUDGET ≡ 1_000_000 }
@@ -56,7 +56,7 @@ pub fn option_limits_are()
     ensures default_step { DEFAULT_STEP ≡ 4096 }
 {}
 
-/// The panics, in the order of their table in `docs/LANGUAGE.md`.
+/// The numbers of the panics, in the order of their table in `docs/LANGUAGE.md`.
 pub fn panics_are()
     ensures position { POSITION_OUT_OF_BOUNDS ≡ User 10 }
     ensures long { TOO_LONG ≡ User 11 }
@@ -72,7 +72,7 @@ pub fn panics_are()
     ensures range { NUMBER_OUT_OF_RANGE ≡ Workbench 9 }
 {}
 
-/// The code with which a refused allocation leaves.
+/// The code with which an allocation leaves if its attempt fails.
 pub fn refusal_code_is()
     ensures code { KERR_NO_MEMORY ≡ neg_ℤ (pos 4) }
 {}

@@ -1,8 +1,8 @@
-//! The error of a workbench that ran out of memory itself. It is never a refusal of the simulated heap.
+//! The error for a workbench that itself runs out of memory. A full simulated heap never causes it.
 
 use std::alloc::AllocError;
 
-/// The workbench's own memory ran out: a growth that it needed was refused.
+/// The workbench's own memory ran out: an allocation that the program needed for itself failed.
 #[derive(Clone, Copy, Debug, PartialEq, Eq)]
 pub struct NoMemory;
 

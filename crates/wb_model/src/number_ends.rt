@@ -1,9 +1,10 @@
-//! How the runs of several numbers ended, as a sweep tells it that looks at each of its numbers.
+//! How the runs under several failures ended: what a sweep reports that tries each of its numbers and doesn't stop at a bad one.
 
 use crate::items::Items;
 use crate::run_end::RunEnd;
 
-/// How the run of a number ended: of an attempt that fails, or of a rate at which attempts fail.
+/// How the run under one failure ended. `number` is that of the attempt that fails or from which on all fail, or the rate at which attempts
+/// fail.
 #[derive(Clone, Copy, Debug, PartialEq, Eq)]
 pub struct NumberEnd {
     pub number: u32,

@@ -1,12 +1,12 @@
-//! Which of its numbers a sweep tries.
+//! Parts of sweeps: which attempt numbers or rates a sweep tries.
 
 use crate::limits::CEILING;
 
-/// The numbers that a sweep tries, of attempts or of rates: those from the first to the last, both among them. Of pairs it
-/// tries those whose first number is one of these. Source: this project's profile.
+/// The attempt numbers or rates that a sweep tries: all from `from` to `to`, both included. Of pairs and larger sets a sweep tries those
+/// whose least number is one of these. Source: this project's profile.
 #[derive(Clone, Copy, Debug, PartialEq, Eq)]
 pub struct Part {
-    /// The least number that is tried. Number 0 is the run without failure.
+    /// The least number that is tried. Number 0 stands for the run without failure.
     pub from: u32,
     /// The greatest number that is tried.
     pub to: u32,

@@ -14,8 +14,8 @@ ghost use Rattle.wb_model.specs.declared.run.RunResult.{RunResult};
 ghost use Rattle.wb_model.specs.declared.run.Why.{Why};
 ghost use Rattle.wb_model.specs.declared.script.Script.{Script};
 
-/// A sweep over a part that begins with number 0, and goes to the last attempt of the run without failure at least, answers
-/// what a sweep answers that tries all failures.
+/// If a part begins with number 0 and goes at least to the last attempt of the run without failure, a sweep over it answers what a sweep
+/// over all failures answers.
 pub fn a_whole_part_is_all()
     ensures found { (failures : Failures) (part : Part) (script : Script) (budget : ℕ)
         (shape : Shape) (at : Failing) (result : RunResult) → part.from ≡ 0 →
@@ -40,8 +40,8 @@ pub fn a_part_has_one_answer()
         IsAnswerIn failures part script budget shape another → answer ≡ another }
 {}
 
-/// The lesser of the answers to two parts is the answer to both parts together. So the least of the answers to parts that cover
-/// all numbers is the answer to the whole.
+/// The lesser of the answers to two parts is the answer to both parts together. So if parts cover all numbers, the least of their answers
+/// is the answer to the whole.
 pub fn the_least_is_of_both()
     ensures least { (failures : Failures) (part next both : Part) (script : Script) (budget : ℕ)
         (shape : Shape) (answer another : Answer) → AreTogether part next both →
@@ -51,8 +51,8 @@ pub fn the_least_is_of_both()
     ensures row { (part next both : Part) → AreInARow part next both → AreTogether part next both }
 {}
 
-/// What is told of two parts, one after the other, is what is told of both, where the second begins as the first ends; and as
-/// many of these numbers leak or panic as of both parts.
+/// If one part begins just after another ends, the bad or cut numbers of both together are those of the first, followed by those of the
+/// second. The counts of bad numbers in two such lists add up.
 pub fn lines_of_parts_add_up()
     ensures lines { (runs : ℕ → RunResult) (part next both : Part) → AreInARow part next both →
         unfine_in runs both ≡ unfine_in runs part ++ unfine_in runs next }
@@ -60,8 +60,8 @@ pub fn lines_of_parts_add_up()
         bad_count (ends ++ more) ≡ bad_count ends + bad_count more }
 {}
 
-/// The first number that is told as one whose run leaks or panics is the least of the part, and where none is told so there is
-/// none.
+/// The first number that a part's list names as bad is the least number of the part whose run leaks or panics; if the list names none as
+/// bad, the part has no such number.
 pub fn the_first_is_the_least()
     ensures some { (runs : ℕ → RunResult) (part : Part) (number : ℕ) →
         first_bad (unfine_in runs part) ≡ Some number →

@@ -1,43 +1,45 @@
-//! What tasks of many runs report while they go on. No contract mentions it, and no answer depends on it.
+//! What sweeps and other searches over many runs report while they go on. No contract mentions these reports, and no answer depends on
+//! them.
 
 use crate::failures::Failing;
 use crate::heap::Numbers;
 
-/// Receives how far a sweep, or the search through all lengths, has come. Its calls return nothing, so what is found doesn't
-/// depend on who receives them.
+/// Receives reports of how far a sweep, or the search through all heap lengths, has come. The methods return nothing, so what a search
+/// finds doesn't depend on the receiver.
 pub trait Progress {
-    /// A sweep begins. The run without failure is made next, unless it is known what that comes to.
+    /// A sweep begins. The run without failure is made next, unless its result is known already.
     fn begin(&mut self);
 
-    /// Nothing was found in the run without failure, and runs under failures follow. `last` is how many attempts the run without
-    /// failure makes: the number of the last attempt that is tried alone, or as the first of two, and the last rate.
+    /// The run without failure is over, and runs under failures follow. `last` is the greatest attempt number that is tried alone or as the
+    /// first of a pair, and the greatest rate: how many attempts the run without failure makes, or the last number of the part if that is
+    /// less.
     fn begin_failures(&mut self, last: u32);
 
-    /// The run under this failure begins. Called once for each.
+    /// The run under this failure begins. Called once for each failure that is tried.
     fn begin_failure(&mut self, at: Failing);
 
-    /// No set of fewer attempts shows anything, and runs under sets of so many follow. Called for 2, 3 and so on, and once more for
-    /// the number at which a search over states is given up and each set is tried.
+    /// No set of fewer than `many` attempts shows anything, and runs under sets of `many` attempts follow. Called with 2, 3 and so on. If a
+    /// search over states is given up, the sets are tried one by one from there on, and the call is made once more with the same number.
     fn begin_sets(&mut self, many: u32);
 
     /// The run in which these attempts fail begins. Called once for each set that is tried.
     fn begin_set(&mut self, numbers: &Numbers);
 
-    /// A state before an attempt was met that is the same as no earlier one, but for allocation numbers. Called once for each that a
-    /// search over states keeps.
+    /// A search over states met a new state. States that differ only in allocation numbers, or in how many steps were counted, are taken
+    /// for one. Called once for each new state.
     fn meet_state(&mut self);
 
-    /// Runs in heaps of all lengths begin.
+    /// The search through all heap lengths begins.
     fn begin_lengths(&mut self);
 
-    /// The run in a heap of this length, in bytes, begins. Each is shorter than the one before.
+    /// The run in a heap of this length, in bytes, begins. Each length is less than the one before.
     fn begin_length(&mut self, length: u32);
 
-    /// The sweep, or the search through all lengths, is over, whatever came of it.
+    /// The sweep, or the search through all heap lengths, is over, whatever it found.
     fn end(&mut self);
 }
 
-/// Ignores what is reported.
+/// Ignores all reports.
 #[derive(Clone, Copy, Debug)]
 pub struct Silent;
 

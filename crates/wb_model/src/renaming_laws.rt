@@ -1,5 +1,5 @@
-//! Laws of runs that have come to states which are the same but for allocation numbers. Each is the contract of a function that
-//! does nothing, so that the gate proves it.
+//! Laws of runs whose states are the same except for allocation numbers. Each is the contract of a function that does nothing, so that the
+//! gate proves it.
 
 ghost use Rattle.std.specs.Prelude.{◌≡◌, ◌≢◌, ℕ, ◌≤◌, ◌↔◌};
 ghost use Rattle.wb_model.specs.heap.Space.{Space};
@@ -25,8 +25,9 @@ ghost use Rattle.wb_model.specs.declared.run.RunResult.{RunResult};
 ghost use Rattle.wb_model.specs.declared.run.Why.TheVariants.{Budget};
 ghost use Rattle.wb_model.specs.declared.script.Script.{Script};
 
-/// Two runs that are the same but for numbers ask for the same from there on, and come to the same, whatever is answered, until the
-/// budget cuts the one that has counted more steps. Either may be taken for the first: the map of their numbers is read backwards.
+/// Two runs whose states are the same except for allocation numbers ask for the same attempts from there on, and come to the same except
+/// for these numbers, whatever is answered, until the budget cuts the run that has counted more steps. Either run may be taken as the
+/// first: the map from one run's numbers to the other's is then read backwards.
 pub fn renamed_runs_follow()
     ensures follows { (script : Script) (budget further : ℕ) (w : Renaming) (p other : Progress) →
         AreBeside budget further w p other →
@@ -58,14 +59,15 @@ pub fn renamed_runs_agree()
         (rest script budget other_shape s other b) }
 {}
 
-/// Outcomes that are the same but for numbers end alike in words, and are judged alike.
+/// Outcomes that are the same except for the allocation numbers of leaks give the same `RunEnd`, and are judged alike: as bad or not, and
+/// as fine or not.
 pub fn renamed_outcomes_are_judged_alike()
     ensures words { (one other : Outcome) → IsSameOutcome one other → end_of other ≡ end_of one }
     ensures judged { (x y : RunResult) → IsSameOutcome x.outcome y.outcome →
         (is_bad y ≡ is_bad x) × (is_fine y ≡ is_fine x) }
 {}
 
-/// Rules for the numbers of attempts that were made say the same of those that are still to be made: nothing.
+/// If two rules name only attempts that were made already, they say the same of all attempts still to be made: that none fails.
 pub fn failures_lie_behind()
     ensures numbers { (here there : Reached) (i j : ℕ) →
         i ≤ here.attempts → j ≤ there.attempts →
@@ -85,8 +87,9 @@ pub fn forked_runs_are_renamed()
         (Renames (up_to since) a b) ↔ ((a ≡ b) × (a ≤ since)) }
 {}
 
-/// What holds only numbers of attempts that were made, a run or a statement that begins, comes to a state that does so too. So an
-/// invariant that no number passes the attempts made can be carried from turn to turn.
+/// If the state of a run, or the state in which a statement begins, holds only numbers of attempts made so far, so does the state that it
+/// comes to. So the invariant that no number is greater than the number of attempts made can be carried from one turn of the machine to the
+/// next.
 pub fn held_numbers_were_made()
     ensures runs { (script : Script) (budget : ℕ) (r : Rule) (space : Space) (p : Progress)
         (a : Account) → IsSameProgress (up_to a.attempts) p p → steps_of p ≤ budget →

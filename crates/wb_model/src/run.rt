@@ -10,11 +10,11 @@ use crate::size::Rises;
 pub enum Why {
     /// A step would have passed the budget.
     Budget,
-    /// A cell would have ended past the ceiling.
+    /// A cell would have ended past the heap's ceiling of 16 MiB.
     Ceiling,
 }
 
-/// A cell that was live when the run ended. The length is the cell length, in bytes.
+/// A cell that was live when the run ended. `length` is its cell length, in bytes.
 #[derive(Clone, Copy, Debug, PartialEq, Eq)]
 pub struct Leak {
     pub number: u32,
@@ -37,22 +37,22 @@ pub type Notes = Items<Note>;
 /// How a run ended.
 #[derive(Debug, Drop)]
 pub enum Outcome {
-    /// `main` ended plainly, or was left with a code.
+    /// `main` ended: plainly if `left` is `None`, and else by a leave with that code.
     Ended { left: Option<i32>, leaks: Leaks },
     Panicked(Panic),
-    /// The cleanup stack's own cell was refused, so that `main` did not begin.
+    /// The attempt to get the cleanup stack's own cell failed, so `main` did not begin.
     NoCleanup,
     Cut(Why),
 }
 
-/// What a script asked to be noted of the heap. Lengths are bytes.
+/// What one of the statements `heap`, `available` and `compress` noted of the heap. Lengths are in bytes.
 #[derive(Clone, Copy, Debug, PartialEq, Eq)]
 pub enum Note {
-    /// The number of live cells, their total length, and the committed length.
+    /// The number of live cells, the sum of their cell lengths, and the committed length.
     Heap(u32, u32, u32),
-    /// The total and the longest of the free runs below the committed length.
+    /// How many bytes below the committed length are free, and the length of the longest free run.
     Available(u32, u32),
-    /// How much of the committed length was given up.
+    /// By how much the committed length shrank.
     Compress(u32),
 }
 
@@ -66,7 +66,7 @@ pub struct RunResult {
     pub steps: u32,
 }
 
-/// The result of a run without a limit that kept its rises and no trace. Steps are counted from 0; tops are in bytes.
+/// What a run without a limit reports if it keeps its rises in place of a trace. `steps` counts the steps of the whole run.
 #[derive(Debug, Drop)]
 pub struct RisesResult {
     pub outcome: Outcome,

@@ -1,4 +1,4 @@
-//! How a run ended, in one small value: what a table of many runs has in place of an `Outcome`.
+//! How a run ended, as one small value. Tables of many runs hold it in place of an `Outcome`.
 
 ghost use Rattle.std.specs.Prelude.{◌≡◌};
 ghost use Rattle.wb_model.specs.runs.RunEnds.{end_of, is_bad_end, is_cut_end};
@@ -6,15 +6,15 @@ ghost use Rattle.wb_model.specs.runs.RunEnds.{end_of, is_bad_end, is_cut_end};
 use crate::heap::Panic;
 use crate::run::{Outcome, Why};
 
-/// How a run ended. Of leaks it has only how many they are. Source: this project's profile.
+/// How a run ended, with the number of its leaks in place of the leaks themselves. Source: this project's profile.
 #[derive(Clone, Copy, Debug, PartialEq, Eq)]
 pub enum RunEnd {
-    /// The cleanup stack's own cell was refused, so that `main` did not begin.
+    /// The attempt to get the cleanup stack's own cell failed, so `main` did not begin.
     NoCleanup,
     Panicked(Panic),
-    /// `main` ended, plainly or by a leave, and so many cells were still live: at least one.
+    /// `main` ended, plainly or by a leave, and this many cells leaked, at least one.
     Leaked(usize),
-    /// `main` was left with this code, and nothing leaked.
+    /// `main` ended by a leave with this code, and nothing leaked.
     Left(i32),
     /// `main` ended plainly, and nothing leaked.
     Plain,
@@ -22,7 +22,7 @@ pub enum RunEnd {
 }
 
 impl RunEnd {
-    /// How a run with this outcome ended.
+    /// Returns how a run with this outcome ended.
     pub fn of(outcome: &Outcome) -> RunEnd
         ensures { result ≡ end_of outcome.now }
     {
@@ -38,7 +38,7 @@ impl RunEnd {
         }
     }
 
-    /// Whether the run leaked or panicked: what sweeps and tables of lengths look for.
+    /// Whether the run is bad: whether it leaked or panicked. Sweeps, and the search through all heap lengths, look for bad runs.
     pub fn is_bad(self) -> bool
         ensures { result ≡ is_bad_end self }
     {

@@ -1,4 +1,5 @@
-//! A script as a tree, with names as indexes. Each item and each statement keeps the number of its line, from 1.
+//! A script as a tree, in which indexes stand for names. Each class, procedure, operation and statement keeps its line number; lines count
+//! from 1.
 
 use crate::items::Items;
 
@@ -16,25 +17,26 @@ pub enum Holder {
 #[derive(Clone, Copy)]
 pub enum Pointer {
     Held(Holder),
-    /// The field with this index of an object: what holds the object, and the class that it is declared with.
+    /// A field of an object: what holds the pointer to the object, the index of the class which that holder is declared with, and the index
+    /// of the field in this class.
     Field(Holder, u16, u8),
 }
 
-/// A number operand: itself, or a local.
+/// A number operand: a constant, or a local by its index.
 #[derive(Clone, Copy)]
 pub enum Number {
     Constant(i32),
     Variable(u8),
 }
 
-/// A text that can be changed: a TBuf, or an HBufC by a pointer to its cell.
+/// A text that can be changed: a local TBuf by its index, or an HBufC by a pointer to its cell.
 #[derive(Clone, Copy)]
 pub enum Writable {
     OwnBuffer(u8),
     InCell(Pointer),
 }
 
-/// A text that can be read: one that can be changed, a view, or a literal by its index.
+/// A text that can be read: one that can be changed, or a local view or a literal by its index.
 #[derive(Clone, Copy)]
 pub enum Readable {
     Of(Writable),
@@ -42,7 +44,7 @@ pub enum Readable {
     Quoted(u32),
 }
 
-/// What an `if` asks.
+/// What an `if` tests.
 #[derive(Clone, Copy)]
 pub enum Condition {
     IsNull(Pointer),
@@ -58,7 +60,7 @@ pub enum Argument {
     Given(Number),
 }
 
-/// What an allocation does where it is refused.
+/// What an allocation does if its attempt fails.
 #[derive(Clone, Copy)]
 pub enum Refusal {
     GivesNull,
@@ -73,7 +75,7 @@ pub struct StatementAt {
     pub statement: Statement,
 }
 
-/// A statement, with what is inside it. Locals are named by their index.
+/// A statement, with the statements inside it. Locals are named by their index.
 #[cycle(statements)]
 #[derive(Drop)]
 pub enum Statement {
@@ -127,20 +129,20 @@ pub enum Statement {
     NoteHeap,
     NoteAvailable,
     NoteCompress,
-    /// Without an `else`.
+    /// An `if` without an `else`.
     If(Condition, Items<StatementAt>),
     IfElse(Condition, Items<StatementAt>, Items<StatementAt>),
     Repeat(Number, Items<StatementAt>),
     Trap(u8, Items<StatementAt>),
 }
 
-/// How a local begins.
+/// What a local holds, and what is in it at first.
 #[derive(Clone, Copy)]
 pub enum Local {
-    /// Null, of this class.
+    /// A pointer, null at first; with the index of its class if it is declared with one.
     OfPointer(Option<u16>),
     OfNumber,
-    /// An empty text of this maximum.
+    /// A buffer: an empty text with this maximum length, in units.
     OfBuffer(u16),
     OfView,
 }
@@ -148,7 +150,7 @@ pub enum Local {
 /// What a body declares, and what it does.
 #[derive(Drop)]
 pub struct Body {
-    /// Those that the body declares itself. Parameters come before them.
+    /// The locals that the body declares itself. Their indexes follow those of the parameters.
     pub locals: Items<Local>,
     pub statements: Items<StatementAt>,
 }
@@ -156,7 +158,7 @@ pub struct Body {
 /// A parameter of a procedure.
 #[derive(Clone, Copy)]
 pub enum Parameter {
-    /// A pointer, with its class where it has one.
+    /// A pointer, with the index of its class if it is declared with one.
     OfPointer(Option<u16>),
     OfNumber,
 }
@@ -180,9 +182,9 @@ pub struct Operation {
 #[derive(Drop)]
 pub struct Class {
     pub line: u32,
-    /// Bytes of an object after its fields.
+    /// How many extra bytes an object has after its fields.
     pub extra: u32,
-    /// Each field's class, where it has one.
+    /// For each field the index of its class, if it is declared with one.
     pub fields: Items<Option<u16>>,
     pub construct: Option<Body>,
     pub destroy: Option<Body>,

@@ -1,15 +1,16 @@
-//! What a line of a script says, before its names are looked up. The tables of the language are in
+//! What a line of a script says, before its names are looked up and after. The tables of the language are in
 //! `specs/language/LineKinds.antt`.
 
 use crate::items::Items;
 
-/// What a line is, by the words that say it: the first, and what an `if` asks.
+/// The kind of a line. Most kinds have a first word of their own; lines that begin with `field`, `ptr`, `set`, `return` or `if` are told
+/// apart by the words that follow.
 #[derive(Clone, Copy)]
 pub enum LineKind {
     Class,
-    /// A field of no class.
+    /// A field that is declared without a class.
     Field,
-    /// A field of a class.
+    /// A field that is declared with a class.
     ClassField,
     Constructor,
     Destructor,
@@ -34,7 +35,7 @@ pub enum LineKind {
     Construct,
     Delete,
     Set,
-    /// A field is set.
+    /// A `set` that writes a field.
     SetField,
     Null,
     Add,
@@ -85,8 +86,8 @@ pub enum LineKind {
     End,
 }
 
-/// What a place after the line kind holds. Which words are grammatical there and which kinds of operands are right says
-/// one table for all operand places.
+/// What stands at a position of a line after its first word. For each operand place the tables of the language say which words are
+/// grammatical and which kinds of operands are right.
 #[derive(Clone, Copy)]
 pub enum OperandPlace {
     /// A name that the line declares.
@@ -95,7 +96,7 @@ pub enum OperandPlace {
     Pointer,
     /// A pointer that the line writes: its name, or a field.
     Written,
-    /// A pointer local that a call writes: its name, or a field, which isn't right.
+    /// The pointer local to which a call's result goes: its name. A field is grammatical here, but never right.
     Receiver,
     /// A field that a `set` writes.
     FieldTarget,
@@ -103,15 +104,15 @@ pub enum OperandPlace {
     Value,
     /// The name of a local that holds a number.
     Variable,
-    /// What a `set` writes that is no field: the name of a pointer, or of a local that holds a number.
+    /// What a `set` writes if it isn't a field: the name of a pointer, or of a local that holds a number.
     Target,
-    /// What such a `set` reads: a number, a name of either kind, or a field.
+    /// What such a `set` reads: a number, the name of a pointer or of a local that holds a number, or a field.
     Source,
     /// The greatest length of a text, or the extra bytes of a class: a number from 0 on.
     Size,
-    /// A text that can be changed: the name of a text of the body's own, or of a pointer to one, or a field.
+    /// A text that can be changed: the name of a local buffer or of a pointer to a text in a cell, or a field.
     Writable,
-    /// A text that can be read: the name of one that can be changed or of a view, or a literal.
+    /// A text that can be read: a text that can be changed, the name of a view, or a literal.
     Readable,
     /// The name of a view.
     ViewName,
@@ -127,13 +128,13 @@ pub enum OperandPlace {
     Parameter,
     /// The name of the one parameter of an operation, a pointer.
     ItsPointer,
-    /// What a call gives: a number, the name of a pointer or of a local that holds a number, or a field.
+    /// What a call passes: a number, the name of a pointer or of a local that holds a number, or a field.
     Argument,
     /// A word of the line's own.
     Keyword(Keyword),
 }
 
-/// What an `if` asks, as the word for it.
+/// The keyword that says what an `if` tests.
 #[derive(Clone, Copy)]
 pub enum Keyword {
     Null,
@@ -142,7 +143,7 @@ pub enum Keyword {
     Less,
 }
 
-/// What something of the script's own space is.
+/// The kind of an item, which the script declares outside of all bodies.
 #[derive(Clone, Copy)]
 pub enum ItemKind {
     Class,
@@ -150,7 +151,7 @@ pub enum ItemKind {
     Operation,
 }
 
-/// What a body is of.
+/// What a body belongs to.
 #[derive(Clone, Copy)]
 pub enum BodyKind {
     Procedure,
@@ -177,12 +178,12 @@ pub enum WordKind {
     Literal,
     /// A name that can be declared, a colon, and a kind.
     Parameter,
-    /// A name that can be declared, of a parameter that is a pointer.
+    /// A name that can be declared, of the parameter of an operation, which is a pointer.
     NewPointer,
     Keyword(Keyword),
 }
 
-/// What a parameter takes. `N` is the name of a class, or what it stands for.
+/// What a parameter takes. `N` is the name of a class, or what this name stands for.
 #[derive(Clone, Copy)]
 pub enum ParameterType<N> {
     Pointer,
@@ -194,37 +195,37 @@ pub enum ParameterType<N> {
 /// What a local holds. `N` is the name of a class.
 #[derive(Clone, Copy)]
 pub enum LocalKind<N> {
-    /// A pointer, with its class where it has one.
+    /// A pointer, with its class if it is declared with one.
     Pointer(Option<N>),
     Number,
-    /// A text of its own.
+    /// A buffer, which holds a text itself.
     Buffer,
     View,
 }
 
-/// A word after the line kind. `N` is a name or the text of a literal: the bytes, or what they stand for.
+/// A word after a line's first word. `N` is a name or the text of a literal: its bytes, or what these stand for.
 #[derive(Clone, Copy)]
 pub enum Operand<N> {
     Name(N),
-    /// What holds a pointer to an object, and a field of that.
+    /// What holds a pointer to an object, and a field of this object.
     Field(N, N),
     Number(i32),
-    /// A number where none below 0 is grammatical.
+    /// A number in a place where none below 0 is grammatical.
     Size(u32),
-    /// Without its quotes.
+    /// The text of a literal, without its quotes.
     Literal(N),
-    /// A parameter's name, and what it takes.
+    /// A parameter's name, and what the parameter takes.
     Parameter(N, ParameterType<N>),
     /// A word of the line's own.
     Keyword,
 }
 
-/// What a name or a literal stands for. Locals count from 0 in their body, fields in their class, classes, procedures,
-/// operations and literals in the script.
+/// What a name or a literal stands for. Indexes count from 0: those of locals in their body, those of fields in their class, and those of
+/// classes, of procedures, of operations and of literals in the script.
 #[derive(Clone, Copy)]
 pub enum Referent {
-    /// The next one of the classes, of the procedures, of the operations, of the fields of a class, or of the locals of the
-    /// body: the line declares it.
+    /// What the line declares, by its index: the next class, procedure or operation, the next field of a class, or the next local of the
+    /// body.
     Declared(usize),
     /// A local that holds a pointer.
     Pointer(usize),
@@ -234,23 +235,23 @@ pub enum Referent {
     Buffer(usize),
     /// A local that holds a view.
     View(usize),
-    /// `self`, the object that the body is of.
+    /// `self`, the object whose `construct` or `destroy` the body is.
     This,
     Literal(usize),
     Class(usize),
     Procedure(usize),
     Operation(usize),
-    /// A field, by its class and its index there.
+    /// A field, by the index of its class and its index in this class.
     Field(usize, usize),
-    /// The field of something that isn't declared with a class.
+    /// A field of what isn't declared with a class.
     Classless,
-    /// The next parameter of what the line begins: the order of the words says which.
+    /// The next parameter of the procedure or operation that the line begins. The order of the words says which one it is.
     Parameter,
     /// Nothing: the name is declared nowhere.
     Nothing,
 }
 
-/// What an operand is, whichever of its kind.
+/// The kind of an operand, whichever operand of this kind it is.
 #[derive(Clone, Copy)]
 pub enum OperandKind {
     Declared,
@@ -274,16 +275,16 @@ pub enum OperandKind {
     Operation,
     Parameter,
     Keyword,
-    /// A name that is declared nowhere, or what names a class that is none.
+    /// A name that is declared nowhere, a field that isn't found, or a parameter whose kind names no class.
     Nothing,
 }
 
 /// What a line says.
 #[derive(Drop)]
 pub enum Form<N> {
-    /// Nothing: it is blank, or a comment.
+    /// Nothing: the line is blank, or a comment.
     Skip,
-    /// What no line of any script says.
+    /// Words that fit no line of the language.
     Unknown,
     Line(LineKind, Items<Operand<N>>),
 }
@@ -301,7 +302,7 @@ pub enum Role {
     Procedure,
     /// Declares a local.
     Declaration,
-    /// A statement with no other inside it.
+    /// A statement with no other statement inside it.
     Plain,
     /// Begins a `repeat` or a `trap`.
     Loop,

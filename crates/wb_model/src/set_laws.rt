@@ -14,8 +14,8 @@ ghost use Rattle.wb_model.specs.declared.run.Outcome.TheVariants.{Cut};
 ghost use Rattle.wb_model.specs.declared.run.Why.TheVariants.{Ceiling};
 ghost use Rattle.wb_model.specs.declared.script.Script.{Script};
 
-/// The run in which none of the attempts fails is that of number 0, the run in which one fails is that of its number, and that in
-/// which two fail is their pair's.
+/// The run under the empty set is the run under number 0, the run under a set of one attempt is the run under its number, and the run under
+/// a set of two is the run under their pair.
 pub fn small_sets_are_failures()
     ensures none { (script : Script) (budget : ℕ) (shape : Shape) →
         set_run script budget shape [] ≡ runs_of Single script budget shape 0 }
@@ -25,8 +25,9 @@ pub fn small_sets_are_failures()
         set_run script budget shape (i ∷ j ∷ []) ≡ pair_run script budget shape i j }
 {}
 
-/// Attempts past the last that the run under a set makes change nothing if they fail too, unless the ceiling cuts it. So all sets are fine where those are of
-/// which each attempt is made in the run in which those before it fail; and the least set whose run isn't fine is such a one.
+/// Adding to a set attempts past the last one that the run under the set makes doesn't change this run, unless the ceiling cuts it. Some
+/// sets name only attempts that are made: each one in the run in which the attempts before it in the set fail. If the runs of all these
+/// sets are fine, the runs of all sets are; and the least set whose run isn't fine is one of them.
 pub fn sets_end()
     ensures past { (script : Script) (budget : ℕ) (shape : Shape) (numbers more : List ℕ) →
         (set_run script budget shape numbers).outcome ≢ Cut Ceiling →
@@ -42,8 +43,8 @@ pub fn sets_end()
         AreSetsFineBefore script budget shape numbers → AreMade script budget shape numbers }
 {}
 
-/// A run under any rule is the run in which the attempts fail that it didn't grant, but for notes, and for how the trace names
-/// refusals. So where no set of failures shows a leak, a panic or a cut, no limit, number, rate or pair does.
+/// A run under any rule is the run under the set of those attempts that it didn't grant, except for notes and for how the trace names
+/// refusals. So if no set of failures shows a leak, a panic or a cut, no limit, number, rate or pair does.
 pub fn refused_attempts_are_a_set()
     ensures ascend { (script : Script) (budget : ℕ) (shape : Shape) (r : Rule) →
         IsSet (refused_numbers (run script r budget shape).trace) }

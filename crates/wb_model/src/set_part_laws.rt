@@ -13,8 +13,8 @@ ghost use Rattle.wb_model.specs.declared.run.RunResult.{RunResult};
 ghost use Rattle.wb_model.specs.declared.run.Why.{Why};
 ghost use Rattle.wb_model.specs.declared.script.Script.{Script};
 
-/// A sweep over the sets of a part that begins with number 0, and goes to the last attempt of the run without failure at least,
-/// answers what one over all sets of at most so many attempts does.
+/// If a part begins with number 0 and goes at least to the last attempt of the run without failure, a sweep over its sets of at most `most`
+/// attempts answers what a sweep over all sets of at most `most` attempts answers.
 pub fn a_whole_part_has_all_sets()
     ensures found { (part : Part) (most : ℕ) (script : Script) (budget : ℕ) (shape : Shape)
         (numbers : List ℕ) (result : RunResult) → part.from ≡ 0 →
@@ -38,8 +38,8 @@ pub fn a_part_of_sets_has_one_answer()
         IsSetAnswerIn part most script budget shape another → answer ≡ another }
 {}
 
-/// The lesser of the answers to the sets of two parts is the answer to those of both parts together. So the least of the answers
-/// to parts that cover all numbers is the answer to the whole.
+/// The lesser of the answers to the sets of two parts is the answer to the sets of both parts together. So if parts cover all numbers, the
+/// least of their answers is the answer to the whole.
 pub fn the_least_set_is_of_both()
     ensures least { (part next both : Part) (most : ℕ) (script : Script) (budget : ℕ)
         (shape : Shape) (answer another : SetAnswer) → AreTogether part next both →
@@ -48,8 +48,9 @@ pub fn the_least_set_is_of_both()
         IsSetAnswerIn both most script budget shape (least_set_of answer another) }
 {}
 
-/// What a sweep over the sets of at most one attempt finds is what one over single failures does, and what one over the sets of at
-/// most two finds is what one by pairs does. So is what is cut, and that nothing is.
+/// A sweep over the sets of at most one attempt finds what a sweep over single failures finds, and a sweep over the sets of at most two
+/// attempts finds what a sweep over pairs finds. The same holds of the least failure whose run is cut, and of the answer that no run is bad
+/// or cut.
 pub fn few_sets_are_single_failures_and_pairs()
     ensures single { (part : Part) (script : Script) (budget : ℕ) (shape : Shape)
         (numbers : List ℕ) (result : RunResult) →

@@ -5,7 +5,7 @@ ghost use Rattle.wb_model.specs.runs.Rises.{top_of_rises};
 
 use crate::items::Items;
 
-/// A grant that made the heap longer than every grant before it. The top is where its cell ends, in bytes.
+/// A granted attempt whose cell ends past all cells granted before it. `top` is where its cell ends, in bytes.
 #[derive(Clone, Copy, Debug, PartialEq, Eq)]
 pub struct Rise {
     pub number: u32,
@@ -15,7 +15,7 @@ pub struct Rise {
 /// The rises of a run, in order.
 pub type Rises = Items<Rise>;
 
-/// The top of the last rise, in bytes; 0 if there is none. Of the rises of a run this is the greatest end of a grant.
+/// Returns the top of the last rise, in bytes; 0 if there is none. Of the rises of a run this is the greatest end of any granted cell.
 pub fn top_of_rises(rises: &Rises) -> u32
     ensures { result ≡ top_of_rises rises.now }
 {

@@ -1,6 +1,6 @@
 //! Open blocks, and what a line does to the innermost one.
 
-/// A place in an open block: what may come next in it.
+/// How far an open block has come, and so what may come next in it.
 #[derive(Clone, Copy)]
 pub enum Open {
     /// A class: fields, bodies or the end.
@@ -9,9 +9,9 @@ pub enum Open {
     Made,
     /// A class after its `destroy`: the end alone.
     Destroyed,
-    /// A body before its first statement.
+    /// A body before its first statement: declarations, statements or the end.
     Declarations,
-    /// A body after it: statements or the end.
+    /// A body after its first statement: statements or the end.
     Statements,
     /// The first part of an `if`: statements, its `else` or the end.
     Branch,
@@ -22,10 +22,10 @@ pub enum Open {
 /// What a line does to the innermost open block.
 #[derive(Clone, Copy)]
 pub enum Move {
-    /// Ends it.
+    /// Ends the block.
     Close,
-    /// Leaves it open, at this place; the first line of an item opens it so.
+    /// Leaves the block open, at this place. The first line of a class, a procedure or an operation opens it with this move.
     Stay(Open),
-    /// Opens the second inside the first.
+    /// Leaves the block open at the first place, and opens a block inside it at the second place.
     Enter(Open, Open),
 }

@@ -1,4 +1,4 @@
-//! `wb_text`: worked edits of a buffer, by what they answer and what it reads as then.
+//! `wb_text`: worked edits of a buffer, by what each edit returns and what the buffer reads as afterwards.
 
 ghost use Rattle.std.specs.Prelude.{◌≤◌};
 
@@ -19,11 +19,11 @@ enum Change {
     SetLength(u32),
 }
 
-/// Changes that are made one after the other, of a buffer for a number of units.
+/// A buffer for a number of units, and the changes that are made to it one after another.
 #[derive(Clone, Copy)]
 struct WorkedBuffer {
     max: u8,
-    /// Each with the panic that refuses it, and what the buffer reads as then.
+    /// Each change with its panic, if it panics, and what the buffer reads as afterwards.
     changes: &'static [(Change, Option<Panic>, &'static [u8])],
 }
 
@@ -55,7 +55,7 @@ fn change_by<U: Units>(buf: &mut Buf, change: Change, source: &U) -> Result<(), 
     }
 }
 
-/// The units that a change takes in.
+/// The units that a change copies, appends or inserts.
 fn units_of_change(change: Change) -> &'static [u8] {
     match change {
         Change::Copy(units) | Change::Append(units) | Change::Insert(_, units) => units,
@@ -63,7 +63,7 @@ fn units_of_change(change: Change) -> &'static [u8] {
     }
 }
 
-/// Whether each change answers and leaves what it must, with a literal as its source and with another buffer.
+/// Whether each change returns and leaves what it must, both with a literal and with another buffer as its source.
 fn is_so(alloc: Global, worked: &WorkedBuffer) -> Result<bool, AllocError> {
     let mut by_literals = Buf::new(u32::from(worked.max));
     let mut by_buffers = Buf::new(u32::from(worked.max));

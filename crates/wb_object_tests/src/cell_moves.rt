@@ -1,4 +1,4 @@
-//! `wb_hbuf`: units of a text in a cell that move by odd and even numbers of places, from odd and even places on.
+//! `wb_hbuf`: edits that move the units of a text in a cell by odd and even numbers of positions, from odd and even positions on.
 
 use crate::texts::{Change, Taken, Target, WorkedTexts, first_other};
 use std::test::Fail;

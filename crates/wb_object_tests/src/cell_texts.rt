@@ -1,4 +1,4 @@
-//! `wb_hbuf`: worked edits of texts in cells and in a buffer, by what they answer and what the texts read as then.
+//! `wb_hbuf`: worked edits of texts in cells and in a buffer, by what each edit returns and what the texts read as afterwards.
 
 ghost use Rattle.std.specs.Prelude.{◌≤◌, IfOk};
 ghost use Rattle.wb_model.specs.cells.TextCells.{IsTextAt};
@@ -323,7 +323,8 @@ fn worked_texts(rt: HostRuntime) -> Result<(), Fail> {
     Ok(())
 }
 
-/// The pointer to a text once its cell was reallocated for `n` units, and the old one where that was refused.
+/// Makes an attempt to reallocate a text's cell for `n` units, and returns the pointer to the text: the old pointer if the attempt was
+/// denied.
 fn remake_text(heap: &mut DebugHeap, ptr: Ptr, n: u32) -> Result<Ptr, NoMemory>
     requires text { IsTextAt ptr heap.old }
     requires most { n ≤ MOST_UNITS }

@@ -1,4 +1,4 @@
-//! The lists of `wb_model`: each call once, on its happy path. And the parts of a view.
+//! The lists of `wb_model`, each call once on its happy path; and the parts of a view.
 
 use arrayvec::ArrayVec;
 use std::alloc::AllocError;
@@ -90,7 +90,7 @@ fn part_of(part: Part) -> Result<View, Panic> {
     }
 }
 
-/// The index of the first part that is another.
+/// The index of the first row whose part is another than the row says.
 fn first_other(parts: &[(Part, Option<(u32, u32)>)]) -> Option<usize> {
     for (index, (part, wanted)) in parts.iter().enumerate() {
         let wanted = match wanted {

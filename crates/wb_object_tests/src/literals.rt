@@ -1,4 +1,4 @@
-//! Literals to edit texts with.
+//! Literals that texts are edited with.
 
 ghost use Rattle.std.specs.Prelude.{◌≡◌, IfOk};
 

@@ -16,10 +16,10 @@ use wb_model::memory::NoMemory;
 use wb_model::script::{Class, Script};
 use wb_objects::{class_of, field, make, set_field};
 
-/// A class: its extra bytes, and each field's class where it has one.
+/// A class: its extra bytes, and for each field the field's class, if it has one.
 pub(crate) type ClassRow = (u32, &'static [Option<u16>]);
 
-/// A call on objects, and the answer that it must give, last. Null is the cell at place 0 with number 0.
+/// A call on objects. The answer that it must give is last. Null is the cell at place 0 with allocation number 0.
 #[derive(Clone, Copy)]
 pub(crate) enum Call {
     /// The cell that is granted to an object of a class.
@@ -28,9 +28,9 @@ pub(crate) enum Call {
     NoMake(u16),
     MakePastCeiling(u16),
     ClassOf(Cell, Result<u16, Panic>),
-    /// The pointer in a field of an object that is to be of a class.
+    /// An object, the class that it is to be of, the index of a field, and the pointer in that field.
     Field(Cell, u16, u8, Result<Cell, Panic>),
-    /// The pointer that the field gets is before the answer.
+    /// Like `Field`; the pointer that the field gets comes before the answer.
     SetField(Cell, u16, u8, Cell, Result<(), Panic>),
     /// A cell that is no object, for a number of bytes.
     Alloc(u32, Cell),
@@ -40,22 +40,22 @@ pub(crate) enum Call {
     FailNext(u32),
     /// The first words of a payload.
     Words(Cell, &'static [u32]),
-    /// The words of a payload from an index on: how many, all zero.
+    /// The first index, and how many words a payload has from there on, all of them zero.
     Zeros(Cell, u32, u32),
     /// The length of a cell, header included, and the class of the object in it.
     Header(Cell, u32, u16),
     Attempts(u32),
 }
 
-/// Objects, by calls that are made in an empty heap.
+/// Calls on objects, which are made in a heap that is empty at first.
 #[derive(Clone, Copy)]
 pub(crate) struct WorkedObjects {
-    /// What it shows.
+    /// What the calls show.
     pub(crate) about: &'static str,
     pub(crate) calls: &'static [Call],
 }
 
-/// The index of the first call that gives another answer, where a script has these classes.
+/// The index of the first call that gives another answer, if the script has these classes.
 pub(crate) fn first_other(
     alloc: Global,
     classes: &[ClassRow],
@@ -126,7 +126,7 @@ fn answers(heap: &mut DebugHeap, script: &Script, call: Call) -> bool {
     }
 }
 
-/// The same of a call that changes nothing.
+/// Whether a call that changes nothing gives its answer.
 fn tells(heap: &DebugHeap, call: Call) -> bool {
     match call {
         Call::ClassOf(cell, answer) => class_of(heap, pointer(cell)) == answer,
@@ -145,7 +145,7 @@ fn tells(heap: &DebugHeap, call: Call) -> bool {
     }
 }
 
-/// An attempt to get an object, or `None` where it can't be made.
+/// An attempt to get an object, or `None` if it can't be made.
 fn make_object(heap: &mut DebugHeap, script: &Script, class: u16) -> Option<Gave> {
     if heap.attempts() == u32::MAX || !has_class(script, class) {
         return None;
@@ -153,7 +153,7 @@ fn make_object(heap: &mut DebugHeap, script: &Script, class: u16) -> Option<Gave
     make(heap, script, class).ok()
 }
 
-/// Whether the script has the class, and one object of it can be below the ceiling.
+/// Whether the script has the class, and an object of it fits below the heap's ceiling.
 fn has_class(script: &Script, class: u16) -> bool
     ensures there { result ≡ true → class < length script.now.classes }
     ensures fits { result ≡ true → payload_of_object (class_at script.now class) ≤ CEILING }
@@ -174,7 +174,7 @@ fn has_room(heap: &DebugHeap, ptr: Ptr, i: u8) -> bool
     }
 }
 
-/// An attempt to get a raw cell, or `None` where it can't be made.
+/// An attempt to get a raw cell, or `None` if it can't be made.
 fn raw(heap: &mut DebugHeap, bytes: u32) -> Option<Gave> {
     if heap.attempts() == u32::MAX || bytes > CEILING {
         return None;
@@ -182,7 +182,7 @@ fn raw(heap: &mut DebugHeap, bytes: u32) -> Option<Gave> {
     heap.attempt_alloc(bytes, Kind::Raw).ok()
 }
 
-/// An attempt to get an HBufC, or `None` where it can't be made.
+/// An attempt to get an HBufC, or `None` if it can't be made.
 fn text(heap: &mut DebugHeap, units: u32) -> Option<Gave> {
     if heap.attempts() == u32::MAX || units > 16 {
         return None;
@@ -198,13 +198,13 @@ fn begins_with(heap: &DebugHeap, ptr: Ptr, words: &[u32]) -> bool {
         .all(|(word, i)| word_at(heap, ptr, i) == Some(*word))
 }
 
-/// Whether this many words are left of a payload from an index on, and all are zero.
+/// Whether a payload has exactly `count` words from index `from` on, and all are zero.
 fn ends_in_zeros(heap: &DebugHeap, ptr: Ptr, from: u32, count: u32) -> bool {
     let end = from.saturating_add(count);
     (from..end).all(|i| word_at(heap, ptr, i) == Some(0)) && word_at(heap, ptr, end).is_none()
 }
 
-/// A word of a payload, where there is one.
+/// A word of a payload, or `None` if the payload has no such word.
 fn word_at(heap: &DebugHeap, ptr: Ptr, i: u32) -> Option<u32> {
     match heap.header(ptr) {
         Some(header) if i < header.words() => Some(heap.payload(ptr, i)),

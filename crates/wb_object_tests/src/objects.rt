@@ -1,11 +1,11 @@
-//! `wb_objects`: worked objects, by what their calls answer and what the words of their cells are.
+//! `wb_objects`: worked objects, by what the calls on them return and what the words of their cells are.
 
 use crate::object_calls::{Call, ClassRow, WorkedObjects, first_other};
 use std::test::Fail;
 use wb_model::heap::Panic;
 
-/// A class with one field, one with three fields and extra bytes, one with nothing, and one of which no object fits after
-/// 160 bytes.
+/// A class with one field, one with three fields and extra bytes, one with neither, and one so large that no object of it fits below the
+/// heap's ceiling after 160 bytes.
 static CLASSES: [ClassRow; 4] = [
     (0, &[None]),
     (20, &[Some(0), None, Some(1)]),

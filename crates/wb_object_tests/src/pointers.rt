@@ -2,7 +2,7 @@
 
 use wb_model::heap::Ptr;
 
-/// A cell by its place and its number.
+/// A cell, by its place and its allocation number.
 pub(crate) type Cell = (u32, u32);
 
 /// The pointer to a cell.

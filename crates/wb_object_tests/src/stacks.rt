@@ -1,4 +1,4 @@
-//! `wb_cleanup`: worked cleanup stacks, by what each call answers, and what the words of the cell are then.
+//! `wb_cleanup`: worked cleanup stacks, by what each call returns, and what the words of the stack's cell are afterwards.
 
 use crate::pointers::{Cell, pointer};
 use crate::rules::Refuses;
@@ -17,7 +17,7 @@ const SHAPE: Shape = Shape {
     moving: false,
 };
 
-/// A stack in its heap, and whether it has no room for an item.
+/// A cleanup stack in its heap, and whether the stack has no room for another item.
 #[derive(Drop)]
 struct Stacked {
     heap: DebugHeap,
@@ -44,7 +44,7 @@ fn first_other(alloc: Global, worked: &WorkedStack) -> Result<Option<usize>, Deb
     Ok(stacked.first_other(worked.steps))
 }
 
-/// The stack that begins under a rule, or `None` where it is refused.
+/// The stack that begins under a rule, or `None` if it doesn't get its cell.
 fn start_stack(alloc: Global, rule: Refuses) -> Result<Option<Stacked>, DebugFault> {
     let mut heap = DebugHeap::new(alloc, rule.rule(), SHAPE)?;
     match Cleanup::start(&mut heap)? {
@@ -85,7 +85,7 @@ impl Stacked {
         }
     }
 
-    /// The same of a step that changes nothing.
+    /// Whether a step that changes nothing gives its answer.
     fn tells(&self, step: Step) -> bool {
         match step {
             Step::Used(n) => self.stack.used() == n,
@@ -102,7 +102,7 @@ impl Stacked {
         }
     }
 
-    /// A push, or `None` where it can't be made.
+    /// The result of a push, or `None` if it can't be made.
     fn push(&mut self, item: Item) -> Option<Pushed> {
         if self.full || self.heap.attempts() == u32::MAX {
             return None;
@@ -149,7 +149,7 @@ impl Stacked {
         true
     }
 
-    /// Whether a raw cell of a number of bytes is granted.
+    /// Makes an attempt to get a raw cell of `bytes` bytes, and returns whether it is granted.
     fn alloc(&mut self, bytes: u32) -> bool {
         if self.heap.attempts() == u32::MAX || bytes > CEILING {
             return false;
@@ -168,7 +168,7 @@ impl Stacked {
         true
     }
 
-    /// The words of a slot of a cell, where it has them.
+    /// The four words of a slot of a cell, or `None` if the cell has no such slot.
     fn slot(&self, cell: Ptr, slot: u32) -> Option<[u32; 4]> {
         match self.heap.header(cell) {
             Some(header) if slot < header.words() / 4 => Some([

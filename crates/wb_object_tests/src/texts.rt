@@ -24,14 +24,14 @@ pub(crate) enum Target {
     Buffer,
 }
 
-/// What an edit takes in: a part by its position and its length.
+/// The part of a text that an edit copies, appends or inserts, by its position and its length.
 #[derive(Clone, Copy)]
 pub(crate) enum Taken {
-    /// Of the literal `abcdefgXY`.
+    /// A part of the literal `abcdefgXY`.
     Letters(u16, u16),
-    /// Of the text itself.
+    /// A part of the text itself.
     Own(u16, u16),
-    /// Of the other cell's text; of the first one's, where the text is in the buffer.
+    /// A part of the text in the other cell; for the text in the buffer, of the text in the first cell.
     Other(u16, u16),
 }
 
@@ -43,18 +43,18 @@ pub(crate) enum Change {
     SetLength(u16),
 }
 
-/// Changes that are made one after the other, of texts in cells for a number of units and in a buffer for 8.
+/// Two texts in cells, each for a number of units, a text in a buffer for 8 units, and the changes that are made to them one after another.
 #[derive(Clone, Copy)]
 pub(crate) struct WorkedTexts {
-    /// What they show.
+    /// What the changes show.
     pub(crate) about: &'static str,
     pub(crate) first: u8,
     pub(crate) second: u8,
-    /// Each with the panic that refuses it, and what the text prints then.
+    /// Each change with the text that it changes, its panic if it panics, and what that text prints afterwards.
     pub(crate) changes: &'static [(Target, Change, Option<Panic>, &'static [u8])],
 }
 
-/// The index of the first change that has another answer, or leaves another text.
+/// The index of the first change that gives another answer, or leaves another text.
 pub(crate) fn first_other(alloc: Global, worked: &WorkedTexts) -> Result<Option<usize>, NoMemory> {
     let shape = Shape::new(0, 4096);
     let Ok(mut heap) = DebugHeap::new(alloc, Rule::Unlimited, shape) else {
@@ -83,7 +83,7 @@ pub(crate) fn first_other(alloc: Global, worked: &WorkedTexts) -> Result<Option<
     Ok(None)
 }
 
-/// Makes a change of one of the texts.
+/// Makes a change to one of the texts.
 fn make_change(
     heap: &mut DebugHeap,
     first: Ptr,
@@ -126,7 +126,7 @@ pub(crate) fn printed_line(heap: &DebugHeap, ptr: Ptr) -> Line
     print_units(heap, Source::Cell(ptr, 0, length(heap, ptr)))
 }
 
-/// Changes a buffer; the cell is that which it may take from.
+/// Changes the text in the buffer, which may take from the text in the cell that `ptr` names.
 fn change_buffer(
     heap: &DebugHeap,
     buffer: &mut Buf,
@@ -158,7 +158,7 @@ fn change_buffer(
     }
 }
 
-/// Changes the text in a cell. That in the other stays.
+/// Changes the text in a cell. The text in the other cell stays as it is.
 fn change_cell(
     heap: &mut DebugHeap,
     ptr: Ptr,
@@ -254,7 +254,7 @@ pub(crate) fn grant_text(heap: &mut DebugHeap, n: u32) -> Result<Ptr, NoMemory>
     }
 }
 
-/// An empty text in a cell beside that of another text, which stays.
+/// An empty text in a new cell. The text in the cell that `other` names stays as it is.
 fn grant_text_beside(heap: &mut DebugHeap, other: Ptr, n: u32) -> Result<Ptr, NoMemory>
     requires sound { IsSoundDebug heap.old }
     requires other { IsTextAt other heap.old }

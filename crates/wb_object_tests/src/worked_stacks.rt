@@ -1,11 +1,11 @@
-//! The table of worked cleanup stacks: what is called, and what each call must answer. `stacks` makes the calls.
+//! The table of worked cleanup stacks: which calls are made, and what each must return. `stacks` makes the calls.
 
 use crate::pointers::Cell;
 use crate::rules::Refuses;
 use wb_cleanup::Pushed;
 use wb_model::heap::Panic;
 
-/// An item by the cell that it is about.
+/// An item of a cleanup stack, by its cell.
 #[derive(Clone, Copy)]
 pub(crate) enum Entry {
     Free(Cell),
@@ -13,39 +13,39 @@ pub(crate) enum Entry {
     Call(Cell, u16),
 }
 
-/// A call of a stack or of its heap, and the answer that it must give, last.
+/// A call on a stack or on its heap. The answer that it must give is last.
 #[derive(Clone, Copy)]
 pub(crate) enum Step {
     Push(Entry, Pushed),
-    /// So many items, which count from 0, and each is fine.
+    /// Pushes this many items, numbered from 0, and each push must be fine.
     PushMany(u32),
-    /// Above a floor, how many; whether it panics, and with what.
+    /// The floor, how many items are popped above it, and the panic, if the call panics.
     Pop(u32, u32, Option<Panic>),
-    /// The same of the pop of an item about this cell.
+    /// Like `Pop`, for one item, which is expected to be about this cell.
     PopExpected(u32, Cell, Option<Panic>),
-    /// Above a floor, the item that is taken off.
+    /// The floor, and the item that is taken off above it, if there is one.
     Take(u32, Option<Entry>),
-    /// So many items that `PushMany` pushed, down to the first one.
+    /// Takes off this many items that `PushMany` pushed, down to the first one.
     TakeMany(u32),
     Used(u32),
-    /// Whether one slot is free and no more, and whether none is.
+    /// Whether exactly one slot is free, and whether none is.
     Free { one: bool, none: bool },
-    /// A raw cell that is granted in the heap, of a number of bytes.
+    /// How many bytes a raw cell has that must be granted in the heap.
     Alloc(u32),
     FailNext(u32),
     Attempts(u32),
-    /// Where the stack's cell is, and its length, header included.
+    /// The stack's cell, and its length in bytes, with the header.
     Stands(Cell, u32),
     /// The pointer names no cell.
     Gone(Cell),
-    /// The words of a slot.
+    /// A cell, the index of one of its slots, and the words of that slot.
     Slot(Cell, u32, [u32; 4]),
 }
 
-/// A stack that begins in a heap under some rule, and calls that are made then.
+/// A stack that begins in a heap under a rule, and the calls that are made then.
 #[derive(Clone, Copy)]
 pub(crate) struct WorkedStack {
-    /// What it shows.
+    /// What the calls show.
     pub about: &'static str,
     pub rule: Refuses,
     pub steps: &'static [Step],

@@ -1,5 +1,5 @@
-//! The calls on objects. An object is of the class that its cell's header says; the word of the class says the same to who
-//! reads the words alone.
+//! The calls on objects. The header of an object's cell says of which class the object is; the first word of the payload says the same, for
+//! code that reads only the words.
 
 ghost use Rattle.std.specs.Prelude.{◌≡◌, ℕ, ◌+◌, ◌*◌, ◌^◌, ◌<◌, ◌≤◌, length, true, None, Some, IfOk, IsOk, OnErr, OnOk};
 ghost use Rattle.std.specs.Prelude.{slice_get, slice_set};
@@ -20,7 +20,7 @@ use wb_model::limits::CEILING;
 use wb_model::memory::NoMemory;
 use wb_model::script::{Class, Script};
 
-/// Which word of an object is the index of its class.
+/// The index of the word in which an object has the index of its class.
 const CLASS_WORD: u32 = 0;
 /// Where the fields begin, in words: after the class and a zero.
 const FIRST_FIELD: u32 = 2;
@@ -29,12 +29,12 @@ const FIELD_WORDS: u32 = 2;
 /// The length of a word, in bytes.
 const WORD_BYTES: u32 = 4;
 
-/// An attempt to get a cell for an object of the class with this index, all its fields null.
+/// Attempts to get a cell for an object of the class with this index, with all its fields null.
 ///
-/// An object asks for 8 bytes, 8 more for each field of its class, and the class's extra bytes, which are zero. `Denied`
-/// and `Ceiling` are the heap's answers. `NoMemory` leaves the heap as it was, and never comes in place of `Ceiling`,
-/// nor, where the rises are kept, of an attempt that isn't one. Source: Symbian OS v9 SDK reference, CBase, for members that are zero when allocated, and this project's profile for
-/// the length of the cell.
+/// The request is for 8 bytes, 8 more for each field of the class, and the class's extra bytes, which are zero. `Denied` and `Ceiling` are
+/// the heap's answers. `NoMemory` if the workbench itself runs out of memory; it leaves the heap as it was, and never comes in place of
+/// `Ceiling`, nor, if the rises are kept, for an attempt that isn't a rise. Source: Symbian OS v9 SDK reference, CBase, for members that
+/// are zero when allocated, and this project's profile for the length of the cell.
 pub fn make(heap: &mut DebugHeap, script: &Script, class: u16) -> Result<Gave, NoMemory>
     requires class { class < length script.now.classes }
     requires bytes { payload_of_object (class_at script.now class) ≤ CEILING }
@@ -61,7 +61,7 @@ pub fn make(heap: &mut DebugHeap, script: &Script, class: u16) -> Result<Gave, N
     Ok(gave)
 }
 
-/// The bytes that an object of a class asks for.
+/// How many bytes are requested for an object of a class.
 fn bytes_of(class: &Class) -> u32
     requires { payload_of_object class.now ≤ CEILING }
     ensures { result ≡ payload_of_object class.now }
@@ -70,9 +70,9 @@ fn bytes_of(class: &Class) -> u32
     WORD_BYTES * (FIRST_FIELD + fields) + class.extra
 }
 
-/// The index of the class of the object that a pointer names: the object's own, however the pointer is declared.
+/// Returns the index of the class of the object that a pointer names: the object's own class, whatever class the pointer is declared with.
 ///
-/// `Panic::NULL_OR_STALE` where the pointer names no live cell, then `Panic::WRONG_KIND` where the cell is no object.
+/// `Panic::NULL_OR_STALE` if the pointer names no live cell, then `Panic::WRONG_KIND` if the cell is no object.
 pub fn class_of(heap: &DebugHeap, ptr: Ptr) -> Result<u16, Panic>
     ensures { result ≡ class_found heap.now ptr }
 {
@@ -85,10 +85,9 @@ pub fn class_of(heap: &DebugHeap, ptr: Ptr) -> Result<u16, Panic>
     }
 }
 
-/// The pointer in a field of an object of this class; the class's first field has index 0.
+/// Returns the pointer in field `i` of an object of this class; the class's first field has index 0.
 ///
-/// `Panic::NULL_OR_STALE` where the pointer names no live cell, then `Panic::WRONG_KIND` where the cell is no object, or
-/// one of another class.
+/// `Panic::NULL_OR_STALE` if `ptr` names no live cell, then `Panic::WRONG_KIND` if the cell is no object, or an object of another class.
 pub fn field(heap: &DebugHeap, ptr: Ptr, class: u16, i: u8) -> Result<Ptr, Panic>
     requires { HasField heap.now ptr class i }
     ensures answer { result ≡ field_of i (words_found heap.now ptr class) }
@@ -103,9 +102,9 @@ pub fn field(heap: &DebugHeap, ptr: Ptr, class: u16, i: u8) -> Result<Ptr, Panic
     })
 }
 
-/// Puts a pointer into a field of an object of this class; the class's first field has index 0. Nothing else changes.
+/// Puts the pointer `to` into field `i` of an object of this class; the class's first field has index 0. Nothing else changes.
 ///
-/// It refuses as `field` does, and then the heap is as it was.
+/// The errors are those of `field`; the heap is then as it was.
 pub fn set_field(heap: &mut DebugHeap, ptr: Ptr, class: u16, i: u8, to: Ptr) -> Result<(), Panic>
     requires { HasField heap.old ptr class i }
     ensures answer { result ≡ answer_of (words_found heap.old ptr class) }
@@ -124,7 +123,7 @@ pub fn set_field(heap: &mut DebugHeap, ptr: Ptr, class: u16, i: u8, to: Ptr) -> 
     Ok(())
 }
 
-/// Refuses a pointer that names no object of this class.
+/// Checks that a pointer names an object of this class. The errors are those of `field`.
 fn expect_class(heap: &DebugHeap, ptr: Ptr, class: u16) -> Result<(), Panic>
     ensures answer { result ≡ answer_of (words_found heap.now ptr class) }
     ensures sound { IsSoundDebug heap.now }
@@ -136,7 +135,7 @@ fn expect_class(heap: &DebugHeap, ptr: Ptr, class: u16) -> Result<(), Panic>
     }
 }
 
-/// Where a field begins among the words of an object.
+/// The index of a field's first word among the words of an object.
 fn word_of_field(i: u8) -> u32
     ensures { result ≡ 2 + 2 * i }
 {

@@ -1,6 +1,6 @@
 //! Pages of explanations: messages about lines of a script, which are shown with carets under what is meant.
 //!
-//! Plain functions from values to text. No report rests on them, and what the messages say is written in the crates above.
+//! Plain functions from values to text. No report rests on them, and what the messages say is written in the crates that use this one.
 #![tactic(auto)]
 
 pub mod page;

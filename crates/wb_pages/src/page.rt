@@ -1,5 +1,5 @@
-//! The text of an explanation as it is written, line by line. What the messages are isn't said here: they are formats, `format_args!(..)`,
-//! or plain texts.
+//! The text of an explanation as it is written, line by line. What the messages say isn't written here: they come as formats,
+//! `format_args!(..)`, or as plain texts.
 
 ghost use Rattle.std.specs.Prelude.{◌≡◌, ◌++◌, [], ◌∷◌, codes, false, true, string_bytes, IfOk, IsErr};
 ghost use Rattle.std.specs.Char.{encode_utf8};
@@ -91,8 +91,8 @@ impl<'f> Page<'f> {
         }
     }
 
-    /// Writes a line of the script from a column on, as much as is shown of it. What is left out before is marked in the place of
-    /// as many columns, so that all others are where they were.
+    /// Writes a line of the script from a column on, at most as many columns as are shown. If the beginning of the line is left out, an
+    /// ellipsis replaces the first columns, and all other columns stay where they were.
     fn add_line(&mut self, line: &[u8], from: usize) {
         let (_, rest) = line.split_at_checked(from).unwrap_or((line, line));
         let (part, after) = rest.split_at_checked(MOST_COLUMNS).unwrap_or((rest, &[]));
@@ -108,7 +108,7 @@ impl<'f> Page<'f> {
         }
     }
 
-    /// Writes a text of a line that goes on.
+    /// Writes a text, and doesn't end the line.
     pub fn write_text(&mut self, part: &str)
         ensures before { self.new.is_cut ≡ false → self.old.is_cut ≡ false }
         ensures text { self.new.is_cut ≡ false → string_bytes self.new.text
@@ -118,7 +118,7 @@ impl<'f> Page<'f> {
         self.add_text(part);
     }
 
-    /// Writes a part of a line that goes on.
+    /// Writes a message, and doesn't end the line.
     pub fn write<D: Display + Drop>(&mut self, message: D) {
         if !self.is_cut {
             self.is_cut = write!(self.text, "{message}").is_err();
@@ -170,7 +170,7 @@ impl<'f> Page<'f> {
         self.add_text("help: ");
     }
 
-    /// Writes a message about the whole file, by one text.
+    /// Writes a message about the whole file, given as one text.
     pub fn write_file_text(&mut self, message: &str)
         ensures before { self.new.is_cut ≡ false → self.old.is_cut ≡ false }
         ensures text { self.new.is_cut ≡ false → string_bytes self.new.text
@@ -203,7 +203,7 @@ impl<'f> Page<'f> {
         self.end_line();
     }
 
-    /// Writes a message about a part of the script, and shows that part.
+    /// Writes a message about a part of the script, and shows its line with carets under that part.
     pub fn mark<D: Display + Drop>(&mut self, spot: Spot, message: D) {
         self.begin_message(spot.number);
         self.write(message);
@@ -258,7 +258,7 @@ impl<'f> Page<'f> {
         self.end_line();
     }
 
-    /// Writes what to do, by one text.
+    /// Writes what to do, given as one text.
     pub fn write_help_text(&mut self, advice: &str)
         ensures before { self.new.is_cut ≡ false → self.old.is_cut ≡ false }
         ensures text { self.new.is_cut ≡ false → string_bytes self.new.text
@@ -271,7 +271,7 @@ impl<'f> Page<'f> {
         self.end_line();
     }
 
-    /// Writes what else there is to know, by one text.
+    /// Writes what else there is to know, given as one text.
     pub fn write_note_text(&mut self, text: &str)
         ensures before { self.new.is_cut ≡ false → self.old.is_cut ≡ false }
         ensures text { self.new.is_cut ≡ false → string_bytes self.new.text

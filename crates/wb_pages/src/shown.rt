@@ -9,10 +9,10 @@ pub const MOST_COLUMNS: usize = 100;
 /// The most bytes of a word that are written in a message.
 const LONGEST_WORD: usize = 70;
 
-/// What is written in the place of what is left out.
+/// What is written instead of what is left out.
 pub const ELLIPSIS: &str = "...";
 
-/// A word or a line of the script, of which a long one is cut.
+/// A word or a line of the script, cut if it is too long to be shown whole.
 #[derive(Clone, Copy)]
 pub struct Shown<'a> {
     text: &'a [u8],
@@ -70,7 +70,7 @@ fn is_visible(byte: u8) -> bool {
     matches!(byte, b' '..=b'~')
 }
 
-/// A blank for each kind of blank, a question mark for what can't be shown.
+/// The character that is shown for a byte: a blank for each kind of blank, a question mark for what can't be shown.
 fn visible_char(byte: u8) -> char {
     match byte {
         b' '..=b'~' => byte as char,

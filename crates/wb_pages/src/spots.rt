@@ -12,8 +12,8 @@ pub struct Span {
     pub length: usize,
 }
 
-/// A part of a line of the script: the line's number, counted from 1, its text without the blanks around it, and the part, with the
-/// word that is written there, if it is one.
+/// A part of a line of the script: the line's number, counted from 1, the line's text without the blanks around it, the part, and the word
+/// that is written there; the word is empty if the part is the whole line.
 #[derive(Clone, Copy)]
 pub struct Spot<'a> {
     pub number: usize,
@@ -28,7 +28,7 @@ impl<'a> Spot<'a> {
         Shown::word(self.word)
     }
 
-    /// The whole line, and no word of it.
+    /// Returns the whole line as a part, with no word.
     pub fn of_line(number: usize, text: &'a [u8]) -> Spot<'a>
         ensures number { result.number ≡ number }
         ensures text { result.text.now ≡ text.now }
@@ -47,7 +47,7 @@ impl<'a> Spot<'a> {
         }
     }
 
-    /// The word with an index, counted from 0, of the line's words; the whole line if there is no such word.
+    /// Returns the word with this index, counted from 0, among the line's words; the whole line if there is no such word.
     pub fn of_word(number: usize, text: &'a [u8], words: &[Word<'a>], index: usize) -> Spot<'a>
         ensures number { result.number ≡ number }
         ensures text { result.text.now ≡ text.now }

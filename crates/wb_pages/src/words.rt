@@ -1,4 +1,4 @@
-//! The words of a line with the columns in which they begin. Which bytes are words is said in `wb_lines`.
+//! The words of a line with the columns in which they begin. `wb_lines` says which bytes are words.
 
 ghost use Rattle.std.specs.Prelude.{◌≡◌, length};
 
@@ -26,7 +26,7 @@ impl<'a> Word<'a> {
     }
 }
 
-/// The bytes from one index up to another; `None` if there is no such part.
+/// The bytes from one index up to another; empty if there is no such part.
 fn part<'a>(bytes: &'a [u8], from: usize, to: usize) -> &'a [u8] {
     if from <= to && to <= bytes.len() {
         &bytes[from..to]
@@ -56,7 +56,7 @@ pub fn trim<'a>(line: &'a [u8]) -> &'a [u8] {
     part(line, count_blanks(line), end)
 }
 
-/// Returns the texts of a line's words with their columns: what is between two words is blanks alone. The only error is that
+/// Returns the words of a line, which are given as texts, with their columns. Only blanks may be between two words. The only error is that
 /// memory ran out.
 pub fn place_words<'a>(
     alloc: Global,

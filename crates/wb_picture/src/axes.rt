@@ -1,4 +1,5 @@
-//! The frame of a panel with its axes: places on the left and steps below it, both at round numbers, and where places are drawn shorter.
+//! The frame of a panel with its axes: places on the left and steps below it, both at round numbers. A gap shows where places are drawn
+//! shorter.
 
 use crate::drawing::{Drawing, Drawn};
 use crate::labels::{put_number, put_rect, put_text};
@@ -8,21 +9,22 @@ use crate::scale::{Area, Frame, Scale};
 /// How far labels are from the frame, in pixels.
 const BESIDE: u32 = 6;
 
-/// The most steps between labels of places, and of steps.
+/// The most intervals between labels on the axis of places.
 const MOST_PLACES: u32 = 8;
 
+/// The most intervals between labels on the axis of steps.
 const MOST_STEPS: u32 = 16;
 
 /// The most labels of an axis, those after folds among them.
 const MOST_LABELS: u32 = 40;
 
-/// How many bytes must be drawn before places are in KiB.
+/// From how many drawn bytes on places are written in KiB.
 const FROM_KIB: u32 = 4096;
 
-/// How high the gap in a frame is where places are drawn shorter, in pixels.
+/// The height of the gap that shows where places are drawn shorter, in pixels.
 const GAP: u32 = 5;
 
-/// In what places are said.
+/// The unit in which places are written.
 #[derive(Clone, Copy)]
 struct Unit {
     name: &'static str,
@@ -66,7 +68,7 @@ pub fn put_frame(drawing: &mut Drawing<'_>) -> Drawn {
     put_steps(drawing)
 }
 
-/// Writes places on the left.
+/// Writes labels of places on the left.
 fn put_places(drawing: &mut Drawing<'_>) -> Drawn {
     let scale = drawing.scale;
     let drawn = scale.places.drawn_up_to(scale.places.reach);
@@ -91,7 +93,7 @@ fn put_places(drawing: &mut Drawing<'_>) -> Drawn {
     Ok(())
 }
 
-/// The next place that has a label, after those that are drawn shorter.
+/// The place of the next label. If it would be inside a fold, it comes after the fold.
 fn place_after(scale: &Scale, place: u32, step: u32) -> u32 {
     let next = place.saturating_add(step);
     let shown = scale.places.end_of_fold(next);
@@ -110,7 +112,7 @@ fn put_place(drawing: &mut Drawing<'_>, unit: Unit, place: u32) -> Drawn {
     )
 }
 
-/// Writes steps below the frame, each at the left of its column.
+/// Writes labels of steps below the frame, each at the left of its column.
 fn put_steps(drawing: &mut Drawing<'_>) -> Drawn {
     let scale = drawing.scale;
     let y = scale.frame.bottom().saturating_add(16);
@@ -150,13 +152,13 @@ pub fn put_gaps(drawing: &mut Drawing<'_>) -> Drawn {
     Ok(())
 }
 
-/// The height of the gap for places that are drawn shorter.
+/// The y of the middle of a fold.
 fn middle_of(scale: &Scale, fold: &Fold) -> u32 {
     let (low, high) = (scale.y(fold.from), scale.y(fold.until));
     high.saturating_add(low.saturating_sub(high) / 2)
 }
 
-/// The base line of a text that is to be at this height: above a gap, if one is there.
+/// The base line of a text that is to be at `y`: above a fold's gap, if the text would be in it.
 pub fn base_line(scale: &Scale, y: u32) -> u32 {
     if !scale.places.is_folded() {
         return y;

@@ -1,5 +1,5 @@
-//! Numbers over time in a panel: the marks, the TRAPs and the cleanup stack as bands below the frame, and the committed length as a
-//! line in it. What changes within a column is drawn as the greatest value of the column. A band is as high in each panel of a picture.
+//! Numbers over time in a panel: the marks, the TRAPs and the cleanup stack as bands below the frame, and the committed length as a line in
+//! the frame. A column shows the greatest value that a number has in it. A band has the same scale in each panel of a picture.
 
 use crate::drawing::{Drawing, Drawn};
 use crate::labels::{
@@ -10,12 +10,13 @@ use crate::scale::{Area, Scale};
 use std::alloc::{AllocError, Global};
 use wb_history::Series;
 
-/// How high a band is, and the least height of a value in which it is written, in pixels.
+/// The height of a band, in pixels.
 pub const BAND: u32 = 14;
 
+/// The least height of a value's bar with the value written inside, in pixels.
 const LEAST_WITH_TEXT: u32 = 11;
 
-/// Columns one after the other over which a number has the same greatest value.
+/// Successive columns in which a number has the same greatest value.
 #[derive(Clone, Copy)]
 struct Stretch {
     from: u32,
@@ -23,7 +24,8 @@ struct Stretch {
     value: u32,
 }
 
-/// Draws a band at this height, with its name on the left, and on the right the greatest value that it has in a run of the picture.
+/// Draws a band whose top is at `top`, with its name on the left, and on the right the greatest value that it has in the runs of the
+/// picture.
 pub fn put_band(
     drawing: &mut Drawing<'_>,
     name: &str,
@@ -46,7 +48,7 @@ pub fn put_band(
     Ok(())
 }
 
-/// The line on which a band is.
+/// Draws the line on which a band stands.
 fn put_ground(drawing: &mut Drawing<'_>, y: u32) -> Drawn {
     let scale = drawing.scale;
     let (left, right) = (scale.frame.left, scale.frame.right());
@@ -56,7 +58,7 @@ fn put_ground(drawing: &mut Drawing<'_>, y: u32) -> Drawn {
     )
 }
 
-/// Says up to which value a band is drawn; nothing if it is empty.
+/// Writes the greatest value of a band; nothing if that is 0.
 fn put_greatest(drawing: &mut Drawing<'_>, greatest: u32, bottom: u32) -> Drawn {
     let scale = drawing.scale;
     if greatest == 0 {
@@ -110,7 +112,8 @@ fn put_stretch(
     put_number(drawing, "in", x, bottom.saturating_sub(3), value)
 }
 
-/// Draws a length over time as one line through the frame, at its upper edge where it is above; nothing if all of it is above.
+/// Draws a length over time as one line through the frame. Where the length is past the frame, the line is at the frame's upper edge; if it
+/// always is, nothing is drawn.
 pub fn put_length(drawing: &mut Drawing<'_>, class: &str, series: &Series) -> Drawn {
     let scale = drawing.scale;
     let stretches = stretches_of(*drawing.text.allocator(), series, &scale)?;
@@ -129,7 +132,7 @@ pub fn put_length(drawing: &mut Drawing<'_>, class: &str, series: &Series) -> Dr
     drawing.text.push_str("\"/>\n")
 }
 
-/// Writes a point of a path, and up to where it goes on level.
+/// Writes a point of a path, and the x up to which the path is level from there.
 fn put_point(drawing: &mut Drawing<'_>, x: u32, y: u32, end: u32) -> Drawn {
     put_digits(drawing, x)?;
     drawing.text.push(' ')?;
@@ -138,7 +141,7 @@ fn put_point(drawing: &mut Drawing<'_>, x: u32, y: u32, end: u32) -> Drawn {
     put_digits(drawing, end)
 }
 
-/// The stretches over which a number has the same greatest value.
+/// The stretches in which a number has the same greatest value.
 fn stretches_of(alloc: Global, series: &Series, scale: &Scale) -> Result<Vec<Stretch>, AllocError> {
     let greatest = greatest_in_columns(alloc, series, scale)?;
     let mut stretches: Vec<Stretch> = Vec::new(alloc);
@@ -151,7 +154,7 @@ fn stretches_of(alloc: Global, series: &Series, scale: &Scale) -> Result<Vec<Str
     Ok(stretches)
 }
 
-/// Makes the last stretch longer, or adds one.
+/// Makes the last stretch longer if it has the same value, or else adds a stretch.
 fn add(stretches: &mut Vec<Stretch>, from: u32, until: u32, value: u32) -> Drawn {
     if let Some(last) = stretches.last_mut()
         && last.value == value

@@ -17,12 +17,13 @@ use crate::titles::{put_group_title, put_part_title};
 use wb_history::{Part, ScriptLines};
 use wb_model::heap::Kind;
 
-/// The least height of a rectangle in which something is written, and the room on both sides of that, in pixels.
+/// The least height of a rectangle in which something is written, in pixels.
 pub const LEAST_WITH_TEXT: u32 = 11;
 
+/// The room that a text needs in a rectangle beside its own width, in pixels.
 const ROOM: u32 = 8;
 
-/// Draws the cells that leak, or those that don't.
+/// Draws the cells that leak if `leaking` is true, else all others.
 pub fn put_cells(
     drawing: &mut Drawing<'_>,
     panel: &Panel<'_>,
@@ -53,7 +54,7 @@ pub fn put_group(drawing: &mut Drawing<'_>, panel: &Panel<'_>, group: &Group) ->
     put_join(drawing, panel, parts, first)
 }
 
-/// The style of a rectangle's edge. A small one has none; a leak has one unless that would cover its red.
+/// The style of a rectangle's edge. A small rectangle has no edge; a leak has one unless the edge would cover the leak's red.
 fn edge_of(group: &Group) -> &'static str {
     let low = if group.paint() == Paint::Leak { 3 } else { 8 };
     if group.area().width() < 4 || group.area().height() < low {
@@ -63,7 +64,7 @@ fn edge_of(group: &Group) -> &'static str {
     }
 }
 
-/// Joins a cell that has moved with the place that it had.
+/// Draws a line from the old place of a cell that has moved to its new place.
 fn put_join(drawing: &mut Drawing<'_>, panel: &Panel<'_>, parts: &[Part], part: &Part) -> Drawn {
     let scale = drawing.scale;
     let Some(before) = part.before else {
@@ -88,8 +89,8 @@ fn put_join(drawing: &mut Drawing<'_>, panel: &Panel<'_>, parts: &[Part], part: 
     close_line(drawing)
 }
 
-/// Writes into the rectangles of single cells which they are, if there is room and no label of a leak is over them. No line is over
-/// that.
+/// Writes into the rectangles of single cells which cells they are, if there is room and no label of a leak covers them. No line is drawn
+/// over these texts.
 pub fn put_names(
     drawing: &mut Drawing<'_>,
     panel: &Panel<'_>,
@@ -139,7 +140,7 @@ fn put_inside(
     close_text(drawing)
 }
 
-/// The area of a text around a point of its base line.
+/// The area of a text of this width, with the middle of its base line at this point.
 fn area_of_text(x: u32, y: u32, width: u32) -> Area {
     let left = x.saturating_sub(width / 2);
     Area::between(
@@ -150,7 +151,7 @@ fn area_of_text(x: u32, y: u32, width: u32) -> Area {
     )
 }
 
-/// Writes after a number what a cell is for: the class of an object, or in a word or two.
+/// Writes what a cell is for, after its number: the class of an object, or a word or two.
 pub fn put_name(drawing: &mut Drawing<'_>, kind: Kind) -> Drawn {
     drawing.text.push(' ')?;
     match kind {
@@ -159,7 +160,7 @@ pub fn put_name(drawing: &mut Drawing<'_>, kind: Kind) -> Drawn {
     }
 }
 
-/// How wide that is, in pixels.
+/// The width of what `put_name` writes, in pixels.
 pub fn width_of_name(lines: &ScriptLines<'_>, kind: Kind) -> u32 {
     let width = match kind {
         Kind::Object(class) => width_of(lines.class_name(class)),

@@ -1,5 +1,5 @@
-//! The colours of a picture, in the light and in the dark, and what each is for. They are those of Okabe and Ito, which the
-//! colour-blind tell apart.
+//! The colours of a picture, on a light and on a dark background, and what each is for. They are the colours of Okabe and Ito, which
+//! colour-blind people can tell apart.
 
 use crate::drawing::{Drawing, Drawn};
 use wb_model::heap::Kind;
@@ -10,18 +10,18 @@ pub enum Paint {
     Raw,
     Text,
     Stack,
-    /// An object, by the rest of its class's index by eight.
+    /// An object. The number is the index of its class, modulo 8.
     Class(u16),
     Leak,
 }
 
-/// The styles of classes. The second four have the colours of the first, with a broken edge.
+/// The styles of classes. The second four have the colours of the first four, with a broken edge.
 static CLASSES: [&str; 8] = [
     "ob1", "ob2", "ob3", "ob4", "ob1 alt", "ob2 alt", "ob3 alt", "ob4 alt",
 ];
 
 impl Paint {
-    /// The paint of a cell that is no leak. Every eighth class has the same.
+    /// The paint of a cell that is no leak. Classes have the same paint if their indices differ by a multiple of 8.
     pub fn of(kind: Kind) -> Paint {
         match kind {
             Kind::Raw => Paint::Raw,
@@ -31,7 +31,7 @@ impl Paint {
         }
     }
 
-    /// Where it is in the order in which paints are drawn.
+    /// The number of the paint, by which looks are ordered.
     pub fn rank(self) -> u32 {
         match self {
             Paint::Raw => 0,
@@ -42,7 +42,7 @@ impl Paint {
         }
     }
 
-    /// The paint that is there in that order.
+    /// The paint with this number.
     pub fn at(rank: u32) -> Paint {
         match rank {
             0 => Paint::Raw,
@@ -53,7 +53,7 @@ impl Paint {
         }
     }
 
-    /// The style's name.
+    /// The name of the paint's style.
     pub fn name(self) -> &'static str {
         match self {
             Paint::Raw => "raw",
@@ -64,7 +64,7 @@ impl Paint {
         }
     }
 
-    /// The style's name of a text that is written over it.
+    /// The name of the style of text that is written over the paint.
     pub fn label_name(self) -> &'static str {
         match self {
             Paint::Class(3 | 7) => "n n4",

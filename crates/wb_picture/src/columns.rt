@@ -1,6 +1,6 @@
-//! The columns of a picture: how many steps each of them is.
+//! The columns of a picture, and how many steps each of them is.
 
-/// The columns over the steps of a run, or over its last ones.
+/// The columns over all steps of a run, or over its last steps.
 #[derive(Clone, Copy)]
 pub struct Columns {
     /// The step that the first column begins with.
@@ -11,7 +11,7 @@ pub struct Columns {
 }
 
 impl Columns {
-    /// The columns from one step up to another, at most this many.
+    /// The columns from the step `first` to the step `last`, at most `most` columns.
     pub fn between(first: u32, last: u32, most: u32) -> Columns {
         let after = last.saturating_sub(first);
         let all = after.saturating_add(1);
@@ -23,7 +23,7 @@ impl Columns {
         }
     }
 
-    /// The column of a step; the first one of a step before.
+    /// The column of a step; the first column for an earlier step, and the last column for a later one.
     pub fn column(&self, step: u32) -> u32 {
         let after = step.saturating_sub(self.first);
         let column = after.checked_div(self.steps).unwrap_or(0);

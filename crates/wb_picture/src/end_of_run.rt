@@ -3,14 +3,14 @@
 use wb_history::WatchedRun;
 use wb_model::run::Outcome;
 
-/// How many attempts are drawn once more.
+/// How many of a run's last attempts are drawn once more.
 const LAST_ATTEMPTS: usize = 60;
 
-/// How often as long as its end a run is at least, so that the end is drawn wider than before.
+/// How many times as long as its end a run is at least, so that the end is drawn wider than before.
 const LONG: u32 = 3;
 
-/// Returns the step from which on the end of a run is drawn once more: where its last 60 attempts begin. `None` if the run isn't long,
-/// or if it neither panicked nor leaked nor was cut.
+/// Returns the step from which on the end of a run is drawn once more: the step of the first of its last 60 attempts. `None` if the run
+/// isn't long, or if it neither panicked nor leaked nor was cut.
 pub fn first_of_end(run: &WatchedRun<'_>) -> Option<u32> {
     if !is_worth_it(&run.outcome) {
         return None;

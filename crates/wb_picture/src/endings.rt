@@ -1,4 +1,4 @@
-//! How a run ended: in words, and as a line in its panel, and how runs of a table end.
+//! How a run ended, in words and as a line in its panel; and how the runs of a table end, in words.
 
 use crate::drawing::{Drawing, Drawn};
 use crate::escape::put_line;
@@ -31,8 +31,8 @@ pub fn put_ending(drawing: &mut Drawing<'_>, run: &WatchedRun<'_>) -> Drawn {
     put_label(drawing, run, x)
 }
 
-/// The line at which a run ended: the one that panicked or left, or the last of `main`, whatever ran after it to undo; 0 if none was
-/// begun.
+/// The script's line at which a run ended: the line that panicked or left, or the last line of `main`, whatever ran after it to undo; 0 if
+/// no line was begun.
 fn last_line_of(run: &WatchedRun<'_>) -> u32 {
     match &run.outcome {
         Outcome::Ended { .. } => run.history.last_line_outside(),
@@ -40,7 +40,7 @@ fn last_line_of(run: &WatchedRun<'_>) -> u32 {
     }
 }
 
-/// The style of the line at an end.
+/// The style of the drawn line at the end of a run.
 fn class_of(outcome: &Outcome) -> &'static str {
     match outcome {
         Outcome::Panicked(_) | Outcome::Cut(_) => "end",
@@ -59,7 +59,7 @@ fn put_words(drawing: &mut Drawing<'_>, run: &WatchedRun<'_>) -> Drawn {
     put_line(drawing, last_line_of(run))
 }
 
-/// Writes that above the line at an end, to its left or its right, whichever has room.
+/// Writes how the run ended above the line at its end: to the right of that line, around it or to its left, whichever has room.
 fn put_label(drawing: &mut Drawing<'_>, run: &WatchedRun<'_>, x: u32) -> Drawn {
     let scale = drawing.scale;
     let third = scale.frame.width / 3;
@@ -101,7 +101,7 @@ fn put_cut(drawing: &mut Drawing<'_>, why: Why) -> Drawn {
     })
 }
 
-/// Says how runs end, in the words of `put_outcome` as far as a table has room for them.
+/// Says how the runs of a table end, in the words of `put_outcome` as far as the table has room for them.
 pub fn put_run_end(drawing: &mut Drawing<'_>, end: RunEnd) -> Drawn {
     match end {
         RunEnd::NoCleanup => drawing.text.push_str("no cleanup stack"),

@@ -1,16 +1,16 @@
-//! Text of a user in a picture: the one way by which names, literals and lines of a script come into it.
+//! Text of the user in a picture. Only this file writes names, literals and lines of a script into a picture.
 
 use crate::drawing::{Drawing, Drawn};
 use crate::labels::put_both;
 
-/// The most characters of a line that are shown.
+/// How many characters of such a text are shown at most.
 const MOST_SHOWN: usize = 60;
 
-/// How wide a letter is at most, as a rule, in pixels.
+/// How wide a letter is taken to be, in pixels. Most letters are no wider.
 const LETTER: u32 = 7;
 
-/// Writes the beginning of a text of a user. What has a meaning in XML is written as a reference, and what XML 1.0 can't have
-/// is left out; so nothing in the text can end the element or the attribute that it is in.
+/// Writes the beginning of a text of the user. Characters with a meaning in XML are written as references, and those that XML 1.0 doesn't
+/// allow are left out. So nothing in the text can end the element or the attribute that it is in.
 pub fn put_escaped(drawing: &mut Drawing<'_>, shown: &str) -> Drawn {
     if is_plain(shown) {
         return drawing.text.push_str(shown);
@@ -26,7 +26,7 @@ pub fn put_escaped(drawing: &mut Drawing<'_>, shown: &str) -> Drawn {
     Ok(())
 }
 
-/// Writes the number of a line and the line, after a semicolon; nothing if there is no such line.
+/// Writes a semicolon, the number of a script's line, and the line itself; nothing if the number is 0.
 pub fn put_line(drawing: &mut Drawing<'_>, number: u32) -> Drawn {
     if number == 0 {
         return Ok(());
@@ -56,7 +56,7 @@ fn is_plain_byte(byte: u8) -> bool {
     }
 }
 
-/// How wide a text of a user is, in pixels.
+/// How wide a text of the user is as it is shown, in pixels.
 pub fn width_of(shown: &str) -> u32 {
     let letters = shown.len().min(MOST_SHOWN);
     u32::try_from(letters).unwrap_or(0).saturating_mul(LETTER)

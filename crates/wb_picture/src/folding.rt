@@ -1,5 +1,5 @@
-//! Which places are drawn shorter: the longest stretches in which nothing begins or ends, if what is beside them would else be too low
-//! to be seen.
+//! Which places are drawn shorter: the longest stretches in which nothing begins or ends, if what is beside these stretches would otherwise
+//! be too low to be seen.
 
 use crate::places::{Fold, MOST_FOLDS, Places};
 use std::alloc::{AllocError, Global};
@@ -7,23 +7,23 @@ use std::alloc::{AllocError, Global};
 /// Into how many parts the places are divided.
 const PARTS: u32 = 256;
 
-/// What comes to less than one in so many of all places is too low to be seen.
+/// A stretch that is less than 1/`LOW` of all places is too low to be seen.
 const LOW: u32 = 60;
 
-/// What comes to at most one in so many of all places is little beside the rest.
+/// Enough is folded if the places that aren't folded are at most 1/`LITTLE` of all places.
 const LITTLE: u32 = 4;
 
-/// The least and the greatest edge in one part of the places; the least is greater if there is none.
+/// The least and the greatest edge in one part of the places. If the part has no edge, `least` is greater than `greatest`.
 #[derive(Clone, Copy)]
 struct PartEdges {
     least: u32,
     greatest: u32,
 }
 
-/// The places at which something begins or ends, as far as it is kept.
+/// The places at which something begins or ends. Of each part only the least and the greatest of these are kept.
 #[derive(Drop)]
 pub struct Edges {
-    /// The greatest place that counts, and the greatest edge.
+    /// The greatest place that may be an edge, and the greatest edge so far.
     last: u32,
     highest: u32,
     /// How many places each part has, at least 1.
@@ -31,7 +31,7 @@ pub struct Edges {
     parts: Vec<PartEdges>,
 }
 
-/// A stretch of places in which nothing begins or ends, by its length first.
+/// A stretch of places in which nothing begins or ends. Gaps are ordered by their lengths first.
 #[derive(Clone, Copy, PartialEq, Eq, PartialOrd, Ord)]
 struct Gap {
     length: u32,
@@ -39,7 +39,7 @@ struct Gap {
 }
 
 impl Edges {
-    /// No edges yet, of places up to this one.
+    /// No edges yet. Places up to `last` may be edges.
     pub fn up_to(alloc: Global, last: u32) -> Result<Edges, AllocError> {
         let none = PartEdges {
             least: u32::MAX,
@@ -67,7 +67,7 @@ impl Edges {
         }
     }
 
-    /// The same places, with those of the longest gaps drawn shorter if there is reason to.
+    /// The same places, with the longest gaps folded if something would be too low to be seen.
     pub fn fold(&self, alloc: Global, places: Places) -> Result<Places, AllocError> {
         let mut gaps = self.gaps(alloc)?;
         gaps.sort_unstable();
@@ -84,7 +84,7 @@ impl Edges {
         Ok(places.with_folds(folds_of(longest.as_slice(), self.highest)))
     }
 
-    /// The stretches between edges, of which the shortest are left out.
+    /// The gaps between edges, without those inside one part, which are the shortest.
     fn gaps(&self, alloc: Global) -> Result<Vec<Gap>, AllocError> {
         let mut gaps = Vec::new(alloc);
         let mut from = 0u32;
@@ -98,7 +98,8 @@ impl Edges {
         Ok(gaps)
     }
 
-    /// How many of the gaps, which are sorted, are to be folded: the fewest that leave little, if something is low.
+    /// How many of the longest gaps are to be folded: the fewest that leave little, or 0 if nothing is too low, or if `MOST_FOLDS` aren't
+    /// enough. `gaps` is sorted.
     fn count_to_fold(&self, gaps: &[Gap]) -> usize {
         if !self.has_low(gaps) {
             return 0;
@@ -113,7 +114,7 @@ impl Edges {
         0
     }
 
-    /// Whether two edges are so near that what is between them would be too low.
+    /// Whether two edges are so near to each other that what is between them would be too low to be seen.
     fn has_low(&self, gaps: &[Gap]) -> bool {
         for part in self.parts.as_slice() {
             if part.least < part.greatest {
@@ -129,7 +130,7 @@ impl Edges {
     }
 }
 
-/// The length of the gap that is so many from the end, 1 for the last; 0 if there is none.
+/// The length of the gap with the number `count`, where the last gap is number 1; 0 if there is no such gap.
 fn length_from_end(gaps: &[Gap], count: usize) -> u32 {
     match gaps.get(gaps.len().wrapping_sub(count)) {
         Some(gap) => gap.length,
@@ -137,7 +138,8 @@ fn length_from_end(gaps: &[Gap], count: usize) -> u32 {
     }
 }
 
-/// Folds for these gaps, at most three, of which each is drawn as high as a part of all that isn't folded.
+/// Folds for these gaps, of which there are at most three. Each is drawn as high as the unfolded places divided by the number of gaps plus
+/// 1.
 fn folds_of(gaps: &[Gap], highest: u32) -> [Fold; MOST_FOLDS] {
     let mut rest = highest;
     let mut count = 1u32;
@@ -151,7 +153,7 @@ fn folds_of(gaps: &[Gap], highest: u32) -> [Fold; MOST_FOLDS] {
     [first, second, lowest_after(gaps, Some(second.from), drawn)]
 }
 
-/// The fold of the lowest gap that begins after a place; an empty one if there is none.
+/// The fold of the lowest gap, of those that begin after a place if one is given; an empty fold if there is no such gap.
 fn lowest_after(gaps: &[Gap], after: Option<u32>, drawn: u32) -> Fold {
     let mut lowest = Fold::empty();
     for gap in gaps {

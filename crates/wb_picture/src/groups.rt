@@ -1,4 +1,4 @@
-//! Which parts of cells are drawn as one rectangle: each part alone, or, of a run with many cells, those that look the same.
+//! Which parts of cells' lives are drawn as one rectangle: each part alone, or, in a run with many cells, parts that look the same.
 
 use crate::colours::Paint;
 use crate::drawing::Drawn;
@@ -7,16 +7,16 @@ use crate::scale::{Area, Scale};
 use std::alloc::{AllocError, Global};
 use wb_history::{NEVER, Part};
 
-/// With how many groups a part is compared that were added before it. The others are found when all are sorted.
+/// How many of the groups that were added last a part is compared with. Other groups that look the same are found when all are sorted.
 const NEAR: usize = 4;
 
-/// How many parts are kept of which the last few are looked at.
+/// How many entries `Spans::near` keeps at most. Only the last `NEAR` of them are looked at.
 const MOST_NEAR: usize = 64;
 
-/// How often the marks of a picture get twice as coarse before all of it is one.
+/// How many times the unit of edges is doubled at most, until the groups are few enough.
 const MOST_HALVINGS: u32 = 12;
 
-/// The places and the columns of a part, and its paint: parts of which all of this is the same look the same.
+/// The places, the columns and the paint of a part. Parts with the same extent look the same.
 #[derive(Clone, Copy, PartialEq, Eq)]
 struct Extent {
     place: u32,
@@ -40,18 +40,18 @@ impl Extent {
     }
 }
 
-/// Parts that are drawn as one rectangle, by how they look first.
+/// Parts that are drawn as one rectangle. Groups are ordered by their looks first.
 #[derive(Clone, Copy, PartialEq, Eq, PartialOrd, Ord)]
 pub struct Group {
     look: Look,
-    /// The index of the first of them, and of the last.
+    /// The index of the first of the parts, and of the last.
     pub first: usize,
     pub last: usize,
     pub count: u32,
 }
 
 impl Group {
-    /// A part alone, by its look and its index.
+    /// The group of one part, with its look and its index.
     fn of(look: Look, index: usize) -> Group {
         Group {
             look,
@@ -69,7 +69,7 @@ impl Group {
         self.look.paint()
     }
 
-    /// The same parts, drawn in multiples of a unit of pixels.
+    /// The same group, with the edges of its look at multiples of `unit` pixels.
     fn coarser(&self, scale: &Scale, unit: u32) -> Group {
         Group {
             look: self.look.coarser(scale, unit),
@@ -77,37 +77,37 @@ impl Group {
         }
     }
 
-    /// Takes in parts that look the same.
+    /// Adds the parts of a group that looks the same.
     fn add(&mut self, other: &Group) {
         self.first = self.first.min(other.first);
         self.last = self.last.max(other.last);
         self.count = self.count.saturating_add(other.count);
     }
 
-    /// Takes in a part that comes after all of them, by its index.
+    /// Adds one part, by its index, which comes after all others of the group.
     fn add_later(&mut self, index: usize) {
         self.last = index;
         self.count = self.count.saturating_add(1);
     }
 }
 
-/// The extent of a part, and the index of the span that it is in.
+/// The extent of a part, and the index of its group in `Spans::groups`.
 #[derive(Clone, Copy)]
 struct Near {
     extent: Extent,
     span: usize,
 }
 
-/// Parts in their order, of which some that have the same extent are one already.
+/// Groups of parts, in order of their first parts. Some parts with the same extent are in one group already.
 #[derive(Drop)]
 struct Spans {
     groups: Vec<Group>,
-    /// The parts that were added last; the last few of these are looked at.
+    /// The extents of the groups that were added last. Only the last `NEAR` of them are looked at.
     near: Vec<Near>,
 }
 
 impl Spans {
-    /// Adds a part by its index, which comes after all that were added.
+    /// Adds a part by its index. It comes after all parts that were added before.
     #[inline(always)]
     fn add(&mut self, part: &Part, index: usize, scale: &Scale) -> Drawn {
         let extent = Extent::of(part, scale);
@@ -120,7 +120,7 @@ impl Spans {
         self.add_span(extent, &Group::of(look_of(part, scale), index))
     }
 
-    /// The index of the span of one of the parts that were added last, if it has this extent.
+    /// The index of the group with this extent, if it is one of the last `NEAR` in `near`; else `None`.
     #[inline(always)]
     fn span_near(&self, extent: &Extent) -> Option<usize> {
         for at in self.near.len().saturating_sub(NEAR)..self.near.len() {
@@ -133,7 +133,7 @@ impl Spans {
         None
     }
 
-    /// Adds a part that has this extent, which the parts just before it don't have.
+    /// Adds a group with this extent, which `span_near` doesn't find.
     #[inline(never)]
     fn add_span(&mut self, extent: Extent, group: &Group) -> Drawn {
         if self.near.len() >= MOST_NEAR {
@@ -146,11 +146,11 @@ impl Spans {
     }
 }
 
-/// Groups that look different, made of groups that are added in order of their left edges.
+/// Groups of which no two look the same, merged from groups that are added in order of their left edges.
 #[derive(Drop)]
 struct Merged {
     groups: Vec<Group>,
-    /// What was added with the last left edge.
+    /// The groups with the left edge that was added last.
     open: Vec<Group>,
 }
 
@@ -173,7 +173,7 @@ impl Merged {
         Ok(())
     }
 
-    /// Merges what was added with the last left edge.
+    /// Merges the groups with the left edge that was added last.
     fn close(&mut self) -> Drawn {
         self.open.sort_unstable();
         for group in self.open.as_slice() {
@@ -184,7 +184,7 @@ impl Merged {
     }
 }
 
-/// Adds a group to those before it, or to the last of them if that looks the same.
+/// Adds a group after the others, or to the last of them if that looks the same.
 fn add_sorted(groups: &mut Vec<Group>, group: &Group) -> Drawn {
     if let Some(last) = groups.last_mut()
         && last.look == group.look
@@ -199,9 +199,9 @@ fn add_sorted(groups: &mut Vec<Group>, group: &Group) -> Drawn {
 /// Which parts a panel shows.
 #[derive(Clone, Copy, PartialEq, Eq)]
 enum Shown {
-    /// All that are there in one of its steps.
+    /// All parts that are there in at least one step of the panel.
     Present,
-    /// Of these, those that begin or end in them.
+    /// Of these, the parts that begin or end in a step of the panel.
     Changing,
 }
 
@@ -218,11 +218,11 @@ impl Shown {
 /// The groups of the parts that a panel shows.
 pub struct Groups {
     pub groups: Vec<Group>,
-    /// Whether parts are left out that don't change in the panel's steps.
+    /// Whether the parts that don't change in the panel's steps are left out.
     pub is_partial: bool,
 }
 
-/// Written out, so that other proofs have one call where one is dropped, and its fields are gone over here alone.
+/// Written out, so that proofs of other functions see one call where a `Groups` is dropped, and go over its fields only here.
 impl Drop for Groups {
     fn drop(self) {
         let Groups {
@@ -232,8 +232,8 @@ impl Drop for Groups {
     }
 }
 
-/// The groups of these parts, at most about this many. Where the end of a run is drawn, and too much is there, what doesn't change is
-/// left out.
+/// The groups of these parts, about `most` at most. If the panel shows the end of a run and has too many parts, those that don't change in
+/// its steps are left out.
 pub fn groups_of(
     alloc: Global,
     parts: &[Part],
@@ -269,7 +269,7 @@ fn count_shown(parts: &[Part], scale: &Scale, shown: Shown) -> usize {
     count
 }
 
-/// Each part alone, of those that are shown.
+/// A group for each part that is shown.
 fn each_alone(
     alloc: Global,
     parts: &[Part],
@@ -285,7 +285,7 @@ fn each_alone(
     Ok(groups)
 }
 
-/// These parts, of which some that have the same extent are one.
+/// The groups of the parts that are shown, of which some with the same extent are in one group already.
 fn spans_of(
     alloc: Global,
     parts: &[Part],
@@ -304,7 +304,7 @@ fn spans_of(
     Ok(spans.groups)
 }
 
-/// The groups of what looks the same, if marks are so coarse that the groups are few enough.
+/// The groups of parts that look the same, with the edges so coarse that there are at most `most` groups, if that is possible.
 fn merge_up_to(
     alloc: Global,
     spans: &[Group],
@@ -322,7 +322,8 @@ fn merge_up_to(
     merge(alloc, spans, scale, unit, usize::MAX)
 }
 
-/// The groups of what looks the same in multiples of a unit of pixels; the first of them if they are more than so many.
+/// The groups of parts that look the same with their edges at multiples of `unit` pixels. Once there are more than `most` groups, the rest
+/// may be left out.
 fn merge(
     alloc: Global,
     spans: &[Group],
@@ -344,7 +345,7 @@ fn merge(
     Ok(merged.groups)
 }
 
-/// How a part is drawn alone.
+/// The look of a part that is drawn alone.
 fn look_of(part: &Part, scale: &Scale) -> Look {
     Look::of(area_of(part, scale), paint_of(part), scale)
 }
@@ -362,7 +363,7 @@ pub fn area_of(part: &Part, scale: &Scale) -> Area {
     scale.area(part.from, end_of(part, scale), part.place, part.top())
 }
 
-/// Up to before which step a part goes on. One that never ends does up to the run's end.
+/// The step before which a part ends. A part that never ends is drawn up to the run's end.
 fn end_of(part: &Part, scale: &Scale) -> u32 {
     if part.gone == NEVER {
         scale.last.saturating_add(1)

@@ -33,7 +33,7 @@ pub fn open_cell(drawing: &mut Drawing<'_>, edge: &str, paint: &str, area: Area)
     put_edges(drawing, area)
 }
 
-/// Writes after a class where a rectangle is, and opens its title.
+/// Writes where a rectangle is, after its class, and opens its title.
 fn put_edges(drawing: &mut Drawing<'_>, area: Area) -> Drawn {
     put_both(drawing, "\" x=\"", area.left)?;
     put_both(drawing, "\" y=\"", area.top)?;
@@ -54,7 +54,8 @@ pub fn open_path(drawing: &mut Drawing<'_>, class: &str) -> Drawn {
     drawing.text.push_str("\" d=\"")
 }
 
-/// Writes a path through these points, straight down or across, and opens its title.
+/// Writes a path from the upper left to the lower right corner of an area, and opens its title. The area is a vertical or a horizontal
+/// line.
 pub fn open_line(drawing: &mut Drawing<'_>, class: &str, area: Area) -> Drawn {
     open_path(drawing, class)?;
     put_both(drawing, "M", area.left)?;
@@ -69,7 +70,7 @@ pub fn close_line(drawing: &mut Drawing<'_>) -> Drawn {
     drawing.text.push_str("</title></path>\n")
 }
 
-/// Opens a text, at the left end of its base line, or as its class says.
+/// Opens a text. Its base line begins at `x` and `y`, unless its class says otherwise.
 pub fn open_text(drawing: &mut Drawing<'_>, class: &str, x: u32, y: u32) -> Drawn {
     drawing.text.push_str("<text class=\"")?;
     drawing.text.push_str(class)?;
@@ -83,7 +84,7 @@ pub fn close_text(drawing: &mut Drawing<'_>) -> Drawn {
     drawing.text.push_str("</text>\n")
 }
 
-/// Writes a text at the left end of its base line, or as its class says.
+/// Writes a text. Its base line begins at `x` and `y`, unless its class says otherwise.
 pub fn put_text<D: Display + Drop>(
     drawing: &mut Drawing<'_>,
     class: &str,
@@ -108,7 +109,7 @@ pub fn put_rect<D: Display + Drop>(
     close_rect(drawing)
 }
 
-/// Draws a path, straight down or across, with its title.
+/// Draws a vertical or a horizontal path with its title.
 pub fn put_path<D: Display + Drop>(
     drawing: &mut Drawing<'_>,
     class: &str,

@@ -1,5 +1,5 @@
-//! The labels of leaks in a panel, each with the line that made the leak. They are inside where there is room, and else beside, from the top
-//! down.
+//! The labels of leaks in a panel, each with the script's line that made the leak. A label is inside its leak if there is room, and else
+//! beside it. Labels are placed from the top down.
 
 use crate::axes::base_line;
 use crate::boxes::{LEAST_WITH_TEXT, put_name, width_of_name};
@@ -12,22 +12,25 @@ use crate::scale::{Area, Scale};
 use std::alloc::{AllocError, Global};
 use wb_model::heap::Kind;
 
-/// How far apart labels are, how far they are from their leaks, and how high they are on their line, in pixels.
+/// The distance between the base lines of labels, in pixels.
 const APART: u32 = 13;
 
+/// The distance from a leak to its label beside it, in pixels.
 const BESIDE: u32 = 5;
 
+/// How far below the middle of a leak the base line of its label is, in pixels.
 const RISE: u32 = 4;
 
-/// The most labels beside leaks.
+/// How many leaks have labels at most. One more label says how many have none.
 const MOST_LABELS: usize = 12;
 
-/// How wide the words of a label are without numbers and names, of one leak and of several, in pixels.
+/// The width of the words in a label of one leak, without numbers and names, in pixels.
 const WORDS: u32 = 90;
 
+/// The width of the words in a label of several leaks, without numbers, in pixels.
 const WORDS_OF_MANY: u32 = 180;
 
-/// A leak, by its height first.
+/// A rectangle of leaks. Such rectangles are ordered from the top down.
 #[derive(Clone, Copy, PartialEq, Eq, PartialOrd, Ord)]
 struct Leak {
     y: u32,
@@ -35,7 +38,7 @@ struct Leak {
     group: usize,
 }
 
-/// The label of a leak, or the last one, which says how many leaks have none.
+/// The label of a rectangle of leaks, or the last label, which says how many such rectangles have none.
 #[derive(Clone, Copy)]
 pub struct LeakLabel {
     area: Area,
@@ -43,7 +46,7 @@ pub struct LeakLabel {
     x: u32,
     y: u32,
     group: Group,
-    /// How many rectangles of leaks have no label; 0 but in the last.
+    /// How many rectangles of leaks have no label; 0 in all labels but the last.
     more: usize,
 }
 
@@ -88,7 +91,7 @@ pub fn labels_of(
     Ok(labels)
 }
 
-/// The lowest base line of the first label that leaves room in the frame for those of all other leaks.
+/// The lowest base line of the first label with which the labels of all other leaks still have room in the frame.
 fn lowest_of_first(scale: &Scale, leaks: usize) -> u32 {
     let others = leaks.saturating_sub(1).min(MOST_LABELS);
     let room = u32::try_from(others).unwrap_or(0).saturating_mul(APART);
@@ -99,7 +102,7 @@ fn lowest_of_first(scale: &Scale, leaks: usize) -> u32 {
         .saturating_sub(room)
 }
 
-/// The leaks among these groups, from the top down.
+/// The rectangles of leaks among these groups, from the top down.
 fn leaks_of(alloc: Global, scale: &Scale, groups: &[Group]) -> Result<Vec<Leak>, AllocError> {
     let mut leaks = Vec::new(alloc);
     for at in 0..groups.len() {

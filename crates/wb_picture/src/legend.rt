@@ -1,4 +1,4 @@
-//! The legend of a picture: what is seen in it, and nothing else.
+//! The legend of a picture. It has entries only for what the picture shows.
 
 use crate::colours::Paint;
 use crate::drawing::{Drawing, Drawn};
@@ -9,15 +9,16 @@ use std::alloc::AllocError;
 use wb_history::{Part, ScriptLines, WatchedRun};
 use wb_model::heap::{Answer, Kind};
 
-/// How high a row is, and how wide an entry is beside its text, in pixels.
+/// The height of a row, in pixels.
 const ROW: u32 = 18;
 
+/// How much wider an entry is than its text, in pixels.
 const BESIDE_TEXT: u32 = 40;
 
-/// The most entries up to those of classes.
+/// No class is added once there are this many entries.
 const MOST_ENTRIES: usize = 15;
 
-/// A style, what it is for, and where its entry is: from the left edge of the picture, and from the first row.
+/// An entry: a style, what the style is for, and where the entry is: `x` pixels from the left edge of the picture, in a row counted from 0.
 #[derive(Clone, Copy)]
 struct Entry<'a> {
     class: &'static str,
@@ -46,7 +47,7 @@ struct Seen {
     leak: bool,
     simulated: bool,
     refused: bool,
-    /// Of each class, by its index.
+    /// Whether each class is seen, by the index of the class.
     classes: Vec<bool>,
 }
 
@@ -105,7 +106,7 @@ impl Seen {
 }
 
 impl<'a> Legend<'a> {
-    /// The legend of these runs between two edges; `is_folded` says whether places are drawn shorter somewhere.
+    /// The legend of these runs, between a left and a right edge; `is_folded` says whether places are drawn shorter somewhere.
     pub fn of(
         drawing: &Drawing<'a>,
         runs: ShownRuns<'_>,
@@ -132,7 +133,7 @@ impl<'a> Legend<'a> {
         Ok(legend)
     }
 
-    /// Adds an entry if what it is for is seen, in the next row if there is no room.
+    /// Adds an entry if what it is for is seen, and begins a new row if the entry has no room in the last one.
     fn add(&mut self, is_seen: bool, class: &'static str, name: &'a str) -> Drawn {
         if !is_seen {
             return Ok(());

@@ -1,5 +1,5 @@
-//! The lengths of a heap in its panel: each rise, with the attempt that made it, the length that the run comes to, the limit, and
-//! the committed length. Their labels are on the right of the frame.
+//! The lengths of a heap in its panel: each rise, with the attempt that made it, the length that the run comes to, the limit, and the
+//! committed length. The labels of all but the rises are on the right of the frame.
 
 use crate::bands::put_length;
 use crate::drawing::{Drawing, Drawn};
@@ -26,7 +26,7 @@ enum Name {
     Committed,
 }
 
-/// A label, by its height first, so that labels are sorted from the top down.
+/// A label. Labels are ordered by their y first, and so sorted from the top down.
 #[derive(Clone, Copy, PartialEq, Eq, PartialOrd, Ord)]
 struct Label {
     y: u32,
@@ -54,7 +54,7 @@ impl Name {
     }
 }
 
-/// The attempts of a run, from a step on, that made the heap longer than all before them.
+/// The rises of a run from the step `first` on: the granted attempts whose cells end past all that were granted before them.
 pub fn rises_of<'a>(
     alloc: Global,
     run: &'a WatchedRun<'a>,
@@ -73,7 +73,7 @@ pub fn rises_of<'a>(
     Ok(rises)
 }
 
-/// The greatest end of a cell, in bytes.
+/// The greatest end of a cell that one of these attempts was granted, in bytes; 0 if there is none.
 pub fn longest_end(attempts: &[AttemptMade<'_>]) -> u32 {
     let mut top = 0;
     for it in attempts {
@@ -120,7 +120,7 @@ fn label_of(scale: &Scale, name: Name, length: u32) -> Label {
     }
 }
 
-/// Draws a line across the frame, if the frame shows its length, and adds its label.
+/// Adds the label of a length, and draws its line across the frame if the frame shows this length.
 fn put_across(
     drawing: &mut Drawing<'_>,
     name: Name,
@@ -170,7 +170,8 @@ struct Pen {
     y: u32,
 }
 
-/// Draws each rise as a line, from its step up to the next, with its attempt's number where there is room beside other labels.
+/// Draws each rise as a line from its step to the step of the next rise. The number of its attempt is written where other labels leave
+/// room.
 pub fn put_rises(
     drawing: &mut Drawing<'_>,
     rises: &[AttemptMade<'_>],
@@ -195,7 +196,7 @@ pub fn put_rises(
     Ok(())
 }
 
-/// The line of rises, up to where the next begins.
+/// The line of the rises in one column, from this column to `end`.
 fn line_of(scale: &Scale, step: &ColumnAttempts<'_, '_>, end: u32) -> Area {
     let y = scale.y(step.last.top());
     Area::level(scale.x(step.column), end, y)
@@ -221,7 +222,8 @@ fn put_rise_title(drawing: &mut Drawing<'_>, step: &ColumnAttempts<'_, '_>) -> D
     put_line(drawing, step.first.maker.line)
 }
 
-/// Writes the number of a rise above the beginning of its line, unless it would be past the line, or over the last one or a leak's label.
+/// Writes the number of a rise above the beginning of its line, unless it would reach past the end of the line, or cover the number before
+/// it or the label of a leak.
 fn put_rise_number(
     drawing: &mut Drawing<'_>,
     rise: &AttemptMade<'_>,

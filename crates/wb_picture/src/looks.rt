@@ -9,17 +9,17 @@ const LEAST_LEAK: u32 = 6;
 /// The greatest edge that a look has; no picture is as wide or high.
 const GREATEST_EDGE: u32 = 0xffff;
 
-/// An area and a paint, in the order of the left, the right, the upper and the lower edge, and of the paint. All but
-/// the left edge are one number, so that looks are compared and sorted quickly.
+/// An area and a paint. Looks are ordered by their left, right, upper and lower edges, and then by their paints. All but the left edge is
+/// packed into one number, so that looks are compared and sorted quickly.
 #[derive(Clone, Copy, PartialEq, Eq, PartialOrd, Ord)]
 pub struct Look {
     left: u32,
-    /// Three edges of 16 bits each, and the rank of the paint in the lowest 8.
+    /// The right, the upper and the lower edge, of 16 bits each, and the rank of the paint in the lowest 8 bits.
     rest: u64,
 }
 
 impl Look {
-    /// The look of an area with this paint: large enough to be seen, and in the frame. A leak may go past it.
+    /// The look of an area with this paint: made large enough to be seen, and cut to the frame. A leak may go past the frame's right edge.
     pub fn of(area: Area, paint: Paint, scale: &Scale) -> Look {
         Look::within(area.at_least(least_width(paint), 2), paint, scale)
     }
@@ -41,7 +41,7 @@ impl Look {
         Paint::at(u32::try_from(self.rest & 0xff).unwrap_or(0))
     }
 
-    /// The same look in multiples of a unit of pixels.
+    /// The same look, with its edges at multiples of `unit` pixels.
     pub fn coarser(self, scale: &Scale, unit: u32) -> Look {
         let area = self.area();
         let coarse = Area {
@@ -53,7 +53,7 @@ impl Look {
         Look::within(coarse, self.paint(), scale)
     }
 
-    /// The look of the part of an area that is in the frame.
+    /// The look of the part of an area that is in the frame. A leak may go past the frame's right edge.
     fn within(area: Area, paint: Paint, scale: &Scale) -> Look {
         let past = least_width(paint).saturating_sub(1);
         let right = area.right.min(scale.frame.right().saturating_add(past));
@@ -71,12 +71,12 @@ fn wide(edge: u32) -> u64 {
     u64::from(edge.min(GREATEST_EDGE))
 }
 
-/// The edge in the lowest bits of a number.
+/// The edge in the lowest 16 bits of a number.
 fn lowest_edge(edges: u64) -> u32 {
     u32::try_from(edges & u64::from(GREATEST_EDGE)).unwrap_or(0)
 }
 
-/// How wide what is painted so is at least, in pixels.
+/// How wide a rectangle with this paint is at least, in pixels.
 fn least_width(paint: Paint) -> u32 {
     if paint == Paint::Leak { LEAST_LEAK } else { 1 }
 }

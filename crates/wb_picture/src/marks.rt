@@ -1,5 +1,5 @@
-//! The attempts of a run in its panel: a tick above the frame for each, and a mark at the place that was chosen for one that
-//! failed. Those that fall in one column are one tick or mark.
+//! The attempts of a run in its panel: a tick above the frame for each attempt, and a mark at the place that was chosen for an attempt that
+//! failed. Attempts that fall in one column share one tick or mark.
 
 use crate::drawing::{Drawing, Drawn};
 use crate::labels::{
@@ -12,15 +12,16 @@ use std::alloc::AllocError;
 use wb_history::AttemptMade;
 use wb_model::heap::Answer;
 
-/// How wide a mark is at most, and how wide and high at least, in pixels.
+/// The greatest width of a mark, in pixels.
 const WIDEST: u32 = 26;
 
+/// The least width and the least height of a mark, in pixels.
 const LEAST: u32 = 7;
 
 /// How long a tick is, in pixels.
 const TICK: u32 = 6;
 
-/// Attempts one after the other that fall in one column.
+/// Successive attempts that fall in one column.
 #[derive(Clone, Copy)]
 pub struct ColumnAttempts<'r, 'a> {
     pub column: u32,
@@ -29,7 +30,7 @@ pub struct ColumnAttempts<'r, 'a> {
     count: u32,
     /// How many of them failed.
     failed: u32,
-    /// From the lowest place to the highest end, in bytes.
+    /// The lowest place and the highest end of the attempts, in bytes.
     low: u32,
     high: u32,
 }
@@ -71,7 +72,7 @@ pub fn put_failed(
     Ok(())
 }
 
-/// Adds an attempt to those of its column; returns those before it once it begins another column.
+/// Adds an attempt to those of its column. If it begins another column, returns the attempts of the column before.
 #[inline(always)]
 pub fn extend<'r, 'a>(
     run: &mut Option<ColumnAttempts<'r, 'a>>,
@@ -101,7 +102,8 @@ pub fn extend<'r, 'a>(
     })
 }
 
-/// Draws a tick, and its number if there is room; returns where room begins again.
+/// Draws a tick, and the number of its first attempt if there is room for it from `free` on. Returns from which x on there is room for the
+/// next number.
 fn put_tick(
     drawing: &mut Drawing<'_>,
     run: &ColumnAttempts<'_, '_>,

@@ -17,18 +17,19 @@ use wb_history::{AttemptMade, WatchedRun};
 use wb_model::heap::Answer;
 use wb_model::lengths::LengthRange;
 
-/// From the top of a panel to its frame, and from the frame's lower edge to the first band, in pixels.
+/// The distance from the top of a panel to its frame, in pixels.
 pub const ABOVE: u32 = 54;
 
+/// The distance from a frame's lower edge to the first band, in pixels.
 const BELOW: u32 = 26;
 
-/// How much a band takes, with what is between two.
+/// The distance from the top of a band to the top of the next, in pixels.
 const BAND_STEP: u32 = BAND + 5;
 
-/// From a frame's lower edge to the end of its panel, in pixels.
+/// The distance from a frame's lower edge to the end of its panel, in pixels.
 pub const UNDER: u32 = BELOW + 3 * BAND_STEP + 14;
 
-/// What is at the side of a panel.
+/// The table at the side of a panel.
 #[derive(Clone, Copy)]
 pub enum Table<'a> {
     Nothing,
@@ -38,7 +39,7 @@ pub enum Table<'a> {
     Lengths(&'a [LengthRange]),
 }
 
-/// The greatest depths of all runs of a picture, by which its bands are drawn.
+/// The greatest numbers of open marks, open TRAPs and items on the cleanup stack in all runs of a picture. Bands are drawn to this scale.
 #[derive(Clone, Copy)]
 pub struct Depths {
     pub levels: u32,
@@ -47,7 +48,7 @@ pub struct Depths {
 }
 
 impl Depths {
-    /// Returns the greater of each two.
+    /// Returns the greater depth of each kind.
     pub fn or_greater(self, other: Depths) -> Depths {
         Depths {
             levels: self.levels.max(other.levels),
@@ -65,15 +66,15 @@ pub struct Panel<'a> {
     pub depths: Depths,
     /// The attempts that are drawn: all of the run, or its last ones.
     pub attempts: &'a [AttemptMade<'a>],
-    /// What is at the side.
+    /// The table at the side of the panel.
     pub table: Table<'a>,
-    /// The most rectangles of cells.
+    /// How many rectangles of cells are drawn at most.
     pub most_cells: usize,
-    /// The attempt with which the lower run of two begins to fail.
+    /// The first attempt that fails in the lower of two runs by that run's rule; `None` if there is none.
     pub failing: Option<AttemptMade<'a>>,
 }
 
-/// Draws a panel, but for its heading. The leaks come after all lines, and what is written on cells comes last, so that nothing is over it.
+/// Draws a panel without its heading. Leaks are drawn after all lines, and what is written on cells last, so that nothing covers it.
 pub fn put_panel(drawing: &mut Drawing<'_>, panel: &Panel<'_>) -> Drawn {
     drawing.scale = panel.scale;
     let parts = panel.run.history.course.parts();
@@ -110,7 +111,7 @@ fn put_omission(drawing: &mut Drawing<'_>) -> Drawn {
     )
 }
 
-/// Draws what is over the cells: lengths, attempts, and how the run ended.
+/// Draws what is over the cells: lengths, attempts, and how the run ended. Also draws the table at the side.
 fn put_lines(drawing: &mut Drawing<'_>, panel: &Panel<'_>, labels: &[LeakLabel]) -> Drawn {
     let scale = drawing.scale;
     put_lengths(drawing, panel.run)?;
@@ -126,7 +127,7 @@ fn put_lines(drawing: &mut Drawing<'_>, panel: &Panel<'_>, labels: &[LeakLabel])
     put_failing_step(drawing, panel)
 }
 
-/// Draws the part that is in this panel of the line at which the lower run begins to fail.
+/// Draws this panel's part of the line that runs through both panels, at the step in which the lower run begins to fail.
 fn put_failing_step(drawing: &mut Drawing<'_>, panel: &Panel<'_>) -> Drawn {
     let scale = drawing.scale;
     let Some(attempt) = panel.failing else {

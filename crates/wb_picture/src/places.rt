@@ -1,10 +1,10 @@
-//! How high places are in a frame. Where nothing begins or ends over most of the heap, as in one large cell, places are drawn shorter,
-//! so that the others have room.
+//! How high places are in a frame. If nothing begins or ends over most of the heap, as within one large cell, the places there are drawn
+//! shorter, so that the other places have room.
 
 /// The most folds of a frame.
 pub const MOST_FOLDS: usize = 3;
 
-/// Places from one up to another, in bytes, that are drawn as high as fewer bytes are elsewhere.
+/// The places from `from` to `until`, in bytes, which are drawn as high as `drawn` bytes are elsewhere.
 #[derive(Clone, Copy)]
 pub struct Fold {
     pub from: u32,
@@ -17,7 +17,7 @@ pub struct Fold {
 pub struct Places {
     /// The place at the upper edge, in bytes.
     pub reach: u32,
-    /// In order of place; one that folds nothing is empty.
+    /// The folds, in order of place. Those that aren't used are empty.
     folds: [Fold; MOST_FOLDS],
     is_folded: bool,
 }
@@ -36,7 +36,7 @@ impl Fold {
         self.from >= self.until
     }
 
-    /// By how many bytes lower a place is drawn.
+    /// By how many bytes lower a place is drawn because of this fold.
     fn hidden_up_to(&self, place: u32) -> u32 {
         let over = place.min(self.until).saturating_sub(self.from);
         if over == 0 {
@@ -66,7 +66,7 @@ impl Places {
         }
     }
 
-    /// The same places, and some more above them, so that what is highest isn't at the upper edge.
+    /// The same places, and some more above them, so that the highest isn't at the upper edge.
     pub fn with_margin(self) -> Places {
         let margin = self.drawn_up_to(self.reach) / 16;
         Places {
@@ -84,7 +84,7 @@ impl Places {
         self.is_folded
     }
 
-    /// How many bytes are drawn up to a place.
+    /// The height at which a place is drawn, in bytes: the place itself, less what the folds below it hide.
     pub fn drawn_up_to(&self, place: u32) -> u32 {
         if !self.is_folded {
             return place;
@@ -96,7 +96,7 @@ impl Places {
         place.saturating_sub(hidden)
     }
 
-    /// The end of the fold that a place is in, or else the place.
+    /// The end of the fold that a place is inside, or the place itself if it is inside none.
     pub fn end_of_fold(&self, place: u32) -> u32 {
         for fold in self.folds() {
             if fold.from < place && place < fold.until {
@@ -107,14 +107,14 @@ impl Places {
     }
 }
 
-/// A part of a whole, on a length; 0 if the whole is.
+/// The share of `length` that `part` is of `whole`: `part * length / whole`, rounded down; 0 if `whole` is 0.
 pub fn share_of(part: u32, whole: u32, length: u32) -> u32 {
     let product = u64::from(part).saturating_mul(u64::from(length));
     let quotient = product.checked_div(u64::from(whole)).unwrap_or(0);
     u32::try_from(quotient).unwrap_or(u32::MAX)
 }
 
-/// The least of 1, 2, 5, 10, 20, 50 and so on of which at most this many reach up to a length.
+/// The least number of 1, 2, 5, 10, 20, 50 and so on with which `most` steps reach `length`.
 pub fn round_step(length: u32, most: u32) -> u32 {
     let mut ten = 1u32;
     for _ in 0..9 {

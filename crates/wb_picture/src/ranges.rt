@@ -1,4 +1,4 @@
-//! How runs end in heaps of every length, at the side of a panel: each range of lengths beside the part of the heap that fits in it.
+//! A table at the side of a panel: how runs end in heaps of every length. Each range of lengths is drawn beside the same range of places.
 
 use crate::drawing::{Drawing, Drawn};
 use crate::endings::put_run_end;
@@ -7,20 +7,20 @@ use crate::refusals::{LEAST, LEAST_WITH_TEXT, bar_of, open_beside, put_head};
 use crate::scale::Scale;
 use wb_model::lengths::LengthRange;
 
-/// Ranges one after the other that are drawn as one: from a length up to before another.
+/// Successive ranges of lengths that are drawn as one: from `from` to before `until`, in bytes.
 #[derive(Clone, Copy)]
 struct Stretch {
     from: u32,
     until: u32,
-    /// Its first range, and how many there are.
+    /// The first of these ranges, and how many there are.
     first: LengthRange,
     count: u32,
-    /// Whether runs of one of them leak or panic.
+    /// Whether the runs of at least one of these ranges leak or panic.
     is_bad: bool,
 }
 
 impl Stretch {
-    /// This stretch and the next range, up to before a length.
+    /// This stretch with the next range added, which ends before `until`.
     fn with(self, range: &LengthRange, until: u32) -> Stretch {
         Stretch {
             until,
@@ -34,7 +34,7 @@ impl Stretch {
         scale.y(self.from).saturating_sub(scale.y(self.until))
     }
 
-    /// The style of its bar: another than that of the one before, whose index is less by 1.
+    /// The style of the bar of the stretch with this index. Successive bars have different styles, unless both are bad.
     fn class(&self, index: u32) -> &'static str {
         match (self.is_bad, index % 2) {
             (true, _) => "leak",
@@ -44,7 +44,7 @@ impl Stretch {
     }
 }
 
-/// Draws a table, up to the end of the frame. Ranges too low to be seen are drawn as one.
+/// Draws the table of these ranges, as far as the frame shows their lengths. Ranges too low to be seen are drawn as one.
 pub fn put_ranges(drawing: &mut Drawing<'_>, ranges: &[LengthRange]) -> Drawn {
     let scale = drawing.scale;
     put_head(drawing, "how runs end in other heaps")?;
@@ -72,7 +72,7 @@ pub fn put_ranges(drawing: &mut Drawing<'_>, ranges: &[LengthRange]) -> Drawn {
     }
 }
 
-/// Up to before which length a range goes, by its index.
+/// The length before which the range with this index ends.
 fn end_of_range(ranges: &[LengthRange], index: usize) -> u32 {
     match ranges.get(index.saturating_add(1)) {
         Some(next) => next.from,
@@ -80,7 +80,7 @@ fn end_of_range(ranges: &[LengthRange], index: usize) -> u32 {
     }
 }
 
-/// The stretch that an open one and a range make.
+/// The open stretch with a range added, or the stretch of this range alone if none is open.
 fn stretch_with(open: Option<Stretch>, range: &LengthRange, until: u32) -> Stretch {
     match open {
         Some(stretch) => stretch.with(range, until),
@@ -107,7 +107,7 @@ fn put_stretch(drawing: &mut Drawing<'_>, stretch: &Stretch, index: u32) -> Draw
     close_text(drawing)
 }
 
-/// From which length on runs end how; of several ranges that the runs end in several ways.
+/// Writes from which length on runs end in which way; of several ranges, only how many there are, and whether some are bad.
 fn put_stretch_title(drawing: &mut Drawing<'_>, stretch: &Stretch) -> Drawn {
     let (from, count) = (stretch.from, stretch.count);
     write!(drawing.text, "from {from} ")?;

@@ -1,4 +1,4 @@
-//! What shorter heaps refuse first, at the side of a panel: each range of lengths beside the part of the heap that it would cut.
+//! A table at the side of a panel: what shorter heaps refuse first. Each range of lengths is drawn beside the same range of places.
 
 use crate::drawing::{Drawing, Drawn};
 use crate::escape::put_line;
@@ -6,17 +6,20 @@ use crate::labels::{close_rect, close_text, open_rect, open_text, put_both, put_
 use crate::scale::{Area, Scale};
 use wb_history::AttemptMade;
 
-/// How far the table is from the frame, with room for labels between, and how wide its bar is, in pixels.
+/// The distance from a frame to the table, with room for labels between them, in pixels.
 pub const BESIDE: u32 = 212;
 
+/// The width of the table's bar, in pixels.
 const BAR: u32 = 12;
 
-/// The least height of a range that is drawn by itself, and of one that has a text.
+/// The least height of a range that is drawn by itself, in pixels.
 pub const LEAST: u32 = 2;
 
+/// The least height of a range that has a text, in pixels.
 pub const LEAST_WITH_TEXT: u32 = 12;
 
-/// Lengths from one up to before another, and the attempts that a heap of these refuses first.
+/// The lengths from `from` to before `until`, in bytes, and the first and the last of the attempts that heaps of these lengths refuse
+/// first.
 #[derive(Clone, Copy)]
 struct Range<'a> {
     from: u32,
@@ -48,14 +51,14 @@ pub fn put_refusals(drawing: &mut Drawing<'_>, rises: &[AttemptMade<'_>]) -> Dra
     Ok(())
 }
 
-/// Writes what a table is of.
+/// Writes the heading of a table.
 pub fn put_head(drawing: &mut Drawing<'_>, words: &str) -> Drawn {
     let frame = drawing.scale.frame;
     let x = frame.right().saturating_add(BESIDE);
     put_text(drawing, "dim", x, frame.top.saturating_sub(9), words)
 }
 
-/// The bar of lengths from one up to before another, in bytes.
+/// The bar of the lengths from `from` to before `until`, in bytes.
 pub fn bar_of(scale: &Scale, from: u32, until: u32) -> Area {
     let left = scale.frame.right().saturating_add(BESIDE);
     let right = left.saturating_add(BAR);
@@ -76,7 +79,7 @@ fn other(class: &'static str) -> &'static str {
     if class == "cut1" { "cut2" } else { "cut1" }
 }
 
-/// The range that an open one and that of a rise make.
+/// The open range extended by a rise, or the range of this rise alone if none is open.
 fn range_with<'a>(open: Option<Range<'a>>, from: u32, rise: &AttemptMade<'a>) -> Range<'a> {
     match open {
         Some(range) => Range {

@@ -1,4 +1,4 @@
-//! Where steps and places are in a panel. What is drawn there is said elsewhere.
+//! Where steps and places are in a panel. What is drawn at them is elsewhere.
 
 use crate::columns::Columns;
 use crate::places::{Places, share_of};
@@ -42,12 +42,12 @@ impl Frame {
 }
 
 impl Area {
-    /// A line straight down.
+    /// A vertical line.
     pub fn upright(x: u32, top: u32, bottom: u32) -> Area {
         Area::between(x, top, x, bottom)
     }
 
-    /// A line across.
+    /// A horizontal line.
     pub fn level(left: u32, right: u32, y: u32) -> Area {
         Area::between(left, y, right, y)
     }
@@ -70,7 +70,7 @@ impl Area {
         self.bottom.saturating_sub(self.top)
     }
 
-    /// Whether a point is in both areas.
+    /// Whether the areas overlap.
     pub fn meets(&self, other: &Area) -> bool {
         self.left < other.right
             && other.left < self.right
@@ -122,7 +122,7 @@ impl Scale {
         self.end_of_step(self.last)
     }
 
-    /// The height of a place; one past the reach is at the upper edge.
+    /// The y of a place; the upper edge of the frame for a place past the reach.
     pub fn y(&self, place: u32) -> u32 {
         let places = &self.places;
         let drawn = places.drawn_up_to(place.min(places.reach));
@@ -136,7 +136,7 @@ impl Scale {
         place <= self.places.reach
     }
 
-    /// The area of what is at these places, from one step on and up to before another.
+    /// The area of what is at the places from `place` to `top`, from the step `from` to before the step `until`.
     pub fn area(&self, from: u32, until: u32, place: u32, top: u32) -> Area {
         Area {
             left: self.x_of_step(from),

@@ -17,29 +17,34 @@ use std::alloc::{AllocError, Global};
 use wb_history::{AttemptMade, ScriptLines, WatchedRun};
 use wb_model::heap::Rule;
 
-/// The left and the upper margin of a picture, and how wide a table is, in pixels.
+/// The left margin of a picture, in pixels.
 const LEFT: u32 = 76;
 
+/// The upper margin of a picture, in pixels.
 const TOP: u32 = 30;
 
+/// The width of a table, in pixels.
 const TABLE: u32 = 190;
 
-/// How wide a frame is at least, and how high, if there is one or if there are more.
+/// The least width of a frame, in pixels.
 const LEAST_WIDTH: u32 = 960;
 
+/// The height of a frame in a picture of one run, in pixels.
 const HEIGHT: u32 = 340;
 
+/// The height of a frame in a picture of two runs, in pixels.
 const HEIGHT_OF_TWO: u32 = 260;
 
-/// The least place that is the highest of a frame, in bytes.
+/// The least place that the upper edge of a frame shows, in bytes.
 const LEAST_SHOWN: u32 = 16;
 
-/// The most columns of a picture, and the most rectangles of cells.
+/// The most columns of a picture.
 const MOST_COLUMNS: u32 = 2000;
 
+/// The most rectangles of cells in a picture.
 const MOST_CELLS: usize = 3000;
 
-/// The end of a run, which is drawn once more: the step that it begins with, and its places.
+/// The end of a run that is drawn once more: the first step that is drawn, and the places that its frame shows.
 #[derive(Clone, Copy)]
 struct EndOfRun {
     first: u32,
@@ -52,16 +57,16 @@ struct Sheet<'a> {
     columns: Columns,
     places: Places,
     depths: Depths,
-    /// The attempt with which the lower run of two begins to fail.
+    /// The first attempt that fails in the lower of two runs by that run's rule; `None` if there is none.
     failing: Option<AttemptMade<'a>>,
-    /// The end of the last run, if it is drawn once more.
+    /// The end of the lowest run; `None` if it isn't drawn once more.
     end: Option<EndOfRun>,
     width: u32,
     height: u32,
     most_cells: usize,
 }
 
-/// Returns the picture of these runs, with a table at the side of the first. The only error is that memory ran out.
+/// Returns the picture of these runs, with a table at the side of the upper run's panel. The only error is that memory ran out.
 pub fn draw<'a>(
     alloc: Global,
     lines: &'a ScriptLines<'a>,
@@ -100,7 +105,7 @@ fn put_page<'a>(
     close_page(drawing)
 }
 
-/// How wide a table is, in pixels.
+/// The width of a table, in pixels.
 fn width_of(table: Table<'_>) -> u32 {
     match table {
         Table::Nothing => 0,
@@ -163,7 +168,7 @@ fn put_end_panel<'a>(
     put_panel(drawing, &panel)
 }
 
-/// The attempts of a run from a step on.
+/// The attempts of a run from the step `first` on.
 fn attempts_from<'a>(run: &'a WatchedRun<'a>, first: u32) -> &'a [AttemptMade<'a>] {
     let attempts = run.history.attempts.kept_attempts();
     let mut before = 0usize;
@@ -175,7 +180,7 @@ fn attempts_from<'a>(run: &'a WatchedRun<'a>, first: u32) -> &'a [AttemptMade<'a
     attempts.get(before..).unwrap_or(attempts)
 }
 
-/// The first attempt that the run's own rule made fail.
+/// The first attempt that fails by the run's own rule; `None` if there is none.
 fn first_failing<'a>(run: &'a WatchedRun<'a>) -> Option<AttemptMade<'a>> {
     let attempts = &run.history.attempts;
     match &run.parameters.rule {
@@ -217,13 +222,13 @@ fn sheet_for<'a>(alloc: Global, runs: ShownRuns<'a>) -> Result<Sheet<'a>, AllocE
     })
 }
 
-/// The columns that two runs share.
+/// The columns that the panels of two runs share.
 fn columns_of_two(first: &WatchedRun<'_>, second: &WatchedRun<'_>) -> Columns {
     let last = first.history.steps().max(second.history.steps());
     Columns::between(0, last, MOST_COLUMNS / 2)
 }
 
-/// The end of the last of these runs, if it is drawn once more.
+/// The end of the lowest of these runs; `None` if it isn't drawn once more.
 fn end_of_last(alloc: Global, runs: ShownRuns<'_>) -> Result<Option<EndOfRun>, AllocError> {
     let run = runs.last();
     let Some(first) = first_of_end(run) else {
@@ -242,8 +247,8 @@ fn depths_of(run: &WatchedRun<'_>) -> Depths {
     }
 }
 
-/// The places that the frames of these runs show. Those are drawn shorter in which nothing begins or ends from a step on, if they would
-/// leave little room for the others.
+/// The places that the frames of these runs show. Places between which nothing begins or ends, from the step `first` on, are drawn shorter
+/// if they would leave little room for the others.
 fn places_of(alloc: Global, runs: ShownRuns<'_>, first: u32) -> Result<Places, AllocError> {
     let highest = highest_of(runs);
     let mut edges = Edges::up_to(alloc, highest)?;
@@ -263,7 +268,8 @@ fn highest_of(runs: ShownRuns<'_>) -> u32 {
     }
 }
 
-/// Adds the edges of a run's cells and attempts that begin or end from a step on.
+/// Adds the edges of a run's cells that begin or end from the step `first` on, those of the attempts that fail from that step on, and the
+/// run's limit.
 fn add_edges(edges: &mut Edges, run: &WatchedRun<'_>, first: u32) {
     for part in run.history.course.parts() {
         if part.from >= first || (first <= part.gone && part.gone <= run.history.steps()) {
@@ -282,8 +288,8 @@ fn add_edges(edges: &mut Edges, run: &WatchedRun<'_>, first: u32) {
     }
 }
 
-/// The highest place that a run's frame shows: the longest that the heap was, and past that what was refused and the limit, unless these
-/// are so far that little would be left for the cells.
+/// The highest place that a run's frame shows: the greatest end of a granted cell, or a failed attempt's end or the limit above it. These
+/// are left out, or cut off, where they are so high that little room would be left for the cells.
 fn highest_shown(run: &WatchedRun<'_>) -> u32 {
     let attempts = run.history.attempts.kept_attempts();
     let longest = longest_end(attempts);
@@ -344,7 +350,7 @@ impl<'a> Sheet<'a> {
     }
 }
 
-/// Says how much is drawn as one.
+/// Says how many steps a column is, if it is more than one step.
 fn put_note(drawing: &mut Drawing<'_>, sheet: &Sheet<'_>, y: u32) -> Drawn {
     if sheet.columns.steps == 1 {
         return Ok(());

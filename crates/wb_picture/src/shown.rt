@@ -1,18 +1,18 @@
-//! The runs that a picture shows: one, or two of which one is below the other.
+//! The runs that a picture shows: one, or two, one below the other.
 
 use wb_history::WatchedRun;
 
-/// The runs of a picture, of which all is kept that a picture draws (`Keep::Drawn`).
+/// The runs of a picture, watched with all that a picture draws kept (`Keep::Drawn`).
 #[derive(Clone, Copy)]
 pub struct ShownRuns<'a> {
-    /// The one, or the upper of two.
+    /// The only run, or the upper of two.
     pub first: &'a WatchedRun<'a>,
-    /// The lower of two.
+    /// The lower of two runs; `None` if there is only one.
     pub second: Option<&'a WatchedRun<'a>>,
 }
 
 impl<'a> ShownRuns<'a> {
-    /// Only this run.
+    /// Only this run, without a second.
     pub fn one(run: &'a WatchedRun<'a>) -> ShownRuns<'a> {
         ShownRuns {
             first: run,
@@ -20,12 +20,12 @@ impl<'a> ShownRuns<'a> {
         }
     }
 
-    /// Returns how many there are.
+    /// Returns how many runs there are.
     pub fn count(self) -> u32 {
         if self.second.is_some() { 2 } else { 1 }
     }
 
-    /// Returns the lowest of them.
+    /// Returns the lowest run.
     pub fn last(self) -> &'a WatchedRun<'a> {
         match self.second {
             Some(second) => second,

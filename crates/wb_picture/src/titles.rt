@@ -1,4 +1,4 @@
-//! What the title of a shape says: of a cell, of an attempt, of several that are drawn as one.
+//! The titles of shapes: of a cell, of an attempt, and of several cells that are drawn as one.
 
 use crate::drawing::{Drawing, Drawn};
 use crate::escape::{put_class, put_line};
@@ -23,7 +23,7 @@ pub fn put_part_title(drawing: &mut Drawing<'_>, part: &Part) -> Drawn {
     put_line(drawing, part.line)
 }
 
-/// What a cell is for.
+/// Writes what a cell is for.
 fn put_kind(drawing: &mut Drawing<'_>, kind: Kind) -> Drawn {
     match kind {
         Kind::Raw => drawing.text.push_str("raw"),
@@ -62,7 +62,7 @@ fn put_end(drawing: &mut Drawing<'_>, part: &Part) -> Drawn {
     put_both(drawing, deed, part.gone)
 }
 
-/// Says of several parts that are drawn as one how many they are.
+/// Says how many parts are drawn as one, and which they are.
 pub fn put_group_title(
     drawing: &mut Drawing<'_>,
     group: &Group,
@@ -83,7 +83,7 @@ pub fn put_group_title(
     put_line(drawing, first.line)
 }
 
-/// Says of an attempt what came of it.
+/// Says what came of an attempt.
 pub fn put_attempt_title(drawing: &mut Drawing<'_>, attempt: &AttemptMade<'_>) -> Drawn {
     let Attempt {
         number,

@@ -1,5 +1,5 @@
-//! Laws of runs in heaps that choose the places of cells in whatever way: by a placing, which says of each attempt where its cell goes, and
-//! whether a cell that grows stays. Each law is the contract of a function that does nothing, so that the gate proves it.
+//! Laws of runs in heaps that choose the places of cells in any way. A placing says of each attempt where its cell goes, and whether a cell
+//! that grows stays. Each law is the contract of a function that does nothing, so that the gate proves it.
 
 ghost use Rattle.std.specs.Prelude.{◌≡◌, ◌≢◌, ℕ, List, true};
 ghost use Rattle.wb_model.specs.heap.Placement.{placement_of, Placement};
@@ -12,7 +12,8 @@ ghost use Rattle.wb_model.specs.declared.run.Why.TheVariants.{Ceiling};
 ghost use Rattle.wb_model.specs.declared.script.Script.{Script};
 ghost use Rattle.wb_placings.specs.PlacedRuns.{placed_run, IsSameButPlaces};
 
-/// The run in a heap of a shape, where the ceiling doesn't cut it, is the placed run by that heap's own choice of places, but for notes.
+/// If the ceiling doesn't cut it, the run in a heap of any shape is, except for notes, the placed run with this heap's own choice of
+/// places.
 pub fn runs_are_placed_by_their_heap()
     ensures same { (script : Script) (budget : ℕ) (shape : Shape) (numbers : List ℕ) →
         (set_run script budget shape numbers).outcome ≢ Cut Ceiling →

@@ -5,9 +5,9 @@ use wb_model::memory::NoMemory;
 /// Why a call of the heap was refused. A refused call leaves the heap as it was.
 #[derive(Clone, Copy, Debug, PartialEq, Eq)]
 pub enum HeapFault {
-    /// The workbench's own memory ran out. This is never a refusal of the simulated heap.
+    /// The workbench's own memory ran out. A full simulated heap never causes this.
     NoMemory = 1,
-    /// A minimum length or a growth step that no heap may have.
+    /// The shape has a least length or a growth step that no heap may have.
     BadShape = 2,
     /// The cell would end past the limit.
     TooShort = 3,

@@ -1,5 +1,5 @@
-//! The heap, its grants and releases, and what its readers return. Reallocation is in `realloc`, the words of payloads in
-//! `payloads`, the cells in the crate below, and the committed length and the longest free run in `space`.
+//! The heap, its grants and releases, and its readers. Reallocation is in `realloc`, the words of payloads in `payloads`, the cells in the
+//! crate `wb_cells`, and the committed length and the longest free run in `space`.
 
 ghost use Rattle.std.specs.Prelude.{◌≡◌, ◌≢◌, ◌+◌, ◌*◌, ◌<◌, ◌≤◌, ◌↔◌, false, length, take, sum, All, IfOk, IfErr};
 ghost use Rattle.std.specs.Prelude.{IfSome, OnOk, OnErr, Some, None, option_map};
@@ -22,9 +22,9 @@ use wb_model::memory::NoMemory;
 
 /// A simulated heap: live cells with their payloads, and a limit that none of them passes.
 ///
-/// Places, lengths, the limit and the committed length are bytes from the start of the chunk. The committed
-/// length is the least under the shape at first, grows with the cells and falls by `compress` alone. Memory is held for
-/// the greatest committed length so far. A payload is zeroed when its cell is granted.
+/// Places, lengths, the limit and the committed length are in bytes, and places count from the start of the chunk. The committed length is
+/// at first the least under the limit and the shape; it grows with the cells, and only `compress` lessens it. The workbench holds memory
+/// for the greatest committed length so far. A payload is zeroed when its cell is granted.
 #[derive(Drop)]
 pub struct Heap {
     pub(crate) cells: Cells,
@@ -33,7 +33,7 @@ pub struct Heap {
     pub(crate) committed: u32,
     /// How many cells are live.
     pub(crate) count: u32,
-    /// Their lengths together.
+    /// The sum of their cell lengths, in bytes.
     pub(crate) total: u32,
 }
 
@@ -50,10 +50,10 @@ impl Model for Heap {
 }
 
 impl Heap {
-    /// A heap with no cell, with the least committed length, for which it takes memory.
+    /// Returns a heap with no cell and the least committed length, for which it takes the workbench's memory.
     ///
-    /// The limit is in bytes, and need be no multiple of 16. `BadShape` where no heap may have the shape, and
-    /// else `NoMemory` at worst, and not even that where the length is 0.
+    /// The limit is in bytes, and need not be a multiple of 16. `BadShape` exactly if no heap may have the shape. Otherwise `NoMemory` if
+    /// the workbench's memory runs out, which can't happen if the committed length is 0.
     pub fn new(alloc: Global, limit: u32, shape: Shape) -> Result<Heap, HeapFault>
         requires { limit ≤ CEILING }
         ensures ok { IfOk result (λ heap. heap ≡ empty_heap limit shape) }
@@ -79,16 +79,17 @@ impl Heap {
         })
     }
 
-    /// The same heap, in memory of its own: what is done to one changes nothing in the other. `NoMemory` where memory was
-    /// refused.
+    /// Returns a copy of the heap, in memory of its own: what is done to one heap changes nothing in the other. `NoMemory` if the
+    /// workbench's memory runs out.
     pub fn try_copy(&self) -> Result<Heap, NoMemory>
         ensures { IfOk result (λ copy. copy ≡ self.now) }
     {
         self.try_copy_over(None)
     }
 
-    /// The same heap, over the memory of `spare`, whose cells are lost and which is made larger if need be; where there is none, in memory
-    /// of its own. What is done to one changes nothing in the other. `NoMemory` where memory was refused.
+    /// Returns a copy of the heap. If there is a `spare` heap, the copy takes over its memory, which grows if need be, and the spare's
+    /// cells are lost; if not, the copy has memory of its own. What is done to one heap changes nothing in the other. `NoMemory` if the
+    /// workbench's memory runs out.
     pub fn try_copy_over(&self, spare: Option<Heap>) -> Result<Heap, NoMemory>
         ensures { IfOk result (λ copy. copy ≡ self.now) }
     {
@@ -106,10 +107,10 @@ impl Heap {
         })
     }
 
-    /// The place where a cell of this length goes: the lowest one from which on no live cell meets its bytes.
+    /// Returns the place where a cell of this length goes: the lowest place at which its bytes meet no live cell.
     ///
-    /// The length is the cell length in bytes, header included. The limit isn't asked: what lies above the
-    /// last cell counts as free without end, and the place plus any cell length stays below 2^32.
+    /// The length is the cell length in bytes, header included. The limit isn't checked: all bytes above the last cell count as free,
+    /// without end. The place plus any cell length stays below 2^32.
     pub fn place_for(&self, length: u32) -> u32
         requires { IsCellLength length }
         ensures place { result ≡ place_in self.now length }
@@ -120,12 +121,12 @@ impl Heap {
         self.cells.first_fit(length)
     }
 
-    /// Grants a cell at the place that `place_for` gives, with zeros for its payload.
+    /// Grants a cell at the place that `place_for` returns, with zeros for its payload.
     ///
-    /// The length is the cell length in bytes, the number that of the attempt, from 1 on, and the level that of the
-    /// heap marks. `TooShort` exactly where the cell would end past the limit, and else `NoMemory` at worst, and not
-    /// even that where the new committed length is within `held`. A refusal leaves the heap as it was. Source: Symbian
-    /// OS v9 SDK reference, RHeap, for a grant that is refused.
+    /// `length` is the cell length in bytes, `number` the attempt's number, from 1 on, and `level` the level of heap marks. `TooShort`
+    /// exactly if the cell would end past the limit. Otherwise `NoMemory` if the workbench's memory runs out, which can't happen if the new
+    /// committed length is at most `held`. A refused call leaves the heap as it was. Source: Symbian OS v9 SDK reference, RHeap, for a
+    /// grant that is refused.
     pub fn alloc(
         &mut self,
         length: u32,
@@ -152,8 +153,8 @@ impl Heap {
         self.alloc_at(place, length, kind, number, level)
     }
 
-    /// Grants a cell as `alloc` does, at the place that `place_for` gives, so that it isn't sought again. It refuses as `alloc`
-    /// does, and a refusal leaves the heap as it was.
+    /// Grants a cell as `alloc` does. `place` must be the place that `place_for` returns, so the search for it isn't repeated. The errors
+    /// are those of `alloc`; the heap is then as it was.
     pub fn alloc_at(
         &mut self,
         place: u32,
@@ -191,12 +192,12 @@ impl Heap {
         Ok(Ptr { place, number })
     }
 
-    /// Releases the cell that the pointer names. Its bytes are free for the next cells, together with the free bytes on
-    /// both sides of it. The committed length stays.
+    /// Releases the cell that the pointer names. Its bytes are free for later cells, in one run with the free bytes on both sides of it.
+    /// The committed length stays.
     ///
-    /// A pointer names a cell by its place and its number, so one that outlived its cell stays bad after the
-    /// place was used again, whatever words a payload holds. `BadCell` exactly where it names no live cell, and then the
-    /// heap is as it was. Source: Symbian OS v9 SDK reference, RHeap.
+    /// A pointer names a cell by its place and its number, so a stale pointer stays bad even if a new cell begins at its place, whatever
+    /// words a payload holds. `BadCell` exactly if the pointer names no live cell; the heap is then as it was. Source: Symbian OS v9 SDK
+    /// reference, RHeap.
     pub fn free(&mut self, ptr: Ptr) -> Result<(), HeapFault>
         ensures freed { OnOk result (self.new ≡ heap_without self.old ptr) }
 
@@ -213,7 +214,7 @@ impl Heap {
         Ok(())
     }
 
-    /// Releases a cell as `free` does, by the header that `header` gives for the pointer, so that it isn't read again.
+    /// Releases a cell as `free` does. `cell` must be the header that `header` returns for the pointer, so it isn't read again.
     pub fn free_cell(&mut self, ptr: Ptr, cell: Header)
         requires { option_map (λ c. c.head) (cell_at ptr self.old.row) ≡ Some cell }
         ensures freed { self.new ≡ heap_without self.old ptr }
@@ -224,8 +225,8 @@ impl Heap {
         self.total -= cell.length;
     }
 
-    /// The header of the cell that the pointer names, or `None` exactly where it names no live cell. Its payload has a
-    /// word for each four bytes of its usable length.
+    /// Returns the header of the cell that the pointer names; `None` exactly if it names no live cell. The cell's payload has one word for
+    /// each four bytes of its usable length.
     pub fn header(&self, ptr: Ptr) -> Option<Header>
         ensures header { result ≡ option_map (λ c. c.head) (cell_at ptr self.now.row) }
         ensures live { IfSome result (IsLiveBelow self.now.limit) }
@@ -236,10 +237,9 @@ impl Heap {
         self.cells.header(ptr)
     }
 
-    /// The first live cell that begins at this place, in bytes, or above it, or `None` where there is none.
+    /// Returns the first live cell that begins at this place, in bytes, or above it; `None` if there is none.
     ///
-    /// From place 0 on, and then from the end of each cell that came, this gives every live cell in order of
-    /// place.
+    /// Called with place 0, and then with the end of each cell returned, it gives every live cell in order of place.
     pub fn next_live(&self, from: u32) -> Option<Header>
         ensures first { result ≡ next_live_of from (headers self.now.row) }
         ensures live { IfSome result (IsLiveBelow self.now.limit) }
@@ -248,9 +248,9 @@ impl Heap {
         self.cells.next_live(from)
     }
 
-    /// Gives up committed length above the last live cell, down to the least or to whole steps, and answers how many
-    /// bytes that reclaims, or 0. Memory stays held. Source: Symbian OS v9 SDK reference, RHeap, and this project's
-    /// profile for the lengths.
+    /// Gives up committed length above the last live cell, down to whole growth steps or to the least committed length, and returns by how
+    /// many bytes it shrank, 0 if it stays. The workbench keeps the memory that it holds. Source: Symbian OS v9 SDK reference, RHeap, and
+    /// this project's profile for the lengths.
     pub fn compress(&mut self) -> u32
         ensures reclaimed { result ≡ reclaimed_from self.old }
         ensures fallen { self.new ≡ heap_compressed self.old }
@@ -267,8 +267,8 @@ impl Heap {
         reclaimed
     }
 
-    /// The free bytes below the committed length, and the longest run of them, in bytes, headers included. Source:
-    /// Symbian OS v9 SDK reference, RHeap.
+    /// Returns how many bytes below the committed length are free, and how many the longest free run has. The header of a cell that goes
+    /// there takes 16 of them. Source: Symbian OS v9 SDK reference, RHeap.
     pub fn available(&self) -> (u32, u32)
         ensures total { result.0 ≡ sum (runs_in self.now) }
         ensures longest { result.1 ≡ longest (runs_in self.now) }
@@ -279,7 +279,7 @@ impl Heap {
         )
     }
 
-    /// The number of live cells, and their cell lengths together, in bytes. Source: Symbian OS v9 SDK reference, RHeap.
+    /// Returns the number of live cells, and the sum of their cell lengths, in bytes. Source: Symbian OS v9 SDK reference, RHeap.
     pub fn alloc_size(&self) -> (u32, u32)
         ensures count { result.0 ≡ length self.now.row }
         ensures total { result.1 ≡ total_length (headers self.now.row) }
@@ -301,14 +301,14 @@ impl Heap {
         self.committed
     }
 
-    /// Whether a cell that is to be longer moves even where it could stay.
+    /// Whether a cell that grows moves even if it could stay.
     pub fn is_moving(&self) -> bool
         ensures { result ≡ self.now.shape.moving }
     {
         self.shape.moving
     }
 
-    /// The greatest committed length so far, in bytes, for which memory is held.
+    /// The greatest committed length so far, in bytes, for which the workbench holds memory.
     pub fn held(&self) -> u32
         ensures { result ≡ self.now.held }
     {

@@ -1,7 +1,6 @@
 //! The simulated heap: live cells with their payloads, below a limit.
 //!
-//! What a grant, a release, a compression and a store make of the heap is here; how cells are laid out in words
-//! is in the crate below.
+//! What a grant, a release, a compression and a store make of the heap is here; how cells are laid out in words is in the crate `wb_cells`.
 #![tactic(auto)]
 
 pub use fault::HeapFault;

@@ -1,4 +1,4 @@
-//! The words of payloads. Words and their halves are counted from 0; the half 2k is the low half of word k.
+//! The words of payloads. Words and half words count from 0; half word 2k is the low half of word k.
 
 ghost use Rattle.std.specs.Prelude.{◌≡◌, ◌+◌, ◌*◌, ◌<◌, ◌≤◌, ◌++◌, true, length, take, drop, replicate, slice_index};
 ghost use Rattle.std.specs.Prelude.{slice_set, IsSome};
@@ -11,7 +11,7 @@ use crate::heap::Heap;
 use wb_model::heap::Ptr;
 
 impl Heap {
-    /// A word of a payload.
+    /// Returns word `i` of a payload.
     pub fn payload(&self, ptr: Ptr, i: u32) -> u32
         requires { i < length (payload_of ptr self.now.row) }
         ensures { result ≡ slice_index (payload_of ptr self.now.row) i }
@@ -19,8 +19,8 @@ impl Heap {
         self.cells.payload(ptr, i)
     }
 
-    /// Whether a payload of so many words is that of another heap, at the same place. Where neither was written since it was zeros,
-    /// nothing is read.
+    /// Whether a payload of `n` words holds the same words as the payload of another heap's cell at the same place. If neither was written
+    /// since it was all zeros, no word is read.
     pub fn has_payload_of(&self, ptr: Ptr, other: &Heap, there: Ptr, n: u32) -> bool
         requires live { IsSome (cell_at ptr self.now.row) }
         requires other_live { IsSome (cell_at there other.now.row) }
@@ -32,7 +32,7 @@ impl Heap {
         self.cells.has_payload_of(ptr, &other.cells, there, n)
     }
 
-    /// Changes a word of a payload, and nothing else.
+    /// Sets word `i` of a payload to `v`, and changes nothing else.
     pub fn set_payload(&mut self, ptr: Ptr, i: u32, v: u32)
         requires { i < length (payload_of ptr self.old.row) }
         ensures changed { self.new
@@ -42,7 +42,7 @@ impl Heap {
         self.cells.set_payload(ptr, i, v);
     }
 
-    /// A half of a payload's words.
+    /// Returns half word `i` of a payload.
     pub fn payload_half(&self, ptr: Ptr, i: u32) -> u16
         requires { i < 2 * length (payload_of ptr self.now.row) }
         ensures { result ≡ half_of (payload_of ptr self.now.row) i }
@@ -50,7 +50,7 @@ impl Heap {
         self.cells.payload_half(ptr, i)
     }
 
-    /// Changes a half of a payload's words, and nothing else.
+    /// Sets half word `i` of a payload to `v`, and changes nothing else.
     pub fn set_payload_half(&mut self, ptr: Ptr, i: u32, v: u16)
         requires { i < 2 * length (payload_of ptr self.old.row) }
         ensures changed { self.new
@@ -60,7 +60,7 @@ impl Heap {
         self.cells.set_payload_half(ptr, i, v);
     }
 
-    /// Copies the first `n` words of one cell's payload to the front of another's, or of its own.
+    /// Copies the first `n` words of the payload of `from` to the start of the payload of `to`, which may be the same cell.
     pub fn copy_payload(&mut self, from: Ptr, to: Ptr, n: u32)
         requires from_live { IsSome (cell_at from self.old.row) }
         requires to_live { IsSome (cell_at to self.old.row) }
@@ -73,7 +73,7 @@ impl Heap {
         self.cells.copy_payload(from, to, n);
     }
 
-    /// Makes the `n` halves of a payload from an index on 0, and changes nothing else.
+    /// Sets `n` half words of a payload to 0, from half word `i` on, and changes nothing else.
     pub fn zero_halves(&mut self, ptr: Ptr, i: u32, n: u32)
         requires live { IsSome (cell_at ptr self.old.row) }
         requires within { i + n ≤ 2 * length (payload_of ptr self.old.row) }
@@ -84,7 +84,7 @@ impl Heap {
         self.cells.zero_halves(ptr, i, n);
     }
 
-    /// Writes halves into a payload from an index on, and changes nothing else.
+    /// Writes half words into a payload, from half word `i` on, and changes nothing else.
     pub fn write_halves(&mut self, ptr: Ptr, i: u32, halves: &[u16])
         requires live { IsSome (cell_at ptr self.old.row) }
         requires within { i + length halves.now ≤ 2 * length (payload_of ptr self.old.row) }
@@ -95,8 +95,8 @@ impl Heap {
         self.cells.write_halves(ptr, i, halves);
     }
 
-    /// Puts the `n` halves of one payload from `fi` on at `ti` of another, or of the same, as if all had been read before
-    /// any was written.
+    /// Copies `n` half words of the payload of `from`, from half word `fi` on, to half word `ti` and on of the payload of `to`, which may
+    /// be the same cell. The result is as if all were read before any was written.
     pub fn copy_halves(&mut self, from: Ptr, fi: u32, to: Ptr, ti: u32, n: u32)
         requires from_live { IsSome (cell_at from self.old.row) }
         requires to_live { IsSome (cell_at to self.old.row) }

@@ -1,5 +1,5 @@
-//! Reallocation: cells that become longer or shorter, where they are or elsewhere; and what else is asked and returned of one
-//! cell.
+//! Reallocation: cells that become longer or shorter, at their place or at another one. The usable length of a cell, and the change of its
+//! level, are here too.
 
 ghost use Rattle.std.specs.Prelude.{◌≡◌, ◌≢◌, ◌+◌, ◌<◌, ◌≤◌, ◌%◌, ◌↔◌, All, IfOk, IfErr, IfSome, IsOk, IsSome};
 ghost use Rattle.std.specs.Prelude.{IsSomeAnd, OnOk, OnErr, Some, None, option_map, not, ◌&&◌, true, false};
@@ -17,12 +17,12 @@ use crate::{moves, room};
 use wb_model::heap::{Header, Ptr};
 
 impl Heap {
-    /// The place where a cell goes that is to be longer: its own where the bytes after it are free, so always where it
-    /// is the last; else the one that `place_for` gives while the cell is still there. Where the shape says that cells move, it
-    /// is always the latter.
+    /// Returns the place of a cell that grows to this length. It is the cell's own place if enough bytes after it are free, as they always
+    /// are after the last cell; if not, it is the place that `place_for` returns while the cell still occupies its old bytes. If the shape
+    /// says that growing cells always move, it is always the latter.
     ///
-    /// The length is the cell length in bytes, header included. The limit isn't asked, and the place plus any cell
-    /// length stays below 2^32.
+    /// The length is the new cell length in bytes, header included. The limit isn't checked, and the place plus any cell length stays below
+    /// 2^32.
     pub fn place_for_realloc(&self, ptr: Ptr, length: u32) -> u32
         requires live { IsSome (cell_at ptr self.now.row) }
         requires length { IsCellLength length }
@@ -42,7 +42,7 @@ impl Heap {
         self.place_to_grow(cell, length)
     }
 
-    /// What `place_for_realloc` returns, for the header of a live cell.
+    /// Returns what `place_for_realloc` returns, for the header of a live cell.
     pub fn place_to_grow(&self, cell: Header, length: u32) -> u32
         requires live { option_map (λ c. c.head) (cell_at (pointer_to cell) self.now.row)
             ≡ Some cell }
@@ -60,7 +60,7 @@ impl Heap {
         }
     }
 
-    /// Whether a live cell stays that is to have this length.
+    /// Whether a live cell stays at its place when it grows to this length.
     fn stays(&self, cell: Header, length: u32) -> bool
         requires live { option_map (λ c. c.head) (cell_at (pointer_to cell) self.now.row)
             ≡ Some cell }
@@ -72,7 +72,7 @@ impl Heap {
         !self.shape.moving && self.fits(cell, length)
     }
 
-    /// Whether a live cell can have this length where it is.
+    /// Whether a live cell can have this length at its place: whether enough bytes after it are free.
     fn fits(&self, cell: Header, length: u32) -> bool
         requires live { option_map (λ c. c.head) (cell_at (pointer_to cell) self.now.row)
             ≡ Some cell }
@@ -86,19 +86,17 @@ impl Heap {
         }
     }
 
-    /// Gives a cell another length, and answers the pointer that names it from then on.
+    /// Gives a cell another length, and returns the pointer that names it from then on.
     ///
-    /// The length is the cell length in bytes, header included, and the number that of the attempt, from 1 on.
-    /// A cell that becomes no longer keeps place and number: its tail is free, what was there is dropped, and that is
-    /// never refused. One that becomes longer goes to the place that `place_for_realloc` gives; what it holds is kept,
-    /// with zeros after it, and so are kind and level. It keeps its number where it stays, and takes the new one where
-    /// it moves: the old pointer is stale then.
+    /// `length` is the cell length in bytes, header included, and `number` the attempt's number, from 1 on. A cell that gets no longer
+    /// keeps its place and its number, and the end of the cell is freed with what it held; this is never refused. A cell that grows goes to
+    /// the place that `place_for_realloc` returns. It keeps its kind, its level and what it holds, with zeros after that. It keeps its
+    /// number if it stays; if it moves it takes `number`, so the old pointer is stale.
     ///
-    /// `BadCell` exactly where the pointer names no live cell; `TooShort` exactly where a longer cell would end past
-    /// the limit, and then no lower place is tried; else `NoMemory` at worst, and not even that where the new committed
-    /// length is within `held`. A refusal leaves the heap as it was. Source: Symbian OS v9 SDK reference, RHeap, for
-    /// contents that are kept and for a refusal that leaves the old cell, and this project's profile for places and
-    /// numbers.
+    /// `BadCell` exactly if the pointer names no live cell. `TooShort` exactly if a growing cell would end past the limit; no lower place
+    /// is tried then. Otherwise `NoMemory` if the workbench's memory runs out, which can't happen if the new committed length is at most
+    /// `held`. A refused call leaves the heap as it was. Source: Symbian OS v9 SDK reference, RHeap, for contents that are kept and for a
+    /// refusal that leaves the old cell, and this project's profile for places and numbers.
     pub fn realloc(&mut self, ptr: Ptr, length: u32, number: u32) -> Result<Ptr, HeapFault>
         requires length { IsCellLength length }
         requires numbered { 1 ≤ number }
@@ -135,9 +133,9 @@ impl Heap {
         self.lengthen(cell, place, length, number)
     }
 
-    /// What `realloc` does to a cell that becomes longer, where its header and its place are known: the place is the one
-    /// that `place_to_grow` gives, so that it isn't sought again. `TooShort` exactly where the new end passes the limit, and
-    /// else `NoMemory` at worst; a refusal leaves the heap as it was.
+    /// Does what `realloc` does to a cell that grows. `cell` must be its header, and `place` the place that `place_to_grow` returns, so the
+    /// search for it isn't repeated. `TooShort` exactly if the cell would end past the limit, and otherwise `NoMemory` if the workbench's
+    /// memory runs out; the heap is then as it was.
     pub fn lengthen(
         &mut self,
         cell: Header,
@@ -174,7 +172,7 @@ impl Heap {
         Ok(ptr)
     }
 
-    /// What `realloc` does to a cell that becomes no longer, where its header is known.
+    /// Does what `realloc` does to a cell that gets no longer. `cell` must be its header.
     pub fn shorten(&mut self, cell: Header, length: u32)
         requires live { option_map (λ c. c.head) (cell_at (pointer_to cell) self.old.row)
             ≡ Some cell }
@@ -190,9 +188,9 @@ impl Heap {
         self.total -= cell.length - length;
     }
 
-    /// The usable length of the cell that the pointer names, in bytes: its cell length without the header.
+    /// Returns the usable length of the cell that the pointer names, in bytes: its cell length without the header.
     ///
-    /// `BadCell` exactly where it names no live cell. Source: Symbian OS v9 SDK reference, RHeap.
+    /// `BadCell` exactly if the pointer names no live cell. Source: Symbian OS v9 SDK reference, RHeap.
     pub fn alloc_len(&self, ptr: Ptr) -> Result<u32, HeapFault>
         ensures usable { IfOk result (λ bytes.
             IsSomeAnd (cell_at ptr self.now.row) (λ c. bytes ≡ usable_of c.head)) }
@@ -205,7 +203,7 @@ impl Heap {
         }
     }
 
-    /// Puts the cell that the pointer names under another level of heap marks, and changes nothing else.
+    /// Gives the cell that the pointer names another level of heap marks, and changes nothing else.
     pub fn set_level(&mut self, ptr: Ptr, level: u32)
         requires { IsSome (cell_at ptr self.old.row) }
         ensures leveled { self.new ≡ heap_leveled self.old ptr level }

@@ -1,4 +1,4 @@
-//! Memory of the workbench itself for the simulated chunk.
+//! The workbench's own memory that holds the simulated chunk.
 
 ghost use Rattle.std.specs.Prelude.{◌≡◌, ◌≤◌, ◌%◌, true, max, IfOk, OnOk, OnErr};
 ghost use Rattle.wb_model.specs.heap.Space.{is_shape, space_below, bound_below, committed_by};
@@ -10,10 +10,11 @@ use wb_cells::Cells;
 use wb_model::heap::Shape;
 use wb_model::limits::CEILING;
 
-/// Asks the limit for a cell with this end, and answers the committed length that the cell needs, which is held then.
+/// Checks that a cell with this end is within the limit, takes the workbench's memory for the committed length that the cell needs, and
+/// returns this length in bytes.
 ///
-/// `TooShort` exactly where the end passes the limit, and else `NoMemory` at worst, and not even that where that length
-/// is held already. No memory is asked for where the end is within the committed length.
+/// `TooShort` exactly if the end is past the limit. Otherwise `NoMemory` if the workbench's memory runs out, which can't happen if memory
+/// for this length is held already. No memory is asked for if the end is within the committed length.
 pub fn hold_for(
     cells: &mut Cells,
     limit: u32,

@@ -1,4 +1,4 @@
-//! The committed length of the chunk, in bytes, and the longest run below it that no cell meets.
+//! The committed length of the chunk, and the longest free run below it, in bytes.
 
 ghost use Rattle.std.specs.Prelude.{◌≡◌, ◌≤◌, true, min};
 ghost use Rattle.wb_model.specs.heap.Row.{headers, top_of};
@@ -20,21 +20,21 @@ pub fn may_have_shape(shape: Shape) -> bool
         && shape.step <= LARGEST_STEP
 }
 
-/// The greatest committed length below a limit.
+/// Returns the greatest committed length under a limit: the limit rounded down to a multiple of 16.
 pub fn greatest_below(limit: u32) -> u32
     ensures { result ≡ bound_below limit }
 {
     limit / 16 * 16
 }
 
-/// The least committed length.
+/// Returns the least committed length: the shape's least length, or the greatest committed length if that is less.
 pub fn least_for(limit: u32, shape: Shape) -> u32
     ensures { result ≡ min shape.min (bound_below limit) }
 {
     shape.min.min(greatest_below(limit))
 }
 
-/// Whole steps up to an end, cut to the greatest committed length.
+/// Returns `end` rounded up to whole growth steps, or the greatest committed length if that is less.
 fn grown_to(limit: u32, shape: Shape, end: u32) -> u32
     requires shape { is_shape shape ≡ true }
     requires end { end ≤ CEILING }
@@ -44,7 +44,7 @@ fn grown_to(limit: u32, shape: Shape, end: u32) -> u32
     grown.min(greatest_below(limit))
 }
 
-/// The committed length once a cell with this end was granted.
+/// Returns the committed length after a cell that ends at `end` was granted.
 pub fn committed_for(limit: u32, shape: Shape, committed: u32, end: u32) -> u32
     requires shape { is_shape shape ≡ true }
     requires end { end ≤ CEILING }
@@ -56,7 +56,7 @@ pub fn committed_for(limit: u32, shape: Shape, committed: u32, end: u32) -> u32
     grown_to(limit, shape, end)
 }
 
-/// The committed length once a chunk whose last cell ends at this top was compressed.
+/// Returns the committed length after the compression of a chunk whose last cell ends at `top`.
 pub fn compressed_for(limit: u32, shape: Shape, committed: u32, top: u32) -> u32
     requires shape { is_shape shape ≡ true }
     requires top { top ≤ CEILING }
@@ -66,7 +66,7 @@ pub fn compressed_for(limit: u32, shape: Shape, committed: u32, top: u32) -> u32
     kept.min(committed)
 }
 
-/// The length of the longest run below the committed length that no cell meets.
+/// Returns the length of the longest free run below the committed length.
 pub fn longest_run(cells: &Cells, committed: u32) -> u32
     requires { top_of (headers cells.now.row) ≤ committed }
     ensures { result ≡ longest (free_runs 0 (headers cells.now.row) committed) }

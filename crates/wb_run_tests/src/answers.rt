@@ -12,7 +12,7 @@ use workbench::answer::answer;
 use workbench::exit_status::READ_OR_WRITE_FAULT;
 use workbench::{Command, Silent, Task};
 
-/// Gives its bytes, `at_once` at a time and with each read `grows` more, and then fails or is at its end.
+/// A reader that gives its bytes, `at_once` at its first read and `grows` more at each read after it, and then fails or is at its end.
 #[derive(Drop)]
 struct Giver<'a> {
     bytes: &'a [u8],
@@ -40,7 +40,7 @@ impl Read for Giver<'_> {
     }
 }
 
-/// Gives the byte `a` for ever, `at_once` at a time.
+/// A reader that gives the byte `a` for ever, `at_once` at a time.
 #[derive(Drop)]
 struct Endless {
     at_once: usize,
@@ -56,7 +56,7 @@ impl Read for Endless {
     }
 }
 
-/// Takes `room` bytes, `at_once` at a time, and then fails or takes none.
+/// A writer that takes `room` bytes, `at_once` at a time, and then fails or takes none.
 #[derive(Drop)]
 struct Taker {
     taken: Vec<u8>,
@@ -86,8 +86,8 @@ impl Write for Taker {
     }
 }
 
-/// Fails at one of its calls, the first being 0, and works before and after it: with an error, or for want of a
-/// kind by taking no byte.
+/// A stream of which one call fails, while those before and after it work. Calls are counted from 0. The call fails with an error of the
+/// kind `with`, or, if that is `None`, by taking no byte.
 #[derive(Drop)]
 struct FailingOnce<S> {
     stream: S,
@@ -106,7 +106,7 @@ impl<S> FailingOnce<S> {
         }
     }
 
-    /// What the next call answers, where it is the one that fails.
+    /// What the next call returns if it is the one that fails, or `None`.
     fn failure(&mut self) -> Option<io::Result<usize>> {
         let call = self.calls;
         self.calls = call.wrapping_add(1);
@@ -201,7 +201,7 @@ steps 1
 
 const READ_FAULT: &[u8] = b"read fault\n";
 
-/// The two sorts of errors: an interrupted call is not tried again.
+/// An error, and an interrupted call, which isn't tried again.
 const KINDS: [ErrorKind; 2] = [ErrorKind::Other, ErrorKind::Interrupted];
 
 /// Ways in which a write fails: with an error, or by taking no byte.
@@ -211,7 +211,7 @@ const FAILURES: [Option<ErrorKind>; 3] = [
     None,
 ];
 
-/// Whether the answer to what a reader gives is this line alone, that reading failed.
+/// Whether the report for this reader is only the line that reading failed, and the status says so.
 fn is_read_fault(alloc: Global, reader: &mut impl Read) -> bool {
     let mut writer = Vec::new(alloc);
     let answered = answer(alloc, &run_command(), reader, &mut writer, &mut Silent);
@@ -254,7 +254,7 @@ fn reads_no_more_where_the_end_is_met(rt: HostRuntime) {
     assert_eq!(rt; reader.reads, 6);
 }
 
-/// Whether the script that a reader gives has its report.
+/// Whether the report for this reader is that of `LEAKING`.
 fn has_its_report(alloc: Global, reader: &mut impl Read) -> bool {
     let mut writer = Vec::new(alloc);
     let answered = answer(alloc, &run_command(), reader, &mut writer, &mut Silent);
@@ -302,12 +302,12 @@ fn reads_no_further_than_a_script_may_be_long(rt: HostRuntime) {
     }
 }
 
-/// Whether writing fails, with this beginning of the text taken before.
+/// Whether the status says that writing failed.
 fn stops(alloc: Global, reader: &mut Giver<'_>, writer: &mut impl Write) -> bool {
     answer(alloc, &run_command(), reader, writer, &mut Silent).status == READ_OR_WRITE_FAULT
 }
 
-/// Whether the report, which is this text, goes out up to its `at`-th write, of five bytes each, where that fails.
+/// Whether the writer gets the report `text`, five bytes at a time, up to its write `at`, counted from 0, which fails and is the last.
 fn ends_at_write(
     alloc: Global,
     of_lengths: bool,

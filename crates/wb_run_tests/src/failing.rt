@@ -1,4 +1,4 @@
-//! Scripts that are run, swept and reported of while attempts fail, and what must come of it.
+//! Scripts that are run and swept while attempts fail, and helpers that compare answers, findings and reports with what they must be.
 
 ghost use Rattle.std.specs.Prelude.{IsTrue};
 ghost use Rattle.wb_command_line.specs.Command.{is_answerable};
@@ -22,19 +22,20 @@ pub(crate) const SHAPE: Shape = Shape {
     moving: false,
 };
 
-/// A large cell, or a smaller one in its place. Where both fail, the line that leaves forgets the cell between them.
+/// Asks for a large cell, for a small one, and, if the large one failed, for a smaller one in its place. If both attempts for the page
+/// fail, `allocl` leaves, and the cell of `note` is forgotten.
 pub(crate) const FALLBACK: &[u8] =
     b"proc main\nptr page\nptr note\nalloc page 256\nalloc note 16\nif null page\nallocl page 64\nend\nfree note\nfree page\nend\n";
 
-/// A cell that is asked for up to three times, and used without a look at the last answer.
+/// Asks for a cell up to three times, and then uses it without a look at the last answer.
 pub(crate) const THRICE: &[u8] =
     b"proc main\nptr a\nrepeat 3\nif null a\nalloc a 16\nend\nend\nstore a 0 7\nfree a\nend\n";
 
-/// A cell, and six more of which the script's own setting refuses every second.
+/// Asks for a cell, and then for six more, of which the script's own setting makes every second fail.
 pub(crate) const SETS: &[u8] =
     b"proc main\nptr a\nalloc a 1\nfree a\nfailevery 2\nrepeat 6\nalloc a 1\nfree a\nend\nend\n";
 
-/// Three cells, after a line that ends all settings of the script.
+/// Asks for three cells, after a line that ends the script's own setting.
 pub(crate) const SETS_NONE: &[u8] =
     b"proc main\nptr a\nfailevery 1\nfailnone\nrepeat 3\nalloc a 1\nfree a\nend\nend\n";
 
@@ -49,7 +50,7 @@ pub(crate) fn answers_of(alloc: Global, script: &[u8], rule: Rule) -> Result<Vec
     Ok(answers)
 }
 
-/// Whether the attempts of a run are answered so.
+/// Whether the attempts of a run get these answers.
 pub(crate) fn are_answered(
     alloc: Global,
     script: &[u8],
@@ -59,7 +60,7 @@ pub(crate) fn are_answered(
     Ok(answers_of(alloc, script, rule.rule())?.as_slice() == wanted)
 }
 
-/// What a sweep of a script finds among these failures, or why it has no answer.
+/// The failure that a sweep of the script finds, or the fault that keeps it from an answer.
 pub(crate) fn found_in(
     alloc: Global,
     script: &[u8],
@@ -73,9 +74,9 @@ pub(crate) fn found_in(
     })
 }
 
-/// What a sweep or a check writes of the script with a fallback, in lines or as JSON, and its status.
+/// The report and the status that `sweep` or `check` must give for `FALLBACK`, in lines or as JSON.
 pub(crate) struct Wanted {
-    /// Whether it is a check.
+    /// Whether the command is `check`, and not `sweep`.
     pub(crate) is_check: bool,
     pub(crate) failures: Failures,
     pub(crate) json: bool,
@@ -102,7 +103,7 @@ fn command_of(wanted: &Wanted) -> Command
     }
 }
 
-/// Whether the command has its report and its status.
+/// Whether the command gives the wanted report and status.
 pub(crate) fn is_answered(alloc: Global, wanted: &Wanted) -> bool {
     let mut script = FALLBACK;
     let mut report = Vec::new(alloc);

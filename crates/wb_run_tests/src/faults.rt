@@ -1,4 +1,4 @@
-//! Words that `clap` takes, and that are no command all the same.
+//! Words that `clap` accepts, but that spell no command all the same.
 
 use std::alloc::Global;
 use std::test::Fail;
@@ -66,7 +66,7 @@ static FAULTS: [(&[&str], Fault); 38] = [
     (&["sweep", "--sets", "--min", "8"], Fault::Shape),
 ];
 
-/// The fault of the words after the program's name, if they have one of these.
+/// The fault of the words after the program's name, or `None` if they have none of these.
 fn fault_of(alloc: Global, rest: &[&str]) -> Result<Option<Fault>, Fail> {
     let mut words = vec![in alloc; "workbench"]?;
     words.extend_from_slice(rest)?;

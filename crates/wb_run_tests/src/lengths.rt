@@ -1,11 +1,11 @@
-//! What heaps of each length refuse first, by a table of rises.
+//! The first attempt that a heap of a given length denies, by a table of rises.
 
 use std::test::Fail;
 use wb_model::items::Items;
 use wb_model::size::Rise;
 use wb_size::sizing::Sizing;
 
-/// Lengths, and the attempt that a heap of such a length refuses first.
+/// Lengths in bytes, and the first attempt that a heap of that length denies, or `None` if it denies none.
 static LENGTHS: [(u32, Option<u32>); 8] = [
     (0, Some(1)),
     (143, Some(1)),
@@ -17,7 +17,7 @@ static LENGTHS: [(u32, Option<u32>); 8] = [
     (u32::MAX, None),
 ];
 
-/// The index of the first length at which another attempt is refused.
+/// The index of the first row whose length denies another attempt first than the row says.
 fn first_other(sizing: &Sizing, lengths: &[(u32, Option<u32>)]) -> Option<usize> {
     for (index, (length, number)) in lengths.iter().enumerate() {
         if sizing.refused_at(*length) != *number {

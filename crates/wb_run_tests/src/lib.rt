@@ -1,7 +1,7 @@
-//! Nothing but tests: of turns of a machine, shapes that no heap has, lengths that a table gives, attempts that fail at a rate, from
-//! one on, two at once or as a set, and of the program over words, hosts and streams in memory, with what it reports of a sweep, by the
-//! public calls of the crates that have these. They are here so that those crates are proved once, and not again with their tests. What
-//! a worked case can show is in none of them.
+//! Nothing but tests, by public calls of other crates: of machine turns, shapes that no heap has, the table of lengths, attempts that fail
+//! (at a rate, from a number on, as a pair or as a set), of the program over words, hosts and streams in memory, and of the progress that
+//! it reports during a sweep. They are here so that those crates are proved once, and not again with their tests. Nothing that a worked
+//! case can show is tested here.
 #![tactic(auto)]
 
 #[cfg(test)]

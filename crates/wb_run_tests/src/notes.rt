@@ -1,4 +1,4 @@
-//! The text of a run with every part in it, written out by hand.
+//! The report of a run that has every part which a report may have, compared with one written by hand.
 
 use arrayvec::ArrayVec;
 use std::alloc::{AllocError, Global};
@@ -49,7 +49,7 @@ fn run(alloc: Global, outcome: Outcome) -> Result<RunResult, AllocError> {
 /// How a run ends.
 #[derive(Clone, Copy)]
 enum End {
-    /// With the code of a leave, where there is one, and with these leaks.
+    /// The run ends with these leaks, and with the code of a leave if it left.
     Left(Option<i32>, &'static [Leak]),
     Panicked(Panic),
     NoCleanup,
@@ -68,7 +68,7 @@ fn outcome(alloc: Global, end: End) -> Result<Outcome, AllocError> {
     })
 }
 
-/// Ends, and the lines that report them.
+/// Ends of runs, and the lines that report each.
 static ENDS: [(End, &[u8]); 10] = [
     (
         End::Left(
@@ -102,7 +102,7 @@ static ENDS: [(End, &[u8]); 10] = [
     (End::Cut(Why::Ceiling), b"cut ceiling\n"),
 ];
 
-/// Whether the text of a run with this end has these lines between the others.
+/// Whether the report of a run with this end has these lines between `TEXT` and its last line.
 fn is_reported(alloc: Global, end: End, lines: &[u8]) -> Result<bool, Fail> {
     let run = run(alloc, outcome(alloc, end)?)?;
     let mut text = Vec::new(alloc);

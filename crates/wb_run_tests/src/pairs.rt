@@ -1,4 +1,4 @@
-//! Runs, sweeps and reports where two attempts fail.
+//! Runs, sweeps and reports in which two attempts fail.
 
 use crate::failing::{FALLBACK, SETS, SETS_NONE, Wanted, are_answered, found_in, is_answered};
 use crate::rules::Refuses;
@@ -17,13 +17,13 @@ static RUNS: [(&[u8], Refuses, &[Answer]); 9] = [
         Refuses::Pair(2, 3),
         &[Granted, Simulated, Simulated, Granted],
     ),
-    // The second is made in the place of the first.
+    // Attempt 4 is made in place of attempt 2.
     (
         FALLBACK,
         Refuses::Pair(2, 4),
         &[Granted, Simulated, Granted, Simulated],
     ),
-    // Only where attempt 2 fails is there a fourth.
+    // There is a fourth attempt only if attempt 2 fails.
     (
         FALLBACK,
         Refuses::Pair(3, 4),
@@ -35,7 +35,7 @@ static RUNS: [(&[u8], Refuses, &[Answer]); 9] = [
         Refuses::Pair(2, 16_777_216),
         &[Granted, Simulated, Granted, Granted],
     ),
-    // Of these the setting refuses one too: each is refused once.
+    // The setting makes attempt 4 fail too: each of the two attempts fails once.
     (
         SETS,
         Refuses::Pair(3, 4),
@@ -70,23 +70,24 @@ fn a_pair_refuses_both(rt: HostRuntime) -> Result<(), Fail> {
     Ok(())
 }
 
-/// The script with a fallback, with a cell that grows in the end: where attempt 4 fails alone, it is forgotten.
+/// `FALLBACK`, with a cell that grows in the end: if attempt 4 alone fails, that cell is forgotten.
 const FALLBACK_AND_GROWTH: &[u8] =
     b"proc main\nptr page\nptr note\nalloc page 256\nalloc note 16\nif null page\nallocl page 64\nend\nrealloc note note 99\nfree note\nfree page\nend\n";
 
-/// Two cells. Where both fail, the run waits past its budget.
+/// Two cells. If both fail, the run waits past its budget.
 const WAITS: &[u8] =
     b"proc main\nptr a\nptr b\nalloc a 1\nalloc b 1\nif null a\nif null b\nrepeat 99\nend\nend\nend\nfree a\nfree b\nend\n";
 
-/// The same, where a third cell is forgotten once attempts 3 and 4 fail, which is after the wait of 2 and 3.
+/// Like `WAITS`, with a third cell. If attempts 3 and 4 fail, the first cell is forgotten; that pair comes after the pair 2 and 3, for
+/// which the run waits.
 const WAITS_AND_FORGETS: &[u8] =
     b"proc main\nptr a\nptr b\nptr c\nalloc a 1\nalloc b 1\nalloc c 1\nif null b\nif null a\nrepeat 99\nend\nend\nif null c\nnull a\nend\nend\nfree a\nfree b\nfree c\nend\n";
 
-/// Three cells, of which the first is forgotten where the others fail: that comes before the wait of 3 and 5.
+/// Three cells. If attempts 3 and 4 fail, the first cell is forgotten; that pair comes before the pair 3 and 5, for which the run waits.
 const FORGETS_AND_WAITS: &[u8] =
     b"proc main\nptr a\nptr b\nptr c\nalloc a 1\nalloc b 1\nalloc c 1\nif null b\nif null c\nnull a\nend\nalloc b 1\nif null b\nrepeat 99\nend\nend\nend\nfree a\nfree b\nfree c\nend\n";
 
-/// A single cell for which the run waits.
+/// A single cell. If it fails, the run waits past its budget.
 pub(crate) const WAITS_FOR_ONE: &[u8] =
     b"proc main\nptr a\nalloc a 1\nif null a\nrepeat 99\nend\nend\nfree a\nend\n";
 
@@ -97,7 +98,7 @@ const LEAKS: &[u8] = b"proc main\nptr a\nalloc a 1\nend\n";
 static SWEEPS: [(&[u8], Result<Option<Failing>, SweepFault>); 8] = [
     (FALLBACK, Ok(Some(Failing::Pair(2, 4)))),
     (SETS_NONE, Ok(None)),
-    // A single number comes before all pairs, also before those with lesser attempts.
+    // A single number comes before every pair, even before a pair of lesser numbers.
     (FALLBACK_AND_GROWTH, Ok(Some(Failing::Number(4)))),
     (LEAKS, Ok(Some(Failing::Number(0)))),
     (
@@ -133,7 +134,7 @@ fn pairs_are_found_in_their_order(rt: HostRuntime) -> Result<(), Fail> {
     Ok(())
 }
 
-/// What sweeps and checks over pairs write of the script with a fallback.
+/// The reports of `sweep` and `check` over pairs for `FALLBACK`.
 static REPORTS: [Wanted; 2] = [
     Wanted {
         is_check: false,

@@ -1,4 +1,4 @@
-//! Sweeps over parts of the numbers, and over each of them.
+//! Sweeps over a part of the numbers: those that find the least bad number, and those that list each.
 
 use std::test::Fail;
 use wb_model::failures::{Failing, Failures};
@@ -19,11 +19,12 @@ const SHAPE: Shape = Shape {
     moving: false,
 };
 
-/// Three cells by lines that leave: the third attempt leaks one, and the fourth two.
+/// Three cells by lines that leave: if attempt 3 fails, one cell leaks, and if attempt 4 fails, two.
 const THREE_CELLS: &[u8] =
     b"proc main\nptr a\nptr b\nptr c\nallocl a 16\nallocl b 16\nallocl c 16\nfree a\nfree b\nfree c\nend\n";
 
-/// A cell for which the run waits, and then one by a line that leaves.
+/// A cell by a line that doesn't leave, and a cell by one that does. If the first fails, the run waits past its budget; if the second
+/// fails, the first leaks.
 const WAITS_AND_LEAKS: &[u8] =
     b"proc main\nptr a\nptr b\nalloc a 16\nif null a\nrepeat 20000\nend\nend\nallocl b 16\nfree a\nfree b\nend\n";
 
@@ -33,22 +34,22 @@ const LEAKS: &[u8] = b"proc main\nptr a\nalloc a 16\nend\n";
 /// A run that waits past its budget.
 const WAITS: &[u8] = b"proc main\nrepeat 20000\nend\nend\n";
 
-/// A second try, after which the run is left: it leaks where attempts 3 and 4 fail.
+/// A second try for a cell, after which the run leaves: it leaks if attempts 3 and 4 fail.
 const SECOND_TRY: &[u8] =
     b"proc main\nptr a\nptr b\nalloc b 16\nalloc a 16\nif null a\nalloc a 16\nif null a\nleave -4\nend\nend\nfree a\nfree b\nend\n";
 
-/// The script fails its third attempt itself.
+/// The script's own setting makes its third attempt fail.
 const FAILS_ONE: &[u8] =
     b"proc main\nptr a\nptr b\nptr c\nallocl c 16\nfailnext 1\nalloc a 16\nallocl b 16\nfree a\nfree b\nfree c\nend\n";
 
-/// Each number from 2 to 5 shows something else.
+/// Each number from 2 to 5, as the failure, ends the run in another way.
 const EACH_IN_ITS_WAY: &[u8] =
     b"proc main\nptr a\nptr b\nptr c\nptr d\nalloc a 16\nstore a 0 1\nallocl b 16\nalloc c 16\nif null c\nfree b\nfree b\nend\nalloc d 16\nif null d\ncheck 9\nend\nfree a\nfree b\nfree c\nfree d\nend\n";
 
 /// A script, the failures, and the least and the greatest number that are tried.
 type Asked = (&'static [u8], Failures, u32, u32);
 
-/// What sweeps over parts find: how many attempts the run without failure makes, and the least failure.
+/// What sweeps over parts find: how many attempts the run without failure makes, and the least bad failure.
 static PARTS: [(Asked, Result<(u32, Option<Failing>), SweepFault>); 16] = [
     (
         (THREE_CELLS, Failures::Single, 0, CEILING),
@@ -72,7 +73,7 @@ static PARTS: [(Asked, Result<(u32, Option<Failing>), SweepFault>); 16] = [
         (THREE_CELLS, Failures::Persistent, 4, CEILING),
         Ok((4, Some(Failing::From(4)))),
     ),
-    // The run that is cut is no number of the part.
+    // The run that is cut isn't in the part.
     (
         (WAITS_AND_LEAKS, Failures::Single, 3, CEILING),
         Ok((3, Some(Failing::Number(3)))),
@@ -84,7 +85,7 @@ static PARTS: [(Asked, Result<(u32, Option<Failing>), SweepFault>); 16] = [
             why: Why::Budget,
         }),
     ),
-    // The run without failure leaks, and isn't judged; so isn't a number past its last attempt.
+    // The run without failure leaks. A part that begins at number 1 doesn't judge that run, nor one under a number past its last attempt.
     (
         (LEAKS, Failures::Single, 0, CEILING),
         Ok((2, Some(Failing::Number(0)))),
@@ -97,13 +98,13 @@ static PARTS: [(Asked, Result<(u32, Option<Failing>), SweepFault>); 16] = [
             why: Why::Budget,
         }),
     ),
-    // Of pairs the first number is the part's, and the second any.
+    // For pairs, the first number is in the part, and the second may be any.
     (
         (SECOND_TRY, Failures::Pairs, 3, 3),
         Ok((3, Some(Failing::Pair(3, 4)))),
     ),
     ((SECOND_TRY, Failures::Pairs, 0, 2), Ok((3, None))),
-    // Number 4 alone leaks, but isn't the part's.
+    // Number 4 alone leaks, but isn't in the part.
     (
         (FAILS_ONE, Failures::Pairs, 3, 3),
         Ok((4, Some(Failing::Pair(3, 4)))),
@@ -140,7 +141,7 @@ fn parts_find_their_least(rt: HostRuntime) -> Result<(), Fail> {
     Ok(())
 }
 
-/// What is told of each number of a part: those that aren't fine, how many leak or panic, and the least of these.
+/// What is listed of a part: the numbers whose runs aren't fine, how many of them leak or panic, and the least of these.
 static NUMBERS: [(Asked, &[NumberEnd], usize, Option<Failing>); 7] = [
     (
         (THREE_CELLS, Failures::Single, 0, CEILING),
@@ -167,7 +168,7 @@ static NUMBERS: [(Asked, &[NumberEnd], usize, Option<Failing>); 7] = [
         Some(Failing::Number(4)),
     ),
     ((THREE_CELLS, Failures::Single, 5, CEILING), &[], 0, None),
-    // The run is left at the first attempt that fails, so that later ones make no difference.
+    // The run leaves at its first failed attempt, so it doesn't matter that later ones would fail.
     (
         (THREE_CELLS, Failures::Persistent, 0, CEILING),
         &[
@@ -261,8 +262,8 @@ fn each_number_is_told(rt: HostRuntime) -> Result<(), Fail> {
     Ok(())
 }
 
-/// How the run ends without failure, under the number of the attempt for which it waits, and under that of its third attempt, in a
-/// script whose second attempt waits for memory, and whose third leaks.
+/// How runs of `WAITS_AND_LEAKS` end: `FINE` without failure, and `FIRST`, `SECOND` and `THIRD` if attempt 1, 2 or 3 fails. The second
+/// attempt makes the run wait past its budget, and the third leaks.
 const FINE: NumberEnd = NumberEnd {
     number: 0,
     end: RunEnd::Plain,
@@ -283,7 +284,7 @@ const THIRD: NumberEnd = NumberEnd {
     end: RunEnd::Leaked(1),
 };
 
-/// Parts of the numbers of that script, from one to another, and what is listed of them.
+/// The least and the greatest number of parts of that script's sweep, and what is listed of each part.
 static LISTED: [(u32, u32, &[NumberEnd]); 4] = [
     (0, CEILING, &[FINE, FIRST, SECOND, THIRD]),
     (1, 2, &[FIRST, SECOND]),

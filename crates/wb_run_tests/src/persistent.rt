@@ -1,4 +1,4 @@
-//! Runs, sweeps and reports where an attempt fails, and all after it do.
+//! Runs, sweeps and reports in which one attempt and all after it fail.
 
 use crate::failing::{
     FALLBACK, SETS, SETS_NONE, THRICE, Wanted, are_answered, found_in, is_answered,
@@ -28,7 +28,7 @@ static RUNS: [(&[u8], Refuses, &[Answer]); 8] = [
         Refuses::From(2),
         &[Granted, Simulated, Simulated, Simulated],
     ),
-    // The first number counts from attempt 1, and not from the setting's line. Before it the setting refuses one.
+    // The rule's number counts from attempt 1, and not from the setting's line. Before attempt 5, the setting makes attempt 4 fail.
     (
         SETS,
         Refuses::From(5),
@@ -36,7 +36,7 @@ static RUNS: [(&[u8], Refuses, &[Answer]); 8] = [
             Granted, Granted, Granted, Simulated, Simulated, Simulated, Simulated, Simulated,
         ],
     ),
-    // The script can't end it.
+    // The script can't end the rule.
     (
         SETS_NONE,
         Refuses::From(3),
@@ -57,7 +57,7 @@ fn all_are_refused_from_one_on(rt: HostRuntime) -> Result<(), Fail> {
 
 /// Scripts, failures, and what a sweep over them finds.
 static SWEEPS: [(&[u8], Failures, Result<Option<Failing>, SweepFault>); 5] = [
-    // Where attempt 2 fails, the next turn asks again, and a number or a rate grants that.
+    // If attempt 2 fails, the next turn of the `repeat` asks again, and under a single number or a rate that attempt is granted.
     (THRICE, Failures::Single, Ok(None)),
     (THRICE, Failures::Every, Ok(None)),
     (THRICE, Failures::Persistent, Ok(Some(Failing::From(2)))),
@@ -81,7 +81,7 @@ fn a_sweep_finds_from_where_on_all_may_fail(rt: HostRuntime) -> Result<(), Fail>
     Ok(())
 }
 
-/// What a sweep and a check write of the script with a fallback.
+/// The reports of `sweep` and `check` for `FALLBACK`.
 static REPORTS: [Wanted; 2] = [
     Wanted {
         is_check: false,

@@ -1,4 +1,4 @@
-//! What goes where, over a host in memory: the answer, the messages, and what is opened.
+//! Where the report and the messages of the program go, and what it opens, over a host in memory.
 
 ghost use Rattle.std.specs.Prelude.{⊤};
 
@@ -65,7 +65,7 @@ fn full_desk() -> Desk<'static> {
     }
 }
 
-/// What a run of the program should come to.
+/// What the program must write, its status, and how often it must open a file or take the standard input.
 #[derive(Clone, Copy)]
 struct Wanted {
     output: &'static str,
@@ -75,7 +75,7 @@ struct Wanted {
     lent: usize,
 }
 
-/// Words after the program's name that are a command, and what it comes to.
+/// Words after the program's name that spell a command, and what must come of them.
 static COMMANDS: [(&[&str], Wanted); 4] = [
     (
         &["run"],
@@ -120,7 +120,7 @@ static COMMANDS: [(&[&str], Wanted); 4] = [
     ),
 ];
 
-/// Words after the program's name that are no command. What is said of them is in worked cases.
+/// Words after the program's name that spell no command. The messages for them are in worked cases.
 static REFUSED: [&[&str]; 31] = [
     &["run", "-", "--limit", "176", "--fail", "2"],
     &["run", "-", "--limit", "176", "--every", "2"],
@@ -155,7 +155,7 @@ static REFUSED: [&[&str]; 31] = [
     &["help", "check"],
 ];
 
-/// Whether the words, or why there are none, come to this.
+/// Whether the program does what is wanted with these words, or with the error for which there are none.
 fn comes_to(alloc: Global, words: io::Result<Vec<&'static str>>, wanted: &Wanted) -> bool {
     let mut desk = full_desk();
     let mut output = Vec::new(alloc);
@@ -175,7 +175,7 @@ fn comes_to(alloc: Global, words: io::Result<Vec<&'static str>>, wanted: &Wanted
         && desk.lent == wanted.lent
 }
 
-/// Whether nothing but this message and this status comes of them.
+/// Whether the program, with these words or this error, writes this message, ends with this status, and does nothing else.
 fn is_refused(
     alloc: Global,
     words: io::Result<Vec<&'static str>>,
@@ -208,7 +208,8 @@ fn carries_out_what_the_words_say(rt: HostRuntime) -> Result<(), Fail> {
     Ok(())
 }
 
-/// Whether nothing is opened, lent or written for these words, and the status is that of a fault of the command line.
+/// Whether the program, with these words, opens no file, takes no standard input, writes no report, and ends with the status of a wrong
+/// command line.
 fn is_left_alone(alloc: Global, words: Vec<&'static str>) -> bool {
     let mut desk = full_desk();
     let mut output = Vec::new(alloc);

@@ -1,4 +1,4 @@
-//! What is reported of a sweep, or of the search through all lengths, while it goes on, and that all of it is reported before anything is written.
+//! The progress that is reported during a sweep, or during the search through all lengths; all of it comes before anything is written.
 
 ghost use Rattle.std.specs.Prelude.{⊤};
 
@@ -14,7 +14,7 @@ use workbench::Progress;
 use workbench::host::Host;
 use workbench::program::program;
 
-/// Compares what it is notified of with what it is to be notified of.
+/// Compares the notifications that come with those that must come.
 #[derive(Drop)]
 struct Listener<'a> {
     /// The failures that are still to be reported.
@@ -128,17 +128,17 @@ impl Host for Desk {
     }
 }
 
-/// What is to be reported if the program has these words.
+/// The progress that the program must report with these words and this script.
 struct Wanted {
     words: &'static [&'static str],
     script: &'static [u8],
-    /// How often a sweep begins and ends, or the search through all lengths.
+    /// How often a sweep, or the search through all lengths, begins and ends.
     sweeps: u32,
     lengths: &'static [u32],
-    /// How many attempts the run without failure makes, if nothing is found in it.
+    /// How many attempts the run without failure makes, or `None` if no failure is tried after it.
     last: Option<u32>,
     failures: &'static [Failing],
-    /// Whether sets are searched, by states.
+    /// Whether sets of attempts are searched by states.
     are_sets_searched: bool,
 }
 
@@ -183,7 +183,7 @@ static TOLD: [Wanted; 18] = [
         failures: &[Failing::Number(1), Failing::Number(2), Failing::Number(3)],
         are_sets_searched: true,
     },
-    // The run in which attempt 1 fails makes no other, and that in which attempt 2 fails makes a fourth. Pairs are found by states.
+    // A run in which attempt 1 fails makes no other attempt; one in which attempt 2 fails makes a fourth. Pairs are searched by states.
     Wanted {
         words: &["workbench", "sweep", "--pairs"],
         script: FALLBACK,
@@ -193,7 +193,7 @@ static TOLD: [Wanted; 18] = [
         failures: &[Failing::Number(1), Failing::Number(2), Failing::Number(3)],
         are_sets_searched: true,
     },
-    // So are sets.
+    // Sets are searched by states too.
     Wanted {
         words: &["workbench", "sweep", "--failures", "3"],
         script: FALLBACK,
@@ -203,7 +203,7 @@ static TOLD: [Wanted; 18] = [
         failures: &[Failing::Number(1), Failing::Number(2), Failing::Number(3)],
         are_sets_searched: true,
     },
-    // Three attempts fail, each made where those before it have failed.
+    // Three attempts can fail, each of which is made only if those before it have failed.
     Wanted {
         words: &["workbench", "check", "--failures=3"],
         script: THRICE,
@@ -241,7 +241,7 @@ static TOLD: [Wanted; 18] = [
         failures: &[],
         are_sets_searched: false,
     },
-    // It is cut.
+    // The run without failure is cut.
     Wanted {
         words: &["workbench", "check", "--budget", "2"],
         script: FALLBACK,
@@ -260,7 +260,7 @@ static TOLD: [Wanted; 18] = [
         failures: &[],
         are_sets_searched: false,
     },
-    // A heap of 175 bytes refuses the script's cell, and one of 143 the cleanup stack's.
+    // A heap of 175 bytes denies the script's cell, and a heap of 143 bytes the cleanup stack's.
     Wanted {
         words: &["workbench", "lengths"],
         script: LEAKING,
@@ -270,7 +270,7 @@ static TOLD: [Wanted; 18] = [
         failures: &[],
         are_sets_searched: false,
     },
-    // The run in which attempt 2 fails takes a step more, and is cut.
+    // The run in which attempt 2 fails takes one step more, and is cut.
     Wanted {
         words: &["workbench", "sweep", "--budget", "5"],
         script: FALLBACK,
@@ -280,7 +280,7 @@ static TOLD: [Wanted; 18] = [
         failures: &[Failing::Number(1), Failing::Number(2)],
         are_sets_searched: false,
     },
-    // There is nothing to sweep.
+    // The script is rejected, so there is nothing to sweep.
     Wanted {
         words: &["workbench", "sweep"],
         script: b"",
@@ -319,7 +319,7 @@ static TOLD: [Wanted; 18] = [
     },
 ];
 
-/// Whether this is reported, and the sweep is over before anything is written; `is_under_way` is false.
+/// Whether the program reports the wanted progress, all of it before anything is written. `is_under_way` must be false at first.
 fn is_reported<'a>(
     alloc: Global,
     words: Vec<&'static str>,

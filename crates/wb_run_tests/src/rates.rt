@@ -1,4 +1,4 @@
-//! Runs, sweeps and reports where every attempt fails whose number is a multiple of a rate.
+//! Runs, sweeps and reports in which every attempt fails whose number is a multiple of a rate.
 
 use crate::failing::{FALLBACK, SETS, SETS_NONE, Wanted, are_answered, found_in, is_answered};
 use crate::rules::Refuses;
@@ -18,7 +18,7 @@ static RUNS: [(&[u8], Refuses, &[Answer]); 9] = [
     ),
     (FALLBACK, Refuses::Every(3), &[Granted, Granted, Simulated]),
     (FALLBACK, Refuses::Every(4), &[Granted, Granted, Granted]),
-    // The setting alone: it counts from its own line.
+    // No rate, but the script's setting alone, which counts from its own line on.
     (
         SETS,
         Refuses::Every(0),
@@ -26,7 +26,7 @@ static RUNS: [(&[u8], Refuses, &[Answer]); 9] = [
             Granted, Granted, Granted, Simulated, Granted, Simulated, Granted, Simulated,
         ],
     ),
-    // The rate counts from attempt 1, so that it refuses 3 and 6, of which the setting refuses one too.
+    // The rate counts from attempt 1, so it makes attempts 3 and 6 fail; the setting makes attempt 6 fail too.
     (
         SETS,
         Refuses::Every(3),
@@ -34,7 +34,7 @@ static RUNS: [(&[u8], Refuses, &[Answer]); 9] = [
             Granted, Granted, Simulated, Simulated, Granted, Simulated, Granted, Simulated,
         ],
     ),
-    // From the setting's line on this would be attempt 7.
+    // The rate makes attempt 5 fail. Counted from the setting's line on, its first would be attempt 7.
     (
         SETS,
         Refuses::Every(5),
@@ -69,7 +69,7 @@ fn a_rate_finds_what_no_number_does(rt: HostRuntime) -> Result<(), Fail> {
     Ok(())
 }
 
-/// What sweeps and checks write of the script with a fallback, without rates and with them.
+/// The reports of `sweep` and `check` for `FALLBACK`, without rates and with them.
 static REPORTS: [Wanted; 4] = [
     Wanted {
         is_check: false,

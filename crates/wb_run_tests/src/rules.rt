@@ -1,8 +1,8 @@
-//! Rules as rows of tables name them. A static can't hold a rule, since that may have a list.
+//! Rules as the tests' tables name them. A static can't hold a [`Rule`], since a rule may own a list.
 
 use wb_model::heap::Rule;
 
-/// Which attempts are refused.
+/// Which attempts are denied or made to fail.
 #[derive(Clone, Copy)]
 pub(crate) enum Refuses {
     Nothing,

@@ -1,4 +1,4 @@
-//! What is reported of sets of attempts that are tried one by one, since runs are in too many states.
+//! The progress that is reported while a sweep tries sets of attempts one by one, which it does if its runs are in too many states.
 
 ghost use Rattle.std.specs.Prelude.{◌≤◌};
 
@@ -11,18 +11,19 @@ use wb_script::read;
 use wb_sweep::{sweep, sweep_sets};
 use workbench::Progress;
 
-/// Counts what it is notified of.
+/// Counts the notifications of a sweep.
 #[derive(Clone, Copy, Debug, Drop)]
 struct Listener {
     failures: u32,
     sets: u32,
     /// How many states were met before the first set was tried.
     states: u32,
-    /// How many attempts the sets have that are tried.
+    /// How many attempts each set has that is being tried.
     many: u32,
-    /// The last set, with 0 in the place of each number that it lacks.
+    /// The numbers of the last set, and then zeros.
     set: [u32; 3],
-    /// Whether each set came after the one before, and had so many attempts.
+    /// Whether the notifications came in order: single failures before sets are announced, states before the first set, and sets of `many`
+    /// attempts each, one after another.
     are_in_order: bool,
 }
 
@@ -80,7 +81,7 @@ impl Progress for Listener {
     fn end(&mut self) {}
 }
 
-/// Whether a set comes before another with as many numbers.
+/// Whether a set comes before another set of the same size.
 fn comes_before(set: [u32; 3], other: [u32; 3]) -> bool {
     let [a, b, c] = set;
     let [d, e, f] = other;
@@ -95,11 +96,11 @@ fn number_at(numbers: &Numbers, at: usize) -> u32 {
     }
 }
 
-/// Attempts of which those that fail leave the sum of their turns: so few runs are ever in the same state.
+/// A script of 60 attempts that adds up the turns whose attempts fail, so that few runs are ever in the same state.
 const SUMS: &[u8] =
     b"proc main\nptr a\nint turn\nint sum\nrepeat 60\nadd turn 1\nalloc a 16\nif null a\nadd sum turn\nend\nfree a\nend\nend\n";
 
-/// Fewer attempts, of which those that fail leave a sum that no others leave.
+/// A script of 16 attempts whose sum tells exactly which of them failed.
 const BITS: &[u8] =
     b"proc main\nptr a\nint bit\nint sum\nset bit 1\nrepeat 16\nalloc a 16\nif null a\nadd sum bit\nend\nfree a\nadd bit bit\nend\nend\n";
 
@@ -109,7 +110,7 @@ const SHAPE: Shape = Shape {
     moving: false,
 };
 
-/// Sweeps over sets of at most so many attempts, and returns who listened.
+/// Sweeps over sets of at most `most` attempts, and returns the listener.
 fn listen_to_sweep(alloc: Global, script: &[u8], most: u32) -> Result<Listener, Fail>
     requires { 1 ≤ most }
 {
@@ -123,8 +124,8 @@ fn listen_to_sweep(alloc: Global, script: &[u8], most: u32) -> Result<Listener, 
     Ok(listener)
 }
 
-// Attempt 1 is that of the cleanup stack. Where it fails the run makes no other, so that sets are those of the 16 others. Those of two
-// attempts come to fewer than 1,000 states, and those of three to more.
+// Attempt 1 is the cleanup stack's. A run in which it fails makes no other attempt, so all sets are made of the 16 others. Sets of two
+// attempts lead to fewer than 1,000 states, and sets of three to more.
 #[test]
 fn sets_are_tried_where_states_are_many(rt: HostRuntime) -> Result<(), Fail> {
     for (most, sets) in [(1, 0), (2, 0), (3, 560)] {
@@ -137,7 +138,7 @@ fn sets_are_tried_where_states_are_many(rt: HostRuntime) -> Result<(), Fail> {
     Ok(())
 }
 
-// Of 60 attempts the single failures alone come to more.
+// With 60 attempts, the single failures alone lead to more than 1,000 states.
 #[test]
 fn pairs_are_tried_as_sets(rt: HostRuntime) -> Result<(), Fail> {
     let script = read(rt.alloc(), SUMS)?;

@@ -1,4 +1,4 @@
-//! Words that spell a set of attempts or none, and runs in which the attempts of a set fail.
+//! Words that spell a set of attempts, words that spell none, and runs in which the attempts of a set fail.
 
 use crate::failing::{FALLBACK, SETS, SETS_NONE, answers_of};
 use std::alloc::{AllocError, Global};
@@ -19,7 +19,7 @@ static LISTS: [(&str, &[u32]); 8] = [
     ("1,2,3,4,5,6,7,8,9", &[1, 2, 3, 4, 5, 6, 7, 8, 9]),
 ];
 
-/// Texts that are none.
+/// Texts that are no lists.
 static NO_LISTS: [&str; 24] = [
     "",
     ",",
@@ -58,7 +58,7 @@ static RUNS: [(&[u8], &str, &[Answer]); 7] = [
     (FALLBACK, "3,4,5", &[Granted, Granted, Simulated]),
     (FALLBACK, "4,5,16777216", &[Granted, Granted, Granted]),
     (FALLBACK, "2,4,9", &[Granted, Simulated, Granted, Simulated]),
-    // Of these the setting refuses some too: each is refused once.
+    // The setting makes attempt 4 fail too: each attempt fails once.
     (
         SETS,
         "3,4,5,7",
@@ -74,7 +74,7 @@ static RUNS: [(&[u8], &str, &[Answer]); 7] = [
     ),
 ];
 
-/// What is asked for by `run` with this text as its list.
+/// The task of `run` with this text as the list of `--set`, or its fault.
 fn task_of(alloc: Global, text: &str) -> Result<Task, CommandFault> {
     let option = format!(in alloc; "--set={text}")?;
     Ok(command(alloc, &["workbench", "run", option.as_str()])?.task)
@@ -88,7 +88,7 @@ fn is_list_of(alloc: Global, text: &str, numbers: &[u32]) -> bool {
     }
 }
 
-/// Whether the text is refused as no list.
+/// Whether the text is rejected because it is no list.
 fn is_no_list(alloc: Global, text: &str) -> Result<bool, AllocError> {
     match task_of(alloc, text) {
         Err(CommandFault::Usage(error)) => {

@@ -1,4 +1,4 @@
-//! A shape that no heap has, as no words of a command line spell it.
+//! Calls with a shape that no heap has. No words of a command line spell such a shape.
 
 use std::test::Fail;
 use wb_lengths::{lengths, lengths_within};
@@ -18,7 +18,7 @@ const ODD: Shape = Shape {
     moving: false,
 };
 
-/// An empty script.
+/// A script with an empty `main`.
 const EMPTY: &[u8] = b"proc main\nend";
 
 #[test]

@@ -1,11 +1,11 @@
-//! Tasks as rows of tables name them.
+//! Tasks as the tests' tables name them.
 
 use crate::rules::Refuses;
 use wb_model::heap::Rule;
 use wb_model::part::Part;
 use workbench::{Search, Task};
 
-/// What is asked for.
+/// The task that a command must have.
 #[derive(Clone, Copy)]
 pub(crate) enum Asks {
     Run(Refuses),
@@ -16,7 +16,7 @@ pub(crate) enum Asks {
 }
 
 impl Asks {
-    /// Whether a task is this one.
+    /// Whether `task` is this task.
     pub(crate) fn is(self, task: &Task) -> bool {
         match (self, task) {
             (Asks::Run(wanted), Task::Run(rule)) => is_same(rule, &wanted.rule()),
@@ -31,7 +31,7 @@ impl Asks {
     }
 }
 
-/// Whether both rules refuse the same, neither of them a set.
+/// Whether both rules are the same; `false` if one of them is a set.
 fn is_same(rule: &Rule, wanted: &Rule) -> bool {
     match (rule, wanted) {
         (Rule::Unlimited, Rule::Unlimited) => true,

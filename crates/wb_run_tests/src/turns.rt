@@ -1,4 +1,4 @@
-//! The turns of a machine: what each answers, and whether it makes an attempt.
+//! The turns of a machine: what each returns, and whether it makes an attempt.
 
 use crate::rules::Refuses;
 use std::alloc::Global;
@@ -13,28 +13,28 @@ const SHAPE: Shape = Shape {
     moving: false,
 };
 
-/// Sixteen of the largest cells, of which the last would pass the ceiling.
+/// Sixteen of the largest cells, the last of which would end past the heap's ceiling.
 const SIXTEEN_LARGEST: &[u8] =
     b"proc main\nptr a\nalloc a 1048576\nalloc a 1048576\nalloc a 1048576\nalloc a 1048576\nalloc a 1048576\nalloc a 1048576\nalloc a 1048576\nalloc a 1048576\nalloc a 1048576\nalloc a 1048576\nalloc a 1048576\nalloc a 1048576\nalloc a 1048576\nalloc a 1048576\nalloc a 1048576\nalloc a 1048576\nend\n";
 
-/// A stack that moves for its 8th item, since a cell is after it, and grows at its place for the 12th and 16th.
+/// A cleanup stack that moves for its 8th item, since another cell follows it, and grows at its place for the 12th and the 16th.
 const GROWS_THREE_TIMES: &[u8] =
     b"proc main\nptr a\nptr none\nint c\ntrap c\nallocl a 16\npush a\nrepeat 15\npush none\nend\npopdestroy 16\nend\nend\n";
 
-/// Two rounds of eight cells that are pushed. The stack grows in the first of them in which all pushes come about.
+/// Two rounds, in each of which eight cells are made and pushed. The cleanup stack grows in the first round in which all eight are pushed.
 const TWO_ROUNDS: &[u8] =
     b"proc main\nptr a\nint c\nrepeat 2\ntrap c\nrepeat 8\nallocl a 16\npush a\nend\npopdestroy 8\nend\nend\nend\n";
 
-/// Two cells, one in each turn.
+/// Two cells, one in each turn of the `repeat`.
 const TWO_CELLS: &[u8] = b"proc main\nptr a\nrepeat 2\nalloc a 1\nfree a\nend\nend\n";
 
 /// A script, a rule and a budget.
 type Setting = (&'static [u8], Refuses, u32);
 
-/// Whether the machine will make an attempt, what its turn answers, and how many attempts were made by then.
+/// Whether the machine says that its next turn makes an attempt, what that turn returns, and how many attempts were made by then.
 type TurnResult = (bool, Turn, u32);
 
-/// Runs, and what their turns report, from the first of them past the last.
+/// Runs, and the results of their turns, from the first turn to one after the end.
 static TURNS: [(Setting, &[TurnResult]); 2] = [
     (
         (TWO_CELLS, Refuses::Nothing, 9),
@@ -51,7 +51,7 @@ static TURNS: [(Setting, &[TurnResult]); 2] = [
             (false, Turn::Ended, 3),
         ],
     ),
-    // What the ceiling cuts is asked for, and not counted.
+    // The attempt that would pass the ceiling is announced, but isn't counted.
     (
         (SIXTEEN_LARGEST, Refuses::Nothing, 99),
         &[
@@ -78,7 +78,7 @@ static TURNS: [(Setting, &[TurnResult]); 2] = [
     ),
 ];
 
-/// What a turn reports, if there is memory for it.
+/// The result of the next turn, or `None` if the workbench's own memory runs out.
 fn next_turn(machine: &mut Machine) -> Option<TurnResult> {
     let will = machine.will_attempt();
     match machine.step() {
@@ -87,7 +87,7 @@ fn next_turn(machine: &mut Machine) -> Option<TurnResult> {
     }
 }
 
-/// Whether the next turns report this.
+/// Whether the next turns have these results.
 fn turns_return(machine: &mut Machine, turns: &[TurnResult]) -> bool {
     for told in turns {
         if next_turn(machine) != Some(*told) {
@@ -97,12 +97,13 @@ fn turns_return(machine: &mut Machine, turns: &[TurnResult]) -> bool {
     true
 }
 
-/// Runs whose attempts lie in calls, turns and TRAPs, or aren't made where a statement is refused before.
+/// Runs whose attempts are made in calls, in turns of a `repeat` or in TRAPs, or whose statements panic or leave before they make an
+/// attempt.
 static SETTINGS: [Setting; 22] = [
     (TWO_CELLS, Refuses::Nothing, 9),
     (TWO_CELLS, Refuses::Number(1), 9),
     (TWO_CELLS, Refuses::Number(2), 9),
-    // The budget cuts before the second request.
+    // The budget cuts the run before the second request.
     (TWO_CELLS, Refuses::Nothing, 5),
     (
         b"proc make n:int\nptr a\nalloc a n\nreturn a\nend\nproc main\nptr p\ncallto p make 9\nfree p\nend",
@@ -119,13 +120,13 @@ static SETTINGS: [Setting; 22] = [
         Refuses::Nothing,
         9,
     ),
-    // A cell that shrinks asks for none, and one that grows does, as does none at all.
+    // A cell that shrinks makes no attempt. A cell that grows makes one, and so does a null pointer.
     (
         b"proc main\nptr a\nrealloc a a 99\nrealloc a a 9\nreallocl a a 999\nend",
         Refuses::Nothing,
         9,
     ),
-    // Panics come before the request.
+    // The statement panics before it makes an attempt.
     (b"proc main\nptr a\nalloc a -1\nend", Refuses::Nothing, 9),
     (
         b"proc main\nptr a\nalloc a 9\nfree a\nrealloc a a 99\nend",
@@ -142,7 +143,7 @@ static SETTINGS: [Setting; 22] = [
         Refuses::Nothing,
         9,
     ),
-    // Some pushes ask for an attempt, and others and the lines that take items off ask for none.
+    // Some pushes make an attempt. The other pushes, and the lines that take items off, make none.
     (GROWS_THREE_TIMES, Refuses::Nothing, 99),
     (GROWS_THREE_TIMES, Refuses::Number(4), 99),
     (GROWS_THREE_TIMES, Refuses::Past(383), 99),
@@ -151,13 +152,13 @@ static SETTINGS: [Setting; 22] = [
     (TWO_CELLS, Refuses::Pair(2, 3), 9),
     (TWO_ROUNDS, Refuses::Pair(4, 12), 99),
     (TWO_ROUNDS, Refuses::Number(10), 99),
-    // The budget cuts before the 8th push, and before an item is destroyed.
+    // The budget cuts the run before the 8th push, and before an item is destroyed.
     (GROWS_THREE_TIMES, Refuses::Nothing, 17),
     (GROWS_THREE_TIMES, Refuses::Nothing, 40),
 ];
 
-/// Whether a machine announces exactly before those turns that make an attempt that they do, up to the end of its run, and of
-/// none that follows the end.
+/// Whether a machine announces an attempt before every turn that makes one and before no other, up to the end of its run, and announces
+/// none after the end.
 fn returns_attempts(machine: &mut Machine, budget: u32) -> bool {
     // one turn begins the run, and one more may cut it
     for _ in 0..budget.saturating_add(2) {
@@ -175,7 +176,7 @@ fn returns_attempts(machine: &mut Machine, budget: u32) -> bool {
     false
 }
 
-/// Whether the first turns of a run report this, and those that follow report their attempts.
+/// Whether the first turns of a run have these results, and the machine announces the attempts of the turns that follow, and no others.
 fn returns(alloc: Global, setting: &Setting, turns: &[TurnResult]) -> Result<bool, Fail> {
     let (script, rule, budget) = *setting;
     if budget == 0 || budget > 1_000_000 {

@@ -1,4 +1,4 @@
-//! That words are taken at all, which no clause says, since any growth may be refused.
+//! Tests that command lines are accepted at all. No clause says so, since memory may run out at any growth.
 
 use crate::rules::Refuses;
 use crate::tasks::Asks;
@@ -9,12 +9,12 @@ use wb_model::heap::Shape;
 use wb_model::part::Part;
 use workbench::{Command, CommandFault, FileName, Search, command};
 
-/// The minimum length and the step of a heap, in bytes.
+/// The least length and the growth step of a heap, in bytes.
 type Lengths = (u32, u32);
 
 const DEFAULT: Lengths = (4096, 4096);
 
-/// Which flags are given of those that every subcommand takes.
+/// Which of the flags that every subcommand takes are given.
 #[derive(Clone, Copy)]
 enum Flags {
     None,
@@ -98,7 +98,7 @@ static AFTER_EACH: [(&[&str], Spelled); 20] = [
     ),
 ];
 
-/// Words that spell a run of the default budget without these flags, its rule, its heap's lengths and its file.
+/// Words that spell a run with the default budget and without these flags; then the run's rule, its heap's lengths and its file.
 static RUNS: [(&[&str], Refuses, Lengths, Option<&str>); 28] = [
     (
         &["workbench", "run", "a.oom"],
@@ -331,7 +331,8 @@ fn takes_words_after_each_subcommand(rt: HostRuntime) -> Result<(), Fail> {
     Ok(())
 }
 
-/// The flag comes first, before all that every subcommand takes, so that a word after it is no number of its own.
+/// The flags come first, before the words that every subcommand takes, to show that a flag doesn't take the word after it as a number of
+/// its own.
 #[test]
 fn takes_flags_for_failures(rt: HostRuntime) -> Result<(), Fail> {
     for (row, (flags, search)) in WITH_FLAGS.iter().enumerate() {
@@ -368,7 +369,7 @@ fn takes_words_of_a_run(rt: HostRuntime) -> Result<(), Fail> {
     Ok(())
 }
 
-/// The words are refused, and clap's text on them holds `part`.
+/// Whether the words are rejected, with a text by `clap` that contains `part`.
 fn is_refused(alloc: Global, words: &[&str], part: &str) -> Result<bool, Fail> {
     match command(alloc, words) {
         Err(CommandFault::Usage(error)) => Ok(error.to_string(alloc)?.as_str().contains(part)),

@@ -1,6 +1,6 @@
-//! Laws of the checks: the first line that each refuses is the first of which something is so, by all lines of the
-//! script; where bytes spell a script, or have a fault that is found later, it is so of none. Each is the contract of a
-//! function that does nothing, so that the check proves it.
+//! Laws of the checks. The line that a check names is the first line of the script that breaks a rule, where the rule may look at all lines
+//! of the script. If the bytes spell a script, or have a fault of a later check, no line breaks the rule. Each law is the contract of a
+//! function that does nothing, so that checking this crate proves it.
 
 ghost use Rattle.std.specs.Prelude.{ℕ, ◌<◌, List};
 ghost use Rattle.wb_model.specs.declared.fault.ScriptFault.{ScriptFault};
@@ -40,8 +40,8 @@ pub fn double_names_are_declared_again()
         5 < number_of_fault fault → IsOfNoLine DeclaresAgain (forms_of (lines_of bytes)) }
 {}
 
-/// A wrong kind is in the first line that is wrong in the sort of something that it names, or that has no place where it
-/// is. A script has no such line.
+/// A wrong kind is in the first line with an operand or an argument of a wrong sort, or with a wrong number of arguments, or that misuses
+/// `main` or returns where it may not. A script has no such line.
 pub fn wrong_kinds_are_wrong()
     ensures refused { (bytes : List ℕ) → (n : ℕ) → IsFaultOf bytes (WrongKind n) →
         IsFirstLine IsWrong (forms_of (lines_of bytes)) n }
@@ -51,8 +51,8 @@ pub fn wrong_kinds_are_wrong()
         6 < number_of_fault fault → IsOfNoLine IsWrong (forms_of (lines_of bytes)) }
 {}
 
-/// What may leave is the first line of the body of an operation or of a destructor that does something and is none of the
-/// few that may be there. A script has no such line.
+/// A line that may leave is the first declaration, statement or head of a block, in the body of an operation or of a destructor, that isn't
+/// one of the few allowed there. A script has no such line.
 pub fn leaving_lines_are_in_quiet_bodies()
     ensures refused { (bytes : List ℕ) → (n : ℕ) → IsFaultOf bytes (MayLeave n) →
         IsFirstLine MayLeaveThere (forms_of (lines_of bytes)) n }
@@ -62,8 +62,8 @@ pub fn leaving_lines_are_in_quiet_bodies()
         7 < number_of_fault fault → IsOfNoLine MayLeaveThere (forms_of (lines_of bytes)) }
 {}
 
-/// Too many is the first line that passes a limit, by what the lines before it begin and declare. A script has no such
-/// line.
+/// A line with too many of something is the first line that passes a limit, by what it and the lines before it begin and declare. A script
+/// has no such line.
 pub fn too_many_is_past_a_limit()
     ensures refused { (bytes : List ℕ) → (n : ℕ) → IsFaultOf bytes (TooMany n) →
         IsFirstLine PassesLimit (forms_of (lines_of bytes)) n }

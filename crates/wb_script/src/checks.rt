@@ -1,4 +1,4 @@
-//! The checks of names, kinds and limits: one pass over all lines, which also finds what their names stand for.
+//! The checks of names, kinds, leaves and limits: one pass over all lines, which also finds what the names in the lines stand for.
 
 pub(crate) mod declarations;
 pub(crate) mod items;
@@ -33,7 +33,8 @@ use std::alloc::{AllocError, Global};
 use wb_model::limits::LONGEST_SCRIPT;
 use wb_model::script_lines::Form;
 
-/// The number of the first line that a check refuses, with one more line.
+/// The number of the first line in which a check finds a fault, after one more line: `found` is that of the lines before, and `refused`
+/// says whether the check finds a fault in this line.
 fn or_here(found: Option<u32>, line: u32, refused: bool) -> Option<u32>
     ensures { result ≡ or_here found line refused }
 {
@@ -43,7 +44,7 @@ fn or_here(found: Option<u32>, line: u32, refused: bool) -> Option<u32>
     }
 }
 
-/// The numbers of the first lines that the checks refuse.
+/// For each check, the number of the first line in which it finds a fault; `None` if it has found none.
 #[derive(Clone, Copy)]
 pub(crate) struct FirstLines {
     pub unknown_name: Option<u32>,
@@ -54,7 +55,7 @@ pub(crate) struct FirstLines {
 }
 
 impl FirstLines {
-    /// With one more line, by its number: its form, and what its names stand for.
+    /// The first lines with a fault after one more line, given by its number, its form, and `line`, which says what its names stand for.
     fn with(
         self,
         items: &Declarations,
@@ -92,7 +93,7 @@ impl FirstLines {
     }
 }
 
-/// What the lines so far are found to be.
+/// What is known about the lines that were checked so far.
 #[derive(Drop)]
 pub(crate) struct Checked<'a> {
     /// The lines with what their names and literals stand for.
@@ -102,7 +103,7 @@ pub(crate) struct Checked<'a> {
 }
 
 impl<'a> Checked<'a> {
-    /// Nothing yet, with room for so many lines.
+    /// No lines yet, with room for `count` lines.
     fn with_capacity(alloc: Global, count: usize) -> Result<Checked<'a>, AllocError>
         ensures checked { IfOk result (λ checked. (items : List space.Declaration) →
             AreChecked items [] checked) }
@@ -124,7 +125,7 @@ impl<'a> Checked<'a> {
         })
     }
 
-    /// Checks one more line of a script with these items in its own space.
+    /// Checks one more line of a script, which declares these items in its own space.
     fn add_line(&mut self, items: &Declarations, form: &Form<&'a [u8]>) -> Result<(), AllocError>
         requires few { length self.now.lines < LONGEST_SCRIPT }
         requires items { items_before (known_in self.now.known) ≤ length self.now.lines }
@@ -145,7 +146,7 @@ impl<'a> Checked<'a> {
     }
 }
 
-/// What the lines of a script are found to be.
+/// Checks all lines of a script, which declares these items in its own space.
 pub(crate) fn checked_lines<'a>(
     alloc: Global,
     items: &Declarations,

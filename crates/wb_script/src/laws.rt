@@ -1,5 +1,4 @@
-//! Laws of which bytes are scripts. Each is the contract of a function that does nothing, so that the check
-//! proves it.
+//! Laws about which bytes are scripts. Each law is the contract of a function that does nothing, so that checking this crate proves it.
 
 ghost use Rattle.std.specs.Prelude.{◌≡◌, ℕ, List, length};
 ghost use Rattle.wb_model.specs.declared.fault.ScriptFault.{ScriptFault};
@@ -28,13 +27,13 @@ pub fn script_or_fault()
         IsScriptOf bytes script → IsFaultOf bytes fault → ⊥ }
 {}
 
-/// An unknown name is one that its body, its class or the script doesn't declare, in the first line that uses such a one.
+/// The line with an unknown name is the first that uses a name which its body, its class or the script doesn't declare.
 pub fn unknown_is_undeclared()
     ensures { (bytes : List ℕ) → (n : ℕ) → IsFaultOf bytes (UnknownName n) →
         IsFirstUndeclaredLine (forms_of (lines_of bytes)) n }
 {}
 
-/// The lines of a script use no name that their body, its class or the script doesn't declare.
+/// No line of a script uses a name that its body, its class or the script doesn't declare.
 pub fn names_are_declared()
     ensures { (bytes : List ℕ) → (script : Script) → IsScriptOf bytes script →
         UsesDeclaredUpTo (forms_of (lines_of bytes)) (length (forms_of (lines_of bytes))) }

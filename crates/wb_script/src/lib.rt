@@ -1,7 +1,7 @@
 //! Reads a script: from its bytes to its tree, or to its first fault.
 //!
-//! Lines stay a flat list up to the last step. Each line has one form, and each check is one pass over
-//! the forms; the tree is made of lines that no check refuses.
+//! Lines stay a flat list up to the last step. Each line has one form. One pass over the forms checks how blocks are nested, and another
+//! checks names, kinds, leaves and limits. The tree is made only of lines in which no check finds a fault.
 #![tactic(auto)]
 
 pub mod check_laws;

@@ -1,4 +1,4 @@
-//! A script from its bytes.
+//! Reads a script from its bytes.
 
 ghost use Rattle.std.specs.Prelude.{◌≡◌, ◌≢◌, ◌≤◌, ◌<◌, ◌^◌, [], ◌∷◌, ◌++◌, length, map, slice_get, true, IsTrue, IfOk};
 ghost use Rattle.std.specs.Prelude.{IfErr, OnOk, MatchOption};
@@ -42,7 +42,8 @@ fn roles<N>(alloc: Global, forms: &[Form<N>]) -> Result<Vec<Role>, AllocError>
     Ok(found)
 }
 
-/// The index of the first line that no script has in its place.
+/// The index of the first line that no script can have there, or the number of lines if only an `end` is missing; `None` if the lines are
+/// grammatical as a whole script.
 fn misfit(alloc: Global, forms: &[Form<&[u8]>]) -> Result<Option<usize>, AllocError>
     ensures { IfOk result (λ found. MatchOption found
         (IsGrammatical (roles_of (bytes_of_forms forms.now)))
@@ -76,7 +77,7 @@ fn literals_of(alloc: Global, texts: &[&[u8]]) -> Result<Items<Chars>, AllocErro
     Ok(Items::from_vec(literals))
 }
 
-/// The script of lines that have no fault, with these literals and the index of its `main`.
+/// The script that lines without a fault spell. `literals` are its literals, and `main` is the index of its procedure `main`.
 fn script_of(
     alloc: Global,
     items: &Declarations,
@@ -110,7 +111,7 @@ fn script_of(
     })
 }
 
-/// The index of `main` among the procedures, or the first fault, by the first lines that the checks refuse.
+/// The index of `main` among the procedures, or the first fault. `first` says for each check in which line it first finds a fault.
 fn place_of_main(items: &Declarations, first: FirstLines) -> Result<usize, ScriptFault>
     ensures found { IfOk result (IsMain (bytes_of_items items.now) first) }
     ensures fault { IfErr result (IsFirstFault (bytes_of_items items.now) first) }
@@ -136,7 +137,7 @@ fn place_of_main(items: &Declarations, first: FirstLines) -> Result<usize, Scrip
     }
 }
 
-/// The script of lines that are grammatical, or the first fault of their names, kinds and limits.
+/// The script that grammatical lines spell, or the first of their faults that isn't one of grammar.
 fn check_and_build(
     alloc: Global,
     forms: &[Form<&[u8]>],
@@ -159,7 +160,7 @@ fn check_and_build(
     }
 }
 
-/// The script of lines, or their first fault.
+/// The script that lines spell, by their forms, or the first fault of the lines.
 fn read_forms(
     alloc: Global,
     forms: &[Form<&[u8]>],
@@ -192,12 +193,12 @@ fn read_text(alloc: Global, bytes: &[u8]) -> Result<Result<Script, ScriptFault>,
     read_forms(alloc, &forms)
 }
 
-/// The script that bytes spell, or their first fault.
+/// Returns the script that bytes spell, or the first fault of the bytes.
 ///
-/// The checks are made in the order of `ScriptFault`'s variants, each over the whole script, and the first
-/// that finds a fault names the first line where it is; lines count from 1. `NoMemory` is answered only
-/// where a growth of the reader's own memory was refused, at which point the bytes were found to be neither
-/// too long nor foreign; it says nothing else of them.
+/// The checks come in the order of `ScriptFault`'s variants, each over the whole script. The first check that finds a fault decides, and
+/// names the first line with this fault, counted from 1, unless it is a fault without a line. `NoMemory` is returned only if the workbench
+/// itself ran out of memory, which can happen only after the bytes have passed the checks of `TooLong` and `NotAscii`; it says nothing else
+/// about them.
 pub fn read(alloc: Global, bytes: &[u8]) -> Result<Script, ScriptFault>
     ensures script { IfOk result (IsScriptOf bytes.now) }
     ensures sound { IfOk result (λ s. IsTrue (is_script s)) }

@@ -1,4 +1,4 @@
-//! The tree of a script, from its lines with what their names stand for.
+//! Builds the tree of a script from its lines, with what the names in the lines stand for.
 
 mod blocks;
 mod bodies;
@@ -40,7 +40,7 @@ use wb_lines::line_kinds::role_of;
 use wb_model::limits::LONGEST_SCRIPT;
 use wb_model::script_lines::{LineKind, Operand, Referent, Role};
 
-/// What a line opens where nothing is open, with its number; `None` if it has no place there.
+/// What the line with this number opens where nothing is open; `None` if the line is not allowed there.
 fn begin_item(
     alloc: Global,
     space: Space,
@@ -62,7 +62,7 @@ fn begin_item(
     }
 }
 
-/// Adds a line where nothing is open, with its number; `None` if it has no place.
+/// Adds the line with this number where nothing is open; `None` if it is not allowed there.
 fn add_outside(
     alloc: Global,
     space: Space,
@@ -82,7 +82,7 @@ fn add_outside(
     }
 }
 
-/// Adds a line to the body that is open, with its number; `None` if it has no place there.
+/// Adds the line with this number to the open body; `None` if it is not allowed there.
 fn add_inside(
     alloc: Global,
     space: Space,
@@ -110,7 +110,7 @@ fn add_inside(
     }
 }
 
-/// Adds a line that says something to the tree, with its number; `None` if it has no place there.
+/// Adds the line with this number, which isn't skipped, to the tree; `None` if it is not allowed there.
 fn add_line(
     alloc: Global,
     space: Space,
@@ -138,7 +138,7 @@ fn add_line(
     }
 }
 
-/// Adds a line that can be read to the tree, with its number; `None` if it has no place there.
+/// Adds the line with this number, which has a form or is skipped, to the tree; `None` if it is not allowed there.
 fn add_form(
     alloc: Global,
     space: Space,
@@ -161,8 +161,9 @@ fn add_form(
     }
 }
 
-/// Adds a line that can be read to the tree in place, with its number; false where it has no place. A statement of the open
-/// body goes to its end, and all else stays where it is; any other line makes the tree anew.
+/// Adds the line with this number, which has a form or is skipped, to the tree in place; returns false if it is not allowed there. A
+/// statement that begins no block is appended in the open body, and nothing else moves; for any other line the tree is taken out and built
+/// anew.
 fn add_next(
     alloc: Global,
     space: Space,
@@ -193,7 +194,7 @@ fn add_next(
     }
 }
 
-/// What is whole of a script after all its lines.
+/// The classes, procedures and operations that are complete after all lines of a script.
 fn items_from(alloc: Global, space: Space, lines: &ResolvedLines) -> Result<WholeItems, AllocError>
     requires grammar { IsGrammatical (map role_of_form lines.now) }
     requires fit { AllFit (declared_in_space space) lines.now }
@@ -218,13 +219,14 @@ fn items_from(alloc: Global, space: Space, lines: &ResolvedLines) -> Result<Whol
     }
     match building.stage {
         Stage::Outside => Ok(building.whole),
-        // Named, so that an arm that is left has nothing of the stage to drop.
+        // Both are bound to names, so that no part of the stage is left to drop in these arms.
         Stage::InClass(_class) => unreachable!(),
         Stage::InBody(_owner, _body) => unreachable!(),
     }
 }
 
-/// The classes, procedures and operations of a script with that number of literals and these items, from all its lines.
+/// The classes, procedures and operations of a script, from all its lines. `literals` is its number of literals, and `items` is what it
+/// declares in its own space.
 pub(crate) fn bodies_of(
     alloc: Global,
     literals: u32,

@@ -4,12 +4,12 @@ use wb_machine::RunFault;
 use wb_model::memory::NoMemory;
 use wb_model::run::Why;
 
-/// Why there is no length that a script needs.
+/// Why no length of heap that a script needs was found.
 #[derive(Clone, Copy, Debug, PartialEq, Eq)]
 pub enum SizeFault {
     /// A minimum length or a growth step that no heap may have.
     BadShape,
-    /// The run without a limit was cut. The number is 0.
+    /// The run without a limit was cut. `number` is always 0.
     Cut { number: u32, why: Why },
     /// The workbench's own memory ran out. This is never a refusal of the simulated heap.
     NoMemory,

@@ -19,13 +19,13 @@ use wb_model::limits::LARGEST_BUDGET;
 use wb_model::run::Outcome;
 use wb_model::script::Script;
 
-/// The least length of a heap that refuses nothing of a script, in bytes, and what each shorter one refuses first.
+/// Returns the least length of a heap that denies no attempt of a script, in bytes, and which attempt each shorter heap denies first.
 ///
-/// The script runs once, without a limit, and of that run the rises alone are kept: so an attempt that isn't a rise adds
-/// nothing. Of every length, also those past the ceiling: from the required one on the run
-/// of a heap of that length meets no heap refusal, and below it each run does, whatever follows it; the first attempt
-/// refused is the one that `refused_at` returns and that the table of rises names. `Cut` comes exactly where the run without
-/// a limit is cut, and `BadShape`, exactly where the shape is none that a heap may have, before it.
+/// The script runs once, without a limit, and only the rises of that run are kept, so an attempt that isn't a rise adds nothing. What is
+/// returned holds for every length, also for lengths past the ceiling. In a heap of the required length or longer, no attempt of the run is
+/// denied. In every shorter heap one is, whatever happens afterwards, and the first attempt denied is the one that `refused_at` returns and
+/// the table of rises names. `Cut` is returned exactly if the run without a limit is cut. `BadShape` is returned exactly if no heap may
+/// have this shape; then there is no run.
 pub fn size(alloc: Global, script: &Script, budget: u32, shape: Shape) -> Result<Sizing, SizeFault>
     requires script { IsTrue (is_script script.now) }
     requires least { 1 ≤ budget }

@@ -1,4 +1,4 @@
-//! Sizes a script, and says how the run ended that it was sized by.
+//! Sizes a script by one run, and says how that run ended.
 
 ghost use Rattle.std.specs.Prelude.{◌≡◌, ◌≤◌, ◌↔◌, ℕ, false, IfOk, IsTrue};
 ghost use Rattle.wb_model.specs.runs.Run.{run};
@@ -20,20 +20,20 @@ use wb_model::limits::LARGEST_BUDGET;
 use wb_model::run::{Outcome, RisesResult};
 use wb_model::script::Script;
 
-/// What a script needs, and what the run without a limit comes to.
+/// What a script needs, and how the run without a limit went.
 #[derive(Drop)]
 pub struct SizedRun {
     pub sizing: Sizing,
     /// How the run ended.
     pub outcome: Outcome,
-    /// How many attempts it made.
+    /// How many attempts the run made.
     pub attempts: u32,
-    /// How many steps it took.
+    /// How many steps the run took.
     pub steps: u32,
 }
 
-/// The same as `size`. Beside the sizing it returns how the run ended, and how many attempts and steps it made, so that no second
-/// run is needed for these. It asks for no more memory.
+/// Sizes a script as `size` does, and also returns how the run ended and how many attempts and steps it made, so that no second run is
+/// needed to find these. It asks for no more memory than `size`.
 pub fn size_by_run(
     alloc: Global,
     script: &Script,

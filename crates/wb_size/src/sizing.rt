@@ -1,4 +1,4 @@
-//! The length that a script needs, and the table of what shorter heaps refuse.
+//! The length of heap that a script needs, and the table of the attempts that shorter heaps deny.
 
 ghost use Rattle.std.specs.Prelude.{◌≡◌};
 ghost use Rattle.wb_model.specs.runs.Rises.{top_of_rises};
@@ -6,7 +6,7 @@ ghost use Rattle.wb_size.specs.Sizing.{refusal_in};
 
 use wb_model::size::{Rises, top_of_rises};
 
-/// The least length of a heap that refuses nothing, in bytes, and the rises on the way to it.
+/// The least length of a heap that denies no attempt, in bytes, and the rises of the run without a limit.
 #[derive(Debug, Drop)]
 pub struct Sizing {
     pub required: u32,
@@ -14,8 +14,8 @@ pub struct Sizing {
 }
 
 impl Sizing {
-    /// The attempt that a heap of this length, in bytes, refuses first, or `None` where it refuses none: the first
-    /// rise whose top passes the length.
+    /// The number of the attempt that a heap of this length, in bytes, denies first: that of the first rise whose top is past this length.
+    /// `None` if the heap denies no attempt.
     pub fn refused_at(&self, length: u32) -> Option<u32>
         ensures { result ≡ refusal_in self.now length }
     {
@@ -28,7 +28,7 @@ impl Sizing {
     }
 }
 
-/// What the grants of a run need, by its rises.
+/// The sizing of a run, by its rises.
 pub(crate) fn sizing_of(rises: Rises) -> Sizing
     ensures { result ≡ record { required = top_of_rises rises; rises = rises } }
 {

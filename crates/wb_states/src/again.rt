@@ -1,5 +1,5 @@
-//! Runs that come to a state once more: copies of those that are kept, and otherwise of the nearest one on the way to it, which goes
-//! on to it under its set.
+//! Runs that come to a state again. If the state's run is kept, it is copied. Otherwise the nearest kept run on the way to the state is
+//! copied, and the copy goes on to the state under the state's set.
 
 ghost use Rattle.std.specs.Prelude.{◌≡◌, ℕ, ◌≤◌, ◌++◌, List, true, false, slice_get, Some, IfOk, IfSome, OnOk};
 ghost use Rattle.wb_machine.specs.Turns.{IsSameRun};
@@ -15,7 +15,7 @@ use wb_machine::{Heap, Machine};
 use wb_model::heap::{Numbers, Rule};
 use wb_model::memory::NoMemory;
 
-/// Whether a set begins with all of another, and has its further numbers past an attempt.
+/// Whether `set` begins with all numbers of `other`, and its further numbers are greater than `attempts`.
 fn goes_on_from(set: &Numbers, other: &Numbers, attempts: u32) -> bool
     requires set { IsSet set.now }
     ensures { result ≡ true →
@@ -28,7 +28,7 @@ fn goes_on_from(set: &Numbers, other: &Numbers, attempts: u32) -> bool
     }
 }
 
-/// Lets a run make further attempts, up to so many; `false` where it ends before.
+/// Lets a run go on until it has made `attempts` attempts in all; `false` if it ends before.
 fn go_to(machine: &mut Machine, attempts: u32) -> Result<bool, NoMemory>
     requires begun { 1 ≤ machine.old.attempts → machine.old.begun ≡ true }
     requires asks { machine.old.asks ≡ true }
@@ -51,8 +51,8 @@ fn go_to(machine: &mut Machine, attempts: u32) -> Result<bool, NoMemory>
     Ok(true)
 }
 
-/// A copy of a run that has come to a state, which goes on under a set, over spare memory; `None` where the set doesn't begin with the state's own
-/// numbers, or has others of attempts that were made.
+/// A copy, over spare memory, of a run that has come to a state. The copy goes on under the set `numbers`; `None` if that set doesn't begin
+/// with the state's own numbers, or if a further number of it is that of an attempt that was already made.
 fn copy_under<'a>(
     machine: &Machine<'a>,
     state: &State,
@@ -78,7 +78,7 @@ fn copy_under<'a>(
 }
 
 impl<'a> Search<'a> {
-    /// The nearest state whose run is kept, on the way back from the one at an index.
+    /// The index of the nearest state whose run is kept, on the way back from the state at the index `at`.
     fn nearest_kept(&self, at: usize) -> usize {
         let mut from = at;
         for _ in 0..self.states.len() {
@@ -90,8 +90,8 @@ impl<'a> Search<'a> {
         from
     }
 
-    /// A copy of the run of the state at an index, which goes on under a set; `None` where it wasn't kept, and where the set doesn't go on from the
-    /// state.
+    /// A copy of the run of the state at an index, which goes on under a set; `None` if the state's run isn't kept, and if the set doesn't
+    /// go on from the state.
     fn copy_at(
         &self,
         at: usize,
@@ -111,7 +111,7 @@ impl<'a> Search<'a> {
         copy_under(machine, state, numbers, spare)
     }
 
-    /// A run that comes to a state once more, over spare memory; `None` where it doesn't.
+    /// A run, over spare memory, that comes to a state again; `None` if no run does.
     pub fn follow_again(
         &self,
         state: &State,
@@ -134,7 +134,7 @@ impl<'a> Search<'a> {
         Ok(Some(machine))
     }
 
-    /// Keeps the run of an older state once more, if it comes to it again: from there the way to the next states is short.
+    /// Keeps the run of an older state again, if a run comes to that state again: from this state the way to the next states is short.
     fn put_back(&mut self, at: usize) -> Result<(), NoMemory>
         requires sound { IsSound self.old }
         ensures same { self.new ≡ record self.old { runs = self.new.runs } }
@@ -150,7 +150,7 @@ impl<'a> Search<'a> {
         }
     }
 
-    /// A copy of the run of the state at an index over spare memory, if it is kept.
+    /// A copy, over spare memory, of the run of the state at an index; `None` if that run isn't kept.
     fn copy_kept(&mut self, at: usize) -> Result<Option<Machine<'a>>, NoMemory>
         requires sound { IsSound self.old }
         ensures same { self.new ≡ record self.old { runs = self.new.runs } }
@@ -169,7 +169,7 @@ impl<'a> Search<'a> {
         }
     }
 
-    /// A run of its own that has come to the state at an index; `None` where there is no such state, and where the run doesn't come to it again.
+    /// A copy of a run that has come to the state at an index; `None` if there is no such state, and if no run comes to it again.
     pub fn run_at(&mut self, at: usize) -> Result<Option<Machine<'a>>, NoMemory>
         requires sound { IsSound self.old }
         ensures same { self.new ≡ record self.old { runs = self.new.runs } }

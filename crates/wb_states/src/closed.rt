@@ -1,5 +1,5 @@
-//! Whether what a search has found is enough for an answer: whether all sets that it is about were followed, and the budget allows each of them
-//! its steps.
+//! Whether what a search has found is enough for an answer: whether the runs of all sets that the answer is about were followed, and the
+//! budget allows each of these runs its steps.
 
 ghost use Rattle.std.specs.Prelude.{◌≡◌, ℕ, ◌≤◌, ◌^◌, List, true, slice_get, IfOk, Some};
 ghost use Rattle.wb_model.specs.runs.Sweeps.{is_fine};
@@ -19,11 +19,11 @@ use wb_model::memory::NoMemory;
 /// The sets that an answer is about.
 #[derive(Debug, Drop)]
 pub(crate) enum Bound {
-    /// All of them.
+    /// All sets.
     All,
-    /// Those of at most so many attempts.
+    /// The sets of at most so many attempts.
     AtMost(u32),
-    /// Those that come before one.
+    /// The sets that come before this one.
     Before(Numbers),
 }
 
@@ -39,7 +39,7 @@ impl Bound {
         }
     }
 
-    /// Whether none begins with a state's set and its next attempt.
+    /// Whether no set that the answer is about begins with a state's set and the state's next attempt.
     fn excludes_failure(&self, state: &State) -> Result<bool, NoMemory>
         ensures { IfOk result (λ excluded. excluded ≡ true → (attempts : ℕ) →
             AreOutside self.now (failing_next state.now) attempts) }
@@ -53,7 +53,7 @@ impl Bound {
     }
 }
 
-/// How many turns a state's run has taken. The first makes an attempt and counts no step.
+/// How many turns a state's run has taken. The first turn makes an attempt and counts no step.
 pub(crate) fn turns_taken(state: &State) -> u64
     ensures turns { result ≡ turns_at state.now }
     ensures few { result ≤ 2 ^ 32 }
@@ -64,8 +64,9 @@ pub(crate) fn turns_taken(state: &State) -> u64
     u64::from(state.steps) + 1
 }
 
-/// Whether an edge is allowed, whatever comes to its state: that state's own run has taken `turns` turns, and any that comes to it `greatest` at most. What
-/// ends must do so within the budget, and what joins a state must come to it with no more turns than `most` has for that state. Nothing may show.
+/// Whether an edge of a state is allowed for every run that comes to the state. The state's own run has taken `turns` turns, and any run
+/// that comes to it at most `greatest`. A run that ends must end within the budget. A run that joins a further state must come to it with
+/// no more turns than `most` has for that further state. An edge whose run is bad or cut, or wasn't followed, isn't allowed.
 fn allows(edge: Edge, turns: u64, greatest: u32, most: &Items<u32>, budget: u32) -> bool
     requires few { turns ≤ 2 ^ 32 }
     ensures { result ≡ true → (g : Ground) → g.budget ≡ budget →
@@ -84,7 +85,7 @@ fn allows(edge: Edge, turns: u64, greatest: u32, most: &Items<u32>, budget: u32)
     }
 }
 
-/// Whether all runs are followed in which a state's next attempt is granted.
+/// Whether all runs that the answer is about and in which a state's next attempt is granted are followed, as `allows` asks.
 fn is_grant_followed(
     edge: Option<Edge>,
     state: &State,
@@ -103,7 +104,7 @@ fn is_grant_followed(
     }
 }
 
-/// The same where it fails.
+/// The same of the runs in which the state's next attempt fails.
 fn is_failure_followed(
     edge: Option<Edge>,
     state: &State,
@@ -123,7 +124,8 @@ fn is_failure_followed(
 }
 
 impl<'a> Search<'a> {
-    /// Whether a state is closed, the one at an index. At most `greatest` turns were taken where it is met.
+    /// Whether a state is closed: whether all runs that go on from it, and that the answer is about, are followed. `at` is the state's
+    /// index. A run that comes to the state has taken at most `greatest` turns.
     fn is_state_closed(
         &self,
         at: usize,
@@ -165,8 +167,8 @@ impl<'a> Search<'a> {
         }
     }
 
-    /// Whether all states are closed, so that no set that the answer is about shows anything. `most` has a number of turns for each state: none that is
-    /// less than those of any run that comes to it.
+    /// Whether all states are closed, so that no set that the answer is about has a run that is bad or cut. `most` has for each state the
+    /// greatest number of turns that a run has taken when it comes to the state; if a number in it is too small, the answer is `false`.
     pub(crate) fn is_closed(&self, most: &Items<u32>, bound: &Bound) -> Result<bool, NoMemory>
         requires sound { IsSound self.now }
         ensures closed { IfOk result (λ closed. closed ≡ true →

@@ -1,4 +1,4 @@
-//! Where a run comes that makes its next attempt: to a state that is kept, to a new one, or to its end. Which runs are followed is not decided here.
+//! What a run comes to after its next attempt: a state that is kept, a new state, or its end. Which runs are followed is not decided here.
 
 ghost use Rattle.std.specs.Prelude.{◌≡◌, ℕ, ◌+◌, ◌≤◌, false, true, length, IfOk, OnOk};
 ghost use Rattle.wb_model.specs.runs.Sets.{IsSet};
@@ -15,7 +15,7 @@ use wb_model::memory::NoMemory;
 use wb_model::progress::Progress;
 use wb_model::run::{Outcome, RunResult};
 
-/// Whether a run is neither bad nor cut. A leave alone is fine, and so is a run without its cleanup stack.
+/// Whether a run is neither bad nor cut. A run that only leaves is fine, and so is a run that gets no cleanup stack.
 fn is_fine(run_result: &RunResult) -> bool
     ensures { result ≡ is_fine run_result.now }
 {
@@ -27,7 +27,7 @@ fn is_fine(run_result: &RunResult) -> bool
 }
 
 impl<'a> Search<'a> {
-    /// Whether a set is tried; the empty one as number 0.
+    /// Whether a set is tried. The empty set counts as number 0.
     pub fn tries(&self, numbers: &Numbers) -> bool
         requires set { IsSet numbers.now }
         ensures tried { result ≡ true → IsTriedSet (ground_of self.now) numbers.now }
@@ -40,7 +40,8 @@ impl<'a> Search<'a> {
         self.whole || (self.part.from <= least && least <= self.part.to && least <= self.last)
     }
 
-    /// What the end of a run shows, in which the attempts of a set fail. Its memory is spare then.
+    /// Judges a run that is over, in which the attempts of a set fail. The first tried set whose run is bad or cut is put into `shown`. The
+    /// run's memory becomes spare.
     fn end(&mut self, fork: Machine<'a>, numbers: Numbers) -> Result<Edge, NoMemory>
         requires sound { IsSound self.old }
         requires run { IsRunUnder (ground_of self.old) numbers fork }
@@ -67,7 +68,7 @@ impl<'a> Search<'a> {
         Ok(Edge::Shows)
     }
 
-    /// How a run goes on that makes its next attempt. It is at the state with the index `before`.
+    /// Lets a run make its next attempt, and returns how it goes on. The run is at the state with the index `before`.
     pub fn follow<P: Progress>(
         &mut self,
         mut fork: Machine<'a>,

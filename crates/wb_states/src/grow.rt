@@ -24,16 +24,16 @@ use wb_model::part::Part;
 use wb_model::progress::Progress;
 use wb_model::script::Script;
 
-/// Which sets a search tries, and which states it takes for one.
+/// Which sets a search tries, and which states count as the same.
 #[derive(Clone, Copy, Debug)]
 pub(crate) struct Plan {
     /// Whether all sets are tried.
     pub whole: bool,
-    /// Else those whose least number this part has, and is no greater than `last`.
+    /// If not all sets are tried: the tried ones are those whose least number is in this part and no greater than `last`.
     pub part: Part,
     /// How many attempts the run without failure makes.
     pub last: u32,
-    /// Whether a run only joins a state that was met with as many steps or more.
+    /// Whether a run joins only states that were met with at least as many steps.
     pub exact: bool,
 }
 
@@ -94,7 +94,7 @@ impl<'a> Search<'a> {
         })
     }
 
-    /// How the run of the state at an index goes on whose next attempt is granted.
+    /// How the run of the state at an index goes on if its next attempt is granted.
     fn follow_grant<P: Progress>(&mut self, at: usize, progress: &mut P) -> Result<Edge, NoMemory>
         requires sound { IsSound self.old }
         ensures grown { OnOk result (HasGrown self.old self.new) }
@@ -114,7 +114,8 @@ impl<'a> Search<'a> {
         }
     }
 
-    /// How a run goes on in which the next attempt fails too, that was at the state with this index. It is followed if its set is tried.
+    /// How a run, which is at the state with the index `at`, goes on if its next attempt fails too. It is followed only if its set is
+    /// tried.
     fn refuse_next<P: Progress>(
         &mut self,
         mut fork: Machine<'a>,
@@ -144,7 +145,7 @@ impl<'a> Search<'a> {
         self.follow(fork, numbers, at, progress)
     }
 
-    /// How the run of the state at an index goes on whose next attempt fails too.
+    /// How the run of the state at an index goes on if its next attempt fails too.
     fn follow_failure<P: Progress>(&mut self, at: usize, progress: &mut P) -> Result<Edge, NoMemory>
         requires sound { IsSound self.old }
         ensures grown { OnOk result (HasGrown self.old self.new) }
@@ -179,8 +180,8 @@ impl<'a> Search<'a> {
         Ok(true)
     }
 
-    /// Follows the run of the first state whose next attempt didn't fail yet, if its set has fewer attempts than so many; `false` where there is
-    /// none.
+    /// Follows the run of the first state whose next attempt didn't fail yet, if its set has fewer than `failures` attempts; otherwise
+    /// `false`.
     fn follow_failed<P: Progress>(
         &mut self,
         failures: u32,
@@ -202,7 +203,7 @@ impl<'a> Search<'a> {
         Ok(true)
     }
 
-    /// Follows the next run of sets of at most so many attempts; `false` where there is none.
+    /// Follows the next run of a set of at most `failures` attempts; `false` if there is none.
     fn follow_next<P: Progress>(
         &mut self,
         failures: u32,

@@ -1,4 +1,5 @@
-//! Which state a run joins that is about to make an attempt, or that it is a new one. Which runs are followed is not decided here.
+//! Which state a run joins when it is about to make an attempt, or that it has come to a new one. Which runs are followed is not decided
+//! here.
 
 ghost use Rattle.std.specs.Prelude.{◌≡◌, ℕ, ◌+◌, ◌<◌, ◌≤◌, [], ◌∷◌, ◌++◌, false, true, length, List, slice_get, Some, IfOk, IfSome, OnOk};
 ghost use Rattle.wb_model.specs.runs.Sets.{IsSet};
@@ -17,7 +18,8 @@ use wb_model::memory::NoMemory;
 use wb_model::progress::Progress;
 
 impl<'a> Search<'a> {
-    /// Whether all sets are tried that go on from a state. In a search over a part they are where its own is, which has their least number.
+    /// Whether all sets that go on from a state are tried. In a search over a part, they are if the state's own set isn't empty: it is
+    /// tried, and its least number is theirs.
     fn tries_all_past(&self, state: &State) -> bool
         ensures { result ≡ true → IsState (ground_of self.now) state.now →
             (more : List ℕ) → IsSet more →
@@ -27,8 +29,9 @@ impl<'a> Search<'a> {
         self.whole || state.numbers.len() > 0
     }
 
-    /// Whether a run may join a state if it is the same but for numbers: the sets that go on from the state are all tried, and come no later than those
-    /// that go on from the run. In an exact search the state was met with as many steps or more.
+    /// Whether a run may join a state, if the two are the same except for allocation numbers: if the sets that go on from the state are all
+    /// tried, and come no later than those that go on from the run. In an exact search, the state must also have been met with at least as
+    /// many steps.
     fn may_join(&self, state: &State, fork: &Machine, numbers: &Numbers, exact: bool) -> bool
         ensures order { result ≡ true →
             IsNoLater state.now.numbers state.now.attempts numbers.now fork.now.attempts }
@@ -44,7 +47,7 @@ impl<'a> Search<'a> {
             && is_no_later(&state.numbers, state.attempts, numbers, fork.attempts())
     }
 
-    /// Whether it is the same but for numbers as the state at an index.
+    /// Whether a run is the same as the state at an index, except for allocation numbers.
     fn is_met_at(
         &self,
         at: usize,
@@ -68,7 +71,7 @@ impl<'a> Search<'a> {
         }
     }
 
-    /// Whether it may join the state at an index; `false` where there is none.
+    /// Whether a run joins the state at an index: whether it may, and is the same; `false` if there is no such state.
     fn is_joined_at(
         &self,
         at: usize,
@@ -91,7 +94,8 @@ impl<'a> Search<'a> {
         self.is_met_at(at, state, fork, numbers)
     }
 
-    /// The state before one with the same fingerprint, if there is one. The first state is listed with none.
+    /// The index of the latest state before the one at the index `at` that has the same fingerprint; `None` if there is none. The first
+    /// state is listed under no fingerprint.
     fn alike_before(&self, at: usize) -> Option<usize> {
         match self.earlier.get(at.checked_sub(1)?) {
             Some(earlier) if *earlier != at => Some(*earlier),

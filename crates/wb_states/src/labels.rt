@@ -1,4 +1,5 @@
-//! The numbers of turns with which states are met. They are guesses, which `is_closed` checks: too small a number makes it answer `false`.
+//! How many turns runs have taken when they come to a state. These numbers are guesses, which `is_closed` checks: it returns `false` if a
+//! number is too small.
 
 use crate::closed::turns_taken;
 use crate::search::Search;
@@ -12,7 +13,7 @@ fn own_turns(state: &State) -> u32 {
     u32::try_from(turns_taken(state)).unwrap_or(u32::MAX)
 }
 
-/// How many turns the own run of each state has taken.
+/// For each state, how many turns the state's own run has taken.
 pub(crate) fn met_turns(alloc: Global, search: &Search) -> Result<Items<u32>, NoMemory> {
     let mut turns = Items::new(alloc);
     for state in search.states.as_slice() {
@@ -21,19 +22,19 @@ pub(crate) fn met_turns(alloc: Global, search: &Search) -> Result<Items<u32>, No
     Ok(turns)
 }
 
-/// A walk along the edges that goes on from a state once it has come there by all edges.
+/// A walk along the edges, which goes on from a state once it has come to the state by all edges that join it.
 #[derive(Drop)]
 struct Walk {
-    /// The greatest number of turns with which it has come to each state so far.
+    /// For each state, the greatest number of turns with which the walk has come to it so far.
     most: Vec<u32>,
-    /// By how many edges it is still to come to each state.
+    /// For each state, by how many edges the walk is still to come to it.
     ahead: Vec<usize>,
-    /// The states to which it has come by all edges, and from which it hasn't gone on.
+    /// The states to which the walk has come by all edges, and from which it hasn't gone on yet.
     ready: Vec<usize>,
 }
 
 impl Walk {
-    /// Before it has begun.
+    /// A walk that hasn't begun.
     fn new(alloc: Global, search: &Search) -> Result<Walk, AllocError> {
         let mut most = Vec::new(alloc);
         let mut ahead = Vec::new(alloc);
@@ -48,7 +49,7 @@ impl Walk {
         })
     }
 
-    /// Counts the states that edges join.
+    /// Counts, for each state, the edges that join it.
     fn count(&mut self, edges: &[Edge]) {
         for edge in edges {
             if let Edge::Joins { state, .. } = edge {
@@ -69,7 +70,7 @@ impl Walk {
         Ok(())
     }
 
-    /// Comes to a state by an edge, with so many turns.
+    /// Comes to a state by an edge, with `turns` turns.
     fn come(&mut self, state: usize, turns: u32) -> Result<(), AllocError> {
         if let Some(most) = self.most.get_mut(state) {
             *most = turns.max(*most);
@@ -83,7 +84,8 @@ impl Walk {
         Ok(())
     }
 
-    /// Goes along an edge of a state, if it joins one. The state's own run has taken `own` turns, and any that comes to it `most` at most.
+    /// Goes along an edge of a state, if the edge joins a further state. The state's own run has taken `own` turns, and any run that comes
+    /// to the state at most `most`.
     fn go_along(&mut self, edge: Option<&Edge>, own: u32, most: u32) -> Result<(), AllocError> {
         if let Some(Edge::Joins { state, steps }) = edge {
             let further = steps.saturating_add(1).saturating_sub(own);
@@ -101,7 +103,7 @@ impl Walk {
         self.go_along(search.failed.get(at), own_turns(state), most)
     }
 
-    /// Goes on from each state that is ready, or comes to be.
+    /// Goes on from each state that is ready or becomes ready.
     fn go_all(&mut self, search: &Search) -> Result<(), AllocError> {
         for _ in 0..search.states.len() {
             let Some(at) = self.ready.pop() else {
@@ -113,7 +115,8 @@ impl Walk {
     }
 }
 
-/// With how many turns at most any run comes to each state. Of states in a cycle of edges, and past one, it may be more.
+/// For each state, how many turns at most a run has taken when it comes to the state. For states in a cycle of edges, and for states after
+/// such a cycle, the number may be too small.
 pub(crate) fn greatest_turns(alloc: Global, search: &Search) -> Result<Items<u32>, NoMemory> {
     let mut walk = Walk::new(alloc, search)?;
     walk.count(search.granted.as_slice());

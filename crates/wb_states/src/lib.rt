@@ -1,5 +1,5 @@
-//! The states before an attempt to which a script comes under sets of failures, each kept once, and what follows from them: the least
-//! set that shows anything, or that none does, however many attempts fail.
+//! The states that a script's runs come to before an attempt, under sets of failed attempts, each state kept once; and what follows from
+//! them: the least set whose run is bad or cut, or that there is none, however many attempts fail.
 #![tactic(auto)]
 
 mod again;

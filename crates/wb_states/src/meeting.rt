@@ -9,7 +9,7 @@ use crate::state::State;
 use wb_machine::Machine;
 use wb_model::heap::Numbers;
 
-/// The first attempt that fails under one of two sets alone; `None` if they are the same. Both ascend.
+/// The first attempt that fails under only one of two sets; `None` if the sets are the same. Both ascend.
 fn first_apart(set: &[u32], other: &[u32]) -> Option<u32> {
     let (mut left, mut other_left) = (set, other);
     while let [number, rest @ ..] = left {
@@ -25,7 +25,7 @@ fn first_apart(set: &[u32], other: &[u32]) -> Option<u32> {
     other_left.first().copied()
 }
 
-/// The last attempt up to which a run under a set and that of a state were one run.
+/// The last attempt up to which a run under a set and the run of a state were one and the same run.
 fn one_run_until(fork: &Machine, set: &Numbers, state: &State) -> u32 {
     let both_made = fork.attempts().min(state.attempts);
     match first_apart(set.as_slice(), state.numbers.as_slice()) {
@@ -34,8 +34,9 @@ fn one_run_until(fork: &Machine, set: &Numbers, state: &State) -> u32 {
     }
 }
 
-/// Whether a run goes on like one that has come to a state, and asks for an attempt next. At first each allocation number may stand for any other, for
-/// no more than 64 of them. Then those of attempts that both made while they were one run stand for themselves, however many there are.
+/// Whether a run asks for an attempt next, and goes on like a run that has come to a state. The first comparison lets each allocation
+/// number stand for any other, for at most 64 numbers. The second lets the numbers of attempts that were made while both were one run stand
+/// for themselves, however many these are.
 fn goes_on_alike(fork: &Machine, set: &Numbers, state: &State, machine: &Machine) -> bool
     requires script { machine.now.script ≡ fork.now.script }
     ensures alike { result ≡ true → GoesOnLike fork.now machine.now }
@@ -46,8 +47,8 @@ fn goes_on_alike(fork: &Machine, set: &Numbers, state: &State, machine: &Machine
             || fork.goes_on_like(machine, one_run_until(fork, set, state)))
 }
 
-/// Whether a run under a set is the same from here on as a state, but for allocation numbers. `machine` has come to the state. `false` may come
-/// where it is, and comes of a run that asks for no attempt next.
+/// Whether a run under a set is the same from here on as `machine`, which has come to a state, except for allocation numbers. `false` may
+/// also be returned if it is the same, and is always returned for a run that asks for no attempt next.
 pub(crate) fn is_met(fork: &Machine, set: &Numbers, state: &State, machine: &Machine) -> bool
     requires script { machine.now.script ≡ fork.now.script }
     ensures { result ≡ true → (g : Ground) → IsUnderWay g set.now fork.now →

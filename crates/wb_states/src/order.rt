@@ -1,4 +1,5 @@
-//! The order of sets: one with fewer numbers comes first, and of two with as many the one that has the lesser number where they first differ.
+//! The order of sets: a set with fewer numbers comes first, and of two sets with equally many numbers, the one with the lesser number where
+//! they first differ.
 
 ghost use Rattle.std.specs.Prelude.{◌≡◌, true};
 ghost use Rattle.wb_model.specs.runs.Sets.{has_lesser_number, set_comes_before};
@@ -39,7 +40,8 @@ pub(crate) fn comes_before(set: &Numbers, other: &Numbers) -> bool
         || (set.len() == other.len() && has_lesser(set.as_slice(), other.as_slice()))
 }
 
-/// Whether a set and an attempt come no later than others: of two sets the first one comes first, and of one set the lesser attempt.
+/// Whether a set and an attempt come no later than another set and attempt. The order of the sets decides; if the sets are the same, the
+/// lesser attempt comes first.
 pub(crate) fn is_no_later(set: &Numbers, attempts: u32, other: &Numbers, later: u32) -> bool
     ensures { result ≡ true → IsNoLater set.now attempts other.now later }
 {

@@ -1,5 +1,5 @@
-//! The runs of states, by the index of the state. Those of the newest states are kept, and one of many older ones: how a run is come
-//! by that was dropped is decided in `again`.
+//! The runs of states, by the index of the state. The runs of the newest states are kept, and one run of many older states. How a dropped
+//! run is made again is decided in `again`.
 
 ghost use Rattle.std.specs.Prelude.{ℕ, IfSome, OnOk};
 ghost use Rattle.wb_machine.specs.Seen.{Seen};
@@ -19,29 +19,30 @@ const OWN_BYTES: u64 = 8192;
 /// About how many bytes an attempt takes in a trace.
 const LINE_BYTES: u64 = 24;
 
-/// Of so many older states, and one more for each `BYTES_A_STATE` that its run takes, one has its run: so the way from it to the others
-/// takes no more time than a copy does.
+/// Of this many older states, and one more for each `BYTES_A_STATE` bytes that a run takes, one state keeps its run: so the way from this
+/// state to the others takes no more time than a copy of the run.
 const INTERVAL: u64 = 32;
 
 const BYTES_A_STATE: u64 = 2048;
 
 /// The runs of states.
 pub(crate) struct Runs<'a> {
-    /// Those that are kept.
+    /// The runs that are kept, by the indexes of their states.
     pub machines: HashMap<usize, Machine<'a>>,
     /// How many states there are.
     pub states: usize,
-    /// The states before this one are older.
+    /// The index of the first of the newest states. The states before it are the older ones.
     pub newest: usize,
-    /// About how many bytes the runs of the others take.
+    /// About how many bytes the runs of the newest states take.
     pub bytes: u64,
-    /// The older state to which a run was followed again last.
+    /// The index of the older state whose run was made again last.
     pub revisited: usize,
-    /// The memory of a run that was dropped, or is over.
+    /// The memory of a run that was dropped or is over, for the next copy.
     pub spare: Option<Heap>,
 }
 
-/// Written out, so that other proofs have one call where one is dropped, and its fields are gone over here alone.
+/// Written by hand, so that a proof about a function that drops such a value has a single call there, and only this function goes over the
+/// fields.
 impl Drop for Runs<'_> {
     fn drop(self) {
         let Runs {
@@ -61,13 +62,13 @@ fn bytes_of(machine: &Machine) -> u64 {
     own + LINE_BYTES * u64::from(machine.attempts())
 }
 
-/// Whether the state at an index has its run however many newer ones there are. The first state has.
+/// Whether the state at the index `at` keeps its run, which takes `bytes` bytes, however many newer states there are. The first state does.
 fn stays(at: usize, bytes: u64) -> bool {
     at as u64 % (INTERVAL + bytes / BYTES_A_STATE) == 0
 }
 
 impl<'a> Runs<'a> {
-    /// Of no states.
+    /// The runs of no states.
     pub fn new(alloc: Global) -> Runs<'a>
         ensures { (i : ℕ) (m : Seen) → IsKept result i m → ⊥ }
     {
@@ -88,7 +89,7 @@ impl<'a> Runs<'a> {
         self.machines.get(&at)
     }
 
-    /// Drops the run of the state at an index. Its memory is spare then.
+    /// Drops the run of the state at an index. The run's memory becomes spare.
     fn forget(&mut self, at: usize)
         ensures { AreOf self.old self.new }
     {
@@ -113,7 +114,7 @@ impl<'a> Runs<'a> {
         }
     }
 
-    /// Makes room, but keeps the run of the newest state of all.
+    /// Drops runs until the others fit into `ROOM`, but keeps the run of the newest state of all.
     fn make_room(&mut self)
         ensures { AreOf self.old self.new }
     {
@@ -135,7 +136,7 @@ impl<'a> Runs<'a> {
         Ok(())
     }
 
-    /// Adds the run of a new state, whose index is greater than those before. Runs of others may be dropped then.
+    /// Adds the run of a new state, whose index is greater than all indexes before. Runs of other states may be dropped then.
     pub fn push(&mut self, at: usize, machine: Machine<'a>) -> Result<(), NoMemory>
         ensures { OnOk result (AreOfOr self.old at machine.entry self.new) }
     {
@@ -147,7 +148,7 @@ impl<'a> Runs<'a> {
         Ok(())
     }
 
-    /// Drops the run that was followed again last, unless it stays.
+    /// Drops the run that was made again last, unless it stays.
     fn forget_revisited(&mut self)
         ensures { AreOf self.old self.new }
     {
@@ -160,7 +161,7 @@ impl<'a> Runs<'a> {
         }
     }
 
-    /// Adds a run that was followed again to an older state, in the place of the last one that was.
+    /// Adds the run of an older state that was made again, in place of the run that was made again before it.
     pub fn put_back(&mut self, at: usize, machine: Machine<'a>) -> Result<(), NoMemory>
         ensures { OnOk result (AreOfOr self.old at machine.entry self.new) }
     {

@@ -21,15 +21,15 @@ pub(crate) struct Search<'a> {
     pub granted: Items<Edge>,
     /// The same of those whose next attempt fails.
     pub failed: Items<Edge>,
-    /// The first set that was found to show anything.
+    /// The first set that was found whose run is bad or cut, and that run.
     pub shown: Option<Shown>,
     /// Whether all sets are tried.
     pub whole: bool,
-    /// Else those whose least number this part has, and is no greater than `last`.
+    /// If not all sets are tried: the tried ones are those whose least number is in this part and no greater than `last`.
     pub part: Part,
     /// How many attempts the run without failure makes.
     pub last: u32,
-    /// Whether a run only joins a state that was met with as many steps or more.
+    /// Whether a run joins only states that were met with at least as many steps.
     pub exact: bool,
     /// How many states were met that are the same as no other, whatever their steps.
     pub met: u32,
@@ -39,7 +39,8 @@ pub(crate) struct Search<'a> {
     pub earlier: Items<usize>,
 }
 
-/// Written out, so that other proofs have one call where one is dropped, and its fields are gone over here alone.
+/// Written by hand, so that a proof about a function that drops such a value has a single call there, and only this function goes over the
+/// fields.
 impl Drop for Search<'_> {
     fn drop(self) {
         let Search {

@@ -36,23 +36,23 @@ use wb_model::script::Script;
 pub enum Searched {
     /// The least set that is tried whose run is bad or cut.
     Shown(Shown),
-    /// No set that is tried shows anything, however many attempts it has.
+    /// No set that is tried has a run that is bad or cut, however many attempts the set has.
     Fine,
-    /// No set of at most so many attempts does, and nothing is known of others.
+    /// No set of at most so many attempts that is tried has a run that is bad or cut. Nothing is known of larger sets.
     FineTo(u32),
 }
 
-/// What is known once more runs were followed.
+/// What is known after further runs were followed.
 #[derive(Debug, Drop)]
 enum Looked {
-    /// The answer; `None` where what was followed doesn't say it.
+    /// The answer; `None` if the runs that were followed don't tell.
     Known(Option<Searched>),
     /// Runs of sets of more attempts must be followed.
     GoesOn,
 }
 
 impl<'a> Search<'a> {
-    /// Whether no set within a bound shows anything; `false` where what was followed doesn't say it.
+    /// Whether no set within a bound has a run that is bad or cut; also `false` if the runs that were followed don't tell.
     fn shows_none_within(&self, alloc: Global, bound: &Bound) -> Result<bool, NoMemory>
         requires sound { IsSound self.now }
         ensures { IfOk result (λ none. none ≡ true → (numbers : List ℕ) →
@@ -67,7 +67,7 @@ impl<'a> Search<'a> {
         self.is_closed(&most, bound)
     }
 
-    /// That no set of at most so many attempts shows anything; `None` where what was followed doesn't say it.
+    /// The answer that no set of at most `most` attempts has a run that is bad or cut; `None` if the runs that were followed don't tell.
     fn answer_to(&self, alloc: Global, most: u32) -> Result<Option<Searched>, NoMemory>
         requires sound { IsSound self.now }
         ensures { IfOk result (λ answer. IfSome answer (IsAnswer (ground_of self.now))) }
@@ -76,7 +76,7 @@ impl<'a> Search<'a> {
         Ok(none.then_some(Searched::FineTo(most)))
     }
 
-    /// That no set shows anything.
+    /// The answer that no set has a run that is bad or cut; `None` if the runs that were followed don't tell.
     fn answer_of_all(&self, alloc: Global) -> Result<Option<Searched>, NoMemory>
         requires sound { IsSound self.now }
         ensures { IfOk result (λ answer. IfSome answer (IsAnswer (ground_of self.now))) }
@@ -85,7 +85,7 @@ impl<'a> Search<'a> {
         Ok(none.then_some(Searched::Fine))
     }
 
-    /// The set that was found first, if no lesser one shows anything.
+    /// The answer that the set that was found first is the least; `None` if the runs that were followed don't tell.
     fn answer_of_shown(&mut self, alloc: Global) -> Result<Option<Searched>, NoMemory>
         requires sound { IsSound self.old }
         ensures { IfOk result (λ answer. IfSome answer (IsAnswer (ground_of self.old))) }
@@ -156,7 +156,7 @@ fn is_whole(part: Part, last: u32) -> bool
     part.from == 0 && last <= part.to
 }
 
-/// What a plan finds; `None` where what was followed doesn't say it.
+/// What a search by a plan finds; `None` if the runs that were followed don't tell.
 fn search_by<P: Progress>(
     alloc: Global,
     script: &Script,
@@ -233,7 +233,7 @@ pub fn search_states<P: Progress>(
     }
 }
 
-/// An answer where it is known that no single failure shows anything.
+/// An answer, where the run of each single failure is known to be fine.
 fn at_least_one(answer: Searched) -> Searched
     ensures { result ≡ at_least_one answer }
 {

@@ -3,35 +3,35 @@
 use wb_model::heap::Numbers;
 use wb_model::run::RunResult;
 
-/// What a run comes to under a set of failures, before an attempt past all of them.
+/// What a run has come to under a set of attempts that fail, before an attempt past all of them.
 #[derive(Drop)]
 pub(crate) struct State {
-    /// The attempts that failed, in ascending order.
+    /// The numbers of the set's attempts, in ascending order. All of them were made.
     pub numbers: Numbers,
-    /// How many attempts were made. No other than these failed.
+    /// How many attempts were made.
     pub attempts: u32,
     /// How many steps were counted.
     pub steps: u32,
-    /// The state from which the run came here by one attempt; of the first state itself.
+    /// The index of the state from which the run came here by one attempt; for the first state, its own index.
     pub before: usize,
 }
 
-/// How a run goes on that was in a state, once its next attempt was granted or refused.
+/// How a run goes on from a state, after its next attempt was granted or made to fail.
 #[derive(Clone, Copy, Debug, PartialEq, Eq)]
 pub(crate) enum Edge {
-    /// It comes to what is this state but for allocation numbers, and has then counted so many steps.
+    /// The run comes to the same as the state at index `state`, except for allocation numbers, and has then counted `steps` steps.
     Joins { state: usize, steps: u32 },
-    /// It makes no further attempt, is neither bad nor cut, and takes so many steps.
+    /// The run makes no further attempt, is neither bad nor cut, and takes `steps` steps in all.
     Ends { steps: u32 },
-    /// It makes no further attempt, and is bad or cut.
+    /// The run makes no further attempt, and is bad or cut.
     Shows,
-    /// None of the sets that begin so is tried.
+    /// No set that begins with the run's set is tried.
     Untried,
-    /// It wasn't followed, since its state was not come to again.
+    /// The run wasn't followed, since no run came to its state again.
     Unknown,
 }
 
-/// A set of failures whose run is bad or cut, and that run.
+/// A set of attempts that fail, whose run is bad or cut, and that run.
 #[derive(Debug, Drop)]
 pub struct Shown {
     /// The numbers of the attempts that fail, in ascending order.

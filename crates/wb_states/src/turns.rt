@@ -7,7 +7,7 @@ ghost use Rattle.wb_model.specs.runs.Run.{run};
 use wb_machine::{Machine, Turn};
 use wb_model::memory::NoMemory;
 
-/// Takes turns until the next one asks for an attempt: `None`. Where the run ends first, how many attempts it makes.
+/// Takes turns until the next turn asks for an attempt, and returns `None`. If the run ends first, returns how many attempts it made.
 fn go_to_attempt(machine: &mut Machine) -> Result<Option<u32>, NoMemory>
     requires begun { machine.old.begun ≡ true }
     requires well { machine.old.failed ≡ false }
@@ -35,8 +35,8 @@ fn go_to_attempt(machine: &mut Machine) -> Result<Option<u32>, NoMemory>
     }
 }
 
-/// Takes the turn that makes an attempt, and then turns until the next one asks for another: `None`. Where the run ends first, how many attempts it
-/// makes.
+/// Takes the turn that makes an attempt, and then turns until the next turn asks for another, and returns `None`. If the run ends first,
+/// returns how many attempts it made.
 pub(crate) fn go_past_attempt(machine: &mut Machine) -> Result<Option<u32>, NoMemory>
     requires asks { machine.old.asks ≡ true }
     requires going { machine.old.over ≡ false }

@@ -1,4 +1,4 @@
-//! Streams of bytes: what is read from and written to, one call of the system's at a time.
+//! Streams of bytes, to read from and to write to, one call of the system at a time.
 #![tactic(auto)]
 
 pub mod streams;

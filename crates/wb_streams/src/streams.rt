@@ -1,7 +1,7 @@
-//! One read and one write, and whether they failed. What is done by them, and how often, is elsewhere.
+//! One read and one write, and whether they failed. What is read and written, and how often, is decided elsewhere.
 //!
-//! What a read or a write does to a stream is a relation into which no contract looks. So a body that reads
-//! again where a read failed, or met the end, is never taken for one that read once.
+//! What a read or a write does to a stream is a relation that contracts name, and into which none looks. So a body that reads again, after
+//! a failed read or at the end of the source, is never taken for a body that reads once.
 
 ghost use Rattle.std.specs.Prelude.{◌<◌, ◌≤◌, ℕ, List, Bool, Option, ⊤, length, IfOk, is_err};
 ghost use Rattle.std.specs.Io.{ReadsAtMost, WritesAtMost};
@@ -15,12 +15,12 @@ use std::io::{Read, Write};
 #[derive(Clone, Copy, Debug, PartialEq, Eq)]
 pub struct StreamFault;
 
-/// What bytes are read from.
+/// A stream that bytes are read from.
 pub trait Source {
-    /// The bytes that reads will give from here on, where they are known.
+    /// The bytes that are still to be read; `None` if they aren't known.
     ghost remaining: { Self → Option (List ℕ) };
 
-    /// What one read does: the source before it, what the read comes to, and the source after it.
+    /// What one read does, as a relation between the source before it, what the read comes to, and the source after it.
     ghost reads: { Self → Came → Self → Type 0 };
 
     /// One call of the system's `read`.
@@ -40,12 +40,12 @@ impl<R: Read> Source for R {
     }
 }
 
-/// What bytes are written to.
+/// A stream that bytes are written to.
 pub trait Sink {
-    /// The bytes that the sink holds, where they are known.
+    /// The bytes that the sink holds; `None` if they aren't known.
     ghost contents: { Self → Option (List ℕ) };
 
-    /// What one write does: the sink before it, whether it fails, and the sink after it.
+    /// What one write does, as a relation between the sink before it, whether the write fails, and the sink after it.
     ghost writes: { Self → Bool → Self → Type 0 };
 
     /// One call of the system's `write`.
@@ -65,8 +65,8 @@ impl<W: Write> Sink for W {
     }
 }
 
-/// One read into a buffer with room, which fails where the source answers an error, an interrupted one too. No
-/// byte is an `Ok` of 0, and means that the source is at its end, so that nothing more is to be read.
+/// Reads once into a buffer that isn't empty. Returns how many bytes came; 0 means that the source is at its end, and that nothing more is
+/// to be read. An error of the source is a `StreamFault`, also if the read was merely interrupted.
 pub fn read_some<R: Source>(reader: &mut R, buffer: &mut [u8]) -> Result<usize, StreamFault>
     requires { 0 < length buffer.old }
     ensures bound { ReadsAtMost result buffer.new }
@@ -80,7 +80,8 @@ pub fn read_some<R: Source>(reader: &mut R, buffer: &mut [u8]) -> Result<usize, 
     }
 }
 
-/// One write of at least a byte, which fails where the sink answers an error or takes no byte.
+/// Writes once, from at least one byte. Returns how many bytes the sink took, at least one. An error of the sink is a `StreamFault`, and so
+/// is a call that took no byte.
 pub fn write_some<W: Sink>(writer: &mut W, bytes: &[u8]) -> Result<usize, StreamFault>
     requires { 0 < length bytes.now }
     ensures bound { IfOk result (λ n. (0 < n) × (n ≤ length bytes.now)) }

@@ -1,4 +1,4 @@
-//! A sweep that looks at each number of a part: how the run of each that is listed ended, and the least whose run leaks or panics.
+//! A sweep that tries each number of a part: how the run under each listed number ended, and the least number whose run leaks or panics.
 
 ghost use Rattle.std.specs.Prelude.{◌≡◌, ◌≢◌, ◌↔◌, ◌++◌, ◌+◌, ◌-◌, ◌<◌, ◌≤◌, true, false, IfOk, IfSome, IsTrue, OnOk};
 ghost use Rattle.wb_model.specs.language.Sound.{is_script};
@@ -33,7 +33,7 @@ use wb_model::run::{Outcome, RunResult, Why};
 use wb_model::run_end::RunEnd;
 use wb_model::script::Script;
 
-/// Whether a number is listed whose run ended so.
+/// Whether a number is listed if its run ended in this way.
 fn is_listed(listing: Listing, end: RunEnd) -> bool
     ensures { result ≡ is_listed_end listing end }
 {
@@ -43,7 +43,7 @@ fn is_listed(listing: Listing, end: RunEnd) -> bool
     }
 }
 
-/// Adds what is told of a number whose run ended so: nothing if it isn't listed.
+/// Adds a number and the end of its run to the list, or nothing if the number isn't listed.
 fn tell(ends: &mut NumberEnds, listing: Listing, number: u32, end: RunEnd) -> Result<(), NoMemory>
     ensures { OnOk result (ends.new ≡ ends.old ++ line_if_told listing number end) }
 {
@@ -53,8 +53,8 @@ fn tell(ends: &mut NumberEnds, listing: Listing, number: u32, end: RunEnd) -> Re
     Ok(())
 }
 
-/// How the run of a fork ended: as the run without failure did, which is given, if the fork met the scout and its budget allows it as
-/// many steps.
+/// How the run of a fork ended. If the fork met the scout, its run ended like the run without failure, whose end is `first`, unless the
+/// budget cuts it.
 fn end_of_fork(forked: &Forked, first: RunEnd) -> RunEnd
     ensures { (first_result run_result : RunResult) →
         ForkedSays forked.now first_result run_result → first ≡ end_of first_result.outcome →
@@ -67,7 +67,8 @@ fn end_of_fork(forked: &Forked, first: RunEnd) -> RunEnd
     }
 }
 
-/// Adds what is told of number 0 by its run, where the part has that number; `Cut` where the run is cut.
+/// Adds number 0 and the end of its run, which is `first`, to the list, if the part has number 0 and that number is listed. `Cut` if the
+/// run is cut.
 #[tactic(auto, using(crate::proofs::TellLemmas::line_by_end))]
 fn tell_first(
     ends: &mut NumberEnds,
@@ -93,9 +94,9 @@ fn tell_first(
     Ok(())
 }
 
-/// Adds what is told of the attempt that the lead makes next, of this number, by the run in which it is the first to fail: nothing
-/// where the next turn makes none, and where the number is less than `from`. It is followed until it meets the scout, if there is one.
-/// Its copy takes the spare memory, and leaves its own. The run without failure ends as is given.
+/// Adds `number`, the attempt that the lead makes next, and the end of the run in which it is the first to fail. Adds nothing if `number`
+/// isn't listed, if it is less than `from`, or if the lead's next turn makes no attempt. A fork follows that run until it meets the scout,
+/// if there is one; the fork takes the spare memory, and leaves its own. `first` is the end of the run without failure.
 fn tell_next<P: Progress>(
     ends: &mut NumberEnds,
     listing: Listing,
@@ -135,8 +136,8 @@ fn tell_next<P: Progress>(
     tell(ends, listing, number, end_of_fork(&forked, first))
 }
 
-/// Adds what is told of the numbers from `from` to `last`, which is no greater than the last attempt of the run without failure.
-/// The lead is that run, which ends as is given, and begins; what is told of number 0 is there, where that is one of them.
+/// Adds the listed numbers from `from` to `last`, which is no greater than the last attempt of the run without failure. The lead is that
+/// run at its start, and `first` is its end. Number 0, if it is one of the numbers, was dealt with before.
 fn tell_along<P: Progress>(
     ends: &mut NumberEnds,
     listing: Listing,
@@ -184,7 +185,7 @@ fn tell_along<P: Progress>(
     Ok(())
 }
 
-/// How many of these numbers leak or panic.
+/// How many of these numbers have a run that leaks or panics.
 fn bad_count(ends: &NumberEnds) -> usize
     ensures { result ≡ bad_count ends.now }
 {
@@ -197,7 +198,7 @@ fn bad_count(ends: &NumberEnds) -> usize
     count
 }
 
-/// The first of these numbers that leaks or panics; `None` if none does.
+/// The first of these numbers whose run leaks or panics; `None` if there is none.
 fn first_bad(ends: &NumberEnds) -> Option<u32>
     ensures { result ≡ first_bad ends.now }
 {
@@ -209,7 +210,7 @@ fn first_bad(ends: &NumberEnds) -> Option<u32>
     None
 }
 
-/// The first of these numbers that leaks or panics, and its run, which is made once more.
+/// The first of these numbers whose run leaks or panics, and that run, which is made again; `None` if there is none.
 fn find_first(
     alloc: Global,
     script: &Script,
@@ -232,8 +233,8 @@ fn find_first(
     Ok(Some(Found { at, result }))
 }
 
-/// Adds what is told of the later numbers of a part. The run without failure isn't cut, ends as is given, and makes `last` attempts
-/// and takes so many steps. What is told of number 0 is there, where it is the part's.
+/// Adds the listed numbers of a part from 1 on. The run without failure isn't cut, makes `last` attempts, takes `steps` steps, and has the
+/// end `first`. Number 0, if the part has it, was dealt with before.
 fn tell_later<P: Progress>(
     ends: &mut NumberEnds,
     listing: Listing,
@@ -270,7 +271,7 @@ fn tell_later<P: Progress>(
     Ok(())
 }
 
-/// The sweep itself, of whose beginning and end `sweep_all` notifies.
+/// The sweep itself. `sweep_all` notifies `progress` of its beginning and its end.
 fn tell_all<P: Progress>(
     alloc: Global,
     script: &Script,
@@ -310,11 +311,12 @@ fn tell_all<P: Progress>(
     })
 }
 
-/// What is told of each number of a part, up to the last attempt of the run without failure: of those that are listed how their run
-/// ended, and of the least whose run leaks or panics that run. Of pairs only the single numbers are looked at.
+/// Tries each number of a part, up to the last attempt of the run without failure. Returns how the run under each listed number ended, how
+/// many of these runs leak or panic, and the least number whose run does, with that run. Of `Failures::Pairs` only the single numbers are
+/// tried.
 ///
-/// `Cut` comes exactly where the run without failure is cut. That run is told of only where the part has number 0. `BadShape` comes
-/// exactly where the shape is none that a heap may have. `progress` is notified as by `sweep`.
+/// `Cut` is returned exactly if the run without failure is cut. That run is listed only if the part has number 0. `BadShape` is returned
+/// exactly if the shape is none that a heap may have. `progress` is notified as by `sweep`.
 pub fn sweep_all<P: Progress>(
     alloc: Global,
     script: &Script,

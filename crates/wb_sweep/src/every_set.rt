@@ -26,7 +26,7 @@ use wb_model::progress::Progress;
 use wb_model::script::Script;
 use wb_states::{Searched, Shown, search_states};
 
-/// What a set amounts to that shows something: found where its run is bad, and `Cut` where it is cut.
+/// Judges a set whose run is bad or cut: returns the set if its run is bad, and `Cut` if it is cut.
 fn judge_shown(shown: Shown) -> Result<Option<FoundSet>, EverySetFault>
     ensures fine { IfOk result (λ found. found ≡ None → is_fine shown.result ≡ true) }
     ensures bad { IfOk result (λ found. IfSome found (IsBadSet shown.numbers shown.result)) }
@@ -39,8 +39,8 @@ fn judge_shown(shown: Shown) -> Result<Option<FoundSet>, EverySetFault>
     Ok(judge_set(numbers, result)?)
 }
 
-/// The least set whose run is bad, of those of a part; `None` if the run of each is fine. Those of at most one number are. The run without
-/// failure makes so many attempts, and at most so many states may be met.
+/// The least set of a part whose run is bad; `None` if the run of each set is fine. The runs of the sets of at most one number are known to
+/// be fine. The run without failure makes `attempts` attempts, and at most `states` states may be met.
 fn search_every_set<P: Progress>(
     alloc: Global,
     script: &Script,
@@ -88,7 +88,7 @@ fn search_every_set<P: Progress>(
     }
 }
 
-/// The sweep itself, of whose beginning and end the caller notifies.
+/// The sweep itself. The caller notifies `progress` of its beginning and its end.
 fn find_among_all<P: Progress>(
     alloc: Global,
     script: &Script,

@@ -12,7 +12,7 @@ pub enum EverySetFault {
     BadShape,
     /// The run in which these attempts fail was cut, and no lesser set's run was bad or cut.
     Cut { numbers: Numbers, why: Why },
-    /// More states were met than were allowed. No set of at most so many attempts shows anything.
+    /// More states were met than were allowed. No set of at most `fine` attempts has a run that is bad or cut.
     ManyStates { fine: u32 },
     /// The workbench's own memory ran out. This is never a refusal of the simulated heap.
     NoMemory,

@@ -1,4 +1,4 @@
-//! What is known of a fork's run: it is followed until it meets the scout, if there is one, or to its end.
+//! What is known of a fork's run. A fork is followed until it meets the scout, if there is one, or to its end.
 
 ghost use Rattle.std.specs.Prelude.{◌≡◌, ◌+◌, None, false, IfOk, IfSome, OnOk};
 ghost use Rattle.wb_machine.specs.Turns.{IsSameRun};
@@ -19,11 +19,11 @@ use wb_model::run::RunResult;
 pub enum Forked {
     /// The fork has met the scout.
     Met(Meeting),
-    /// It was followed to its end.
+    /// The fork was followed to its end.
     Ran(RunResult),
 }
 
-/// What follows for a fork if it meets the scout; `None` where it doesn't soon.
+/// Lets a fork meet the scout, and returns what follows for the fork; `None` if the two don't meet soon.
 fn meet_one(
     scout: &mut Scout,
     fork: &mut Machine,
@@ -46,7 +46,7 @@ fn meet_one(
     Ok(scout.meeting(fork, failures, number))
 }
 
-/// The same where there may be no scout.
+/// The same if there is a scout; `None` if there is none.
 fn meet(
     scout: &mut Option<Scout>,
     fork: &mut Machine,
@@ -72,10 +72,11 @@ fn meet(
     }
 }
 
-/// What is known of the run under the failure that is tried as `number`, which is the first to refuse the attempt that the lead makes
-/// next. A copy of the lead goes on under it until it meets the scout, if there is one, or to its end. The lead stays as it is.
+/// What is known of the run under the failure that is tried as `number`. The first attempt that this failure makes fail is `number`, which
+/// the lead makes next. A copy of the lead goes on under this failure until it meets the scout, if there is one, or to its end. The lead
+/// stays as it is.
 ///
-/// The copy takes the memory of `spare`, where there is one, and leaves its own there; on `Err` none is left.
+/// The copy takes the memory in `spare`, if there is any, and leaves its own memory there; on `Err` no memory is left there.
 pub fn follow_next(
     lead: &Machine,
     failures: Failures,
@@ -105,7 +106,7 @@ pub fn follow_next(
     Ok(Forked::Ran(end_fork(fork, spare)?))
 }
 
-/// The same of a lead whose own run is fine: a fork that has met the scout is, too.
+/// The same for a lead whose own run is fine: the run of a fork that has met the scout is fine, too, unless the budget cuts it.
 pub fn follow_beside_fine(
     lead: &Machine,
     failures: Failures,

@@ -9,10 +9,10 @@ use wb_model::heap::Rule;
 use wb_model::memory::NoMemory;
 use wb_model::run::RunResult;
 
-/// A copy of a run under way that goes on under another rule, which refuses the same of the attempts made so far; neither is a
-/// limit. The run itself stays as it is.
+/// A copy of a run under way that goes on under another rule. Of the attempts made so far, both rules make the same ones fail, and neither
+/// rule is a limit. The run itself stays as it is.
 ///
-/// The copy takes the memory of `spare`, where there is one.
+/// The copy takes the memory in `spare`, if there is any.
 pub(crate) fn fork_under<'a>(
     lead: &Machine<'a>,
     rule: Rule,
@@ -29,7 +29,7 @@ pub(crate) fn fork_under<'a>(
     Ok(fork)
 }
 
-/// What a fork comes to at its end. Its memory is left in `spare`; on `Err` none is.
+/// Takes a fork to its end, and returns its result. Its memory is left in `spare`; on `Err` no memory is left there.
 pub(crate) fn end_fork(fork: Machine, spare: &mut Option<Heap>) -> Result<RunResult, NoMemory>
     requires lines { fork.keeps_rises ≡ false }
     ensures { IfOk result (λ run_result.
@@ -40,10 +40,11 @@ pub(crate) fn end_fork(fork: Machine, spare: &mut Option<Heap>) -> Result<RunRes
     Ok(result)
 }
 
-/// What a run under way comes to under another rule, which refuses the same of the attempts made so far; neither is a limit. A
-/// copy goes on to its end, and the run itself stays as it is. The machine is one made by `Machine::new`.
+/// The result of a run under way if it goes on under another rule. Of the attempts made so far, both rules make the same ones fail, and
+/// neither rule is a limit. A copy of the run goes on to its end, and the run itself stays as it is. The machine is one made by
+/// `Machine::new`.
 ///
-/// The copy takes the memory of `spare`, where there is one, and leaves its own there; on `Err` none is left.
+/// The copy takes the memory in `spare`, if there is any, and leaves its own memory there; on `Err` no memory is left there.
 pub fn result_under(
     lead: &Machine,
     rule: Rule,

@@ -18,24 +18,24 @@ pub struct Sweep {
     pub found: Option<Found>,
 }
 
-/// Which numbers a sweep lists that looks at each of a part.
+/// Which numbers are listed by a sweep that tries each number of a part.
 #[derive(Clone, Copy, Debug, PartialEq, Eq)]
 pub enum Listing {
-    /// Those whose run leaks, panics or is cut.
+    /// The numbers whose run leaks, panics or is cut.
     Unfine,
-    /// Every one, also where its run is fine.
+    /// Every number, also one whose run is fine.
     Every,
 }
 
-/// What a sweep tells that looks at each number of a part, up to the last attempt of the run without failure.
+/// What is found by a sweep that tries each number of a part, up to the last attempt of the run without failure.
 #[derive(Debug, Drop)]
 pub struct AllNumbers {
     /// How many attempts the run without failure makes.
     pub attempts: u32,
     /// The numbers that are listed, each with the end of its run.
     pub ends: NumberEnds,
-    /// How many of them leak or panic.
+    /// How many of these numbers have a run that leaks or panics.
     pub bad: usize,
-    /// The least of these, and its run.
+    /// The least number whose run leaks or panics, and that run; `None` if there is none.
     pub found: Option<Found>,
 }

@@ -1,5 +1,5 @@
-//! A sweep over sets of two attempts and more, once no single one shows anything: by states first, and by a walk where these become too
-//! many.
+//! A sweep over sets of two attempts and more, once the run of each single attempt is fine: first by states, and by a walk over the sets if
+//! the states become too many.
 
 ghost use Rattle.std.specs.Prelude.{◌≡◌, ◌≢◌, ◌⊎◌, ℕ, ◌<◌, ◌≤◌, List, None, false, length, true, IfOk, IfSome, IsTrue};
 ghost use Rattle.wb_model.specs.language.Sound.{is_script};
@@ -24,8 +24,8 @@ use wb_model::progress::Progress;
 use wb_model::script::Script;
 use wb_states::{Searched, Shown, search_states};
 
-/// What a set amounts to that shows something, where those of at most `most` numbers are asked for: found where its run is bad, `Cut` where it
-/// is cut, and `None` where it has more numbers.
+/// Judges a set whose run is bad or cut, in a search for sets of at most `most` numbers: returns the set if its run is bad, `Cut` if it is
+/// cut, and `None` if the set has more numbers.
 fn judge_shown(shown: Shown, most: u32) -> Result<Option<FoundSet>, SetFault>
     ensures none { IfOk result (λ found. found ≡ None →
         (is_fine shown.result ≡ true) ⊎ (most < length shown.numbers)) }
@@ -43,11 +43,11 @@ fn judge_shown(shown: Shown, most: u32) -> Result<Option<FoundSet>, SetFault>
     judge_set(numbers, result)
 }
 
-/// The least set of at most `most` numbers whose run is bad, of those that are tried of a part; `None` if the run of each is fine. Those of at
-/// most one number are. The run without failure makes `last` attempts.
+/// The least set of at most `most` numbers whose run is bad, of the sets of a part that are tried; `None` if the run of each is fine. The
+/// runs of the sets of at most one number are known to be fine. The run without failure makes `last` attempts.
 ///
-/// States before an attempt that are the same but for allocation numbers are followed once, as many as the sets are worth. Where they are more,
-/// the sets themselves are tried, from those of one number more than the states have answered.
+/// States before an attempt that are the same except for allocation numbers are followed once. No more states are met than the sets are
+/// worth. If there are more, the sets themselves are tried, from those of one number more than the sets that the states have answered.
 pub(crate) fn find_larger<P: Progress>(
     alloc: Global,
     script: &Script,

@@ -1,5 +1,6 @@
-//! The least number of an attempt, alone or as the first of all that fail, the least rate, or the least pair of attempts, whose failure
-//! shows a panic or a leak, of all or of a part; and how the run under each number ends.
+//! The least failure whose run leaks or panics, of all failures or of a part of them, and how the run under each number ends. A failure is
+//! one attempt that fails, an attempt from which on all fail, a rate at which attempts fail, or a pair or a set of attempts that fail
+//! together.
 #![tactic(auto)]
 
 mod all_numbers;

@@ -1,4 +1,4 @@
-//! A sweep over pairs of attempts, once no single failure shows anything: it is one over sets of at most two attempts.
+//! A sweep over pairs of attempts, once the run of each single failure is fine. It is a sweep over sets of at most two attempts.
 
 ghost use Rattle.std.specs.Prelude.{◌≡◌, ◌≤◌, None, false, IfOk, IfSome, IsTrue};
 ghost use Rattle.wb_model.specs.language.Sound.{is_script};
@@ -21,7 +21,7 @@ use wb_model::part::Part;
 use wb_model::progress::Progress;
 use wb_model::script::Script;
 
-/// The failure of the attempts of a set, which are two at most.
+/// The failure that makes the attempts of a set fail, of which there are at most two.
 fn failure_of(numbers: &Numbers) -> Failing
     ensures { result ≡ failure_of numbers.now }
 {
@@ -43,7 +43,7 @@ fn as_found(set: FoundSet) -> Found
     }
 }
 
-/// The fault of a sweep over such sets, as one of a sweep over failures.
+/// The fault of a sweep over such sets, as a fault of a sweep over failures.
 fn as_sweep_fault(fault: SetFault) -> SweepFault
     ensures { result ≡ sweep_fault_of fault }
 {
@@ -57,8 +57,8 @@ fn as_sweep_fault(fault: SetFault) -> SweepFault
     }
 }
 
-/// The least pair of a part whose run is bad; `None` if the run of each is fine. No single failure of the part shows anything. The run
-/// without failure makes `last` attempts.
+/// The least pair of a part whose run is bad; `None` if the run of each pair is fine. The run of each single failure of the part is known
+/// to be fine. The run without failure makes `last` attempts.
 pub(crate) fn find_pair<P: Progress>(
     alloc: Global,
     script: &Script,

@@ -1,4 +1,4 @@
-//! A sweep over all failures whose run without failure is known: that run isn't made again where it is fine.
+//! A sweep over all failures for which the run without failure is known: if that run is fine, it isn't made again.
 
 ghost use Rattle.std.specs.Prelude.{◌≡◌, ◌≢◌, ◌≤◌, ◌&&◌, not, IfOk, IsTrue};
 ghost use Rattle.wb_model.specs.language.Sound.{is_script};
@@ -28,7 +28,7 @@ const ALL: Part = Part {
     to: u32::MAX,
 };
 
-/// Whether a run that ended so is neither bad nor cut.
+/// Whether a run with this outcome is neither bad nor cut.
 fn is_fine_outcome(outcome: &Outcome) -> bool
     ensures { result ≡ (not (is_bad_outcome outcome.now) && not (is_cut_outcome outcome.now)) }
 {
@@ -39,9 +39,9 @@ fn is_fine_outcome(outcome: &Outcome) -> bool
     }
 }
 
-/// The same as `sweep`, where it is known how the run without failure ends, and how many attempts and steps it makes. That run is
-/// made only where it isn't fine: then what is found, or cut, is that run itself. The shape is one that a heap may have, so
-/// `BadShape` doesn't come. `progress` is notified as by `sweep`.
+/// Does the same as `sweep`, given how the run without failure ends, and how many attempts and steps it makes. That run is made only if it
+/// isn't fine: then the run that is found, or cut, is that run itself. The shape is one that a heap may have, so `BadShape` is never
+/// returned. `progress` is notified as by `sweep`.
 pub fn sweep_beside_known<P: Progress>(
     alloc: Global,
     script: &Script,

@@ -1,5 +1,5 @@
-//! A run that goes ahead of a lead, and forks that meet it. From where a fork has come to the same but for allocation numbers, its
-//! rest is the scout's. Which failures are tried, and what is found, is not decided here.
+//! A run that goes ahead of a lead, and forks that meet it. Once a fork has come to the same state as the scout, except for allocation
+//! numbers, the rest of the fork's run is like the rest of the scout's. Which failures are tried, and what is found, is not decided here.
 
 ghost use Rattle.std.specs.Prelude.{◌≡◌, ◌≤◌, true, false, Some, IfOk, IfSome, OnOk};
 ghost use Rattle.wb_machine.specs.Turns.{IsSameRun};
@@ -12,30 +12,30 @@ use wb_machine::{Machine, Turn};
 use wb_model::failures::Failures;
 use wb_model::memory::NoMemory;
 
-/// How often a scout goes further ahead of one fork, at most.
+/// How many times a scout goes ahead to meet one fork, at most.
 const MOST_TIMES: u32 = 5;
 
-/// Where a fork has come that was followed.
+/// Where a fork is once it was followed.
 #[derive(Clone, Copy, Debug, PartialEq, Eq)]
 pub enum Place {
     /// Where the scout is.
     AtTheScout,
     /// Past the scout.
     PastTheScout,
-    /// At its end.
+    /// At the end of its run.
     AtTheEnd,
 }
 
 /// What follows for a fork that has met the scout.
 #[derive(Clone, Copy, Debug, PartialEq, Eq)]
 pub enum Meeting {
-    /// Its run ends as the scout's does.
+    /// The fork's run ends as the scout's run does.
     Alike,
-    /// The budget cuts its run: it doesn't allow as many steps as the scout's run takes from there on.
+    /// The budget cuts the fork's run: it doesn't allow the fork as many further steps as the scout's run takes from where they met.
     PastBudget,
 }
 
-/// A run ahead of a lead, under the same rule. It isn't cut.
+/// A run ahead of a lead, under the lead's rule. The run isn't cut.
 #[derive(Drop)]
 pub struct Scout<'a> {
     pub(crate) machine: Machine<'a>,
@@ -47,7 +47,7 @@ pub struct Scout<'a> {
 }
 
 impl<'a> Scout<'a> {
-    /// A scout where the lead is, whose whole run takes so many steps.
+    /// A scout that is still where the lead is. Its whole run takes `steps` steps.
     pub fn beside(lead: &Machine<'a>, steps: u32, budget: u32) -> Result<Scout<'a>, NoMemory>
         ensures machine { IfOk result (λ scout. scout.machine ≡ lead.now) }
         ensures steps { IfOk result (λ scout. scout.steps ≡ steps) }
@@ -61,8 +61,8 @@ impl<'a> Scout<'a> {
         })
     }
 
-    /// Takes turns until so many attempts are made and the next turn asks for one, or to the end. A run takes at most one turn more
-    /// than its budget has steps, and one that cuts it.
+    /// Takes turns until at least `attempts` attempts are made and the next turn asks for an attempt, or to the end of the run. A run takes
+    /// at most two turns more than its budget has steps: the first turn counts no step, and a last one may cut the run.
     pub fn go_ahead(&mut self, attempts: u32) -> Result<(), NoMemory>
         ensures same { IsSameRun self.old.machine self.new.machine }
         ensures steps { self.new.steps ≡ self.old.steps }
@@ -79,8 +79,8 @@ impl<'a> Scout<'a> {
         Ok(())
     }
 
-    /// Whether a fork, under the failure that is tried as `number`, is where the scout is, but for allocation numbers, and nothing
-    /// fails any more in either. Both must be about to make an attempt.
+    /// Whether a fork, under the failure that is tried as `number`, has come to the same state as the scout, except for allocation numbers,
+    /// and neither run's rule makes any later attempt fail. Both runs must be about to make an attempt.
     pub fn is_met_by(&self, fork: &Machine, failures: Failures, number: u32) -> bool
         requires script { self.now.machine.script ≡ fork.now.script }
         ensures { result ≡ true → HasMet failures number fork.now self.now.machine }
@@ -96,7 +96,7 @@ impl<'a> Scout<'a> {
             && fork.goes_on_like(&self.machine, number.saturating_sub(1))
     }
 
-    /// What follows for a fork that has met the scout; `None` where the numbers of steps don't fit.
+    /// What follows for a fork that has met the scout; `None` if a sum of steps overflows.
     pub fn meeting(&self, fork: &Machine, failures: Failures, number: u32) -> Option<Meeting>
         requires met { HasMet failures number fork.now self.now.machine }
         requires scout { IsAhead failures fork.now.script fork.now.budget fork.now.shape self.now }
@@ -113,7 +113,8 @@ impl<'a> Scout<'a> {
         Some(Meeting::Alike)
     }
 
-    /// Goes ahead by as much as the pace says, and takes a fork's turns until it meets the scout, has passed it, or is over.
+    /// Goes ahead as far as the pace says, and then takes a fork's turns until the fork meets the scout, has passed the scout, or is at its
+    /// end.
     fn go_and_follow(
         &mut self,
         fork: &mut Machine,
@@ -133,8 +134,8 @@ impl<'a> Scout<'a> {
         follow(fork, self, failures, number)
     }
 
-    /// Takes a fork's turns until it meets the scout, which goes ahead first, and further ahead as often as the fork passes it;
-    /// `false` where it doesn't soon.
+    /// Takes a fork's turns until the fork meets the scout; `false` if it doesn't soon. The scout goes ahead first, and further ahead each
+    /// time the fork has passed it.
     fn go_to_meet(
         &mut self,
         fork: &mut Machine,
@@ -163,7 +164,7 @@ impl<'a> Scout<'a> {
         Ok(false)
     }
 
-    /// The same, but of some forks, by the pace, that they pass without being compared.
+    /// The same, except that the pace lets some forks pass without being compared: these don't meet the scout.
     pub fn meet(
         &mut self,
         fork: &mut Machine,
@@ -187,8 +188,8 @@ impl<'a> Scout<'a> {
     }
 }
 
-/// The last attempt that fails under the failure that is tried as `n`; `None` for rates, and where all fail from one on: then there is
-/// always a later one.
+/// The last attempt that fails under the failure that is tried as `n`; `None` for rates, and if all attempts fail from one on: then there
+/// is always a later attempt that fails.
 fn last_failing(failures: Failures, n: u32) -> Option<u32>
     ensures { result ≡ last_failing failures n }
 {
@@ -208,7 +209,7 @@ fn has_passed(failures: Failures, number: u32, machine: &Machine) -> bool
     }
 }
 
-/// Takes a fork's turns until it meets the scout, has passed it, or is over.
+/// Takes a fork's turns until the fork meets the scout, has passed the scout, or is at its end.
 fn follow(
     fork: &mut Machine,
     scout: &Scout,
@@ -235,8 +236,8 @@ fn follow(
     Ok(Place::AtTheEnd)
 }
 
-/// A scout of the lead along the run without failure, which takes so many steps; none where they aren't known, and none where there is
-/// always a later failure.
+/// A scout of the lead along the run without failure, which takes `steps` steps. `None` if the steps aren't known, and under failures that
+/// always make a later attempt fail.
 pub fn scout_beside<'a>(
     lead: &Machine<'a>,
     failures: Failures,

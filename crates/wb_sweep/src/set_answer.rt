@@ -8,7 +8,7 @@ use wb_model::run::{RunResult, Why};
 /// The least set of attempts whose run is bad, and that run.
 #[derive(Debug, Drop)]
 pub struct FoundSet {
-    /// The numbers of the attempts that fail, in ascending order; none of the run without failure.
+    /// The numbers of the attempts that fail, in ascending order; empty for the run without failure.
     pub numbers: Numbers,
     pub result: RunResult,
 }

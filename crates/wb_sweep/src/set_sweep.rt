@@ -1,4 +1,5 @@
-//! A sweep over sets of attempts that fail together: first none and one of them, then two, and so on, up to so many.
+//! A sweep over sets of attempts that fail together: first the empty set and the sets of one attempt, then those of two, and so on, up to a
+//! greatest size.
 
 ghost use Rattle.std.specs.Prelude.{◌≡◌, ℕ, ◌+◌, ◌≤◌, ◌↔◌, List, false, IfOk, IsTrue};
 ghost use Rattle.wb_model.specs.language.Sound.{is_script};
@@ -24,7 +25,7 @@ use wb_model::part::Part;
 use wb_model::progress::Progress;
 use wb_model::script::Script;
 
-/// The numbers of the attempts that fail under a single failure or a pair; number 0 is none.
+/// The numbers of the attempts that fail under a single failure or a pair; empty for number 0.
 fn set_of(alloc: Global, at: Failing) -> Result<Numbers, NoMemory>
     ensures { IfOk result (λ numbers. numbers ≡ set_of at) }
 {
@@ -67,7 +68,7 @@ fn as_set_fault(alloc: Global, fault: SweepFault) -> SetFault
     }
 }
 
-/// The sweep itself, of whose beginning and end the caller notifies.
+/// The sweep itself. The caller notifies `progress` of its beginning and its end.
 pub(crate) fn find_least_set<P: Progress>(
     alloc: Global,
     script: &Script,
@@ -122,16 +123,17 @@ pub(crate) fn find_least_set<P: Progress>(
     }
 }
 
-/// The least set of at most so many attempts that makes the run bad if they fail together, of those whose least number is the part's and
-/// no greater than the last attempt of the run without failure. A set comes before those with more numbers, and of two with as many the one
-/// first that has the lesser number where they first differ. The empty set is number 0, the run without failure.
+/// The least set of at most `most` attempts that makes the run bad if they fail together, of the sets whose least number is in the part and
+/// no greater than the last attempt of the run without failure. A set comes before all sets with more numbers. Of two sets with equally
+/// many numbers, the one with the lesser number where they first differ comes first. The empty set is number 0, the run without failure.
 ///
-/// Single numbers are tried as `sweep_part` tries them. Once they show nothing, two attempts fail together, then three, and so on. Runs that
-/// come to the same before an attempt, but for allocation numbers, go on as one: each such state is kept and followed once. Where there are
-/// more such states than the sets are worth, the sets that they haven't answered are tried one by one: each goes on from the run in which all but
-/// its last number fail, and its last number goes to that run's last attempt. Sets with a later number give the run of a smaller one. `Cut`
-/// names the least set whose run is cut, where no lesser one's is bad. `BadShape` comes exactly where the shape is none that a heap may have.
-/// Without the states, at most three runs more are under way at once than a set has numbers.
+/// Single numbers are tried as `sweep_part` tries them. If the run of each is fine, two attempts fail together, then three, and so on. Runs
+/// that come to the same state before an attempt, except for allocation numbers, go on as one: each such state is kept and followed once.
+/// If there are more states than the sets are worth, the sets that the states haven't answered are tried one by one. The run of each set
+/// goes on from the run in which all but the set's last number fail, and the last number is at most that run's last attempt: a set with a
+/// later number has the run of a smaller set. `Cut` names the least set whose run is cut, if no lesser set's run is bad. `BadShape` is
+/// returned exactly if the shape is none that a heap may have. Not counting the runs of states, at most three runs more than a set has
+/// numbers are under way at once.
 ///
 /// `progress` is notified that the sweep begins, of each failure and set that is tried before its run, of each state that is met, and that
 /// the sweep is over.

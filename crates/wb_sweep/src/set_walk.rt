@@ -1,5 +1,5 @@
-//! A walk over the sets of a part, in their order: from those of one attempt more than are known to show nothing up to a greatest number of
-//! attempts. The run without failure is followed once for each number of attempts.
+//! A walk over the sets of a part, in their order: first those of one attempt more than the sets whose runs are known to be fine, and so on
+//! up to a greatest size. The run without failure is followed once for each size.
 
 ghost use Rattle.std.specs.Prelude.{◌≡◌, ◌≢◌, ℕ, ◌+◌, ◌^◌, ◌<◌, ◌≤◌, List, [], None, false, IfOk, IfSome, IsTrue};
 ghost use Rattle.wb_model.specs.language.Sound.{is_script};
@@ -20,8 +20,9 @@ use wb_model::part::Part;
 use wb_model::progress::Progress;
 use wb_model::script::Script;
 
-/// The least set of one number more than `fewer` whose run is bad, of those that are tried of a part; `None` if the run of each is fine. Those
-/// with so many at most are. The lead is at the start of the run without failure, which makes `last` attempts.
+/// The least set of `fewer + 1` numbers whose run is bad, of the sets of a part that are tried; `None` if the run of each is fine. The runs
+/// of the sets of at most `fewer` numbers are known to be fine. The lead is at the start of the run without failure, which makes `last`
+/// attempts.
 fn find_among_sets<P: Progress>(
     lead: &mut Machine,
     none: &Numbers,
@@ -63,7 +64,7 @@ fn find_among_sets<P: Progress>(
     Ok(None)
 }
 
-/// The same from the start of a run of its own.
+/// The same, with a lead of its own.
 fn find_of_many<P: Progress>(
     alloc: Global,
     script: &Script,
@@ -97,8 +98,8 @@ fn find_of_many<P: Progress>(
     find_among_sets(&mut lead, &none, part, last, fewer, progress)
 }
 
-/// The least set of at most `most` numbers whose run is bad, of those that are tried of a part; `None` if the run of each is fine. Those of at
-/// most `fine` numbers are. The run without failure makes `last` attempts.
+/// The least set of at most `most` numbers whose run is bad, of the sets of a part that are tried; `None` if the run of each is fine. The
+/// runs of the sets of at most `fine` numbers are known to be fine. The run without failure makes `last` attempts.
 pub(crate) fn walk_sets<P: Progress>(
     alloc: Global,
     script: &Script,

@@ -1,5 +1,5 @@
-//! A search over sets of attempts that fail together, once no smaller set shows anything: a walk along each run in which all but the
-//! last of a set fail. Which sets there are to try beside these is not decided here.
+//! A search over sets of attempts that fail together, once the run of each smaller set is fine: a walk along each run in which all attempts
+//! of a set but the last fail. Which other sets are to be tried is not decided here.
 
 ghost use Rattle.std.specs.Prelude.{◌≡◌, ◌≢◌, ℕ, ◌+◌, ◌<◌, ◌≤◌, List, [], ◌∷◌, ◌++◌, None, false, length, true, IfErr, IfOk, IfSome};
 ghost use Rattle.wb_model.specs.runs.Run.{is_bad};
@@ -21,7 +21,7 @@ use wb_model::memory::NoMemory;
 use wb_model::progress::Progress;
 use wb_model::run::{Outcome, RunResult};
 
-/// A set and one more number.
+/// A copy of a set with one more number at its end.
 fn set_with(set: &Numbers, number: u32) -> Result<Numbers, NoMemory>
     ensures { IfOk result (λ numbers. numbers ≡ set.now ++ number ∷ []) }
 {
@@ -37,7 +37,7 @@ fn rule_for(numbers: &Numbers) -> Result<Rule, NoMemory>
     Ok(Rule::Set(numbers.try_copy()?))
 }
 
-/// What the run under a set amounts to: found where it is bad, `Cut` where it is cut, and `None` if it is fine.
+/// Judges the run under a set: returns the set and the run if the run is bad, `Cut` if it is cut, and `None` if it is fine.
 pub(crate) fn judge_set(
     numbers: Numbers,
     run_result: RunResult,
@@ -59,8 +59,8 @@ pub(crate) fn judge_set(
     }))
 }
 
-/// The run in which the attempts of a set fail, of which the last is the one that the lead makes next: found where it is bad, `None` if it
-/// is fine. Its copy takes the spare memory, and leaves its own.
+/// Judges the run in which the attempts of `set` fail, and so does `number`, the attempt that the lead makes next: returns it if it is bad,
+/// `None` if it is fine. A copy of the lead makes this run; it takes the spare memory, and leaves its own.
 fn try_last<P: Progress>(
     lead: &Machine,
     set: &Numbers,
@@ -89,8 +89,8 @@ fn try_last<P: Progress>(
     judge_set(numbers, run_result)
 }
 
-/// How many attempts the run makes in which those of a set fail, and the one that the lead makes next; `numbers` are both. Its copy takes
-/// the spare memory, and leaves its own.
+/// How many attempts the run makes in which the attempts of `set` fail, and so does `number`, the attempt that the lead makes next.
+/// `numbers` is the set with that number. A copy of the lead makes this run; it takes the spare memory, and leaves its own.
 fn last_under(
     lead: &Machine,
     set: &Numbers,
@@ -112,7 +112,7 @@ fn last_under(
     Ok(attempts_in(run_result.trace.as_slice()))
 }
 
-/// A copy of the lead that goes along that run, and has made the attempt.
+/// A copy of the lead that goes along the same run as in `last_under`, and has made the attempt `number`.
 fn fork_to<'a>(
     lead: &Machine<'a>,
     set: &Numbers,
@@ -133,9 +133,9 @@ fn fork_to<'a>(
     Ok(fork)
 }
 
-/// The least set whose run is bad, of those that begin with these numbers and the number of the attempt that the lead makes next, and have
-/// `more` numbers from that one on; `None` if the run of each is fine. Those with fewer are fine. Copies to their end take the spare
-/// memory, and leave their own.
+/// The least set whose run is bad, of the sets that begin with `set` and `number`, the attempt that the lead makes next, and have `more`
+/// numbers from `number` on; `None` if the run of each is fine. The runs of such sets with fewer numbers are known to be fine. Copies of
+/// the lead that go on to their end take the spare memory, and leave their own.
 #[cycle(sets)]
 fn find_with<P: Progress>(
     lead: &Machine,
@@ -171,8 +171,9 @@ fn find_with<P: Progress>(
     find_along(&mut fork, &numbers, number, last, more - 1, spare, progress)
 }
 
-/// The least set whose run is bad, of those that begin with these numbers and have `more` further ones, each past one; `None` if the run of
-/// each is fine. Those with fewer are fine. The lead goes along the run in which these attempts fail, which makes `last` attempts.
+/// The least set whose run is bad, of the sets that begin with `set` and have `more` further numbers, each greater than `past`; `None` if
+/// the run of each is fine. The runs of such sets with fewer numbers are known to be fine. The lead goes along the run in which the
+/// attempts of `set` fail, which makes `last` attempts.
 #[cycle(sets)]
 fn find_along<P: Progress>(
     lead: &mut Machine,
@@ -214,8 +215,8 @@ fn find_along<P: Progress>(
     Ok(None)
 }
 
-/// The same of those whose next number is that of the attempt that the lead makes next; `None`, too, where the next turn makes none, and
-/// where the number isn't past `past`.
+/// The same, of the sets whose next number after `set` is `number`, the attempt that the lead makes next; also `None` if the lead's next
+/// turn makes no attempt, and if `number` isn't greater than `past`.
 #[cycle(sets)]
 pub(crate) fn find_next<P: Progress>(
     lead: &Machine,

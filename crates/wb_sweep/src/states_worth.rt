@@ -1,20 +1,22 @@
-//! How many states a search may meet before the sets themselves are tried one by one. Nothing here changes what a sweep answers, but
-//! only what it costs.
+//! How many states a search may meet before the sets themselves are tried one by one. Nothing here changes what a sweep answers, only what
+//! it costs.
 
-/// The least: so many states are met in a moment, even where no runs meet and they were met in vain.
+/// The least number of states that a search may meet. So many are met in a moment, even if no runs meet again and the search was in vain.
 const LEAST: u32 = 1_000;
 
-/// The most, whatever the number of sets: states take memory until the search is over.
+/// The greatest number of states that the number of sets may allow, since states take memory until the search is over. `STATES` may allow
+/// more.
 const MOST: u32 = 100_000;
 
 /// How many sets a state is worth. A state is kept and compared with others, while a set is one run, which is judged and dropped.
 const SETS: u64 = 8;
 
-/// How many states an attempt of the run without failure is worth. A loop meets some three an attempt where its runs meet again, so the
-/// search is worth it however many attempts there are.
+/// How many states are allowed for each attempt of the run without failure, whatever the number of sets. A loop whose runs meet again meets
+/// about three states for each attempt, so that the search is worth it for any number of attempts.
 const STATES: u32 = 16;
 
-/// How many sets of 2 to `most` attempts there are of so many attempts; the greatest number where there are more.
+/// How many sets of 2 to `most` attempts there are, of `last` attempts. If the number doesn't fit, a smaller one that is still worth more
+/// than `MOST` states.
 fn sets_to(last: u32, most: u32) -> u64 {
     let mut of_one_size = u64::from(last);
     let mut all: u64 = 0;
@@ -26,9 +28,9 @@ fn sets_to(last: u32, most: u32) -> u64 {
     all
 }
 
-/// How many states a search for sets of at most `most` attempts may meet, where the run without failure makes `last`. Where runs meet
-/// again there are far fewer states than sets, and the search is over soon. Where they don't, it is given up after an eighth of the work
-/// that the sets themselves take.
+/// How many states a search for sets of at most `most` attempts may meet, if the run without failure makes `last` attempts. If runs meet
+/// again, there are far fewer states than sets, and the search is over soon. If they don't, the search is given up after about an eighth of
+/// the work that the sets themselves take.
 pub(crate) fn states_worth(last: u32, most: u32) -> u32 {
     let by_sets = match u32::try_from(sets_to(last, most) / SETS) {
         Ok(states) => states.clamp(LEAST, MOST),

@@ -1,4 +1,4 @@
-//! A sweep over failures: one run without failure, which each of the others parts from at the first attempt that it lets fail.
+//! A sweep over failures: one run without failure, and a run under each failure, which parts from it at the first attempt that is to fail.
 
 ghost use Rattle.std.specs.Prelude.{◌≡◌, ◌≢◌, ◌+◌, ◌≤◌, ◌↔◌, None, false, true, IfErr, IfOk, IfSome};
 ghost use Rattle.std.specs.Prelude.{IsTrue};
@@ -28,7 +28,7 @@ use wb_model::progress::Progress;
 use wb_model::run::{Outcome, RunResult};
 use wb_model::script::Script;
 
-/// What the run without failure amounts to: found where it is bad and the part has number 0, and `Cut` where it is cut.
+/// Judges the run without failure: returns it if it is bad and the part has number 0, `Cut` if it is cut, and otherwise `None`.
 fn judge_first(part: Part, at: Failing, first: RunResult) -> Result<Option<Found>, SweepFault>
     ensures fine { IfOk result (λ found. found ≡ None → part.from ≡ 0 → is_fine first ≡ true) }
     ensures bad { IfOk result (λ found. IfSome found (λ bad.
@@ -44,7 +44,7 @@ fn judge_first(part: Part, at: Failing, first: RunResult) -> Result<Option<Found
     Ok(found)
 }
 
-/// How many steps a run takes that is fine; `None` where it is bad or cut.
+/// How many steps a run takes, if it is fine; `None` if it is bad or cut.
 fn steps_if_fine(run_result: &RunResult) -> Option<u32>
     ensures { IfSome result (IsFineRun run_result.now) }
 {
@@ -56,9 +56,9 @@ fn steps_if_fine(run_result: &RunResult) -> Option<u32>
     is_fine.then_some(run_result.steps)
 }
 
-/// Tries the failures of a part as its numbers, of pairs the single ones. Found is the least whose run is bad; `None` if they are all
-/// fine. The lead is at the start of the run without failure, which isn't cut, is fine where the part has number 0, and makes `last`
-/// attempts.
+/// Tries the failures of a part, number by number; for pairs, the single failures. Returns the least whose run is bad; `None` if the run of
+/// each is fine. The lead is at the start of the run without failure. That run isn't cut, is fine if the part has number 0, and makes
+/// `last` attempts.
 fn try_in_order<P: Progress>(
     lead: &mut Machine,
     failures: Failures,
@@ -96,7 +96,7 @@ fn try_in_order<P: Progress>(
     )
 }
 
-/// The same from the start of the run without failure, which takes so many steps if it is fine.
+/// The same, with a lead of its own. If `steps` is given, the run without failure is fine and takes so many steps.
 fn try_numbers<P: Progress>(
     alloc: Global,
     script: &Script,
@@ -130,8 +130,8 @@ fn try_numbers<P: Progress>(
     try_in_order(&mut lead, failures, part, last, &mut scout, progress)
 }
 
-/// The least failure of a part that makes a run bad; `None` if none does. The run without failure isn't cut, is fine where the part
-/// has number 0, makes `last` attempts, and takes so many steps if it is fine.
+/// The least failure of a part whose run is bad; `None` if there is none. The run without failure isn't cut, is fine if the part has number
+/// 0, and makes `last` attempts. If `steps` is given, that run is fine and takes so many steps.
 pub(crate) fn find_later<P: Progress>(
     alloc: Global,
     script: &Script,
@@ -173,7 +173,7 @@ pub(crate) fn find_later<P: Progress>(
     }
 }
 
-/// The sweep itself, of whose beginning and end the callers notify.
+/// The sweep itself. Its callers notify `progress` of its beginning and its end.
 pub(crate) fn find_least<P: Progress>(
     alloc: Global,
     script: &Script,
@@ -213,16 +213,16 @@ pub(crate) fn find_least<P: Progress>(
     }
 }
 
-/// The least failure that makes the run bad: the number of the attempt that fails, alone or with all after it, the rate at which
-/// attempts fail, or the pair of attempts that fail. Number 0 and rate 0 are the run without failure.
+/// The least failure whose run is bad: the number of the attempt that fails, alone or with all after it, the rate at which attempts fail,
+/// or the pair of attempts that fail. Number 0 and rate 0 stand for the run without failure.
 ///
-/// Runs the script without failure, and then, up to the first that is bad or cut, under the failures from 1 to the last
-/// attempt of that run; what it finds is of every failure. Each of these goes on from where that run makes the attempt that is
-/// the first to fail, until it has come to the same as that run, but for allocation numbers, or to its end. At most three runs are
-/// under way at once. Pairs are tried once no single number's run is bad or cut, as the sets of two attempts that `sweep_sets` tries:
-/// they are in the order of their first attempts, and those with the same one in the order of their second, which is any that the run
-/// with the first failure makes after it. `Cut` names the least failure whose run is cut, where no lesser failure's run is bad.
-/// `BadShape` comes exactly where the shape is none that a heap may have.
+/// Runs the script without failure, and then under the failures from 1 to the last attempt of that run, up to the first failure whose run
+/// is bad or cut. The answer holds for all failures, also for those past that attempt. The run under a failure goes on from where the run
+/// without failure makes the first attempt that is to fail, until it has come to the same state as the run without failure, except for
+/// allocation numbers, or to its end. At most three runs are under way at once. Pairs are tried once no single number's run is bad or cut,
+/// as `sweep_sets` tries the sets of two attempts: in the order of their first attempts, and pairs with the same first attempt in the order
+/// of their second, which is any attempt that the run with the first failure makes after it. `Cut` names the least failure whose run is
+/// cut, if no lesser failure's run is bad. `BadShape` is returned exactly if the shape is none that a heap may have.
 ///
 /// `progress` is notified that the sweep begins, of each failure that is tried before its run, of pairs as by `sweep_sets`, and that the
 /// sweep is over.
@@ -252,11 +252,12 @@ pub fn sweep<P: Progress>(
     swept
 }
 
-/// The same of a part: the least failure that makes the run bad, of those whose number, of pairs whose first number, is the part's
-/// and no greater than the last attempt of the run without failure.
+/// The same for a part: the least failure whose run is bad, of the failures whose number (of pairs, the first number) is in the part and no
+/// greater than the last attempt of the run without failure.
 ///
-/// The run without failure is made whatever the part is, and its attempts are counted. It is judged only where the part has number
-/// 0; but where it is cut, this is the answer. The run beside which failures are tried goes on to the part before any of them is.
+/// The run without failure is made whatever the part is, and its attempts are counted. That run can be found as bad only if the part has
+/// number 0; but if it is cut, `Cut` is the answer for every part. The lead goes on to the first number of the part before any failure is
+/// tried.
 pub fn sweep_part<P: Progress>(
     alloc: Global,
     script: &Script,

@@ -1,4 +1,4 @@
-//! A walk along a run, from which copies part under failures: each before the attempt that is the first to fail in it.
+//! A walk along a run, from which copies part under failures: each copy before the attempt that is the first to fail under its failure.
 
 ghost use Rattle.std.specs.Prelude.{◌≡◌, ◌≢◌, ◌⊎◌, ◌+◌, ◌≤◌, None, true, false, length, IfOk, IfErr, IfSome};
 ghost use Rattle.wb_model.specs.runs.Sweeps.{failing_at, is_cut_outcome, is_fine, rule_of};
@@ -20,8 +20,8 @@ use wb_model::heap::Attempt;
 use wb_model::progress::Progress;
 use wb_model::run::{Outcome, RunResult, Why};
 
-/// What the run under a failure amounts to: found where it is bad, `Cut` where it is cut, and `None` if it is fine. A
-/// leave alone is fine, and so is a run without its cleanup stack.
+/// Judges the run under a failure: returns the failure and the run if the run is bad, `Cut` if it is cut, and `None` if it is fine. A run
+/// that only leaves is fine, and so is a run that gets no cleanup stack.
 pub(crate) fn judge_run(at: Failing, run_result: RunResult) -> Result<Option<Found>, SweepFault>
     ensures fine { IfOk result (λ found. found ≡ None → is_fine run_result ≡ true) }
     ensures bad { IfOk result (λ found. IfSome found (IsBadAt at run_result)) }
@@ -41,8 +41,8 @@ pub(crate) fn judge_run(at: Failing, run_result: RunResult) -> Result<Option<Fou
     }))
 }
 
-/// The same by what is known of a fork beside a run that is fine: it is fine too if it met the scout and its budget allows it as many
-/// steps.
+/// The same by what is known of a fork beside a run that is fine. If the fork met the scout, its run is fine, too, unless the budget cuts
+/// it.
 fn judge_fork(at: Failing, forked: Forked) -> Result<Option<Found>, SweepFault>
     ensures fine { IfOk result (λ found. found ≡ None → (run_result : RunResult) →
         FineSays forked run_result → is_fine run_result ≡ true) }
@@ -62,7 +62,7 @@ fn judge_fork(at: Failing, forked: Forked) -> Result<Option<Found>, SweepFault>
     }
 }
 
-/// How many attempts a trace has: the number of the last.
+/// How many attempts a trace has: the number of its last attempt.
 pub(crate) fn attempts_in(trace: &[Attempt]) -> u32
     requires { IsNumbered trace.now }
     ensures { result ≡ length trace.now }
@@ -73,9 +73,9 @@ pub(crate) fn attempts_in(trace: &[Attempt]) -> u32
     }
 }
 
-/// The run in which the attempt that the lead makes next, of this number, is the first to fail: found where it is bad; `None` if
-/// it is fine, if the next turn makes no attempt, and if the number is less than `from`. It is followed until it meets the scout, if
-/// there is one. Its copy takes the spare memory, and leaves its own.
+/// Judges the run in which `number`, the attempt that the lead makes next, is the first to fail: returns it if it is bad; `None` if it is
+/// fine, if the lead's next turn makes no attempt, and if `number` is less than `from`. A fork follows that run until it meets the scout,
+/// if there is one; the fork takes the spare memory, and leaves its own.
 fn try_next<P: Progress>(
     lead: &Machine,
     failures: Failures,
@@ -112,10 +112,10 @@ fn try_next<P: Progress>(
     judge_fork(failing, forked)
 }
 
-/// The least failure whose run is bad, among those that are tried as the numbers from one on up to a last one, which is no greater than the
-/// last attempt of the run without failure; `None` if they are all fine. The lead is that run; those up to the attempts that it has made
-/// are fine, and lesser numbers than the first aren't looked at. Each copy is followed until it meets the scout, if there is one, and
-/// takes the memory of the one before.
+/// The least failure whose run is bad, of the failures that are tried as the numbers from `from` to `last`, which is no greater than the
+/// last attempt of the run without failure; `None` if the run of each is fine. The lead is the run without failure. The runs under the
+/// numbers from `from` to the last attempt that the lead has made are known to be fine, and numbers less than `from` aren't tried. Each
+/// fork is followed until it meets the scout, if there is one, and takes the memory of the fork before it.
 pub(crate) fn find_among<P: Progress>(
     lead: &mut Machine,
     failures: Failures,

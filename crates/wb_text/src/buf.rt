@@ -1,4 +1,4 @@
-//! The buffer of a stated maximum, TBuf.
+//! The buffer with a stated maximum length, TBuf.
 
 ghost use Rattle.std.specs.Prelude.{◌≡◌, ◌+◌, ◌-◌, ◌<◌, ◌≤◌, [], ◌++◌, length, take, drop, replicate, slice_index};
 ghost use Rattle.wb_model.specs.meaning.Texts.{AreUnits, IsBuffer, answer_of, at_most, delete_text, edited};
@@ -9,9 +9,9 @@ use arrayvec::ArrayVec;
 use std::marker::Model;
 use wb_model::heap::Panic;
 
-/// A text of at most a stated number of units, up to 256. It takes no memory.
+/// A text with a stated maximum length, which is at most 256 units. It allocates no memory.
 ///
-/// A call that is refused leaves it as it was. Source: Symbian OS v9 SDK reference, 16-bit descriptors.
+/// A refused call leaves the text as it was. Source: Symbian OS v9 SDK reference, 16-bit descriptors.
 #[derive(Debug, Drop)]
 pub struct Buf {
     max: u32,
@@ -29,7 +29,7 @@ impl Model for Buf {
 }
 
 impl Buf {
-    /// The empty text with this maximum.
+    /// Returns the empty text with this maximum length, in units.
     pub fn new(max: u32) -> Buf
         requires { max ≤ 256 }
         ensures { result ≡ record { max = max; units = [] } }
@@ -64,7 +64,7 @@ impl Buf {
         self.units.as_slice()
     }
 
-    /// The unit at a place.
+    /// The unit at a position.
     pub fn unit(&self, at: u32) -> u16
         requires { at < length self.now.units }
         ensures { result ≡ slice_index self.now.units at }
@@ -72,9 +72,9 @@ impl Buf {
         self.units[at as usize]
     }
 
-    /// Puts a text in place of what is there.
+    /// Replaces the text by another one.
     ///
-    /// `Panic::TOO_LONG` where it is longer than the maximum.
+    /// `Panic::TOO_LONG` if that text is longer than the maximum length.
     pub fn copy<U: Units>(&mut self, source: &U) -> Result<(), Panic>
         requires { U.can_read source.now }
         ensures text { self.new ≡ edited self.old (at_most self.old.max (U.units source.now)) }
@@ -90,7 +90,7 @@ impl Buf {
 
     /// Appends a text.
     ///
-    /// `Panic::TOO_LONG` where the whole is longer than the maximum.
+    /// `Panic::TOO_LONG` if the whole would be longer than the maximum length.
     pub fn append<U: Units>(&mut self, source: &U) -> Result<(), Panic>
         requires { U.can_read source.now }
         ensures text { self.new
@@ -105,10 +105,10 @@ impl Buf {
         Ok(())
     }
 
-    /// Puts a text in front of the unit at a position, or at the end where the position is the length.
+    /// Inserts a text in front of the unit at a position, or at the end if the position is the text's length.
     ///
-    /// `Panic::POSITION_OUT_OF_BOUNDS` where the position is past the end, then `Panic::TOO_LONG` where the whole is
-    /// longer than the maximum.
+    /// `Panic::POSITION_OUT_OF_BOUNDS` if the position is past the end, then `Panic::TOO_LONG` if the whole would be longer than the
+    /// maximum length.
     pub fn insert<U: Units>(&mut self, position: u32, source: &U) -> Result<(), Panic>
         requires { U.can_read source.now }
         ensures text { self.new ≡ edited self.old
@@ -127,9 +127,9 @@ impl Buf {
         Ok(())
     }
 
-    /// Takes out `count` units from a position on, or all from there where there are fewer.
+    /// Removes `count` units from a position on, or all units from there on if they are fewer.
     ///
-    /// `Panic::POSITION_OUT_OF_BOUNDS` where the position is past the end.
+    /// `Panic::POSITION_OUT_OF_BOUNDS` if the position is past the end.
     pub fn delete(&mut self, position: u32, count: u32) -> Result<(), Panic>
         ensures text { self.new ≡ edited self.old (delete_text self.old.units position count) }
         ensures answer { result ≡ answer_of (delete_text self.old.units position count) }
@@ -141,9 +141,9 @@ impl Buf {
         Ok(())
     }
 
-    /// Drops the units past a length, or appends zeros up to it.
+    /// Gives the text another length: drops the units past it, or appends zeros up to it.
     ///
-    /// `Panic::TOO_LONG` where the length is above the maximum.
+    /// `Panic::TOO_LONG` if the new length is above the maximum length.
     pub fn set_length(&mut self, length: u32) -> Result<(), Panic>
         ensures text { self.new
             ≡ edited self.old (set_length_text self.old.max self.old.units length) }
@@ -158,7 +158,7 @@ impl Buf {
     }
 }
 
-/// The units of a buffer.
+/// A buffer as a text that can be read.
 impl Units for Buf {
     ghost can_read = { λ _. Unit {0} };
 
@@ -177,7 +177,7 @@ impl Units for Buf {
     }
 }
 
-/// Puts the units of a text in front of those at a place.
+/// Inserts the units of a text in front of the unit at a position.
 fn put_in<U: Units>(units: &mut ArrayVec<u16, 256>, at: usize, source: &U)
     requires can { U.can_read source.now }
     requires within { at ≤ length units.old.items }
@@ -193,7 +193,7 @@ fn put_in<U: Units>(units: &mut ArrayVec<u16, 256>, at: usize, source: &U)
     append_units(units, following.as_slice());
 }
 
-/// Takes out `count` units from a place on.
+/// Removes `count` units from a position on.
 fn take_out(units: &mut ArrayVec<u16, 256>, at: usize, count: usize)
     requires { at + count ≤ length units.old.items }
     ensures { units.new.items ≡ take at units.old.items ++ drop (at + count) units.old.items }

@@ -6,7 +6,7 @@ ghost use Rattle.wb_model.specs.meaning.Texts.{AreUnits};
 use arrayvec::ArrayVec;
 use wb_model::script::Chars;
 
-/// A text that can be read: a length, and the unit at each place below it.
+/// A text that can be read: a length, and the unit at each position below this length.
 pub trait Units {
     ghost use Rattle.std.specs.Prelude.{ℕ, List};
 
@@ -21,13 +21,13 @@ pub trait Units {
         requires { can_read self.now }
         ensures { result ≡ length (units self.now) };
 
-    /// The unit at a place.
+    /// The unit at a position.
     fn unit(&self, at: u32) -> u16
         requires can { can_read self.now }
         requires within { at < length (units self.now) }
         ensures { result ≡ slice_index (units self.now) at };
 
-    /// Appends the units to others.
+    /// Appends the text's units to `to`.
     fn append_to(&self, to: &mut ArrayVec<u16, 256>)
         requires can { can_read self.now }
         requires room { length to.old.items + length (units self.now) ≤ 256 }
@@ -35,7 +35,7 @@ pub trait Units {
         ensures are_units { AreUnits to.old.items → AreUnits to.new.items };
 }
 
-/// The bytes of a literal, each of them a unit.
+/// A literal as a text: each byte is a unit.
 impl Units for Chars {
     ghost can_read = { λ bytes. length bytes < 2 ^ 32 };
 
@@ -66,7 +66,7 @@ pub fn append_units(to: &mut ArrayVec<u16, 256>, units: &[u16])
     }
 }
 
-/// Appends bytes, each of them as a unit.
+/// Appends bytes, each as a unit.
 pub fn append_bytes(to: &mut ArrayVec<u16, 256>, bytes: &[u8])
     requires { length to.old.items + length bytes.now ≤ 256 }
     ensures items { to.new.items ≡ to.old.items ++ bytes.now }

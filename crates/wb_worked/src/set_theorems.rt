@@ -1,5 +1,5 @@
-//! What runs under sets, the order of sets and sweeps over sets come to, of two small scripts. Each theorem is stated in `specs`,
-//! with a line that says what it shows. The functions do nothing: their contracts gather the theorems, so that the gate proves them.
+//! What runs under sets and sweeps over sets come to, of two small scripts, and the order of sets. Each theorem is stated in `specs`, with
+//! a line that says what it shows. The functions do nothing: their contracts gather the theorems, so that the gate proves them.
 
 ghost use Rattle.wb_worked.specs.WorkedOrder.{EmptyFirst, FirstOfThree, FirstOfTwo};
 ghost use Rattle.wb_worked.specs.WorkedOrder.{NoNumberTells, NotBeforeItself, OneBeforeTwo};
@@ -14,7 +14,7 @@ ghost use Rattle.wb_worked.specs.WorkedSweeps.{NoPairAtThree, NoPairAtTwo, Short
 ghost use Rattle.wb_worked.specs.WorkedSweeps.{ThreeAreMade, ThreeIsLeast, ThreeShowIt};
 ghost use Rattle.wb_worked.specs.WorkedSweeps.{TwoShowNothing, WholeFindsShorter};
 
-/// Under a set, those of its attempts fail that the run makes, and no others.
+/// Under a set, exactly those of its attempts fail that the run makes.
 pub fn a_set_makes_its_attempts_fail()
     ensures none { NoneFails }
     ensures one { OneFails }
@@ -30,7 +30,7 @@ pub fn a_set_makes_its_attempts_fail()
     ensures ascend { NumbersAscend }
 {}
 
-/// Shorter sets come before longer ones, and of two that are as long the one with the lesser number where they first differ.
+/// Shorter sets come before longer ones; of two sets of one length, the one with the lesser number where they first differ comes first.
 pub fn sets_are_in_order()
     ensures empty { EmptyFirst }
     ensures one { OneNumber }
@@ -45,7 +45,7 @@ pub fn sets_are_in_order()
     ensures no_number { NoNumberTells }
 {}
 
-/// Three failures show what fewer don't, and only those three: lesser sets are fine, and a larger one may be.
+/// Three failures show what fewer don't: every lesser set is fine, and a larger one may be fine, too.
 pub fn three_failures_show_what_two_do_not()
     ensures least { ThreeIsLeast }
     ensures made { ThreeAreMade }
@@ -55,7 +55,8 @@ pub fn three_failures_show_what_two_do_not()
     ensures not_to_three { ThreeShowIt }
 {}
 
-/// A part finds the least set whose least number is the part's, and the lesser of what two parts find is what both together find.
+/// A sweep over a part finds the least bad set whose least number is in the part, and the lesser of what two parts find is what both
+/// together find.
 pub fn parts_find_their_sets()
     ensures none_below { NoneBelow }
     ensures at_three { FoundAtThree }

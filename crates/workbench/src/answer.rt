@@ -25,10 +25,10 @@ use wb_model::memory::NoMemory;
 use wb_streams::streams::{Sink, Source, StreamFault, read_some, write_some};
 use wb_sweep::Progress;
 
-/// The most that is read of a script, in bytes: one more than a script may have, so that a longer one shows.
+/// How many bytes of a script are read at most: one more than a script may have, so that a script that is too long is noticed.
 pub const MOST_READ: usize = 65_537;
 
-/// How many bytes one read is asked for at most.
+/// How many bytes one read asks for at most.
 const PART: usize = 4_096;
 
 /// Why there is no report.
@@ -64,7 +64,7 @@ impl From<NoMemory> for ReportFault {
     }
 }
 
-/// What came of a command.
+/// The result of a command.
 #[derive(Debug, Drop)]
 pub struct Answered {
     /// The exit status.
@@ -76,20 +76,18 @@ pub struct Answered {
 /// Answers a command whose numbers are in their ranges: reads the script, at most `MOST_READ` bytes of it,
 /// writes the report, as lines or as a JSON object, and returns the exit status, with what the report was made of.
 ///
-/// Statuses 0 to 3 are those of a report, and the whole of it went out. At `WANT_OF_MEMORY` the line
-/// `no memory` went out alone. At `READ_OR_WRITE_FAULT` a read failed, an interrupted one too, and the line
-/// `read fault` is written; or a write failed, or took no byte, and what went out is the first of what was
-/// being written. Nothing is written before the whole text is there.
+/// Statuses 0 to 3 are a report's own, and the whole report was written. With `WANT_OF_MEMORY`, only the line `no memory` was written. With
+/// `READ_OR_WRITE_FAULT`, either a read failed (an interrupted read fails, too), and the line `read fault` is written in place of a report;
+/// or a write failed or took no byte, and only the beginning of the text was written. Nothing is written before the whole text is ready.
 ///
-/// What failed is what the reads and writes that were made answered, so that `READ_OR_WRITE_FAULT` comes
-/// exactly where one of them failed. After one that failed no other is made of that kind, and no read after one
-/// that brought no byte.
+/// Whether a read or a write failed is what that call itself answered, so that `READ_OR_WRITE_FAULT` is returned exactly if one of the
+/// calls that were made failed. No read follows a failed read or a read that returned no byte, and no write follows a failed write.
 ///
-/// The findings are those of the report: the bytes that were read, the failure that it names, and the rises. There are none
-/// without a report.
+/// The findings are what the report was made of: the bytes of the script that were read, and values of the report (see `Findings`). Without
+/// a report there are none.
 ///
-/// `progress` receives what a sweep reports, all of it before anything is written. What it does makes no difference to
-/// anything.
+/// `progress` is notified of how far a sweep, or the search through all lengths, has come, always before anything is written. Nothing
+/// depends on what it does.
 pub fn answer<R: Source, W: Sink, P: Progress>(
     alloc: Global,
     command: &Command,
@@ -113,7 +111,7 @@ pub fn answer<R: Source, W: Sink, P: Progress>(
     read_and_say(alloc, command, reader, writer, progress)
 }
 
-/// The answer, by what the reads and the writes came to.
+/// Does the work of `answer`, whose other clauses follow from these two.
 fn read_and_say<R: Source, W: Sink, P: Progress>(
     alloc: Global,
     command: &Command,
@@ -140,7 +138,7 @@ fn read_and_say<R: Source, W: Sink, P: Progress>(
     }
 }
 
-/// Writes the line of a read that failed, and returns its status. There are no findings.
+/// Writes the line `read fault`, and returns the status that goes with it, without findings.
 pub fn say_read_fault<W: Sink>(writer: &mut W) -> Answered
     ensures { IsUnopened W.contents W.writes writer.old writer.new result }
 {
@@ -150,7 +148,7 @@ pub fn say_read_fault<W: Sink>(writer: &mut W) -> Answered
     }
 }
 
-/// Writes a text and gives its status, or `READ_OR_WRITE_FAULT` where a write failed.
+/// Writes a text and returns `status`, or `READ_OR_WRITE_FAULT` if a write failed.
 fn say<W: Sink>(writer: &mut W, text: &[u8], status: u8) -> u8
     ensures { IsWritten W.contents W.writes writer.old writer.new text.now status result }
 {
@@ -168,7 +166,7 @@ struct Message {
     findings: Findings,
 }
 
-/// The report of the command on the first bytes that the reader gives, as the command wants it.
+/// Reads the script, at most `MOST_READ` bytes of it, and returns the report on it, laid out as the command wants.
 #[tactic(auto, using(crate::proofs::PrintableLines::report_lines))]
 fn read_and_report<R: Source, P: Progress>(
     alloc: Global,
@@ -188,7 +186,7 @@ fn read_and_report<R: Source, P: Progress>(
     Ok(lay_out(alloc, command, report, bytes)?)
 }
 
-/// Returns a report as the command wants it: as its lines, or as JSON. `bytes` are those of the script.
+/// Returns a report as the command wants it: as its lines, or as JSON. `bytes` are the bytes of the script that were read.
 fn lay_out(
     alloc: Global,
     command: &Command,
@@ -226,8 +224,8 @@ fn lay_out(
     })
 }
 
-/// The first bytes that the reader gives, up to its end or to the most that are wanted. Each read but the last brings a byte, so
-/// there are no more reads than bytes are wanted, and one.
+/// Reads bytes up to the reader's end, but no more than `most`. Each read but the last returns at least one byte, so there are at most
+/// `most` reads.
 fn first_bytes<R: Source>(
     alloc: Global,
     reader: &mut R,
@@ -250,7 +248,7 @@ fn first_bytes<R: Source>(
     Ok(bytes)
 }
 
-/// Writes the whole text, or the first of it up to a write that fails.
+/// Writes the whole text. If a write fails, only the beginning of the text was written.
 fn write_whole<W: Sink>(writer: &mut W, text: &[u8]) -> Result<(), StreamFault>
     ensures ok { OnOk result (Appends (W.contents writer.old) (W.contents writer.new) text.now) }
     ensures err { OnErr result

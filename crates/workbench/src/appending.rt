@@ -1,11 +1,11 @@
-//! What an append to a text comes to.
+//! The error of an append to a text.
 
 ghost use Rattle.std.specs.Prelude.{IsOk, OnOk};
 
 use std::io;
 use wb_model::memory::NoMemory;
 
-/// Returns why a line could not be appended: there is one reason, that the text could not grow.
+/// Turns the error of an append, whatever it is, into `NoMemory`: an append fails only if the text can't grow.
 pub fn or_no_memory(put: io::Result<()>) -> Result<(), NoMemory>
     ensures { OnOk result (IsOk put) }
 {

@@ -1,4 +1,4 @@
-//! How a run ended, in words. In which line these stand is said elsewhere.
+//! The words for how a run ended. Which lines contain these words is decided elsewhere.
 
 ghost use Rattle.std.specs.Prelude.{◌≡◌, ◌++◌, OnOk};
 ghost use Rattle.workbench.specs.EndWords.{cut_words, end_words, panic_words};
@@ -10,7 +10,7 @@ use wb_model::memory::NoMemory;
 use wb_model::run::Why;
 use wb_model::run_end::RunEnd;
 
-/// Appends how a run ended.
+/// Appends the words for how a run ended.
 pub fn put_end_words(text: &mut Vec<u8>, end: RunEnd) -> Result<(), NoMemory>
     ensures { OnOk result (text.new.items ≡ text.old.items ++ end_words end) }
 {
@@ -41,7 +41,7 @@ fn put_failed_check(text: &mut Vec<u8>, place: u32) -> Result<(), NoMemory>
     or_no_memory(write!(text, "panic ALLOC {place:08x}"))
 }
 
-/// Appends why a run was cut.
+/// Appends the words for why a run was cut.
 pub fn put_cut_words(text: &mut Vec<u8>, why: Why) -> Result<(), NoMemory>
     ensures { OnOk result (text.new.items ≡ text.old.items ++ cut_words why) }
 {

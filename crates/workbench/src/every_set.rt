@@ -1,4 +1,4 @@
-//! What a sweep over all sets of attempts comes to: the text, its values, and the exit status. Nothing is read or written here.
+//! The report of a sweep over all sets of attempts: the text, its values, and the exit status. Nothing is read or written here.
 
 ghost use Rattle.std.specs.Prelude.{◌≡◌, ◌≤◌, IfOk, IsTrue};
 ghost use Rattle.wb_model.specs.language.Sound.{is_script};
@@ -23,8 +23,9 @@ use wb_model::part::Part;
 use wb_model::script::Script;
 use wb_sweep::{EverySetFault, Progress, SetSweep, sweep_every_set};
 
-/// Which set of attempts leaks or panics, however many it has, of those whose least number the part has; or the line of a run that was
-/// cut, or of a search that met more states than it may. The whole has all sets.
+/// The report of a sweep over the sets of attempts, of any size, whose least number is in the part: the least set whose run leaks or
+/// panics, or that there is none; the line of a run that was cut; or the lines of a search that met more than `states` states.
+/// `Part::WHOLE` has all sets.
 pub fn every_set_report<P: Progress>(
     alloc: Global,
     script: &Script,
@@ -65,7 +66,7 @@ fn found_report(alloc: Global, sweep: SetSweep) -> Result<Report, NoMemory>
     Ok(report_with(text, sweep))
 }
 
-/// The report of a search that met more states than it may. No set of at most so many attempts showed anything.
+/// The report of a search that met more states than it may. No set of at most `fine` attempts has a run that leaks, panics or is cut.
 fn many_states_report(
     alloc: Global,
     script: &Script,

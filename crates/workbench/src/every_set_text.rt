@@ -1,4 +1,4 @@
-//! The text of what a sweep over all sets of attempts finds, line by line. Sets are written as `sets_text` has it.
+//! The text of what a sweep over all sets of attempts finds, line by line. Sets are written as in `sets_text`.
 
 ghost use Rattle.std.specs.Prelude.{◌≡◌, ◌++◌, OnOk};
 ghost use Rattle.workbench.specs.EverySetReport.{every_set_text, many_states_text};
@@ -9,7 +9,8 @@ use std::io::Write;
 use wb_model::memory::NoMemory;
 use wb_sweep::SetSweep;
 
-/// Appends how many attempts the run without failure makes, and the set that was found, with the run under it, or that there is none.
+/// Appends the number of attempts of the run without failure, and then the set that was found and its run, or a line that there is no such
+/// set.
 pub fn put_every_set(text: &mut Vec<u8>, sweep: &SetSweep) -> Result<(), NoMemory>
     ensures { OnOk result (text.new.items ≡ text.old.items ++ every_set_text sweep.now) }
 {
@@ -21,8 +22,8 @@ pub fn put_every_set(text: &mut Vec<u8>, sweep: &SetSweep) -> Result<(), NoMemor
     }
 }
 
-/// Appends how many attempts the run without failure makes, that no set of at most so many attempts shows anything, and that more states
-/// were met than may be.
+/// Appends the number of attempts of the run without failure, a line that no set of at most `fine` attempts was found, and a line that more
+/// states were met than may be.
 pub fn put_many_states(text: &mut Vec<u8>, attempts: u64, fine: u32) -> Result<(), NoMemory>
     ensures { OnOk result (text.new.items ≡ text.old.items ++ many_states_text attempts fine) }
 {

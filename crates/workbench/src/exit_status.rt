@@ -1,5 +1,5 @@
-//! The exit statuses of the program. They are numbers, and no enum: a report may print its own, and contracts say of each
-//! answer which number it ends with.
+//! The exit statuses of the program. They are numbers rather than an enum, since a JSON report has its status as a number, and contracts
+//! state the number with which each answer ends.
 
 /// Nothing was found.
 pub const NOTHING_FOUND: u8 = 0;

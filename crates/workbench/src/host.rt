@@ -1,7 +1,6 @@
-//! What the program is run in: files, standard input, and where messages go. What is done with them is in
-//! `program`.
+//! What surrounds the program: files, standard input, and the place where messages go. What is done with them is in `program`.
 //!
-//! What each call does is a relation into which no contract looks, as it is with streams (`streams`).
+//! Each trait names relations for what its calls do. No contract looks into these relations, as with those of streams (`wb_streams`).
 
 ghost use Rattle.std.specs.Prelude.{◌≡◌, ℕ, List, Option, ⊤};
 ghost use Rattle.workbench.specs.Program.{fault_of_words};
@@ -20,7 +19,7 @@ pub enum WordsFault {
     /// A word is not UTF-8.
     #[error("error: a word of the command line is not UTF-8\n")]
     NotUtf8,
-    /// They are refused, or memory ran out.
+    /// The words spell no command, or memory ran out.
     #[error("{0}")]
     Refused(CommandFault),
 }
@@ -33,7 +32,7 @@ impl From<CommandFault> for WordsFault {
     }
 }
 
-/// The words themselves could not be had.
+/// The fault if there is an error in place of the words.
 impl From<io::Error> for WordsFault {
     ghost from_gives = { λ error fault. fault ≡ fault_of_words error };
 
@@ -52,14 +51,13 @@ pub trait Host {
 
     type Input: Source + Drop;
 
-    /// What opening a file does: the host before it, the file's name, the file where it can be opened, and the host
-    /// after it.
+    /// What opening a file does: the host before it, the file's name, the file if it can be opened, and the host after it.
     ghost opens: { Self → List ℕ → Option Self.File → Self → Type 0 };
 
     /// What asking for standard input does: the host before it, the input, and the host after it.
     ghost lends: { Self → Self.Input → Self → Type 0 };
 
-    /// Opens a file to read it; `None` where it can't be opened.
+    /// Opens a file to read it; `None` if it can't be opened.
     fn open(&mut self, name: &str) -> Option<Self::File>
         ensures { opens self.old name.now result self.new };
 
@@ -67,7 +65,7 @@ pub trait Host {
         ensures { lends self.old result self.new };
 }
 
-/// Where the user is informed why there is no command.
+/// Where the user is told why there is no command.
 pub trait Messages {
     /// What reporting a fault does: what was there before, the fault, and what is there after.
     ghost reports: { Self → Fault → Self → Type 0 };
@@ -79,7 +77,7 @@ pub trait Messages {
 impl<W: Write> Messages for W {
     ghost reports = { λ _ _ _. ⊤ };
 
-    /// Whether the message went out makes no difference.
+    /// Ignores whether the message could be written.
     fn report(&mut self, fault: &WordsFault) {
         let _ = write!(self, "{fault}");
     }

@@ -1,4 +1,4 @@
-//! The report as one JSON object. Which report it is, is decided elsewhere.
+//! The report as one JSON object. What it reports is decided elsewhere.
 
 ghost use Rattle.std.specs.Prelude.{◌≡◌, ◌≢◌, ◌∷◌, ◌<◌, [], length, IfOk, OnOk, map};
 ghost use Rattle.serde_json.specs.View.{members_view, view};
@@ -27,14 +27,14 @@ use wb_model::run_end::RunEnd;
 use wb_model::size::Rise;
 use wb_size::Rises;
 
-/// The version of the form that a JSON report has.
+/// The version of the JSON form of a report, unless the report has `LATER_VERSION`.
 const VERSION: u32 = 2;
 
-/// That of the reports of all lengths, of all that a sweep finds and of sets, each of which has a key more, and of sweeps of a kind that
-/// version 2 lacks.
+/// The version of the reports of all lengths, of sweeps that list numbers, and of sweeps over sets, each of which has a key that version 2
+/// lacks; and of sweeps of a kind that version 2 lacks.
 const LATER_VERSION: u32 = 3;
 
-/// The report of a task as a JSON object without blanks, and a line feed. The only error is that memory ran out.
+/// Returns the report of a task as a JSON object without blanks, followed by a line feed. The only error is that memory ran out.
 #[tactic(auto, using(crate::proofs::JsonLemmas::report_has_none))]
 pub fn json_text(alloc: Global, task: &Task, report: &Report) -> Result<Vec<u8>, NoMemory>
     requires { HasPrintableLines report.now.text.items }
@@ -46,7 +46,7 @@ pub fn json_text(alloc: Global, task: &Task, report: &Report) -> Result<Vec<u8>,
     Ok(text)
 }
 
-/// The object. Its keys come in the order of their letters.
+/// Returns the object. Its keys are in alphabetical order.
 #[tactic(auto, unfolding(crate::specs::JsonReport::report_object))]
 fn report_object(alloc: Global, task: &Task, report: &Report) -> Result<Value, AllocError>
     requires { HasPrintableLines report.now.text.items }
@@ -60,7 +60,7 @@ fn report_object(alloc: Global, task: &Task, report: &Report) -> Result<Value, A
     Ok(Value::Object(members))
 }
 
-/// What each object has.
+/// Returns the members that the object of every report has.
 #[tactic(auto, unfolding(crate::specs::JsonReport::common_members))]
 fn common_members(
     alloc: Global,
@@ -95,7 +95,7 @@ fn common_members(
     Ok(members)
 }
 
-/// Puts the table of lengths in its place, where the task's report has one.
+/// Adds the member `ranges`, the table of lengths, if the task's report has that table.
 fn put_ranges(
     members: &mut Map<String, Value>,
     alloc: Global,
@@ -114,7 +114,7 @@ fn put_ranges(
     }
 }
 
-/// What a task searches for; `None` if it searches for nothing among failures.
+/// Returns what a task searches for among failures; `None` if it makes no such search.
 fn search_of(task: &Task) -> Option<Search>
     ensures { result ≡ searched task.now }
 {
@@ -124,7 +124,7 @@ fn search_of(task: &Task) -> Option<Search>
     }
 }
 
-/// Puts the list of a sweep in its place, where the task's report has one.
+/// Adds the member `all`, the list of numbers, if the task's report has that list.
 fn put_told(
     members: &mut Map<String, Value>,
     alloc: Global,
@@ -143,7 +143,7 @@ fn put_told(
     }
 }
 
-/// Puts how many attempts fail together at most in its place, where the task tries sets: `null` where it tries all.
+/// Adds the member `most` if the task tries sets of attempts: how many attempts a set has at most, or `null` if sets of any size are tried.
 fn put_most(members: &mut Map<String, Value>, alloc: Global, task: &Task) -> Result<(), AllocError>
     ensures { OnOk result (members_view members.new.entries
         ≡ with_most task.now (members_view members.old.entries)) }
@@ -155,7 +155,7 @@ fn put_most(members: &mut Map<String, Value>, alloc: Global, task: &Task) -> Res
     }
 }
 
-/// The version of the form that a task's report has.
+/// Returns the version of the JSON form of a task's report.
 fn version_of(task: &Task) -> u32
     ensures { result ≡ version_of task.now }
 {
@@ -166,7 +166,7 @@ fn version_of(task: &Task) -> u32
     }
 }
 
-/// That of a search.
+/// Returns the version for a search.
 fn search_version(search: Search) -> u32
     ensures { result ≡ search_version search }
 {
@@ -176,7 +176,7 @@ fn search_version(search: Search) -> u32
     }
 }
 
-/// That of a sweep over such failures which tells of the least alone.
+/// Returns the version for a sweep over these failures that reports only the least of them.
 fn failures_version(failures: Failures) -> u32
     ensures { result ≡ failures_version failures }
 {
@@ -186,7 +186,7 @@ fn failures_version(failures: Failures) -> u32
     }
 }
 
-/// Which failures a task tries, or that it tries sets or all lengths; `null` where it tries none. The report makes no difference.
+/// What a task tries: its kind of failures, `sets` or `lengths`; `null` if it tries none. The kind depends on the task alone.
 fn kind_of(alloc: Global, task: &Task) -> Result<Value, AllocError>
     ensures { IfOk result (λ value. view value ≡ kind_of task.now) }
 {
@@ -219,7 +219,7 @@ fn failures_kind(alloc: Global, failures: Failures) -> Result<Value, AllocError>
     }
 }
 
-/// A number, or `null` where there is none.
+/// A number, or `null` if it is `None`.
 fn count_or_null(count: Option<u64>) -> Value
     ensures { view result ≡ count_or_null count }
 {
@@ -244,7 +244,7 @@ fn line_strings(alloc: Global, text: &[u8]) -> Result<Value, AllocError>
     Ok(Value::Array(strings))
 }
 
-/// A line of ASCII as a string. A lossy reading loses nothing of it.
+/// A line of printable ASCII as a string. The lossy conversion loses nothing of such a line.
 fn line_string(alloc: Global, line: &[u8]) -> Result<Value, AllocError>
     requires { ArePrintable line.now }
     ensures { IfOk result (λ value. view value ≡ line_string line.now) }
@@ -252,7 +252,7 @@ fn line_string(alloc: Global, line: &[u8]) -> Result<Value, AllocError>
     Ok(Value::String(String::from_utf8_lossy(alloc, line)?))
 }
 
-/// The first line without its line feed, and the bytes after that.
+/// Returns the first line without its line feed, and the bytes after that line feed.
 fn first_line<'a>(bytes: &'a [u8]) -> (&'a [u8], &'a [u8])
     requires { bytes.now ≢ [] }
     ensures lines { lines_of bytes.now ≡ result.0.now ∷ lines_of result.1.now }
@@ -266,7 +266,7 @@ fn first_line<'a>(bytes: &'a [u8]) -> (&'a [u8], &'a [u8])
     (bytes, &bytes[bytes.len()..])
 }
 
-/// The failure that a sweep found, the set, which this one is then, or the length of heap, in bytes; `null` where none was finished.
+/// What a search found: a failure, a length in bytes or the numbers of `set`; `none` if nothing, `null` if no search was finished.
 fn failing_number(
     alloc: Global,
     number: Option<FailingNumber>,
@@ -283,7 +283,7 @@ fn failing_number(
     }
 }
 
-/// The numbers of a set as a list.
+/// The numbers of a set as a list, or `null` if there is no set.
 fn set_value(alloc: Global, set: &Option<Numbers>) -> Result<Value, AllocError>
     ensures { IfOk result (λ value. view value ≡ set_value set.now) }
 {
@@ -303,8 +303,8 @@ fn all_counts(alloc: Global, numbers: &[u32]) -> Result<Vec<Value>, AllocError>
     Ok(counts)
 }
 
-/// The number of the attempt that fails, or of the first of all that do, the rate at which attempts fail, or the numbers of the two
-/// that fail.
+/// A failure: the number of the attempt that fails, alone or as the first of all that fail; the rate at which attempts fail; or a list of
+/// the two attempts that fail.
 fn failing_value(alloc: Global, failing: Failing) -> Result<Value, AllocError>
     ensures { IfOk result (λ value. view value ≡ failing_value failing) }
 {
@@ -324,7 +324,7 @@ fn count_pair(alloc: Global, first: u32, second: u32) -> Result<Value, AllocErro
     Ok(Value::Array(pair))
 }
 
-/// The table of rises, or `null` where there is none.
+/// The table of rises, or `null` if there is none.
 fn rise_pairs(alloc: Global, rises: &Option<Rises>) -> Result<Value, AllocError>
     ensures { IfOk result (λ pairs. view pairs ≡ rise_pairs rises.now) }
 {
@@ -344,7 +344,7 @@ fn all_pairs(alloc: Global, rises: &[Rise]) -> Result<Vec<Value>, AllocError>
     Ok(pairs)
 }
 
-/// The table of lengths, or `null` where there is none.
+/// The table of lengths, or `null` if there is none.
 fn range_pairs(alloc: Global, ranges: &Option<LengthTable>) -> Result<Value, AllocError>
     ensures { IfOk result (λ pairs. view pairs ≡ range_pairs ranges.now) }
 {
@@ -364,7 +364,7 @@ fn all_ranges(alloc: Global, ranges: &[LengthRange]) -> Result<Vec<Value>, Alloc
     Ok(pairs)
 }
 
-/// All that a sweep found, or `null` where it found nothing out.
+/// The numbers that a sweep lists, each with the end of its run, or `null` if there is no list.
 fn told_pairs(alloc: Global, ends: &Option<NumberEnds>) -> Result<Value, AllocError>
     ensures { IfOk result (λ pairs. view pairs ≡ told_pairs ends.now) }
 {
@@ -384,7 +384,7 @@ fn all_told(alloc: Global, ends: &[NumberEnd]) -> Result<Vec<Value>, AllocError>
     Ok(pairs)
 }
 
-/// A number, and how a run ends, as a list.
+/// A list of a number and the words for how a run ends.
 fn words_pair(alloc: Global, number: u32, end: RunEnd) -> Result<Value, AllocError>
     ensures { IfOk result (λ pair. view pair ≡ words_pair number end) }
 {

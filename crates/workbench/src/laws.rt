@@ -19,8 +19,8 @@ ghost use Rattle.workbench.specs.declared.report_values.ReportValues.{ReportValu
 ghost use Rattle.workbench.specs.declared.host.WordsFault.{WordsFault};
 ghost use Rattle.workbench.specs.declared.host.WordsFault.TheVariants.{Refused};
 
-/// The rises, whose numbers and ends are the rows of a printed table, are exactly the granted lines of the run without a limit
-/// that end past every granted line before them, in the order of the trace.
+/// The rises are exactly the granted attempts of the run without a limit whose cells end past the cells of all attempts granted before, in
+/// the order of the trace. Their numbers and the ends of their cells are the rows of a printed table.
 pub fn rises_are()
     ensures { (script : Script) (budget : ℕ) (shape : Shape)
         → AreRises (run script Unlimited budget shape).trace (rises script budget shape) }
@@ -43,8 +43,8 @@ pub fn one_report()
         (text ≡ other_text) × (values ≡ other_values) × (status ≡ other_status) }
 {}
 
-/// The text of a report is printable ASCII and line feeds, so that each of its lines has bytes from 32 to 126 alone. The lines
-/// that come in a report's place, `no memory` and `read fault`, have no others either.
+/// The text of a report is printable ASCII and line feeds, so that each of its lines has only bytes from 32 to 126. The same holds for the
+/// lines that are written in place of a report, `no memory` and `read fault`.
 pub fn reports_are_ascii()
     ensures text { (command : Command) (bytes text : List ℕ) (values : ReportValues) (status : ℕ) →
         IsReport command bytes text values status → IsPrintableText text }
@@ -54,8 +54,8 @@ pub fn reports_are_ascii()
     ensures read_fault { IsPrintableText read_fault }
 {}
 
-/// No words spell a command with its numbers in their ranges and have a fault as well, but that memory ran out, which says
-/// nothing of words. So what `program` does with words is one of two things, and not both.
+/// Words that spell a command with its numbers in their ranges have no fault, except that memory may run out, which says nothing of the
+/// words. So as long as memory doesn't run out, the words alone decide whether `program` carries them out or reports a fault.
 pub fn words_are_obeyed_or_blamed()
     ensures { (words : List Text) (command : Command) (fault : WordsFault)
         → IsSpelledBy words command → IsTrue (is_answerable command) → IsWordsFault words fault

@@ -1,4 +1,5 @@
-//! A line of a report that is put together before it is appended, in one piece. What a line says is said elsewhere.
+//! A line of a report that is built from its end to its front, and then appended to a text in one piece. What a line says is decided
+//! elsewhere.
 
 ghost use Rattle.std.specs.Prelude.{◌≡◌, ◌+◌, ◌≤◌, [], ◌∷◌, ◌++◌, length, OnOk};
 ghost use Rattle.std.specs.Fmt.{decimal};
@@ -7,12 +8,12 @@ use itoa::write_digits;
 use std::marker::Model;
 use wb_model::memory::NoMemory;
 
-/// The most bytes that a line has, its line feed among them: those of an attempt whose numbers have ten digits each, and that
-/// was simulated to fail.
+/// The length of the longest line in bytes, with its line feed: the line of an attempt that was made to fail and whose three numbers have
+/// ten digits each.
 pub const LONGEST_LINE: usize = 64;
 
-/// The end of a line, which grows to its front: what is put comes before what is there. So a number's digits are written where
-/// they stay, however many there are. Contracts see the bytes that are there.
+/// The end of a line, which grows at its front: what is put comes before the bytes that are there. So a number's digits are written right
+/// in their place, however many they are. To contracts a `Line` is the bytes that are there.
 #[derive(Drop)]
 pub struct Line {
     bytes: [u8; LONGEST_LINE],
@@ -31,7 +32,7 @@ impl Model for Line {
 }
 
 impl Line {
-    /// The line feed alone.
+    /// Returns a line that has only its line feed so far.
     #[inline]
     pub fn new() -> Line
         ensures { result ≡ 10 ∷ [] }
@@ -44,7 +45,7 @@ impl Line {
         }
     }
 
-    /// Puts a word before what is there.
+    /// Puts a word before the bytes that are there.
     #[inline]
     pub fn put_word(&mut self, word: &[u8])
         requires { length word.now + length self.old ≤ LONGEST_LINE }
@@ -56,7 +57,7 @@ impl Line {
         self.bytes[self.start..end].copy_from_slice(word);
     }
 
-    /// Puts a number's decimal digits before what is there, ten at most.
+    /// Puts a number's decimal digits, ten at most, before the bytes that are there.
     #[inline]
     #[tactic(auto, using(crate::proofs::LineLemmas::longer_by_digits))]
     pub fn put_number(&mut self, number: u32)

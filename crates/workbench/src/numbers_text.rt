@@ -1,5 +1,5 @@
-//! The text of the two numbers, line by line: how long the heap must be, and which failure shows a fault. What a line says
-//! is said here alone.
+//! The text of the two numbers, line by line: how long the heap must be, and which failure makes the run leak or panic. What these lines
+//! say is decided here alone.
 
 ghost use Rattle.std.specs.Prelude.{◌≡◌, ◌++◌, OnOk};
 ghost use Rattle.workbench.specs.TwoNumbers.{cut_at_line, failing_line, none_line, refuses_line, size_text, sweep_text};
@@ -16,7 +16,7 @@ use wb_model::size::Rise;
 use wb_size::Sizing;
 use wb_sweep::Sweep;
 
-/// Appends the required length and the table of what shorter heaps refuse first.
+/// Appends the required length and the table of the attempts that shorter heaps deny first.
 pub fn put_sizing(text: &mut Vec<u8>, sizing: &Sizing) -> Result<(), NoMemory>
     ensures { OnOk result (text.new.items
         ≡ text.old.items ++ size_text sizing.now.required sizing.now.rises) }
@@ -27,7 +27,7 @@ pub fn put_sizing(text: &mut Vec<u8>, sizing: &Sizing) -> Result<(), NoMemory>
     or_no_memory(writeln!(text, "enough from {required}"))
 }
 
-/// Appends a line for each rise, from the top of the one before on.
+/// Appends a line for each rise. It begins with the top of the rise before it, and with 0 for the first rise.
 fn put_table(text: &mut Vec<u8>, rises: &[Rise]) -> Result<(), NoMemory>
     ensures { OnOk result (text.new.items ≡ text.old.items ++ table_text 0 rises.now) }
 {
@@ -50,8 +50,8 @@ fn put_refuses(text: &mut Vec<u8>, from: u32, number: u32) -> Result<(), NoMemor
     line.append_to(text)
 }
 
-/// Appends how many attempts the run without failure makes, and the failure that was found, with the run under it, or that
-/// there is none.
+/// Appends the number of attempts of the run without failure, and then the failure that was found and its run, or a line that there is no
+/// such failure.
 pub fn put_sweep(text: &mut Vec<u8>, failures: Failures, sweep: &Sweep) -> Result<(), NoMemory>
     ensures { OnOk result (text.new.items ≡ text.old.items ++ sweep_text failures sweep.now) }
 {

@@ -1,5 +1,5 @@
-//! What a sweep over a part of its numbers comes to, and one that lists numbers: the text, its values, and the exit
-//! status. Nothing is read or written here.
+//! The reports of a sweep over a part of its numbers, and of a sweep that lists numbers: the text, its values, and the exit status. Nothing
+//! is read or written here.
 
 ghost use Rattle.std.specs.Prelude.{◌≡◌, ◌≤◌, IfOk, IsTrue};
 ghost use Rattle.wb_model.specs.language.Sound.{is_script};
@@ -23,7 +23,8 @@ use wb_model::part::Part;
 use wb_model::script::Script;
 use wb_sweep::{AllNumbers, Listing, Progress, SweepFault, sweep_all, sweep_part};
 
-/// Which of these failures leaks or panics, of those that the part has, or the line of a run that was cut.
+/// The report of a sweep over those of these failures that the part has: the least whose run leaks or panics, or that there is none; or the
+/// line of a run that was cut.
 pub fn report_over<P: Progress>(
     alloc: Global,
     script: &Script,
@@ -54,7 +55,7 @@ fn is_whole(part: Part) -> bool
     part.from == 0 && part.to == CEILING
 }
 
-/// The same of a part that isn't the whole.
+/// The same report for a part that isn't the whole.
 fn part_report<P: Progress>(
     alloc: Global,
     script: &Script,
@@ -95,8 +96,8 @@ fn part_report<P: Progress>(
     }
 }
 
-/// How the run ends under each number of the part that is listed, and the run under the least that leaks or panics; or the line of the
-/// run without failure, if that was cut.
+/// The report of a sweep that lists numbers: how the run ends under each listed number of the part, and the run under the least number that
+/// leaks or panics; or, if the run without failure was cut, the line of that run.
 pub fn list_report<P: Progress>(
     alloc: Global,
     script: &Script,
@@ -129,7 +130,7 @@ pub fn list_report<P: Progress>(
     }
 }
 
-/// The report of what a sweep tells.
+/// The report of a sweep that listed these numbers.
 fn told_report(alloc: Global, failures: Failures, all: AllNumbers) -> Result<Report, NoMemory>
     ensures text { IfOk result (λ r. r.text.items ≡ told_text failures all) }
     ensures values { IfOk result (λ r. r.values ≡ told_values all) }
@@ -148,7 +149,7 @@ fn told_report(alloc: Global, failures: Failures, all: AllNumbers) -> Result<Rep
     })
 }
 
-/// The status where no run leaks or panics: 3 if one is told of that was cut.
+/// The status if no run leaks or panics: 3 if the run of a listed number was cut, and otherwise 0.
 fn fine_status(ends: &[NumberEnd]) -> u8
     ensures { result ≡ fine_status ends.now }
 {

@@ -20,7 +20,7 @@ use wb_command_line::command_line::command;
 use wb_streams::streams::Sink;
 use wb_sweep::Progress;
 
-/// What came of the program's words.
+/// The result of the program.
 #[derive(Debug, Drop)]
 pub struct Exit {
     /// The exit status.
@@ -31,19 +31,18 @@ pub struct Exit {
     pub findings: Option<Findings>,
 }
 
-/// Carries out the command that the words spell, and returns the exit status, with what an explanation and a picture of the
-/// answer need: that command, unchanged, and the findings of the answer.
-/// `words` are all of the program's words, its name first, or why they could not be had; all of them are handed to `command`.
+/// Carries out the command that the words spell, and returns the exit status, with what an explanation and a picture of the answer need:
+/// that command, unchanged, and the findings of the answer. `words` are all of the program's words, its name first, or the error that came
+/// in their place; all of them are handed to `command`.
 ///
-/// Where they are no command, `messages` is given the reason, and nothing else is touched: the status is
-/// `COMMAND_LINE_FAULT`, or `WANT_OF_MEMORY` where the memory for the command ran out. Else `messages` is not
-/// touched. The script is what the named file holds, which is opened once, or standard input where none is named,
-/// and `output` is given the answer. Where the file can't be opened that is the line `read fault`, with
-/// `READ_OR_WRITE_FAULT`.
+/// If the words are no command, the reason is reported to `messages`, and neither `host` nor `output` is touched; the status is
+/// `COMMAND_LINE_FAULT`, or `WANT_OF_MEMORY` if the memory for the command ran out. Otherwise `messages` isn't touched. The script is read
+/// from the file that the command names, which is opened once, or from standard input if the command names no file, and the answer is
+/// written to `output`. If the file can't be opened, the answer is the line `read fault`, with `READ_OR_WRITE_FAULT`.
 ///
-/// `progress` receives what a sweep reports, all of it before anything is written. No clause mentions it, and what it does
-/// makes no difference to anything. Where it writes to the stream that is handed over as `messages`, as in `main`, that
-/// stream gets what it writes.
+/// `progress` is notified of how far a sweep, or the search through all lengths, has come, always before anything is written to `output`.
+/// No clause mentions `progress`, and nothing depends on what it does. If it writes to the stream that is handed over as `messages`, as in
+/// `main`, that stream also gets what `progress` writes.
 pub fn program<S: AsStr + Drop, H: Host, W: Sink, M: Messages, P: Progress>(
     alloc: Global,
     words: io::Result<Vec<S>>,
@@ -80,7 +79,7 @@ pub fn program<S: AsStr + Drop, H: Host, W: Sink, M: Messages, P: Progress>(
     }
 }
 
-/// The exit of a command that was obeyed, with its answer.
+/// The exit after a command was carried out with this answer.
 fn exit_of(command: Command, answered: Answered) -> Exit
     ensures command { result.command ≡ Some command }
     ensures answered { answered_of result ≡ answered }
@@ -92,7 +91,7 @@ fn exit_of(command: Command, answered: Answered) -> Exit
     }
 }
 
-/// The command of the words, where they could be had.
+/// Returns the command that the words spell, or why there is none.
 fn read_words<S: AsStr + Drop>(
     alloc: Global,
     words: io::Result<Vec<S>>,
@@ -105,8 +104,8 @@ fn read_words<S: AsStr + Drop>(
     Ok(command(alloc, words.as_slice())?)
 }
 
-/// Answers the command over its file, or over standard input where it names none. The file is opened before any
-/// of it is read.
+/// Answers the command on the script in its file, or on standard input if the command names no file. The file is opened before any of it is
+/// read.
 fn carry_out<H: Host, W: Sink, P: Progress>(
     alloc: Global,
     command: &Command,
@@ -132,7 +131,7 @@ fn carry_out<H: Host, W: Sink, P: Progress>(
     }
 }
 
-/// The exit status where there is no command.
+/// The exit status if there is no command.
 fn status_of(fault: &WordsFault) -> u8
     ensures { result ≡ words_status fault.now }
 {

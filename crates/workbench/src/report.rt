@@ -1,5 +1,5 @@
-//! What a command comes to on the bytes that were read: the whole text, its values, and the exit status. Nothing
-//! is read or written here. What its task comes to on a script is in `tasks`.
+//! The report of a command on the bytes that were read: the whole text, its values, and the exit status. Nothing is read or written here.
+//! The report of a task on a script is in `tasks`.
 
 ghost use Rattle.std.specs.Prelude.{◌≡◌, ◌≢◌, ◌++◌, OnOk, IfOk, IsTrue};
 ghost use Rattle.wb_command_line.specs.Command.{is_answerable};
@@ -25,9 +25,8 @@ pub struct Report {
     pub status: u8,
 }
 
-/// The report of a command for the bytes of a script: what its task comes to, or the one line that says why the
-/// bytes are no script. The only error is that memory ran out. `progress` is notified of a sweep,
-/// and of the runs in heaps of all lengths.
+/// Returns the report of a command on the bytes of a script: the report of its task, or the one line that says why the bytes are no script.
+/// The only error is that memory ran out. `progress` is notified of how far a sweep, or the search through all lengths, has come.
 pub fn report_on<P: Progress>(
     alloc: Global,
     command: &Command,
@@ -44,7 +43,7 @@ pub fn report_on<P: Progress>(
     }
 }
 
-/// The line of a fault that the bytes have, with status 2.
+/// The report of a fault that the bytes have: its line, with status 2.
 fn refusal(alloc: Global, fault: ScriptFault) -> Result<Report, NoMemory>
     requires { fault ≢ ScriptFault.NoMemory }
     ensures text { IfOk result (λ r. r.text.items ≡ fault_line fault) }
@@ -74,7 +73,7 @@ fn put_fault(text: &mut Vec<u8>, fault: ScriptFault) -> Result<(), NoMemory>
         ScriptFault::MayLeave { line } => put_refused_at(text, 7, line),
         ScriptFault::NoMain => put_refused(text, 8),
         ScriptFault::TooMany { line } => put_refused_at(text, 9, line),
-        // That memory ran out says nothing of the bytes.
+        // Excluded by the contract, since it is no fault of the bytes.
         ScriptFault::NoMemory => unreachable!(),
     }
 }

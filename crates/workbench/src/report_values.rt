@@ -1,5 +1,5 @@
-//! What a report says as values, beside its lines. A JSON report has them under keys of their own, but for the failure that it
-//! names.
+//! The values of a report, beside its lines. A JSON report has them under keys of their own, except `named` and `fine`, which it lacks, and
+//! `set`, which is under the key of `number`.
 
 ghost use Rattle.std.specs.Prelude.{◌≡◌};
 ghost use Rattle.workbench.specs.ReportValues.{all_values, both_values, cut_values, found_failing, lengths_values};
@@ -16,18 +16,18 @@ use wb_size::{Rises, Sizing};
 /// The least failure, or the least length of heap, whose run leaks or panics, of those that were tried.
 #[derive(Clone, Copy, Debug, PartialEq, Eq)]
 pub enum FailingNumber {
-    /// No failure's run leaks or panics, or no length's.
+    /// No failure that was tried, or no length of heap, has a run that leaks or panics.
     Never,
-    /// The least failure whose run does.
+    /// The least failure whose run leaks or panics.
     At(Failing),
-    /// The least length whose run does, in bytes.
+    /// The least length of heap whose run leaks or panics, in bytes.
     Length(u32),
-    /// The least set of attempts whose run does, two or more: the one that the lines name.
+    /// The least set of attempts whose run leaks or panics, if it has two attempts or more: the set that the lines name.
     Set,
 }
 
 impl FailingNumber {
-    /// The failure that was found; a length of heap is none, nor is a set.
+    /// Returns the failure that was found; `None` if nothing, a length of heap or a set was found.
     fn failing(self) -> Option<Failing>
         ensures { result ≡ found_failing self }
     {
@@ -38,30 +38,31 @@ impl FailingNumber {
     }
 }
 
-/// The values of a report; `None` if its task has no such value.
+/// The values of a report; a value is `None` if the report has no such value.
 #[derive(Debug, Drop)]
 pub struct ReportValues {
-    /// How many attempts the run made; for a sweep that was finished, the run without failure.
+    /// How many attempts the run made; for a sweep that was finished, how many the run without failure makes.
     pub attempts: Option<u64>,
-    /// What the sweep found, or the search through all lengths.
+    /// What the sweep, or the search through all lengths, found.
     pub number: Option<FailingNumber>,
     /// The length that the heap must have, in bytes.
     pub required: Option<u64>,
-    /// The attempt that each shorter heap refuses first.
+    /// The attempt that each shorter heap denies first.
     pub rises: Option<Rises>,
     /// How the run ends in heaps of every length.
     pub ranges: Option<LengthTable>,
-    /// How the run ended under each number that is told of.
+    /// How the run ended under each number that is listed.
     pub all: Option<NumberEnds>,
-    /// The failure that its lines name: whose run they show, or under which a run was cut. `None` if they name none.
+    /// The failure that the lines name: the one whose run they show, or under which a run was cut. `None` if they name no failure.
     pub named: Option<Failing>,
-    /// The set of two attempts or more that they name so. `None` if they name none.
+    /// The set of two attempts or more that the lines name in the same way. `None` if they name no such set.
     pub set: Option<Numbers>,
-    /// Up to how many attempts no set shows anything, if more states were met than a search may meet. `None` if it isn't so.
+    /// If a search met more states than it may: a number K such that no set of at most K attempts has a run that leaks, panics or is cut.
+    /// Otherwise `None`.
     pub fine: Option<u32>,
 }
 
-/// The number of the one attempt of a set; 0 if it is empty, `None` if it has more than one.
+/// The number of a set's only attempt; 0 if the set is empty, and `None` if it has more than one attempt.
 pub fn single_of(numbers: &Numbers) -> Option<u32>
     ensures { result ≡ single_of numbers.now }
 {
@@ -73,7 +74,7 @@ pub fn single_of(numbers: &Numbers) -> Option<u32>
 }
 
 impl ReportValues {
-    /// Those of a refused script.
+    /// The values of the report on a rejected script.
     pub fn none() -> ReportValues
         ensures { result ≡ no_values }
     {
@@ -90,7 +91,7 @@ impl ReportValues {
         }
     }
 
-    /// Those of a run that was cut under this failure.
+    /// The values of the report on a run that was cut under this failure.
     pub fn of_cut(at: Failing) -> ReportValues
         ensures { result ≡ cut_values at }
     {
@@ -100,7 +101,7 @@ impl ReportValues {
         }
     }
 
-    /// Those of a run that was cut in which the attempts of a set fail.
+    /// The values of the report on a run that was cut, in which the attempts of a set fail.
     pub fn of_cut_set(numbers: Numbers) -> ReportValues
         ensures { result ≡ cut_set_values numbers }
     {
@@ -113,7 +114,7 @@ impl ReportValues {
         }
     }
 
-    /// Those of a search that met more states than it may. No set of at most so many attempts showed anything.
+    /// The values of a search that met more states than it may. No set of at most `fine` attempts has a run that leaks, panics or is cut.
     pub fn of_many_states(fine: u32) -> ReportValues
         ensures { result ≡ many_states_values fine }
     {
@@ -123,7 +124,7 @@ impl ReportValues {
         }
     }
 
-    /// Those of one run, a cut one too.
+    /// The values of one run, also of a cut one.
     pub fn of_run(run: &RunResult) -> ReportValues
         ensures { result ≡ run_values run.now }
     {
@@ -133,7 +134,7 @@ impl ReportValues {
         }
     }
 
-    /// Those of a size.
+    /// The values of a sizing.
     pub fn of_size(sizing: Sizing) -> ReportValues
         ensures { result ≡ size_values sizing.required sizing.rises }
     {
@@ -144,7 +145,7 @@ impl ReportValues {
         }
     }
 
-    /// Those of a sweep that was finished.
+    /// The values of a sweep that was finished.
     pub fn of_sweep(attempts: u32, number: FailingNumber) -> ReportValues
         ensures { result ≡ sweep_values attempts number }
     {
@@ -156,7 +157,7 @@ impl ReportValues {
         }
     }
 
-    /// Those of a sweep over sets that found one.
+    /// The values of a sweep over sets that found this set.
     pub fn of_set(attempts: u32, numbers: Numbers) -> ReportValues
         ensures { result ≡ set_values attempts numbers }
     {
@@ -171,7 +172,7 @@ impl ReportValues {
         }
     }
 
-    /// Those of a sweep that told of all that it found.
+    /// The values of a sweep that lists numbers.
     pub fn of_all(attempts: u32, ends: NumberEnds, number: FailingNumber) -> ReportValues
         ensures { result ≡ all_values attempts ends number }
     {
@@ -181,7 +182,7 @@ impl ReportValues {
         }
     }
 
-    /// Those of a size, and of the sweep that was made after it.
+    /// The values of a check: the values of its sizing, and those of the sweep after it.
     pub fn of_both(size: ReportValues, sweep: ReportValues) -> ReportValues
         ensures { result ≡ both_values size sweep }
     {
@@ -198,7 +199,7 @@ impl ReportValues {
         }
     }
 
-    /// Those of the search through all lengths.
+    /// The values of the search through all lengths.
     pub fn of_lengths(table: LengthTable, number: FailingNumber) -> ReportValues
         ensures { result ≡ lengths_values table number }
     {

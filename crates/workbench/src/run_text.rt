@@ -1,5 +1,5 @@
-//! The text of a run, line by line. What a line says is said here alone; when a run is reported, and what the
-//! program answers where none is, are elsewhere.
+//! The text of a run, line by line. What these lines say is decided here alone. Which runs are reported, and what the program answers if no
+//! run is reported, is decided elsewhere.
 
 ghost use Rattle.std.specs.Prelude.{◌≡◌, ◌++◌, OnOk};
 ghost use Rattle.std.specs.List.{flat_map};

@@ -1,5 +1,5 @@
-//! What `sweep` and `check` come to, by what they search for: the text, its values, and the exit status. The searches themselves are in
-//! `tasks`, `parts`, `sets` and `every_set`. Nothing is read or written here.
+//! The reports of `sweep` and `check`, by what they search for: the text, its values, and the exit status. The reports of the single
+//! searches are in `tasks`, `parts`, `sets` and `every_set`. Nothing is read or written here.
 
 ghost use Rattle.std.specs.Prelude.{◌≡◌, ◌≤◌, IfOk, IsTrue};
 ghost use Rattle.wb_model.specs.language.Sound.{is_script};
@@ -26,7 +26,7 @@ use wb_size::sized_run::{SizedRun, size_by_run};
 use wb_sweep::run_known::sweep_beside_known;
 use wb_sweep::{Listing, Progress};
 
-/// What is found among the failures of a part.
+/// The report of a search among the failures of a part.
 pub fn search_report<P: Progress>(
     alloc: Global,
     script: &Script,
@@ -67,7 +67,8 @@ pub fn search_report<P: Progress>(
     }
 }
 
-/// The length, and then what is found among all failures; where the script wasn't sized, the line of the cut alone.
+/// The report of a check: the required length, and then what is found among all failures. If the script wasn't sized because a run was cut,
+/// only the line of that cut.
 pub fn check_report<P: Progress>(
     alloc: Global,
     script: &Script,
@@ -90,7 +91,7 @@ pub fn check_report<P: Progress>(
     }
 }
 
-/// The same of any search, which makes its own run without failure.
+/// The same report for any search. The search makes a run without failure of its own.
 fn check_after_size<P: Progress>(
     alloc: Global,
     script: &Script,
@@ -118,8 +119,8 @@ fn check_after_size<P: Progress>(
     Ok(report)
 }
 
-/// The length, and then the least of these failures; where the script wasn't sized, the line of the cut alone. The run that it is sized
-/// by is the sweep's run without failure.
+/// The same report for a search for the least of these failures. The run that the script is sized by is also the sweep's run without
+/// failure.
 fn check_least<P: Progress>(
     alloc: Global,
     script: &Script,

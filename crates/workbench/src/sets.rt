@@ -1,4 +1,4 @@
-//! What a sweep over sets of attempts comes to: the text, its values, and the exit status. Nothing is read or written here.
+//! The report of a sweep over sets of attempts: the text, its values, and the exit status. Nothing is read or written here.
 
 ghost use Rattle.std.specs.Prelude.{◌≡◌, ◌≤◌, IfOk, IsTrue};
 ghost use Rattle.wb_model.specs.language.Sound.{is_script};
@@ -19,8 +19,9 @@ use wb_model::run::Why;
 use wb_model::script::Script;
 use wb_sweep::{FoundSet, Progress, SetFault, SetSweep, sweep_sets};
 
-/// Which set of at most so many attempts leaks or panics, of those whose least number the part has, or the line of a run that was cut. The
-/// whole has the number of each attempt that a run makes, so that it has all sets.
+/// The report of a sweep over the sets of at most `most` attempts whose least number is in the part: the least set whose run leaks or
+/// panics, or that there is none; or the line of a run that was cut. `Part::WHOLE` has the number of each attempt that a run can make, and
+/// so it has all sets.
 pub fn sets_report<P: Progress>(
     alloc: Global,
     script: &Script,
@@ -47,7 +48,7 @@ pub fn sets_report<P: Progress>(
     }
 }
 
-/// The report of what a sweep over sets of at most so many attempts found.
+/// The report of what a sweep over sets of at most `most` attempts found.
 fn swept_report(alloc: Global, most: u32, sweep: SetSweep) -> Result<Report, NoMemory>
     ensures text { IfOk result (λ r. r.text.items ≡ sets_text most sweep) }
     ensures values { IfOk result (λ r. r.values ≡ swept_values sweep) }
@@ -58,7 +59,7 @@ fn swept_report(alloc: Global, most: u32, sweep: SetSweep) -> Result<Report, NoM
     Ok(report_with(text, sweep))
 }
 
-/// The report with this text of what a sweep over sets found.
+/// The report of what a sweep over sets found. `text` is its text.
 pub fn report_with(text: Vec<u8>, sweep: SetSweep) -> Report
     ensures text { result.text ≡ text }
     ensures values { result.values ≡ swept_values sweep }
@@ -79,7 +80,7 @@ pub fn report_with(text: Vec<u8>, sweep: SetSweep) -> Report
     }
 }
 
-/// The report of a run that was cut in which these attempts fail.
+/// The report of a run that was cut, in which these attempts fail.
 pub fn cut_set_report(alloc: Global, numbers: Numbers, why: Why) -> Result<Report, NoMemory>
     ensures text { IfOk result (λ r. r.text.items ≡ cut_set_line numbers why) }
     ensures values { IfOk result (λ r. r.values ≡ cut_set_values numbers) }

@@ -1,4 +1,5 @@
-//! The text of what a sweep over sets of attempts finds, line by line. What a line says is said here alone, or as of a single number.
+//! The text of what a sweep over sets of attempts finds, line by line. What the line of a set says is decided here alone, except that a set
+//! of at most one attempt has the line of a single number (`numbers_text`).
 
 ghost use Rattle.std.specs.Prelude.{◌≡◌, ◌++◌, OnOk};
 ghost use Rattle.workbench.specs.SetsReport.{cut_several_line, cut_set_line, found_set_text, no_set_line, set_line};
@@ -15,8 +16,8 @@ use wb_model::memory::NoMemory;
 use wb_model::run::Why;
 use wb_sweep::{FoundSet, SetSweep};
 
-/// Appends how many attempts the run without failure makes, and the set that was found, with the run under it, or that there is
-/// none of at most so many attempts.
+/// Appends the number of attempts of the run without failure, and then the set that was found and its run, or a line that there is no such
+/// set of at most `most` attempts.
 pub fn put_sets(text: &mut Vec<u8>, most: u32, sweep: &SetSweep) -> Result<(), NoMemory>
     ensures { OnOk result (text.new.items ≡ text.old.items ++ sets_text most sweep.now) }
 {
@@ -28,7 +29,7 @@ pub fn put_sets(text: &mut Vec<u8>, most: u32, sweep: &SetSweep) -> Result<(), N
     }
 }
 
-/// Appends the line of a set that was found, and the run under it.
+/// Appends the line of a set that was found, and its run.
 pub fn put_found_set(text: &mut Vec<u8>, found: &FoundSet) -> Result<(), NoMemory>
     ensures { OnOk result (text.new.items
         ≡ text.old.items ++ found_set_text found.now.numbers found.now.result) }
@@ -37,7 +38,7 @@ pub fn put_found_set(text: &mut Vec<u8>, found: &FoundSet) -> Result<(), NoMemor
     put_run(text, &found.result)
 }
 
-/// Appends the line of a set; of no more than one attempt it is that of a single number.
+/// Appends the line of a set. A set of at most one attempt has the line of a single number.
 fn put_set(text: &mut Vec<u8>, numbers: &Numbers) -> Result<(), NoMemory>
     ensures { OnOk result (text.new.items ≡ text.old.items ++ set_line numbers.now) }
 {
@@ -71,7 +72,7 @@ fn put_number(text: &mut Vec<u8>, number: u32) -> Result<(), NoMemory>
     or_no_memory(write!(text, " {number}"))
 }
 
-/// Appends the line of a run that was cut in which these attempts fail; of no more than one it is that of a single number.
+/// Appends the line of a run that was cut, in which these attempts fail. If they are at most one, it is the line of a single number.
 pub fn put_cut_set(text: &mut Vec<u8>, numbers: &Numbers, why: Why) -> Result<(), NoMemory>
     ensures { OnOk result (text.new.items ≡ text.old.items ++ cut_set_line numbers.now why) }
 {

@@ -1,5 +1,5 @@
-//! What each task comes to on a script: the text, its values, and the exit status. Nothing is read or written here. What `sweep` and
-//! `check` search for is told apart in `searches`.
+//! The report of each task on a script: the text, its values, and the exit status. Nothing is read or written here. `searches`
+//! distinguishes what `sweep` and `check` search for.
 
 ghost use Rattle.std.specs.Prelude.{◌≡◌, ◌≢◌, ◌≤◌, ℕ, IfOk, IsTrue, if◌then◌else◌};
 ghost use Rattle.wb_model.specs.declared.failures.Failing.TheVariants.{Number};
@@ -37,8 +37,8 @@ use wb_size::sizing::Sizing;
 use wb_size::{SizeFault, size};
 use wb_sweep::{Progress, Sweep, SweepFault, sweep};
 
-/// What the command's task comes to on a script. The only error is that memory ran out. `progress` is notified of a sweep, and of the
-/// runs in heaps of all lengths.
+/// Returns the report of the command's task on a script. The only error is that memory ran out. `progress` is notified of how far a sweep,
+/// or the search through all lengths, has come.
 pub fn carry_out<P: Progress>(
     alloc: Global,
     command: &Command,
@@ -62,7 +62,7 @@ pub fn carry_out<P: Progress>(
     }
 }
 
-/// One run, and its text.
+/// The report of one run.
 fn run_report(
     alloc: Global,
     script: &Script,
@@ -93,7 +93,7 @@ fn run_report(
     }
 }
 
-/// With which status a run is reported: 1 where it found something, 3 where it didn't come to its end.
+/// The status of the report of one run: 1 if the run leaked or panicked, 3 if it was cut, and otherwise 0.
 fn status_of(outcome: &Outcome) -> u8
     ensures { result ≡ outcome_status outcome.now }
 {
@@ -105,7 +105,7 @@ fn status_of(outcome: &Outcome) -> u8
     }
 }
 
-/// How long the heap must be, or the line of a run that was cut.
+/// The report of a sizing: how long the heap must be, or the line of a run that was cut.
 pub fn size_report(
     alloc: Global,
     script: &Script,
@@ -125,7 +125,7 @@ pub fn size_report(
     }
 }
 
-/// The report of a length and of what shorter heaps refuse.
+/// The report of a sizing that was finished: the required length, and what shorter heaps deny first.
 pub fn report_of_size(alloc: Global, sizing: Sizing) -> Result<Report, NoMemory>
     ensures { IfOk result (λ r. (r.text.items ≡ size_text sizing.required sizing.rises)
         × (r.values ≡ size_values sizing.required sizing.rises) × (r.status ≡ 0)) }
@@ -139,7 +139,7 @@ pub fn report_of_size(alloc: Global, sizing: Sizing) -> Result<Report, NoMemory>
     })
 }
 
-/// The report of a script that wasn't sized, whose text is the line of the run that was cut.
+/// The report on a script that wasn't sized because its run was cut. Its text is the line of that run.
 pub fn report_of_size_fault(alloc: Global, fault: SizeFault) -> Result<Report, NoMemory>
     requires shape { fault ≢ SizeFault.BadShape }
     ensures { IfOk result (λ r. (number : ℕ) × (why : Why) × (fault ≡ SizeFault.Cut number why)
@@ -157,7 +157,7 @@ pub fn report_of_size_fault(alloc: Global, fault: SizeFault) -> Result<Report, N
     }
 }
 
-/// How the runs end in heaps of every length, and the least length whose run leaks or panics.
+/// The report of how the runs end in heaps of every length, and of the least length whose run leaks or panics.
 fn lengths_report<P: Progress>(
     alloc: Global,
     script: &Script,
@@ -192,14 +192,15 @@ fn lengths_report<P: Progress>(
     }
 }
 
-/// The status where no length's run leaks or panics: 3 if that of one is cut.
+/// The status if no length's run leaks or panics: 3 if the run of some length is cut, and otherwise 0.
 fn fine_status(is_cut: bool) -> u8
     ensures { result ≡ if is_cut then 3 else 0 }
 {
     if is_cut { CUT } else { NOTHING_FOUND }
 }
 
-/// Which of these failures leaks or panics, or the line of a run that was cut.
+/// The report of a sweep over these failures: the least whose run leaks or panics, or that there is none; or the line of a run that was
+/// cut.
 pub fn sweep_report<P: Progress>(
     alloc: Global,
     script: &Script,
@@ -219,7 +220,7 @@ pub fn sweep_report<P: Progress>(
     report_of_sweep(alloc, failures, swept)
 }
 
-/// The report of what a sweep over these failures came to.
+/// The report of what a sweep over these failures returned.
 pub fn report_of_sweep(
     alloc: Global,
     failures: Failures,
@@ -256,7 +257,7 @@ pub fn report_of_sweep(
     }
 }
 
-/// The report of a run that was cut under a failure, whose line is the text.
+/// The report of a run that was cut under a failure. `text` is the line of that run.
 pub fn cut_report(text: Vec<u8>, at: Failing) -> Report
     ensures text { result.text ≡ text }
     ensures values { result.values ≡ cut_values at }

@@ -1,5 +1,5 @@
-//! The options of `sweep` and `check` that say which failures are tried, and whether a list of them is told of. Those that ask
-//! for sets of attempts are in `sets`.
+//! The options of `sweep` and `check` that say which failures are tried, and whether the report lists what is found or names only the
+//! least. The options that ask for sets of attempts are in `sets`.
 
 ghost use Rattle.std.specs.Prelude.{◌≡◌, IfOk, false};
 ghost use Rattle.clap.specs.Words.{app_of, rule_of};
@@ -13,7 +13,8 @@ use crate::command_line::sets::with_sets;
 use clap::{Arg, ArgAction};
 use std::alloc::{AllocError, Global};
 
-/// The subcommand with the options that say which failures are tried, and whether a list of them is told of.
+/// The subcommand with the options that say which failures are tried, those of `sets` among them, and whether the report lists what is
+/// found.
 pub(super) fn with_failures<'a>(
     alloc: Global,
     line: clap::Command<'a>,
@@ -32,7 +33,7 @@ pub(super) fn with_failures<'a>(
     with_sets(alloc, line, help)
 }
 
-/// The flag that asks for rates to be tried. Its id is not `every`, which is an option of `run` that takes a number.
+/// The flag `--every`, which asks to try rates. Its id isn't `every`, which is the id of an option of `run` that takes a number.
 fn rates<'a>(alloc: Global) -> Arg<'a>
     ensures rule { rule_of result ≡ rates_flag }
     ensures own { result.global ≡ false }
@@ -45,7 +46,7 @@ fn rates<'a>(alloc: Global) -> Arg<'a>
         )
 }
 
-/// The flag that asks for failures that persist to be tried.
+/// The flag that asks to try failures that persist: from one attempt on, all attempts fail.
 fn persistent<'a>(alloc: Global) -> Arg<'a>
     ensures rule { rule_of result ≡ persistent_flag }
     ensures own { result.global ≡ false }
@@ -58,7 +59,7 @@ fn persistent<'a>(alloc: Global) -> Arg<'a>
         )
 }
 
-/// The flag that asks for pairs of attempts to be tried.
+/// The flag that asks to try pairs of attempts.
 fn pairs<'a>(alloc: Global) -> Arg<'a>
     ensures rule { rule_of result ≡ pairs_flag }
     ensures own { result.global ≡ false }
@@ -71,7 +72,7 @@ fn pairs<'a>(alloc: Global) -> Arg<'a>
         )
 }
 
-/// The flag that asks for all that is found.
+/// The flag that asks for a list of all numbers whose run leaks, panics or is cut.
 fn all<'a>(alloc: Global) -> Arg<'a>
     ensures rule { rule_of result ≡ all_flag }
     ensures own { result.global ≡ false }
@@ -82,7 +83,7 @@ fn all<'a>(alloc: Global) -> Arg<'a>
         .help("Tells of every number whose run leaks, panics or is cut, and not of the least alone")
 }
 
-/// The flag that asks for each number's end.
+/// The flag that asks for a list of all numbers, with how the run of each ends.
 fn ends<'a>(alloc: Global) -> Arg<'a>
     ensures rule { rule_of result ≡ ends_flag }
     ensures own { result.global ≡ false }

@@ -1,4 +1,4 @@
-//! The options of `run` that ask for its steps, and what they spell.
+//! The options of `run` that ask for the run's steps, `--follow` and `--follow-steps`, and what they spell.
 
 ghost use Rattle.std.specs.Prelude.{◌≡◌, ◌≤◌, IfOk, IfSome, codes, false};
 ghost use Rattle.clap.specs.Words.{app_of, found_of, rows_of, rule_of};
@@ -12,10 +12,10 @@ use crate::command_line::parser::{NumberOption, with_argument, with_numbers};
 use clap::{Arg, ArgAction, ArgMatches};
 use std::alloc::{AllocError, Global};
 
-/// How many of the first steps are followed, and how many of the last, if no number is given.
+/// The default of `--follow-steps`: how many of the first steps are followed, and how many of the last.
 pub const DEFAULT_FOLLOWED: u32 = 1000;
 
-/// The greatest such number.
+/// The greatest value of `--follow-steps`.
 pub const MOST_FOLLOWED: u32 = 1_000_000;
 
 /// The subcommand with the options that ask for the steps of its run.
@@ -43,7 +43,7 @@ pub(super) fn with_following<'a>(
     )
 }
 
-/// The flag that asks for the steps.
+/// The flag that asks for the steps of the run.
 fn follow<'a>(alloc: Global) -> Arg<'a>
     ensures rule { rule_of result ≡ follow_flag }
     ensures own { result.global ≡ false }
@@ -54,7 +54,8 @@ fn follow<'a>(alloc: Global) -> Arg<'a>
         .help("Writes each step of the run to standard error, with what it does")
 }
 
-/// How many of the first steps, and of the last, the options ask for; `None` if they ask for none. A number alone asks for none.
+/// How many of the run's first steps the options ask for, which is also how many of its last; `None` without `--follow`, even if
+/// `--follow-steps` is given.
 pub(super) fn follow_in(options: &ArgMatches) -> Option<u32>
     requires { RowsPass joined_level.rules (rows_of (found_of options.now)) }
     ensures is { result ≡ follow_of (rows_of (found_of options.now)) }
@@ -68,7 +69,7 @@ pub(super) fn follow_in(options: &ArgMatches) -> Option<u32>
     }
 }
 
-/// Whether they ask for steps.
+/// Whether the options ask for the steps of the run.
 fn follows_in(options: &ArgMatches) -> bool
     requires { RowsPass joined_level.rules (rows_of (found_of options.now)) }
     ensures { result ≡ flag_of (codes "follow") (rows_of (found_of options.now)) }
@@ -76,7 +77,7 @@ fn follows_in(options: &ArgMatches) -> bool
     options.get_flag("follow")
 }
 
-/// The number that they give, or the default.
+/// The value of `--follow-steps`, or its default.
 fn followed_in(options: &ArgMatches) -> u32
     requires { RowsPass joined_level.rules (rows_of (found_of options.now)) }
     ensures is { result ≡ followed_of (rows_of (found_of options.now)) }

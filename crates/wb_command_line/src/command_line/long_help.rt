@@ -1,6 +1,6 @@
 //! What `--help` says at its top: what a command does, an example, and the exit statuses.
 
-/// Where to begin.
+/// The top of the program's own help.
 pub(crate) const BEGIN: &str = "Runs scripts against a simulated heap whose allocations may fail
 
 Begin with a script, a text file with one statement per line:
@@ -18,7 +18,7 @@ all from one on, `workbench sweep --pairs FILE` any two, `workbench sweep --fail
 failure leaks or panics. `workbench help run` lists the options, docs/LANGUAGE.md explains each line of a script,
 and examples/ has scripts to learn from.";
 
-/// What the help of a subcommand says at its top, by its name.
+/// The top of a subcommand's help, by the subcommand's name.
 pub(crate) fn long_about(name: &str) -> &'static str {
     match name {
         "run" => RUN,

@@ -1,4 +1,5 @@
-//! What options take that take a number or a list of them, and what the help says of it. The options themselves are in `parser`.
+//! The help on the options that take a number or a list of numbers, and what `clap` parses such a number with. The options themselves are
+//! in `parser`, `sets`, `set_list` and `following`.
 
 ghost use Rattle.std.specs.Prelude.{◌≡◌, pos};
 
@@ -14,7 +15,8 @@ use wb_model::limits::{
     LARGEST_STEP, SMALLEST_STEP,
 };
 
-/// The help on options that take a number, or a list of them: its bounds, and its default where it has one.
+/// The help on the options that take a number or a list of numbers. Each text has the bounds of the numbers, and their default if there is
+/// one.
 #[derive(Drop)]
 pub(crate) struct NumberHelp {
     pub limit: String,
@@ -90,7 +92,7 @@ impl NumberHelp {
     }
 }
 
-/// What takes the decimal numbers of a range.
+/// The parser of the decimal numbers from `least` to `most`.
 pub(super) fn between<'a>(least: u32, most: u32) -> ValueParser<'a>
     ensures { result ≡ ValueParser.Signed (pos least) (pos most) }
 {

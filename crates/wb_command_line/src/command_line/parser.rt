@@ -1,4 +1,4 @@
-//! The words that `clap` is to read: the subcommands, and the options of each.
+//! The command line as `clap` is to read it: the subcommands, and the options of each.
 
 ghost use Rattle.std.specs.Prelude.{◌≡◌, IfOk, false, fold};
 ghost use Rattle.clap.specs.Words.{app_of, rule_of, with_rule, with_subcommand};
@@ -17,16 +17,16 @@ use clap::{Arg, ArgAction};
 use std::alloc::{AllocError, Global};
 use wb_model::limits::{CEILING, LARGEST_BUDGET, LARGEST_MINIMUM, LARGEST_STEP, SMALLEST_STEP};
 
-/// Which options a subcommand has beside those of all.
+/// Which options a subcommand has, beside those that all subcommands have.
 #[derive(Clone, Copy)]
 enum Takes {
-    /// Those that give a rule: a limit, the number of an attempt and of a second one, a rate, the number of the first attempt that
-    /// fails, or a set; and those that ask for the steps.
+    /// The options that give a rule: a limit, the number of an attempt that fails, and of a second one, a rate, the number of the attempt
+    /// from which on all fail, or a set; and the options that ask for the steps of the run.
     Rule,
-    /// The flags that ask for rates to be tried, failures that persist, or pairs of attempts, and not single attempts alone, and
-    /// those that ask for a list; and how many attempts fail together at most.
+    /// The options that ask to try more than single attempts: rates, failures that persist, pairs or sets of attempts; and the flags that
+    /// ask for a list.
     Failures,
-    /// The same, and the first and the last number that is tried.
+    /// The options of `Failures`, and those for the first and the last number that is tried.
     Part,
     Neither,
 }
@@ -50,7 +50,7 @@ pub(super) struct NumberOption<'a> {
 }
 
 impl<'a> NumberOption<'a> {
-    /// An option that takes a number from 0 to the greatest length of a heap.
+    /// An option that takes a number from 0 to `CEILING`.
     fn up_to_ceiling(name: &'a str, value: &'a str, help: &'a str) -> NumberOption<'a>
         ensures { option_rule result ≡ number_option name.now 0 CEILING }
     {
@@ -67,7 +67,7 @@ impl<'a> NumberOption<'a> {
 /// The version of the program.
 const VERSION: &str = "0.5.0";
 
-/// The words that `clap` is to read.
+/// The command line as `clap` is to read it.
 pub(super) fn parser<'a>(
     alloc: Global,
     help: &'a NumberHelp,
@@ -146,7 +146,7 @@ fn subcommand<'a>(
     with_shared_options(alloc, line, help)
 }
 
-/// The subcommand with the options that it has beside those of all.
+/// The subcommand with the options that it has beside those that all subcommands have.
 fn with_own_options<'a>(
     alloc: Global,
     line: clap::Command<'a>,
@@ -212,7 +212,7 @@ fn with_part_options<'a>(
     )
 }
 
-/// The subcommand with the options that all of them have.
+/// The subcommand with the options that all subcommands have.
 fn with_shared_options<'a>(
     alloc: Global,
     line: clap::Command<'a>,
@@ -266,7 +266,7 @@ fn with_report_options<'a>(
     with_argument(with_argument(line, json(alloc))?, picture(alloc))
 }
 
-/// The subcommand with further options.
+/// The subcommand with more options that take numbers.
 pub(super) fn with_numbers<'a>(
     alloc: Global,
     line: clap::Command<'a>,
@@ -284,7 +284,7 @@ pub(super) fn with_numbers<'a>(
     Ok(line)
 }
 
-/// The command line with one subcommand more.
+/// The command line with one more subcommand.
 fn with_level<'a>(
     line: clap::Command<'a>,
     level: clap::Command<'a>,
@@ -339,7 +339,7 @@ fn picture<'a>(alloc: Global) -> Arg<'a>
         .help("Also writes a picture of the heap over time to FILE, as SVG")
 }
 
-/// The command with one argument more.
+/// The command with one more argument.
 pub(super) fn with_argument<'a>(
     line: clap::Command<'a>,
     argument: Arg<'a>,

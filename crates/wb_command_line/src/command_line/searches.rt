@@ -1,5 +1,5 @@
-//! What the options of `sweep` and `check` ask to be searched for: which failures, and a list of them or the least. How many attempts
-//! fail together, and how many states are met, is read in `sets`.
+//! What the options of `sweep` and `check` ask to search for: which failures, and whether all that are found or the least. How many
+//! attempts fail together, and how many states are met, is read in `sets`.
 
 ghost use Rattle.std.specs.Prelude.{◌≡◌, ◌≤◌, ◌&&◌, ◌||◌, IfErr, IfOk, IfSome, IsTrue, OnErr, OnOk, codes, false, is_some, true};
 ghost use Rattle.clap.specs.Words.{found_of, rows_of};
@@ -15,7 +15,7 @@ use crate::command_line::sets::{MOST_STATES, MOST_TOGETHER, most_in, states_in};
 use clap::ArgMatches;
 use wb_model::failures::Failures;
 
-/// What the options of `sweep` and `check` ask to be searched for, or `Both`.
+/// Returns what the options of `sweep` and `check` ask to search for. The only error is `Both`.
 pub(super) fn search_in(options: &ArgMatches) -> Result<Search, CommandFault>
     requires { RowsPass joined_level.rules (rows_of (found_of options.now)) }
     ensures ok { IfOk result
@@ -32,7 +32,8 @@ pub(super) fn search_in(options: &ArgMatches) -> Result<Search, CommandFault>
     Ok(search_by(states, most, single))
 }
 
-/// What is searched for among single failures: a list of them, or the least.
+/// The search if neither `--failures` nor `--sets` is given: for the ends of all runs with `ends`, for all failures that are found with
+/// `all`, else for the least.
 fn search_listed(all: bool, ends: bool, failures: Failures) -> Search
     ensures is { result ≡ search_listed all ends failures }
     ensures range { IsTrue (is_search_in_range result) }
@@ -44,7 +45,8 @@ fn search_listed(all: bool, ends: bool, failures: Failures) -> Search
     }
 }
 
-/// What is searched for: all sets for which so many states are met at most, or sets of at most so many attempts; else single failures.
+/// The search that is asked for: over all sets if `states` says how many states may be met, over sets of up to `most` attempts if that is
+/// given, else `single`.
 fn search_by(states: Option<u32>, most: Option<u32>, single: Search) -> Search
     requires most { IfSome most (λ k. (1 ≤ k) × (k ≤ MOST_TOGETHER)) }
     requires states { IfSome states (λ n. (1 ≤ n) × (n ≤ MOST_STATES)) }
@@ -59,8 +61,8 @@ fn search_by(states: Option<u32>, most: Option<u32>, single: Search) -> Search
     }
 }
 
-/// The failures that the options of `sweep` and `check` ask to be tried, which ask for sets of so many attempts or not, and for all
-/// sets or not; or `Both`.
+/// Returns the failures that the options of `sweep` and `check` ask to try. The only error is `Both`. `is_of_few` says whether `--failures`
+/// is given, and `is_of_every_set` whether `--sets` is.
 fn failures_in(
     options: &ArgMatches,
     is_of_few: bool,
@@ -91,8 +93,8 @@ fn failures_in(
     )
 }
 
-/// The failures that these flags ask to be tried, or `Both`: sets of so many attempts don't go together with all sets, nor all that is
-/// found with each number's end.
+/// Returns the failures that these flags ask to try. The error is `Both` if flags don't go together: `--failures` with `--sets`, `--all`
+/// with `--ends`, or those that `failures_by` finds.
 fn failures_or_sets(
     rates: bool,
     persistent: bool,
@@ -119,8 +121,8 @@ fn failures_or_sets(
     }
 }
 
-/// The failures that these flags ask to be tried, in a list or not, and with sets or without; or `Both`. Sets are tried after single
-/// failures.
+/// Returns the failures that these flags ask to try. The error is `Both` if flags don't go together. `is_listed` says whether a list is
+/// asked for, and `is_of_sets` whether sets are, which are tried after single failures.
 fn failures_by(
     rates: bool,
     persistent: bool,
@@ -150,7 +152,7 @@ fn failures_by(
     }
 }
 
-/// Whether they ask for all that is found.
+/// Whether the options ask for a list of all numbers whose run leaks, panics or is cut.
 fn all_in(options: &ArgMatches) -> bool
     requires { RowsPass joined_level.rules (rows_of (found_of options.now)) }
     ensures { result ≡ flag_of (codes "all") (rows_of (found_of options.now)) }
@@ -158,7 +160,7 @@ fn all_in(options: &ArgMatches) -> bool
     options.get_flag("all")
 }
 
-/// Whether they ask for each number's end.
+/// Whether the options ask for a list of all numbers, with how the run of each ends.
 fn ends_in(options: &ArgMatches) -> bool
     requires { RowsPass joined_level.rules (rows_of (found_of options.now)) }
     ensures { result ≡ flag_of (codes "ends") (rows_of (found_of options.now)) }

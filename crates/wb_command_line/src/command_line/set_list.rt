@@ -16,7 +16,7 @@ use std::alloc::{AllocError, Global};
 use wb_model::heap::Numbers;
 use wb_model::limits::CEILING;
 
-/// The most numbers of a list.
+/// How many numbers a list may have at most.
 pub(super) const MOST_NUMBERS: usize = 256;
 
 /// The option itself. `clap` takes any text as its value.
@@ -30,7 +30,8 @@ pub(super) fn set_argument<'a>(alloc: Global, help: &'a str) -> Arg<'a>
         .help(help)
 }
 
-/// The numbers of the set that they give, `None` if they give none; `Usage` if its text is no list.
+/// Returns the numbers of the set that the options give; `None` if they give none. The errors are `Usage`, if the set's text is no list,
+/// and `NoMemory`.
 pub(super) fn set_in(alloc: Global, options: &ArgMatches) -> Result<Option<Numbers>, CommandFault>
     ensures ok { IfOk result (λ set. set ≡ set_of (rows_of (found_of options.now))) }
     ensures range { IfOk result (λ set. IfSome set (λ numbers. are_of_set numbers ≡ true)) }
@@ -43,7 +44,7 @@ pub(super) fn set_in(alloc: Global, options: &ArgMatches) -> Result<Option<Numbe
     }
 }
 
-/// The numbers of a list, or `Usage` if the text is none; else memory ran out, which is `NoMemory`.
+/// Returns the numbers of a list. The errors are `Usage`, if the text is no list, and `NoMemory`.
 fn list_of(alloc: Global, text: &str) -> Result<Numbers, CommandFault>
     ensures ok { IfOk result (λ numbers. numbers ≡ numbers_in text.now) }
     ensures list { OnOk result (is_list text.now ≡ true) }
@@ -55,7 +56,8 @@ fn list_of(alloc: Global, text: &str) -> Result<Numbers, CommandFault>
     }
 }
 
-/// What is said of a text that is no list, as `clap` says it of other values. The only error is that memory ran out.
+/// Returns what `clap` would say of a text that is no list, in the words that it has for other values. The call fails only if memory ran
+/// out.
 fn no_list(alloc: Global, text: &str) -> Result<Error, AllocError>
     ensures { IfOk result (λ error. kind_of error ≡ ErrorKind.ValueValidation) }
 {
@@ -66,7 +68,7 @@ fn no_list(alloc: Global, text: &str) -> Result<Error, AllocError>
     clap::Command::new(alloc, "workbench run").error(ErrorKind::ValueValidation, message.as_str())
 }
 
-/// The numbers of a list, or `None` if the text is none. The only error is that memory ran out.
+/// Returns the numbers of a list; `None` if the text is no list. The only error is that memory ran out.
 fn numbers_listed(alloc: Global, text: &str) -> Result<Option<Numbers>, AllocError>
     ensures { IfOk result (λ numbers. numbers ≡ listed text.now) }
 {
@@ -78,7 +80,8 @@ fn numbers_listed(alloc: Global, text: &str) -> Result<Option<Numbers>, AllocErr
     }
 }
 
-/// The numbers of these texts, if each is of digits alone and they ascend, from 1 to the greatest length of a heap; else `None`.
+/// Returns the numbers that these texts spell; `None` unless each text has digits alone, and the numbers ascend and are from 1 to
+/// `CEILING`. The only error is that memory ran out.
 fn numbers_ascending(alloc: Global, texts: &[&str]) -> Result<Option<Numbers>, AllocError>
     ensures { IfOk result
         (λ numbers. numbers ≡ ascending_in (map (λ text. text.now) texts.now)) }
@@ -97,8 +100,7 @@ fn numbers_ascending(alloc: Global, texts: &[&str]) -> Result<Option<Numbers>, A
     Ok(Some(numbers))
 }
 
-/// The number of a text of digits alone, if it is greater than `last` and no greater than the greatest length of a heap; else
-/// `None`.
+/// Returns the number of a text of digits alone, if it is greater than `last` and at most `CEILING`; else `None`.
 fn number_after(last: u32, text: &str) -> Option<u32>
     ensures { result ≡ if is_next last text.now then Some (digits_value 10 text.now) else None }
 {
@@ -108,7 +110,7 @@ fn number_after(last: u32, text: &str) -> Option<u32>
     }
 }
 
-/// The number of a text of digits alone that is less than 2^32; `None` of any other text, of one with a plus too.
+/// Returns the number of a text of digits alone, if it is less than 2^32; `None` for any other text, also for digits after a plus.
 fn number_of_digits(text: &str) -> Option<u32>
     ensures { result ≡ if is_of_digits text.now && nat_lt (digits_value 10 text.now) (2 ^ 32)
         then Some (digits_value 10 text.now) else None }

@@ -1,4 +1,4 @@
-//! The options of `sweep` and `check` that ask for sets of attempts to be tried: of at most so many, or all that there are.
+//! The options of `sweep` and `check` that ask to try sets of attempts: sets of up to K attempts (`--failures`), or of any size (`--sets`).
 
 ghost use Rattle.std.specs.Prelude.{◌≡◌, ◌≤◌, IfOk, IfSome, codes, false};
 ghost use Rattle.clap.specs.Words.{app_of, found_of, rows_of, rule_of};
@@ -12,19 +12,19 @@ use crate::command_line::parser::{NumberOption, with_argument, with_numbers};
 use clap::{Arg, ArgAction, ArgMatches};
 use std::alloc::{AllocError, Global};
 
-/// The most attempts that may be asked to fail together.
+/// The greatest value of `--failures`: how many attempts may be asked to fail together.
 pub const MOST_TOGETHER: u32 = 8;
 
-/// How many states may be met, if no number is given.
+/// The default of `--states`: how many states a search over all sets may meet.
 pub const DEFAULT_STATES: u32 = 100_000;
 
-/// The least such number.
+/// The least value of `--states`.
 pub const LEAST_STATES: u32 = 1;
 
-/// The greatest such number.
+/// The greatest value of `--states`.
 pub const MOST_STATES: u32 = 10_000_000;
 
-/// The subcommand with the options that ask for sets.
+/// The subcommand with the options that ask to try sets of attempts.
 pub(super) fn with_sets<'a>(
     alloc: Global,
     line: clap::Command<'a>,
@@ -60,7 +60,7 @@ pub(super) fn with_sets<'a>(
     )
 }
 
-/// The subcommand with one option more.
+/// The subcommand with one more option.
 fn with_number<'a>(
     alloc: Global,
     line: clap::Command<'a>,
@@ -74,7 +74,7 @@ fn with_number<'a>(
     with_numbers(alloc, line, &[option])
 }
 
-/// The flag that asks for all sets.
+/// The flag that asks to try sets of any size.
 fn sets<'a>(alloc: Global) -> Arg<'a>
     ensures rule { rule_of result ≡ sets_flag }
     ensures own { result.global ≡ false }
@@ -87,7 +87,7 @@ fn sets<'a>(alloc: Global) -> Arg<'a>
         )
 }
 
-/// The most attempts that the options ask to fail together; `None` if they don't say how many.
+/// The value of `--failures`, which is how many attempts fail together at most; `None` if the option isn't given.
 pub(super) fn most_in(options: &ArgMatches) -> Option<u32>
     requires { RowsPass joined_level.rules (rows_of (found_of options.now)) }
     ensures is { result ≡ most_of (rows_of (found_of options.now)) }
@@ -96,7 +96,7 @@ pub(super) fn most_in(options: &ArgMatches) -> Option<u32>
     options.get_one("failures")
 }
 
-/// How many states may be met at most, where they ask for all sets; `None` if they don't. A number alone asks for none.
+/// How many states the search over all sets may meet; `None` without `--sets`, even if `--states` is given.
 pub(super) fn states_in(options: &ArgMatches) -> Option<u32>
     requires { RowsPass joined_level.rules (rows_of (found_of options.now)) }
     ensures is { result ≡ states_of (rows_of (found_of options.now)) }
@@ -110,7 +110,7 @@ pub(super) fn states_in(options: &ArgMatches) -> Option<u32>
     }
 }
 
-/// Whether they ask for all sets.
+/// Whether the options ask to try sets of any size.
 fn asks_for_all_in(options: &ArgMatches) -> bool
     requires { RowsPass joined_level.rules (rows_of (found_of options.now)) }
     ensures { result ≡ flag_of (codes "sets") (rows_of (found_of options.now)) }
@@ -118,7 +118,7 @@ fn asks_for_all_in(options: &ArgMatches) -> bool
     options.get_flag("sets")
 }
 
-/// The number of states that they give, or the default.
+/// The value of `--states`, or its default.
 fn met_in(options: &ArgMatches) -> u32
     requires { RowsPass joined_level.rules (rows_of (found_of options.now)) }
     ensures is { result ≡ met_of (rows_of (found_of options.now)) }

@@ -1,4 +1,4 @@
-//! What is said of attempts that a rule was to refuse: which of them failed, and what came of it.
+//! What is said of attempts that a run's rule makes fail: which of them failed, and what came of it.
 
 use crate::runs::failures::put_failed;
 use crate::runs::rates::{put_first, put_rate};
@@ -7,8 +7,8 @@ use crate::runs::sets::put_set;
 use wb_history::WatchedRun;
 use wb_model::heap::Rule;
 
-/// Says where the attempt was made that the rule refused first, where it refuses any, and where the run went on, unless
-/// that is the line of its panic; of several attempts it says so of each.
+/// Says which line made the attempt that failed first because of the rule, if the rule may make any fail, and where the run went on, unless
+/// that is the line of its panic. If the rule names several attempts, says so of each.
 pub fn put_refused(page: &mut ScriptPage<'_>, rule: &Rule, run: &WatchedRun<'_>) -> Written {
     match rule {
         Rule::Unlimited | Rule::Number(0) | Rule::Every(0) | Rule::From(0) => Ok(()),
@@ -30,7 +30,7 @@ fn put_every(page: &mut ScriptPage<'_>, rate: u32, run: &WatchedRun<'_>) -> Writ
     }
 }
 
-/// Says how many attempts failed where one and each later one fails.
+/// Says how many attempts failed where attempt `first` and each later one fails.
 fn put_from(page: &mut ScriptPage<'_>, first: u32, run: &WatchedRun<'_>) -> Written {
     put_first(page, first, &run.history.attempts);
     match run.history.attempts.find(first) {

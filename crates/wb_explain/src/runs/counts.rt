@@ -1,4 +1,4 @@
-//! How things are written that are counted: one unit is requested, two units are; a 16-byte cell, and an 80-byte cell.
+//! How counts are written in sentences: `1 unit is` and `2 units are`, `a 16-byte cell` and `an 80-byte cell`.
 
 use std::fmt;
 use std::fmt::{Display, Formatter, Write};
@@ -14,7 +14,7 @@ impl Display for Many {
     }
 }
 
-/// What follows as many things in a sentence: `is` or `are`, for example.
+/// The word that follows a number of things in a sentence, for example `is` for one thing and `are` for any other number.
 pub fn of_one_or_more(count: i64, of_one: &'static str, of_more: &'static str) -> &'static str {
     if count == 1 { of_one } else { of_more }
 }

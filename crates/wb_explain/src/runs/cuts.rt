@@ -30,7 +30,7 @@ fn put_budget(page: &mut ScriptPage<'_>, line: u32, budget: u32) -> Written {
     Ok(())
 }
 
-/// Says how the budget is raised, if it can be, of a run that repeats something in a place.
+/// Says how to raise the budget, if it can be raised. `place` says where the run repeats something: `here`, for example.
 pub fn put_budget_help(page: &mut ScriptPage<'_>, budget: u32, place: &str) {
     let raised = budget.saturating_mul(10).min(LARGEST_BUDGET);
     if budget < LARGEST_BUDGET {

@@ -1,11 +1,11 @@
-//! What panics mean that come of the destruction of items and objects, and what to look for.
+//! What panics mean that the destruction of an item or an object raises, and what to look for.
 
 use crate::runs::panics::Meaning;
 use wb_history::End;
 use wb_model::heap::Panic;
 
-/// What a panic means that an item of the cleanup stack raised when it was destroyed, and what to look for. `end` is how its cell's
-/// life ended, if it did.
+/// What a panic means that an item of the cleanup stack raised when it was destroyed, and what to look for. `end` is how the life of the
+/// item's cell ended; `None` if it didn't, or if that isn't known.
 pub fn of_item(panic: Panic, end: Option<End>) -> Meaning {
     match panic {
         Panic::NULL_OR_STALE => (
@@ -24,7 +24,7 @@ pub fn of_item(panic: Panic, end: Option<End>) -> Meaning {
     }
 }
 
-/// What it means that an item's cell is no more, and what to look for, by how its life ended.
+/// What it means that the cell of an item is gone, and what to look for, by how the cell's life ended.
 pub fn of_item_without_cell(end: Option<End>) -> Meaning {
     match end {
         Some(End::Moved) => (

@@ -20,7 +20,7 @@ impl Display for PanicName {
     }
 }
 
-/// How a run ends that leaks or panics; nothing of another.
+/// How a run ends that leaks or panics; no text for any other run.
 #[derive(Clone, Copy)]
 pub struct EndInWords(pub RunEnd);
 

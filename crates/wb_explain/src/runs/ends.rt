@@ -22,7 +22,7 @@ use wb_machine::{Raised, Raiser};
 use wb_model::heap::{Panic, Rule};
 use wb_model::run::Outcome;
 
-/// Says what a run found: first which attempts failed, if any were to, and then its end.
+/// Says what a run found: first which attempts failed, if the rule was to make any fail, and then how the run ended.
 pub fn put_findings(page: &mut ScriptPage<'_>, run: &WatchedRun<'_>) -> Written {
     put_refused(page, &run.parameters.rule, run)?;
     match &run.outcome {
@@ -43,7 +43,7 @@ pub fn put_findings(page: &mut ScriptPage<'_>, run: &WatchedRun<'_>) -> Written 
     }
 }
 
-/// Whether a rule may refuse anything. A leave of a run under another is what the script means to do.
+/// Whether a rule may make an attempt fail. Under any other rule, a leave of `main` is what the script means to do.
 fn refuses(rule: &Rule) -> bool {
     match rule {
         Rule::Unlimited | Rule::Number(0) | Rule::Every(0) | Rule::From(0) => false,
@@ -85,8 +85,8 @@ fn name_of(code: i32) -> &'static str {
     }
 }
 
-/// Says what the panic was, and shows its line, with carets under the operand that it is about, or else the first word. Then come
-/// the lines that led to it.
+/// Says what the panic was, and shows its line, with carets under the operand that the panic is about, or else under the first word. Then
+/// come the lines that led to the panic.
 fn put_panic(page: &mut ScriptPage<'_>, raised: Raised, run: &WatchedRun<'_>) -> Written {
     let line = line_of(raised, run);
     let name = page.word(line, 0);
@@ -177,7 +177,7 @@ fn help_of(line: u32, raised: Raised, run: &WatchedRun<'_>) -> &'static str {
     }
 }
 
-/// How the life of the cell ended whose item raised a panic.
+/// How the life ended of the cell whose item raised a panic; `None` if that isn't known.
 fn end_of_item(raised: Raised, run: &WatchedRun<'_>) -> Option<End> {
     let ended = life_of(raised, run)?.ended?;
     Some(ended.end)
@@ -211,7 +211,7 @@ fn symbian_note(raised: Raised, run: &WatchedRun<'_>) -> &'static str {
     }
 }
 
-/// Writes where Symbian raises the panic, and what to look for; nothing of what is empty.
+/// Writes where Symbian raises the panic, and what to look for; leaves out a text that is empty.
 fn put_remarks(page: &mut ScriptPage<'_>, note: &str, help: &str) {
     if !note.is_empty() {
         page.page.write_note_text(note);

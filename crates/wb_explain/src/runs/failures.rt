@@ -7,10 +7,10 @@ use wb_history::{AttemptMade, Maker, WatchedRun};
 use wb_model::heap::Attempt;
 use wb_model::run::Outcome;
 
-/// Where a run went on after an attempt that failed, as far as it is said.
+/// Where a run went on after an attempt that failed, as far as messages say it.
 #[derive(Clone, Copy, Debug, PartialEq, Eq)]
 pub enum Next {
-    /// Nothing is said of it: the run ended there, or with a panic of that line, of which more is said.
+    /// Nothing is said: the run ended there, or it went on with the line that panicked, of which the panic's own message tells.
     Unsaid,
     /// With another line.
     Line(u32),
@@ -21,7 +21,7 @@ pub enum Next {
 }
 
 impl Next {
-    /// The line with which the run went on; `None` where there is none of which it is said.
+    /// The line with which the run went on; `None` if none is named.
     pub fn line(self) -> Option<u32> {
         match self {
             Next::Line(line) | Next::Again(line) => Some(line),
@@ -85,7 +85,7 @@ pub fn next_after(maker: Maker<'_>, run: &WatchedRun<'_>) -> Next {
     }
 }
 
-/// Says where the run went on. Of a line that went on with itself the place alone is shown.
+/// Says where the run went on. If it went on with the line that failed, only the line's number is given.
 pub fn put_next(page: &mut ScriptPage<'_>, next: Next) -> Written {
     match next {
         Next::Unsaid => Ok(()),

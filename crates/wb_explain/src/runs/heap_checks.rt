@@ -1,5 +1,5 @@
-//! What is said of a check of the heap that failed: how many cells it was to find and found, each of them with the line that made it,
-//! and which attempts failed by the script's own setting.
+//! What is said of a heap check that failed: how many cells it expected, how many it found, which line made each of these, and which
+//! attempts failed by the script's own setting.
 
 use crate::runs::counts::{Many, of_one_or_more};
 use crate::runs::panics::Meaning;
@@ -12,7 +12,7 @@ use wb_model::heap::Answer;
 /// The most cells and attempts that are told of.
 const MOST_ROWS: usize = 20;
 
-/// What a check of the heap means that found another number of cells, and what to look for.
+/// What it means that a heap check found another number of cells than it expected, and what to look for.
 pub fn meaning_of_check(counted: &Counted) -> Meaning {
     if i64::from(counted.found) > i64::from(counted.expected) {
         (
@@ -27,7 +27,7 @@ pub fn meaning_of_check(counted: &Counted) -> Meaning {
     }
 }
 
-/// Says how many cells a check was to find, and how many it found.
+/// Says how many cells a check expected, and how many it found.
 pub fn put_counts(page: &mut ScriptPage<'_>, counted: &Counted) {
     let (expected, found) = (i64::from(counted.expected), i64::from(counted.found));
     let cells = Many(expected, "cell");
@@ -36,7 +36,7 @@ pub fn put_counts(page: &mut ScriptPage<'_>, counted: &Counted) {
     page.page.write(format_args!("{cells} {are} expected, but {found} {were} found"));
 }
 
-/// The place of a counted cell. That of the lowest is the panic's number, which is in hexadecimal.
+/// The place of a counted cell. The place of the lowest cell is also the panic's number, which is printed in hexadecimal.
 #[derive(Clone, Copy)]
 struct CountedPlace {
     place: u32,
@@ -84,7 +84,7 @@ pub fn put_counted(page: &mut ScriptPage<'_>, counted: &Counted, run: &WatchedRu
     put_failed_by_script(page, run)
 }
 
-/// Tells which attempts failed by the script's own setting, if the rule names none.
+/// Tells which attempts failed by the script's own setting, unless some failed by the run's rule.
 fn put_failed_by_script(page: &mut ScriptPage<'_>, run: &WatchedRun<'_>) -> Written {
     let failed = run.history.attempts.failed_counts();
     if failed.by_rule > 0 || failed.by_script == 0 {

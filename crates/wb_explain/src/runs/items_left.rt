@@ -12,7 +12,7 @@ use wb_model::heap::Panic;
 /// The most items that are told of.
 const MOST_ITEMS: usize = 5;
 
-/// What to do about items that are left.
+/// What to do about items that are left when a TRAP ends.
 pub const POP_FIRST: &str = "pop what was pushed, with `pop` or `popdestroy`, before the TRAP ends";
 
 /// What the panic means that the end of `main` raised.
@@ -36,7 +36,7 @@ pub fn put_items_left(page: &mut ScriptPage<'_>, raised: Raised, run: &WatchedRu
     page.page.write(format_args!(" ended after this line with {items} still on its cleanup stack"));
 }
 
-/// How many items are below those of the innermost TRAP.
+/// How many items were on the cleanup stack when the innermost TRAP began; 0 if no TRAP is open.
 pub fn items_below(run: &WatchedRun<'_>) -> usize {
     match run.history.traps.open_traps().last() {
         Some(trap) => trap.items,
@@ -44,7 +44,7 @@ pub fn items_below(run: &WatchedRun<'_>) -> usize {
     }
 }
 
-/// Says how many items were to be popped, and how many there are.
+/// Says how many items were to be popped, and how many were pushed since the innermost TRAP began.
 pub fn put_too_many(page: &mut ScriptPage<'_>, wanted: i32, run: &WatchedRun<'_>) {
     let count = i64::from(wanted);
     let open = run.history.traps.open_traps().last();
@@ -76,7 +76,7 @@ pub fn put_items(page: &mut ScriptPage<'_>, raised: Raised, run: &WatchedRun<'_>
     }
 }
 
-/// The items that are left of a TRAP that ended, or of `main`.
+/// The items that are left from a TRAP that ended, or from `main`.
 fn items_left<'b>(raised: Raised, run: &'b WatchedRun<'_>) -> &'b [ItemOnStack] {
     let all = run.history.items.all();
     let floor = match (raised.raiser, run.history.traps.last_ended()) {
@@ -87,7 +87,7 @@ fn items_left<'b>(raised: Raised, run: &'b WatchedRun<'_>) -> &'b [ItemOnStack] 
     left
 }
 
-/// Tells where each item was pushed, and which body pushed it that has ended.
+/// Tells where each item was pushed and, if the body that pushed it has ended, which body that is.
 fn put_each(page: &mut ScriptPage<'_>, items: &[ItemOnStack], run: &WatchedRun<'_>) -> Written {
     for item in items.iter().rev().take(MOST_ITEMS) {
         let line = item.pushed.line;
@@ -123,7 +123,7 @@ fn body_name<'a>(page: &ScriptPage<'a>, line: u32, run: &WatchedRun<'_>) -> &'a 
     }
 }
 
-/// Tells where the newest item was pushed, and where the one that was expected in its place.
+/// Tells where the newest item was pushed, and what became of the item that was expected in its place.
 fn put_top(page: &mut ScriptPage<'_>, run: &WatchedRun<'_>) -> Written {
     put_newest(page, run)?;
     if let Some(item) = item_meant(run) {
@@ -158,7 +158,7 @@ fn put_top(page: &mut ScriptPage<'_>, run: &WatchedRun<'_>) -> Written {
     }
 }
 
-/// The item of the pointer whose item was to be the newest; `None` if it has none.
+/// The item that was expected to be the newest: that of the pointer that the line reads. `None` if that pointer has no item.
 fn item_meant(run: &WatchedRun<'_>) -> Option<ItemOnStack> {
     for item in run.history.items.all() {
         if item.pointer() == run.end.names {
@@ -168,7 +168,7 @@ fn item_meant(run: &WatchedRun<'_>) -> Option<ItemOnStack> {
     None
 }
 
-/// What to do where another item is the newest.
+/// What to do if the newest item isn't the expected one.
 pub fn cure_of_another(run: &WatchedRun<'_>) -> &'static str {
     match (item_meant(run), run.history.lives.find(run.end.names)) {
         (Some(_), _) => "items come off in the reverse of the order in which they were pushed",

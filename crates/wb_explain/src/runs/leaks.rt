@@ -14,21 +14,22 @@ const MOST_LEAKS: usize = 20;
 /// How a cell was lost.
 #[derive(Clone, Copy)]
 enum Loss {
-    /// The pointer that got it last got another value.
+    /// The pointer that got the cell last got another value, at this line.
     Overwritten(u32),
-    /// The object whose field it was is gone.
+    /// The pointer that got the cell last was a field of an object that is gone.
     OwnerGone(Life, Ended),
-    /// The object whose field it is leaks too.
+    /// The pointer that got the cell last is a field of an object that leaks too.
     OwnerLeaks(Life),
-    /// A leave ended the body whose pointer it was, and no item held the cell.
+    /// A leave cut short the code in which a local got the cell, and no item freed the cell.
     Left(Leave),
-    /// A body ended whose pointer it was.
+    /// The body ended whose local got the cell last.
     OutOfScope(Held),
-    /// It is still named.
+    /// A pointer still names the cell, as far as is known.
     StillNamed,
 }
 
-/// Says of each leak which line made the cell, up to as many as anybody reads. How it was lost is said of the first of each line.
+/// Says of each leak, up to the most that are listed, which line made the cell. How the cell was lost is said only of the first of
+/// successive leaks that the same line made.
 pub fn put_leaks(page: &mut ScriptPage<'_>, leaks: &[Leak], run: &WatchedRun<'_>) -> Written {
     let mut last = ShortLine::NONE;
     for leak in leaks.iter().take(MOST_LEAKS) {
@@ -54,7 +55,7 @@ pub fn put_leaks(page: &mut ScriptPage<'_>, leaks: &[Leak], run: &WatchedRun<'_>
     Ok(())
 }
 
-/// Says which line made a cell that leaks, and shows the pointer that got it.
+/// Says which line made a cell that leaks, and shows it with carets under the pointer that got the cell.
 fn put_leak(page: &mut ScriptPage<'_>, leak: Leak, life: Life) -> Written {
     let made = if life.is_reallocated() {
         "made or moved"
@@ -145,7 +146,7 @@ fn put_cure(page: &mut ScriptPage<'_>, loss: Loss, life: Life, run: &WatchedRun<
     }
 }
 
-/// Says which line overwrote the pointer of a cell; where an attempt to reallocate failed there, what to do about that.
+/// Says which line overwrote the pointer of a cell; if an attempt to reallocate failed at that line, says what to do about that instead.
 fn put_overwritten(page: &mut ScriptPage<'_>, line: u32, name: &str, run: &WatchedRun<'_>) {
     match cure_of_failed(run, line) {
         Some(cure) => page.page.write_help_text(cure),
@@ -155,7 +156,7 @@ fn put_overwritten(page: &mut ScriptPage<'_>, line: u32, name: &str, run: &Watch
     }
 }
 
-/// Says which body ended whose pointer a cell was.
+/// Says which body ended whose local got a cell last.
 fn put_out_of_scope(page: &mut ScriptPage<'_>, held: Held, name: &str, run: &WatchedRun<'_>) {
     let body = run.history.bodies.body_of(held.line.number());
     let (what, owner) = (before_name(body.kind), page.word(body.line, 1));
@@ -184,7 +185,7 @@ fn instead_of_freeing(kind: BodyKind) -> &'static str {
     }
 }
 
-/// Whether the body whose pointer this is ended by returning it.
+/// Whether the body of this local ended by returning the local's pointer.
 fn returns(run: &WatchedRun<'_>, held: Held) -> bool {
     match run.history.calls.statement_at(u32::from(held.depth)) {
         Some(Statement::ReturnPointer(Pointer::Held(Holder::Local(index)))) => {
@@ -194,7 +195,7 @@ fn returns(run: &WatchedRun<'_>, held: Held) -> bool {
     }
 }
 
-/// Says which line left, and what to do before it.
+/// Says which line left, and what to do before that line.
 fn put_left_cure(page: &mut ScriptPage<'_>, leave: Leave, life: Life) {
     page.page.begin_help();
     page.page.write(format_args!("line {} left", leave.at.line));

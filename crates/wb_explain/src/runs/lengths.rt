@@ -7,7 +7,7 @@ use wb_model::size::Rise;
 /// The most rows that are shown.
 const MOST_ROWS: usize = 20;
 
-/// Returns the number of the last attempt that is named of a table; 0 if there is none.
+/// Returns the number of the last attempt that `put_lengths` names; 0 if it names none.
 pub fn last_named(rises: &[Rise]) -> u32 {
     rises
         .iter()
@@ -33,7 +33,7 @@ pub fn put_lengths(page: &mut ScriptPage<'_>, attempts: &Attempts<'_>, rises: &[
     }
 }
 
-/// The row of an attempt, by the line that made it; 0 of the first, which no line makes.
+/// Writes the row of an attempt, with the line that made it; the line is 0 for the first attempt, which no line makes.
 fn put_row(page: &mut ScriptPage<'_>, from: u32, attempt: u32, line: u32) {
     if line == 0 {
         page.page.write_row(format_args!(

@@ -1,11 +1,11 @@
-//! How numbers of attempts are written after one another, as `3, 7 and 11`.
+//! How the numbers of attempts are written as a list, such as `3, 7 and 11`.
 
 use crate::runs::script_page::ScriptPage;
 
-/// The most numbers that are written.
+/// The most numbers that are written one by one.
 pub const MOST_NUMBERS: usize = 4;
 
-/// Writes the first of so many numbers one by one, and then how many more there are.
+/// Writes the first of `count` numbers one by one, and then how many more there are.
 pub fn put_list(page: &mut ScriptPage<'_>, numbers: &[u32], count: usize) {
     let more = count.saturating_sub(MOST_NUMBERS);
     let shown = count.min(MOST_NUMBERS);

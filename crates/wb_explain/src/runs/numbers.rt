@@ -1,5 +1,5 @@
-//! What is said of all that a sweep finds: at which lines a failed attempt leads to a leak or a panic. Those of one line whose runs
-//! end alike are told once.
+//! What is said of all that a sweep finds: at which lines a failed attempt leads to a leak or a panic. Numbers whose first failed attempt
+//! is on the same line, and whose runs end alike, are told of once.
 
 use crate::runs::end_words::EndInWords;
 use crate::runs::number_lists::{MOST_NUMBERS, put_list};
@@ -13,7 +13,7 @@ use wb_model::run_end::RunEnd;
 /// The most groups that are told.
 const MOST_GROUPS: usize = 20;
 
-/// Numbers whose runs end alike, and in which the attempt that fails first is of the same line.
+/// Numbers whose runs end alike, and whose first failed attempt is on the same line.
 #[derive(Clone, Copy, Debug, PartialEq, Eq)]
 struct Group {
     /// The line of that attempt; 0 if none fails.
@@ -101,7 +101,7 @@ pub fn put_numbers(
     Ok(())
 }
 
-/// The groups of the numbers whose run leaks or panics, by the least number of each.
+/// The groups of the numbers whose runs leak or panic, in order of the least number of each.
 fn groups_of(
     alloc: Global,
     attempts: &Attempts<'_>,
@@ -119,8 +119,8 @@ fn groups_of(
     Ok(groups)
 }
 
-/// The line of the attempt that fails first under a number or a rate: up to it the run is the one without failure. 0 if none
-/// fails.
+/// The line of the attempt that fails first under a number or a rate: up to that attempt, the run is the same as the one without failure. 0
+/// if no attempt fails.
 fn line_of(attempts: &Attempts<'_>, number: u32) -> u32 {
     match attempts.find(number) {
         Some(made) => made.maker.line,
@@ -128,7 +128,7 @@ fn line_of(attempts: &Attempts<'_>, number: u32) -> u32 {
     }
 }
 
-/// The row of a group: its numbers, the line, and how the runs end.
+/// Writes the row of a group: its numbers, the line, and how the runs end.
 fn put_group(page: &mut ScriptPage<'_>, failures: Failures, group: &Group) {
     let Group {
         line,
@@ -151,7 +151,7 @@ fn put_group(page: &mut ScriptPage<'_>, failures: Failures, group: &Group) {
     page.page.end_line();
 }
 
-/// The numbers of a group, the first of them one by one, as `attempts 3, 7 and 11`.
+/// Writes the numbers of a group, the first of them one by one, as `attempts 3, 7 and 11`.
 fn put_group_numbers(page: &mut ScriptPage<'_>, failures: Failures, group: &Group) {
     let word = match failures {
         Failures::Single | Failures::Pairs => "attempt",

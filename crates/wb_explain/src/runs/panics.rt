@@ -7,7 +7,7 @@ use wb_model::script::Statement;
 /// What was wrong, and what to look for; empty where there is no more to say.
 pub type Meaning = (&'static str, &'static str);
 
-/// What another panic than that of a check means, and what to look for, by the statement that raised it.
+/// What a panic means that no heap check raised, and what to look for, by the statement that raised it.
 pub fn meaning_of(panic: Panic, statement: &Statement) -> Meaning {
     match panic {
         Panic::POSITION_OUT_OF_BOUNDS => out_of_bounds(statement),
@@ -46,8 +46,8 @@ pub fn meaning_of(panic: Panic, statement: &Statement) -> Meaning {
 pub const CHECK_FIRST: &str =
     "check with `if some` first; lines that leave, such as `allocl`, never give null";
 
-/// Where Symbian raises a panic of this category and number, or the one that a developer there would meet; empty for this project's
-/// own. `counted` are the cells that a failed check counted.
+/// Where Symbian raises a panic of this category and number, or which panic a developer would meet there instead; empty for a panic that
+/// only this project has. `counted` are the cells that a failed check counted.
 pub fn symbian_of(panic: Panic, counted: Option<&Counted>) -> &'static str {
     match panic {
         Panic::POSITION_OUT_OF_BOUNDS => {

@@ -9,7 +9,7 @@ use wb_history::{Bodies, BodyKind, OpenTrap};
 /// How many calls of a long path are shown at its beginning, and at its end.
 const CALLS_SHOWN: usize = 4;
 
-/// Says by which calls a run came to a line, if there is one; `lines` go from `main` down. The middle of a long path is left out.
+/// Says by which calls a run came to a line, if there were any; `lines` go from `main` down. The middle of a long path is left out.
 pub fn put_path(page: &mut ScriptPage<'_>, bodies: &Bodies, lines: &[u32]) {
     if lines.len() < 2 {
         return;
@@ -30,7 +30,7 @@ pub fn put_path(page: &mut ScriptPage<'_>, bodies: &Bodies, lines: &[u32]) {
     page.page.end_line();
 }
 
-/// The body of a line, and the line.
+/// Writes the name of a line's body, and the line's number.
 fn put_call(page: &mut ScriptPage<'_>, bodies: &Bodies, line: u32) {
     let body = bodies.body_of(line);
     let (what, name) = (before_name(body.kind), page.word(body.line, 1));

@@ -9,7 +9,8 @@ use wb_history::{
 };
 use wb_model::script::Statement;
 
-/// The word of the pointer; of a field whose holder is meant, the holder.
+/// The name of the pointer, as the line has it. If the word is a field and the pointer is the one to the field's object, the part before
+/// the dot.
 fn name_of<'a>(page: &ScriptPage<'a>, line: u32, fault: PointerFault) -> &'a str {
     let word = page.word(line, fault.word);
     if fault.is_owner {
@@ -82,7 +83,7 @@ pub fn cure_of(run: &WatchedRun<'_>, line: u32, fault: PointerFault) -> &'static
     }
 }
 
-/// Whether a line is one of an operation that the cleanup stack runs for the item of a cell.
+/// Whether a line is in an operation, and the item destroyed last is that of this cell.
 fn is_in_item(run: &WatchedRun<'_>, line: u32, life: Option<Life>) -> bool {
     match (life, run.history.last_item) {
         (Some(life), Some(item)) => {
@@ -93,7 +94,7 @@ fn is_in_item(run: &WatchedRun<'_>, line: u32, life: Option<Life>) -> bool {
     }
 }
 
-/// The attempt that failed last of those that were to give this pointer a cell, in the same body.
+/// The last attempt that was to give this pointer a cell, in the same body, if that attempt failed.
 fn failed_for<'a>(run: &WatchedRun<'a>, line: u32, fault: PointerFault) -> Option<AttemptMade<'a>> {
     let pointer = fault.pointer?;
     let body = run.history.bodies.body_of(line);
@@ -110,7 +111,8 @@ fn failed_for<'a>(run: &WatchedRun<'a>, line: u32, fault: PointerFault) -> Optio
     last
 }
 
-/// Returns what to do about a cell whose pointer a failed attempt to reallocate made null at a line; `None` if none did there.
+/// Returns what to do about a cell whose pointer became null when an attempt to reallocate failed at a line; `None` if no such attempt
+/// failed there.
 pub fn cure_of_failed(run: &WatchedRun<'_>, line: u32) -> Option<&'static str> {
     for made in run.history.attempts.kept_attempts() {
         if made.maker.line == line
@@ -125,7 +127,7 @@ pub fn cure_of_failed(run: &WatchedRun<'_>, line: u32) -> Option<&'static str> {
     None
 }
 
-/// What to do where a failed attempt left a pointer null.
+/// What to do if a failed attempt left a pointer null.
 fn cure_of_null(made: AttemptMade<'_>) -> &'static str {
     if !made.maker.gives_null() {
         return "the line that was to make it left, and the run went on: look at the code that the TRAP gave, for example with `leaveiferror`";
@@ -159,7 +161,7 @@ fn frees(run: &WatchedRun<'_>, fault: PointerFault) -> bool {
     is_freed && !fault.is_owner
 }
 
-/// What to do where a cell was gone.
+/// What to do about a pointer whose cell is gone, by how the cell's life ended.
 fn cure_of_ended(run: &WatchedRun<'_>, fault: PointerFault, ended: Ended) -> &'static str {
     let is_in_destructor = run.history.bodies.body_of(ended.at.number()).kind
         == BodyKind::Destructor;

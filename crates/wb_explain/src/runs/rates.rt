@@ -1,9 +1,9 @@
-//! What is said of a rate at which attempts fail, and of the attempt from which on each fails.
+//! What is said of a rate at which attempts fail, and of an attempt that fails together with all later ones.
 
 use crate::runs::script_page::ScriptPage;
 use wb_history::{Attempts, FailedCounts};
 
-/// Says how many attempts failed where those were to whose number is a multiple of the rate, and which one first.
+/// Says how many attempts failed, and which one first, if each attempt was to fail whose number is a multiple of the rate.
 pub fn put_rate(page: &mut ScriptPage<'_>, rate: u32, attempts: &Attempts<'_>) {
     if rate == 1 {
         page.page
@@ -26,7 +26,7 @@ pub fn put_rate(page: &mut ScriptPage<'_>, rate: u32, attempts: &Attempts<'_>) {
     page.page.end_line();
 }
 
-/// Says how many attempts failed where this one and each later one were to.
+/// Says how many attempts failed, if attempt `first` and each later one were to fail.
 pub fn put_first(page: &mut ScriptPage<'_>, first: u32, attempts: &Attempts<'_>) {
     let made = attempts.count();
     let FailedCounts { by_rule, by_script } = attempts.failed_counts();

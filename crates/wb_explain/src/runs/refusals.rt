@@ -1,30 +1,30 @@
-//! Which attempt a heap refuses first, by its length: the first one that ends past it, in the run in the longest heap.
+//! Which attempt a heap of some length refuses first: in the run in the longest heap, the first attempt that ends past that length.
 
 use wb_history::AttemptMade;
 use wb_model::limits::CEILING;
 
-/// An attempt, and the line that made it; 0 of the first, which no line makes.
+/// An attempt, and the line that made it; the line is 0 for the first attempt, which no line makes.
 #[derive(Clone, Copy, Debug, PartialEq, Eq)]
 pub struct Refused {
     pub number: u32,
     pub line: u32,
 }
 
-/// The attempts of the run in the longest heap, and the one at which this is.
+/// The attempts of the run in the longest heap, and how many of them have been gone through.
 #[derive(Clone, Copy)]
 pub struct Refusals<'a> {
     attempts: &'a [AttemptMade<'a>],
-    /// How many of them come before the one at which this is, or with it.
+    /// How many of the attempts have been gone through.
     passed: usize,
-    /// The attempt that was asked for last: what heaps refuse first that are shorter than `until`, and no shorter than all before
-    /// it asks for; `None` if there is none.
+    /// The attempt that `go_past` came to last: heaps refuse it first that are shorter than `until` and in which all attempts before it
+    /// fit. `None` if there is no such attempt.
     pub first: Option<Refused>,
-    /// Where that attempt ends, in bytes; past the ceiling if there is none.
+    /// Where that attempt ends, in bytes; past the ceiling if there is no such attempt.
     pub until: u32,
 }
 
 impl<'a> Refusals<'a> {
-    /// No attempt yet. The attempts are those of the run in the longest heap.
+    /// No attempt has been gone through yet. `attempts` are those of the run in the longest heap.
     pub fn new(attempts: &'a [AttemptMade<'a>]) -> Refusals<'a> {
         Refusals {
             attempts,
@@ -34,8 +34,8 @@ impl<'a> Refusals<'a> {
         }
     }
 
-    /// Goes on to what a heap of this length refuses first, in bytes, unless it is there: the next attempt that ends past that.
-    /// Lengths come in ascending order.
+    /// Goes on to the attempt that a heap of this length, in bytes, refuses first: the next rise that ends past the length. Does nothing if
+    /// `first` is that attempt already. Lengths must come in ascending order.
     pub fn go_past(&mut self, length: u32) {
         if self.until > length {
             return;

@@ -6,7 +6,7 @@ use wb_history::ScriptLines;
 use wb_pages::words::{trim, words_of};
 use wb_pages::{Page, Shown, Spot};
 
-/// That something was written. The only error is that memory ran out.
+/// The result of writing something. The only error is that memory ran out.
 pub type Written = Result<(), AllocError>;
 
 /// What is written so far about a script.
@@ -15,7 +15,7 @@ pub struct ScriptPage<'a> {
     alloc: Global,
     pub lines: &'a ScriptLines<'a>,
     pub page: Page<'a>,
-    /// The lines that the messages about what led to the last finding have told of, so that none is told twice.
+    /// The lines that were shown for what led to the last finding, so that none is shown twice.
     told: Vec<u32>,
 }
 
@@ -49,7 +49,7 @@ impl<'a> ScriptPage<'a> {
         self.lines.word(number, index)
     }
 
-    /// Returns where the word with an index, counted from 0, is in a line. The only error is that memory ran out.
+    /// Returns the part of a line that its word with this index, counted from 0, takes up. The only error is that memory ran out.
     pub fn spot(&self, number: u32, index: usize) -> Result<Spot<'a>, AllocError> {
         let line = self.text_of(number);
         let words = words_of(self.alloc, line)?;
@@ -73,14 +73,14 @@ impl<'a> ScriptPage<'a> {
         self.mark_word(number, 0, message)
     }
 
-    /// Begins what led to another finding, whose line is told of.
+    /// Begins the messages about what led to another finding. The finding's own line counts as shown.
     pub fn begin_way(&mut self, line: u32) -> Written {
         self.told.clear();
         self.told.push(line)?;
         Ok(())
     }
 
-    /// Does what `mark_word` does, unless the line was told of before. 0 is no line.
+    /// Does what `mark_word` does, unless the line was shown before for the same finding. 0 is no line.
     pub fn mark_new<D: Display + Drop>(
         &mut self,
         number: u32,

@@ -5,7 +5,7 @@ use std::fmt::Display;
 use wb_history::Values;
 use wb_pages::Page;
 
-/// Writes what is said of values.
+/// Writes what is said of the values with which a line panicked. How many items were to be popped is said elsewhere.
 pub fn put_values(page: &mut Page<'_>, values: Values) {
     match values {
         Values::WouldHave { units, maximum } => {

@@ -1,4 +1,4 @@
-//! What is said of attempts that were all to fail, one or more.
+//! What is said of one or more attempts that the rule names one by one and makes fail.
 
 use crate::runs::failures::{Next, next_after, put_failed, put_failed_here, put_next};
 use crate::runs::number_lists::put_list;
@@ -8,8 +8,8 @@ use wb_history::{AttemptMade, WatchedRun};
 /// The most failed attempts that are shown with their lines.
 const MOST_SHOWN: usize = 8;
 
-/// Says which lines' attempts failed, those with these ascending numbers, and where the run went on after each. Of those that the run
-/// doesn't make it says that.
+/// Says which lines made the attempts with these numbers, which are in ascending order and were to fail, and where the run went on after
+/// each. Says also which of the attempts the run never made.
 pub fn put_set(page: &mut ScriptPage<'_>, numbers: &[u32], run: &WatchedRun<'_>) -> Written {
     let count = made_among(numbers, run).min(numbers.len());
     let made = &numbers[..count];
@@ -20,7 +20,7 @@ pub fn put_set(page: &mut ScriptPage<'_>, numbers: &[u32], run: &WatchedRun<'_>)
     Ok(())
 }
 
-/// How many of these ascending numbers are those of attempts that the run made.
+/// How many of these numbers, which are in ascending order, are those of attempts that the run made.
 fn made_among(numbers: &[u32], run: &WatchedRun<'_>) -> usize {
     let last = run.history.attempts.count();
     let mut count: usize = 0;
@@ -56,8 +56,8 @@ fn put_made(page: &mut ScriptPage<'_>, numbers: &[u32], run: &WatchedRun<'_>) ->
     Ok(())
 }
 
-/// Shows a failed attempt, and where the run went on, unless that is said of the next one that failed. If the first is the cell of the
-/// cleanup stack, the run makes no other.
+/// Shows a failed attempt, and where the run went on, unless that is said for `later`, the next attempt that failed. If the attempt was for
+/// the cell of the cleanup stack, the run makes no other.
 fn put_one(
     page: &mut ScriptPage<'_>,
     made: AttemptMade<'_>,
@@ -83,8 +83,8 @@ fn put_one(
     }
 }
 
-/// Whether the run went on after a failure with a line that nothing names later: neither that of the next attempt that failed, nor
-/// that with which the run went on after it.
+/// Whether the run went on after a failure with a line that isn't named later: neither as the line of the next attempt that failed, nor as
+/// the line with which the run went on after that attempt.
 fn names_new_line(next: Next, later_line: u32, later_next: Next) -> bool {
     match next.line() {
         Some(line) => line != later_line && later_next.line() != Some(line),
@@ -92,7 +92,7 @@ fn names_new_line(next: Next, later_line: u32, later_next: Next) -> bool {
     }
 }
 
-/// Says that no attempt has these numbers; whether others of the set were made.
+/// Says that the run never made the attempts with these numbers. `others_made` says whether it made others of the set.
 fn put_not_made(
     page: &mut ScriptPage<'_>,
     numbers: &[u32],
@@ -112,7 +112,7 @@ fn put_not_made(
     page.page.end_line();
 }
 
-/// What follows for so many attempts that weren't made.
+/// What follows if `count` attempts of the set were never made.
 fn no_failure_of(count: usize, others_made: bool) -> &'static str {
     match (count, others_made) {
         (1, true) => "it could not fail as well",

@@ -1,11 +1,11 @@
-//! Commands as they are typed: the options that say how runs are made, where they aren't the defaults, and the name of a script.
+//! Commands as they are typed: the options that say how runs are made, without those that have their defaults, and the name of a script.
 
 use std::fmt;
 use std::fmt::{Display, Formatter, Write};
 use wb_model::heap::{Rule, Shape};
 use wb_model::limits::{DEFAULT_BUDGET, DEFAULT_MINIMUM, DEFAULT_STEP};
 
-/// The options that say how runs are made, each with a blank before it; nothing of those that have their default.
+/// The options that say how runs are made, each with a blank before it. An option that has its default is left out.
 #[derive(Clone, Copy)]
 pub struct ShellOptions {
     pub budget: u32,
@@ -34,7 +34,7 @@ impl Display for ShellOptions {
     }
 }
 
-/// The option that gives a rule, with a blank before it; nothing of the rule that refuses nothing.
+/// The option that gives a rule, with a blank before it; no text for a rule that makes no attempt fail.
 #[derive(Clone, Copy)]
 pub struct RuleOption<'a>(pub &'a Rule);
 
@@ -62,7 +62,7 @@ fn write_list<W: Write>(f: &mut Formatter<W>, numbers: &[u32]) -> fmt::Result {
     Ok(())
 }
 
-/// The name of a script, with a blank before it; in quotes if a shell reads anything else into it. Nothing of standard input.
+/// The name of a script, with a blank before it; in quotes if a shell would read the bare name otherwise. No text for standard input.
 #[derive(Clone, Copy)]
 pub struct ShellFile<'a>(pub Option<&'a str>);
 

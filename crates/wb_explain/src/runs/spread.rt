@@ -1,4 +1,4 @@
-//! Lengths of heap of which the same is said, as their least, their greatest, and how many they are.
+//! Lengths of heaps of which the same is said: the least, the greatest, and how many there are.
 
 use std::fmt;
 use std::fmt::{Display, Formatter, Write};
@@ -14,7 +14,7 @@ pub struct Spread {
 }
 
 impl Spread {
-    /// The lengths from one up to before another.
+    /// The lengths from `from` up to, but without, `until`.
     pub fn of(from: u32, until: u32) -> Spread {
         Spread {
             least: from,
@@ -23,7 +23,7 @@ impl Spread {
         }
     }
 
-    /// These lengths and further ones, all greater.
+    /// These lengths together with further ones, which are all greater.
     pub fn with(self, longer: Spread) -> Spread {
         Spread {
             least: self.least,
@@ -38,7 +38,7 @@ impl Spread {
     }
 }
 
-/// The lengths, and how many they are if some between them aren't among them.
+/// The least and the greatest length, and how many lengths there are if some between these two are missing.
 impl Display for Spread {
     fn fmt<W: Write>(&self, f: &mut Formatter<W>) -> fmt::Result {
         let Spread {

@@ -1,4 +1,5 @@
-//! What is said of a search over all sets of attempts that met more states than it may: how many it may, what is known, and what to raise.
+//! What is said of a search over all sets of attempts that met more states than it may: how many states it may meet, what is known, and
+//! what to raise.
 
 use crate::runs::counts::Many;
 use crate::runs::script_page::ScriptPage;
@@ -6,15 +7,15 @@ use crate::runs::script_page::ScriptPage;
 /// A search that met more states than it may.
 #[derive(Clone, Copy, Debug, PartialEq, Eq)]
 pub struct ManyStates {
-    /// How many it may meet.
+    /// How many states the search may meet.
     pub most: u32,
-    /// Up to how many attempts no set that was tried shows anything.
+    /// The size, in attempts, up to which no set that was tried leaks or panics.
     pub fine: u32,
-    /// How many may be allowed next; `None` if it can't be more.
+    /// How many states may be allowed next; `None` if more can't be allowed.
     pub raised: Option<u32>,
 }
 
-/// Says that not every set was tried, which were, and what to do.
+/// Says that not every set was tried, what is known of those that were, and what to do.
 pub fn put_many_states(page: &mut ScriptPage<'_>, met: ManyStates) {
     let states = Many(i64::from(met.most), "state");
     page.page.write_file_message(format_args!(

@@ -1,5 +1,5 @@
-//! What heaps show whose runs leak or panic, as stories: which line's attempt is refused first, and how the run ends. What has the
-//! same story is told once.
+//! What is shown by heaps in which runs leak or panic, as stories: which line's attempt is refused first, and how the run ends. All lengths
+//! with the same story are told of together.
 
 use crate::runs::refusals::{Refusals, Refused};
 use crate::runs::script_page::Written;
@@ -11,7 +11,7 @@ use wb_model::run_end::RunEnd;
 /// The most stories that are told.
 const MOST_STORIES: usize = 20;
 
-/// Lengths of heap whose runs end alike, and in which an attempt of the same line is refused first.
+/// Lengths of heaps in which runs end alike, and in which an attempt of the same line is refused first.
 #[derive(Clone, Copy, Debug, PartialEq, Eq)]
 pub struct Story {
     pub spread: Spread,
@@ -23,12 +23,12 @@ pub struct Story {
 }
 
 impl Story {
-    /// Whether another one is the same, but for its lengths and the attempt's number.
+    /// Whether another story is the same, except for its lengths and the attempt's number.
     fn is_told_as(&self, other: &Story) -> bool {
         self.end == other.end && line_of(self.refused) == line_of(other.refused)
     }
 
-    /// Takes in the lengths of a story that is the same.
+    /// Adds the lengths of another story that is told as this one.
     fn take_in(&mut self, other: &Story) {
         self.spread = self.spread.with(other.spread);
         self.refuses_one = self.refuses_one && self.refused == other.refused;
@@ -39,11 +39,11 @@ fn line_of(refused: Option<Refused>) -> Option<u32> {
     refused.map(|it| it.line)
 }
 
-/// The stories of a table, by the least length of each.
+/// The stories of a table, in order of the least length of each.
 #[derive(Drop)]
 pub struct Stories {
     pub told: Vec<Story>,
-    /// How many ranges have none of those that are told.
+    /// How many ranges, or parts of ranges, have a story that isn't told.
     pub more: usize,
 }
 
@@ -64,7 +64,7 @@ impl Stories {
     }
 }
 
-/// The stories of a table of all lengths. `refusals` are at their beginning.
+/// The stories of a table of all lengths. No attempt of `refusals` may have been gone through yet.
 pub fn stories_of(
     alloc: Global,
     refusals: &mut Refusals<'_>,
@@ -84,7 +84,7 @@ pub fn stories_of(
     Ok(stories)
 }
 
-/// Adds the stories of a range, part by part: each part refuses the same attempt first.
+/// Adds the stories of a range, part by part: all heaps of one part refuse the same attempt first.
 fn add_range(
     stories: &mut Stories,
     refusals: &mut Refusals<'_>,

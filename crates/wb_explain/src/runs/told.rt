@@ -3,10 +3,11 @@
 use crate::runs::script_page::{ScriptPage, Written};
 use wb_history::{BodyKind, By, End, Ended, History, Life};
 
-/// What is told of a line that moved a cell that had room at its place.
+/// What is told of a line that moved a cell though the cell had room to grow at its place.
 const MOVED_BY_FLAG: &str = "it moved here because of `--moving`: the bytes after it were free";
 
-/// Tells how the life of a cell ended, where it was pushed if its item wasn't popped, and where it was made.
+/// Tells how the life of a cell ended, where the cell was pushed, and where it was made. Where it was pushed isn't told if its item was
+/// popped and a line itself ended its life.
 pub fn put_life(page: &mut ScriptPage<'_>, history: &History<'_>, life: Life) -> Written {
     if let Some(ended) = life.ended {
         put_end(page, history, ended)?;
@@ -18,7 +19,8 @@ pub fn put_life(page: &mut ScriptPage<'_>, history: &History<'_>, life: Life) ->
     page.mark_new(life.made.number(), 1, "it was made here")
 }
 
-/// Tells which pointer got a cell that moved, if another line than that which made it gave it to one: that names the old place still.
+/// If a cell moved, tells which pointer got the cell last, unless that was at the line that made the cell: the pointer still names the old
+/// place.
 fn put_other_holder(page: &mut ScriptPage<'_>, ended: Ended, life: Life) -> Written {
     match life.held {
         Some(held) if ended.end == End::Moved && held.line != life.made => {

@@ -1,5 +1,5 @@
-//! What is said of a check that found nothing, and of what it tried unasked: the first that shows a leak or a panic, what wasn't decided,
-//! or that nothing else shows anything. What is tried, and how long, is decided elsewhere.
+//! What is said of further questions that a check tries unasked if it finds nothing: the first that shows a leak or a panic, one that
+//! wasn't decided, or that none shows anything. What is tried, and how long, is decided elsewhere.
 
 use crate::runs::end_words::EndInWords;
 use crate::runs::number_lists::put_list;
@@ -9,19 +9,19 @@ use crate::runs::spread::lengths_of;
 use wb_model::lengths::LengthRange;
 use wb_model::run_end::RunEnd;
 
-/// What a check asks unasked.
+/// A further question that a check tries unasked.
 #[derive(Clone, Copy, Debug, PartialEq, Eq)]
 pub enum Question {
-    /// Whether all attempts may fail from one on.
+    /// Whether the script leaks or panics where some attempt and all later ones fail.
     Persistent,
-    /// Whether the heap may be of any length.
+    /// Whether the script leaks or panics in a heap of some length.
     Lengths,
-    /// Whether any set of attempts may fail in a heap in which each cell that grows moves.
+    /// Whether the script leaks or panics where some set of attempts fails, in a heap in which each cell that grows moves.
     Sets,
 }
 
 impl Question {
-    /// The command that asks it.
+    /// The command that asks the question.
     fn command(self) -> &'static str {
         match self {
             Question::Persistent => "workbench check --persistent",
@@ -36,7 +36,7 @@ impl Question {
 pub enum Shown<'a> {
     /// The failure of this attempt and of all later ones, and how the run ends.
     Persistent(u32, RunEnd),
-    /// The table of all lengths, some of which do.
+    /// The table of all lengths of heaps: in some of them the run leaks or panics.
     Lengths(&'a [LengthRange]),
     /// The failure of these attempts in a heap in which each cell that grows moves, and how the run ends.
     Sets(&'a [u32], RunEnd),
@@ -57,7 +57,7 @@ pub fn put_shown(page: &mut ScriptPage<'_>, shown: Shown<'_>, options: ShellOpti
     }
 }
 
-/// The set that was found; the empty one is the run without failure.
+/// Says which set was found; the empty set is the run without failure.
 fn put_set(page: &mut ScriptPage<'_>, numbers: &[u32], end: RunEnd, options: ShellOptions) {
     page.page.begin_file_message();
     match numbers.len() {
@@ -81,7 +81,7 @@ fn put_set(page: &mut ScriptPage<'_>, numbers: &[u32], end: RunEnd, options: She
     page.page.end_line();
 }
 
-/// The first range whose runs leak or panic, and that there are others.
+/// Says which range of lengths is the first whose runs leak or panic, and whether there are others.
 fn put_least_bad(page: &mut ScriptPage<'_>, ranges: &[LengthRange], options: ShellOptions) {
     let Some(index) = bad_from(ranges, 0) else {
         return;
@@ -100,7 +100,7 @@ fn put_least_bad(page: &mut ScriptPage<'_>, ranges: &[LengthRange], options: She
     ));
 }
 
-/// The first range from an index on whose runs leak or panic, by its index.
+/// The index of the first range whose runs leak or panic, from index `first` on; `None` if there is none.
 fn bad_from(ranges: &[LengthRange], first: usize) -> Option<usize> {
     for index in first..ranges.len() {
         if let Some(range) = ranges.get(index)
@@ -112,7 +112,7 @@ fn bad_from(ranges: &[LengthRange], first: usize) -> Option<usize> {
     None
 }
 
-/// Says of a question that it wasn't decided, and how to ask it.
+/// Says that a question wasn't decided, and which command asks it.
 pub fn put_undecided(page: &mut ScriptPage<'_>, question: Question, options: ShellOptions) {
     let what = match question {
         Question::Persistent => "failures that persist",
@@ -125,7 +125,7 @@ pub fn put_undecided(page: &mut ScriptPage<'_>, question: Question, options: She
     ));
 }
 
-/// Says that nothing else shows a leak or a panic.
+/// Says that no further question shows a leak or a panic.
 pub fn put_nothing_else(page: &mut ScriptPage<'_>) {
     page.page.write_file_text(
         "whatever attempts fail, and wherever cells lie, this script neither leaks nor panics",

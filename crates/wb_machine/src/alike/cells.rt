@@ -1,5 +1,5 @@
-//! Cells and items of the cleanup stack that are the same but for allocation numbers. Cells are compared by place, and the first
-//! difference ends it.
+//! Cells, and items of the cleanup stack, of two runs that are the same except for allocation numbers. Cells are compared in order of
+//! place, and the comparison ends at the first difference.
 
 ghost use Rattle.std.specs.Prelude.{◌≡◌, ◌+◌, ◌^◌, ◌<◌, ℕ, List, true, Some, length, slice_index, IfSome, IsSome, OnSome};
 ghost use Rattle.wb_model.specs.cells.CellRow.{payload_of};
@@ -27,7 +27,7 @@ fn same_header(names: &mut Names, header: Header, other: Header) -> bool
         && names.relate(header.number, other.number)
 }
 
-/// The pointer in two words of a payload.
+/// The pointer in two words of a payload: its place is the word `at`, and its number the next one.
 fn pointer_at(heap: &DebugHeap, ptr: Ptr, at: u32) -> Ptr
     requires within { at + 1 < length (payload_of ptr heap.now.heap.row) }
     requires fits { at + 1 < 2 ^ 32 }
@@ -40,8 +40,8 @@ fn pointer_at(heap: &DebugHeap, ptr: Ptr, at: u32) -> Ptr
     }
 }
 
-/// Whether two payloads of so many words hold pointers from the third word on that are the same but for numbers, two words each:
-/// the fields of an object, and zeros after them.
+/// Whether two payloads of `count` words each hold the same pointers from the third word on, except for allocation numbers. A pointer takes
+/// two words. In an object these are its fields, and zeros after them.
 fn same_fields(
     names: &mut Names,
     heap: &DebugHeap,
@@ -66,8 +66,8 @@ fn same_fields(
     true
 }
 
-/// Whether two payloads of so many words, at the same place, hold the same but for numbers, as a kind of cell reads them. What the
-/// cleanup stack's cell holds are its items.
+/// Whether the payloads of two cells of this kind, at the same place and of `count` words each, hold the same except for allocation
+/// numbers. The payload of the cleanup stack's cell isn't compared here, but by `same_items`.
 fn same_content(
     names: &mut Names,
     kind: Kind,
@@ -94,7 +94,7 @@ fn same_content(
     }
 }
 
-/// Where a cell ends that is another but for numbers; `None` if it isn't.
+/// Where the first cell ends, if both cells are the same except for allocation numbers; `None` if they aren't.
 fn end_if_same(
     names: &mut Names,
     heap: &DebugHeap,
@@ -127,7 +127,7 @@ fn end_if_same(
     Some(cell.end())
 }
 
-/// Whether two heaps have the same cells but for numbers.
+/// Whether two heaps have the same cells, except for allocation numbers.
 pub fn same_cells(names: &mut Names, heap: &DebugHeap, other: &DebugHeap) -> bool
     requires sound { IsSoundDebug heap.now }
     requires other_sound { IsSoundDebug other.now }
@@ -166,7 +166,7 @@ fn same_item(names: &mut Names, item: Item, other: Item) -> bool
     }
 }
 
-/// Whether two stacks hold the same items but for numbers. The newest are compared first.
+/// Whether two cleanup stacks hold the same items, except for allocation numbers. The newest items are compared first.
 pub fn same_items(
     names: &mut Names,
     stack: Cleanup,

@@ -1,4 +1,5 @@
-//! Statements that are the same: by these two runs are at the same place of one script.
+//! Whether statements are the same. By comparing the statements that are still to do, two runs are found to be at the same place of one
+//! script.
 
 ghost use Rattle.std.specs.Prelude.{◌≡◌, true};
 
@@ -9,7 +10,7 @@ use super::operands::{
 use wb_model::limits::DEEPEST_BLOCK;
 use wb_model::script::{Statement, StatementAt};
 
-/// Whether two statements are the same that get, change or release cells.
+/// Whether two statements that get, change or release cells are the same; `false` for statements of other kinds.
 fn same_on_cells(statement: &Statement, other: &Statement) -> bool
     ensures { result ≡ true → other.now ≡ statement.now }
 {
@@ -44,7 +45,7 @@ fn same_on_cells(statement: &Statement, other: &Statement) -> bool
     }
 }
 
-/// The same of objects, and of items of the cleanup stack.
+/// Whether two statements on objects, or on items of the cleanup stack, are the same; `false` for statements of other kinds.
 fn same_on_objects(statement: &Statement, other: &Statement) -> bool
     ensures { result ≡ true → other.now ≡ statement.now }
 {
@@ -73,7 +74,7 @@ fn same_on_objects(statement: &Statement, other: &Statement) -> bool
     }
 }
 
-/// The same of variables.
+/// Whether two statements on variables are the same; `false` for statements of other kinds.
 fn same_on_variables(statement: &Statement, other: &Statement) -> bool
     ensures { result ≡ true → other.now ≡ statement.now }
 {
@@ -92,7 +93,7 @@ fn same_on_variables(statement: &Statement, other: &Statement) -> bool
     }
 }
 
-/// The same of leaves, calls and the ends of bodies.
+/// Whether two leaves, two calls or two ends of bodies are the same; `false` for statements of other kinds.
 fn same_on_bodies(statement: &Statement, other: &Statement) -> bool
     ensures { result ≡ true → other.now ≡ statement.now }
 {
@@ -120,7 +121,7 @@ fn same_on_bodies(statement: &Statement, other: &Statement) -> bool
     }
 }
 
-/// The same of marks, checks, the setting and notes.
+/// Whether two statements on marks, checks, the script's setting or notes are the same; `false` for statements of other kinds.
 fn same_on_heap(statement: &Statement, other: &Statement) -> bool
     ensures { result ≡ true → other.now ≡ statement.now }
 {
@@ -139,7 +140,7 @@ fn same_on_heap(statement: &Statement, other: &Statement) -> bool
     }
 }
 
-/// The same of texts that are made or changed.
+/// Whether two statements that make or change texts are the same; `false` for statements of other kinds.
 fn same_on_texts(statement: &Statement, other: &Statement) -> bool
     ensures { result ≡ true → other.now ≡ statement.now }
 {
@@ -178,7 +179,7 @@ fn same_on_texts(statement: &Statement, other: &Statement) -> bool
     }
 }
 
-/// The same of texts that are read, and of what is printed.
+/// Whether two statements that read texts, or print, are the same; `false` for statements of other kinds.
 fn same_on_views(statement: &Statement, other: &Statement) -> bool
     ensures { result ≡ true → other.now ≡ statement.now }
 {
@@ -209,7 +210,7 @@ fn same_on_views(statement: &Statement, other: &Statement) -> bool
     }
 }
 
-/// Whether two statements are the same that have no block inside.
+/// Whether two statements without a block inside are the same; `false` for any other statements.
 fn same_plain(statement: &Statement, other: &Statement) -> bool
     ensures { result ≡ true → other.now ≡ statement.now }
 {
@@ -222,7 +223,8 @@ fn same_plain(statement: &Statement, other: &Statement) -> bool
         || same_on_views(statement, other)
 }
 
-/// Whether two statements are the same that have blocks inside, in which so many levels of blocks are compared.
+/// Whether two statements with blocks inside are the same; `false` for any other statements. Blocks are compared `levels` levels deep, and
+/// deeper ones count as different.
 #[cycle(blocks)]
 fn same_nested(levels: u32, statement: &Statement, other: &Statement) -> bool
     ensures { result ≡ true → other.now ≡ statement.now }
@@ -254,7 +256,8 @@ fn same_nested(levels: u32, statement: &Statement, other: &Statement) -> bool
     }
 }
 
-/// Whether two statements are the same, and in the same line.
+/// Whether two statements are the same, and on the same line of the script. Blocks inside are compared `levels` levels deep, and deeper
+/// ones count as different.
 #[cycle(blocks)]
 fn same_statement(levels: u32, one: &StatementAt, other: &StatementAt) -> bool
     ensures { result ≡ true → other.now ≡ one.now }
@@ -264,7 +267,7 @@ fn same_statement(levels: u32, one: &StatementAt, other: &StatementAt) -> bool
             || same_nested(levels, &one.statement, &other.statement))
 }
 
-/// Whether two blocks are the same, of whose inner blocks so many levels are compared.
+/// Whether two blocks are the same. The blocks inside are compared `levels` levels deep, and deeper ones count as different.
 #[cycle(blocks)]
 fn same_block(levels: u32, statements: &[StatementAt], others: &[StatementAt]) -> bool
     ensures { result ≡ true → others.now ≡ statements.now }
@@ -283,7 +286,7 @@ fn same_block(levels: u32, statements: &[StatementAt], others: &[StatementAt]) -
     other_left.is_empty()
 }
 
-/// Whether two blocks are the same, or what is left of them.
+/// Whether two blocks, or two rests of blocks, are the same.
 pub fn same_statements(statements: &[StatementAt], others: &[StatementAt]) -> bool
     ensures { result ≡ true → others.now ≡ statements.now }
 {

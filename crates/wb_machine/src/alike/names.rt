@@ -1,4 +1,4 @@
-//! Which allocation numbers of one run stand for which of another, found while the two are compared.
+//! Which allocation numbers of one run stand for which of another, as is found out while the two runs are compared.
 
 ghost use Rattle.std.specs.Prelude.{◌≡◌, ◌≤◌, [], true};
 ghost use Rattle.wb_machine.specs.Alike.{pair_of, IsGrown};
@@ -8,22 +8,23 @@ use arrayvec::ArrayVec;
 use std::marker::Model;
 use wb_model::heap::Ptr;
 
-/// A number of one run, and the number of the other that stands for it.
+/// An allocation number of one run, and the one of the other run that stands for it.
 #[derive(Clone, Copy, Default)]
 pub struct Name {
     pub here: u32,
     pub there: u32,
 }
 
-/// A one-to-one map of the numbers of attempts that each of two runs has made. Up to the attempt `since` each number stands for
-/// itself. It takes no memory.
+/// A one-to-one map from allocation numbers of one run to those of another. Each number up to `since` stands for itself. The map asks for
+/// no memory.
 #[derive(Drop)]
 pub struct Names {
     since: u32,
-    /// How many attempts either run has made.
+    /// How many attempts the one run has made.
     made: u32,
+    /// How many attempts the other run has made.
     other_made: u32,
-    /// Pairs of later attempts. States that differ in more numbers aren't said to be the same.
+    /// The pairs of numbers above `since` that were found so far. Runs in which more such numbers occur than fit here count as different.
     added: ArrayVec<Name, 64>,
 }
 
@@ -39,7 +40,7 @@ impl Model for Names {
     ghost invariant = { AreAdded };
 }
 
-/// The first pair that one of two numbers is in.
+/// The first pair that has `here` as its number of the one run, or `there` as its number of the other.
 fn pair_of(pairs: &[Name], here: u32, there: u32) -> Option<Name>
     ensures { result ≡ pair_of here there pairs.now }
 {
@@ -52,7 +53,7 @@ fn pair_of(pairs: &[Name], here: u32, there: u32) -> Option<Name>
 }
 
 impl Names {
-    /// The map of numbers up to an attempt that both runs have made.
+    /// The map in which only the numbers up to `since`, an attempt that both runs have made, stand for themselves.
     pub fn new(since: u32, made: u32, other_made: u32) -> Names
         requires here { since ≤ made }
         requires there { since ≤ other_made }
@@ -67,7 +68,8 @@ impl Names {
         }
     }
 
-    /// Whether a number stands for another, or may do so from here on.
+    /// Whether one number stands for another. Two numbers above `since`, of which neither is in a pair yet, become a pair if both runs have
+    /// made these attempts and there is room.
     pub fn relate(&mut self, here: u32, there: u32) -> bool
         ensures related { result ≡ true → Renames self.new.names here there }
         ensures grown { IsGrown self.old self.new }
@@ -84,7 +86,7 @@ impl Names {
         self.added.try_push(Name { here, there }).is_ok()
     }
 
-    /// Whether two pointers are the same but for their numbers.
+    /// Whether two pointers have the same place, and their allocation numbers stand for one another, as `relate` finds out.
     pub fn relate_pointers(&mut self, ptr: Ptr, other: Ptr) -> bool
         ensures same { result ≡ true → IsSamePointer self.new.names ptr other }
         ensures grown { IsGrown self.old self.new }

@@ -1,4 +1,4 @@
-//! Operands of statements that are the same.
+//! Whether operands of two statements are the same.
 
 ghost use Rattle.std.specs.Prelude.{◌≡◌, true};
 

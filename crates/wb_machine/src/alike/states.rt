@@ -1,4 +1,4 @@
-//! States of two runs that are the same but for allocation numbers.
+//! States of two runs that are the same except for allocation numbers.
 
 ghost use Rattle.std.specs.Prelude.{◌≡◌, true};
 ghost use Rattle.wb_model.specs.declared.script.Script.{Script};
@@ -12,8 +12,8 @@ use super::names::Names;
 use crate::state::State;
 
 impl State {
-    /// Whether as many items, cells, marks and bytes are live as in another state, the setting is the same, and so is how places are
-    /// chosen: what is quickly said.
+    /// Whether two states have equally many items, open marks, live cells and bytes in live cells, the same setting of the script, and the
+    /// same way of choosing places. This is a quick test, made before all else is compared.
     fn has_counts_of(&self, other: &State) -> bool
         ensures level { result ≡ true →
             other.now.debug.heap.level ≡ self.now.debug.heap.level }
@@ -29,7 +29,7 @@ impl State {
             && self.heap.alloc_size() == other.heap.alloc_size()
     }
 
-    /// Whether the cleanup stack is that of another state but for numbers.
+    /// Whether the cleanup stack is the same as another state's, except for allocation numbers.
     fn has_stack_of(&self, names: &mut Names, other: &State) -> bool
         ensures cell { result ≡ true →
             IsSamePointer names.new.names self.now.cleanup other.now.cleanup }
@@ -46,7 +46,8 @@ impl State {
             && same_items(names, stack, &self.heap, other_stack, &other.heap)
     }
 
-    /// Whether the state is another but for numbers. What both have printed and counted isn't looked at.
+    /// Whether the state is the same as another, except for allocation numbers. What the two runs have printed and noted, and how many
+    /// steps and attempts they have counted, isn't compared.
     pub fn is_like(&self, names: &mut Names, other: &State) -> bool
         ensures callers { result ≡ true →
             AllBeside (IsSameValue names.new.names) self.now.callers other.now.callers }

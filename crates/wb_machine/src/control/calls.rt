@@ -1,4 +1,4 @@
-//! What the head of a call leaves: the body of a procedure, in a frame of its own.
+//! How a call begins: the body of a procedure is added, in a frame of its own.
 
 ghost use Rattle.std.specs.Prelude.{◌≡◌, ◌<◌, ◌≤◌, ℕ, None, length, IsTrue, OnOk};
 ghost use Rattle.wb_model.specs.language.Sound.{is_script};
@@ -20,7 +20,7 @@ use wb_model::memory::NoMemory;
 use wb_model::script::{Argument, Script};
 
 impl<'a> Control<'a> {
-    /// The body of a procedure, whose result is dropped.
+    /// Begins a call whose result is dropped.
     #[inline(never)]
     pub fn begin_call(
         &mut self,
@@ -58,7 +58,7 @@ impl<'a> Control<'a> {
         )
     }
 
-    /// The body of a procedure, whose result a local of the caller gets.
+    /// Begins a call whose result goes to a local of the caller.
     #[inline(never)]
     pub fn begin_call_to(
         &mut self,

@@ -1,4 +1,4 @@
-//! How deep a run is, by its pending pieces. Nothing here changes them.
+//! How many TRAPs of a run are open, by its pending pieces. Nothing here changes the pieces.
 
 ghost use Rattle.std.specs.Prelude.{◌≡◌};
 ghost use Rattle.wb_machine.specs.Depths.{is_trap, open_traps_in};
@@ -6,7 +6,7 @@ ghost use Rattle.wb_machine.specs.Depths.{is_trap, open_traps_in};
 use crate::control::Control;
 use crate::pieces::PendingPiece;
 
-/// Whether a piece is a TRAP of the script; `main`'s own is none.
+/// Whether a piece is a TRAP of the script. `main`'s own TRAP isn't one.
 fn is_trap(piece: &PendingPiece) -> bool
     ensures { result ≡ is_trap piece.now }
 {
@@ -24,7 +24,7 @@ fn is_trap(piece: &PendingPiece) -> bool
 }
 
 impl<'a> Control<'a> {
-    /// How many TRAPs are open, without `main`'s own.
+    /// How many TRAPs are open, not counting `main`'s own.
     pub fn open_traps(&self) -> usize
         ensures { result ≡ open_traps_in self.now.pieces.items }
     {

@@ -32,7 +32,7 @@ use wb_model::memory::NoMemory;
 use wb_model::script::Script;
 
 impl<'a> Control<'a> {
-    /// The destruction of an object; null is nothing.
+    /// Begins to destroy the object that a pointer names. For null there is nothing to do.
     pub fn begin_delete(&mut self, at: Context, ptr: Ptr) -> Result<(), NoMemory>
         requires { self.old.ending ≡ GoesOn }
         ensures kept { OnOk result ((script : Script) (r : Rule) (budget : ℕ) (h : RunState) →
@@ -52,7 +52,7 @@ impl<'a> Control<'a> {
         Ok(())
     }
 
-    /// The destruction of an item that was taken off.
+    /// Begins to destroy an item that was taken off the cleanup stack.
     fn begin_item(
         &mut self,
         script: &'a Script,
@@ -95,7 +95,8 @@ impl<'a> Control<'a> {
         }
     }
 
-    /// A step of the destruction of items: the newest is taken off and destroyed.
+    /// Takes the next step of destroying items: takes off the newest item and begins to destroy it. `left` items, this one included, are
+    /// left to destroy.
     #[inline(never)]
     pub fn step_items(
         &mut self,
@@ -133,8 +134,8 @@ impl<'a> Control<'a> {
         }
     }
 
-    /// The body that a class destroys an object by begins, and then the object is released. WORKBENCH 1 or 2 where the
-    /// pointer names none.
+    /// Begins the `destroy` body of an object's class, after which the object is released. Panics with WORKBENCH 1 if the pointer names no
+    /// live cell, and with WORKBENCH 2 if the cell holds no object.
     #[inline(never)]
     pub fn step_object(
         &mut self,

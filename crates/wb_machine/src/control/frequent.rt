@@ -1,5 +1,6 @@
-//! The beginning of a statement. Those that most steps begin have an arm of their own here: so it is looked at once which one it is, and
-//! not once for its operands, once for what it leaves and once for who carries it out. Any other is left to `heads`.
+//! How a statement begins. The statements that most steps begin have a match arm of their own here: so a step finds out once which
+//! statement it begins, and not once for the operands, once for the pieces that are added and once for the function that carries the
+//! statement out. All other statements are passed on to `heads`.
 
 ghost use Rattle.std.specs.Prelude.{◌≡◌, ℕ, IsOk, IsTrue, OnOk};
 ghost use Rattle.wb_model.specs.language.Sound.{is_script};
@@ -23,7 +24,7 @@ use wb_model::memory::NoMemory;
 use wb_model::script::{Script, Statement};
 
 impl<'a> Control<'a> {
-    /// A statement panics for an operand.
+    /// Ends the run with the panic of an operand.
     #[cold]
     #[inline(never)]
     fn refuse(&mut self, panic: Panic) -> Result<(), NoMemory>
@@ -37,7 +38,7 @@ impl<'a> Control<'a> {
         Ok(())
     }
 
-    /// A statement begins, unless it is refused for an operand.
+    /// Begins a statement, unless one of its operands panics.
     #[inline(always)]
     pub(crate) fn begin_any(
         &mut self,

@@ -1,4 +1,4 @@
-//! What the head of a statement leaves: it is carried out, or leaves pieces.
+//! How each statement begins: a statement that runs no other is carried out, and any other adds pieces that are still to do.
 
 ghost use Rattle.std.specs.Prelude.{◌≡◌, ◌+◌, ◌≤◌, [], ◌∷◌, ℕ, None, length, max, IsOk, IsTrue, OnOk};
 ghost use Rattle.std.specs.List.{list_all};
@@ -33,7 +33,7 @@ use wb_model::memory::NoMemory;
 use wb_model::script::{Condition, Number, Pointer, Script, Statement, StatementAt};
 
 impl<'a> Control<'a> {
-    /// The part of an `if` that its condition chooses, where there is one.
+    /// Begins the part of an `if` that its condition chooses, unless that part is empty.
     #[inline(always)]
     fn begin_if(
         &mut self,
@@ -71,7 +71,7 @@ impl<'a> Control<'a> {
         Ok(())
     }
 
-    /// The turns of a `repeat`, whose number is read once.
+    /// Begins a `repeat`. Its number of turns is read here, once.
     #[inline(never)]
     fn begin_repeat(
         &mut self,
@@ -98,7 +98,7 @@ impl<'a> Control<'a> {
         Ok(())
     }
 
-    /// The body of a TRAP, over the items that are at its entry.
+    /// Begins the body of a TRAP, and records how many items are on the cleanup stack at its entry.
     #[inline(never)]
     fn begin_trap(
         &mut self,
@@ -126,8 +126,8 @@ impl<'a> Control<'a> {
         Ok(())
     }
 
-    /// The destruction of the newest items. As many must be above the entry of the innermost TRAP, which is tested before the
-    /// first is destroyed.
+    /// Begins to destroy the `count` newest items. At least `count` items must be above those at the entry of the innermost TRAP, which is
+    /// tested before the first item is destroyed.
     #[inline(never)]
     fn begin_pop(&mut self, at: Context, count: &Number, state: &State) -> Result<(), NoMemory>
         requires { self.old.ending ≡ GoesOn }
@@ -153,7 +153,8 @@ impl<'a> Control<'a> {
         Ok(())
     }
 
-    /// The body that makes an object. WORKBENCH 1 or 2 where the pointer names none.
+    /// Begins the `construct` body of an object's class. Panics with WORKBENCH 1 if the operand names no live cell, and with WORKBENCH 2 if
+    /// the cell holds no object.
     #[inline(never)]
     fn begin_construct(
         &mut self,
@@ -197,7 +198,7 @@ impl<'a> Control<'a> {
         }
     }
 
-    /// The destruction of the object that an operand names. The operand keeps its pointer.
+    /// Begins to destroy the object that an operand names. The operand keeps its pointer.
     #[inline(never)]
     fn begin_delete_of(
         &mut self,
@@ -221,8 +222,8 @@ impl<'a> Control<'a> {
         self.begin_delete(at, state.pointer(script, *object))
     }
 
-    /// A body begins in a frame of its own, of an object or of none, and then its caller's frame is current again. One frame too
-    /// many is refused.
+    /// Begins a body in a frame of its own. `this` is the object whose body it is, or null. When the body has ended, the caller's frame is
+    /// the innermost again, and `after` follows. Panics with WORKBENCH 7 if `MOST_FRAMES` bodies run already.
     #[inline(always)]
     pub fn begin_body(
         &mut self,
@@ -263,8 +264,8 @@ impl<'a> Control<'a> {
         Ok(())
     }
 
-    /// A statement begins whose operands aren't refused: one with no other inside it is carried out, and of any other its
-    /// pieces are left.
+    /// Begins a statement none of whose operands panics. A statement that runs no other is carried out, and any other adds pieces that are
+    /// still to do.
     #[inline(always)]
     pub fn begin_statement(
         &mut self,
@@ -324,7 +325,8 @@ impl<'a> Control<'a> {
         }
     }
 
-    /// A statement begins, unless it is refused for an operand, which is asked before any cell and any range.
+    /// Begins a statement, unless one of its operands panics. Operands are tested before any cell that the statement uses, and before the
+    /// range of any number.
     #[inline(always)]
     pub fn begin_unless_refused(
         &mut self,

@@ -1,4 +1,4 @@
-//! The turns of a run: one, and all that are left.
+//! Machine turns: one of a run, and all that are left of it.
 
 ghost use Rattle.std.specs.Prelude.{◌≡◌, ◌+◌, ◌<◌, ◌≤◌, ◌&&◌, ℕ, true, false, if◌then◌else◌};
 ghost use Rattle.std.specs.Prelude.{nat_lt, unwrap_or, min, IsOk, IsTrue, OnOk};
@@ -25,7 +25,7 @@ use wb_model::run::Why;
 use wb_model::script::Script;
 
 impl<'a> Control<'a> {
-    /// The run is cut at the budget.
+    /// Cuts the run at the budget.
     pub fn cut(&mut self)
         requires { IsReady self.old.ending self.old.pieces.items }
         ensures kept { (script : Script) (r : Rule) (budget : ℕ) (h : RunState) → h.steps ≡ budget →
@@ -38,9 +38,9 @@ impl<'a> Control<'a> {
         self.ending = Ending::Cut(Why::Budget);
     }
 
-    /// A turn. The first begins the run, and any other takes a step, or cuts the run where the budget is used
-    /// up. Pieces that are done after it are taken off at once. It makes an attempt exactly where one is asked for,
-    /// unless the ceiling cuts the run. Where the rises are kept, a step whose attempt is no rise asks for no memory.
+    /// Takes a machine turn. The first one begins the run; any other takes a step, or cuts the run if the budget is used up. Pieces that
+    /// are done after it are taken off at once. The machine turn makes an attempt exactly if it asks for one, unless the ceiling cuts the
+    /// run. If the run keeps its rises and no trace, a step whose attempt isn't a rise asks for no memory.
     #[inline(always)]
     pub fn turn(
         &mut self,
@@ -94,7 +94,7 @@ impl<'a> Control<'a> {
         Ok(())
     }
 
-    /// Takes turns until the run is over, as `turn` does each.
+    /// Takes machine turns until the run is over, each as `turn` does.
     pub fn take_all_turns(
         &mut self,
         script: &'a Script,

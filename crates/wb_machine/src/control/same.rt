@@ -1,4 +1,5 @@
-//! Pending pieces that are the same but for allocation numbers, and at the same place of the script.
+//! Pending pieces of two runs that are the same except for allocation numbers, at the same place of the script, and what pieces add to a
+//! fingerprint.
 
 ghost use Rattle.std.specs.Prelude.{◌≡◌, ◌+◌, ◌<◌, ◌∷◌, drop, length, true};
 ghost use Rattle.wb_model.specs.runs.SameButNumbers.{AllBeside, IsSamePointer};
@@ -14,7 +15,7 @@ use crate::fingerprint::Fingerprint;
 use crate::pieces::{After, Context, Ending, PendingPiece, first_statement};
 use wb_model::heap::Ptr;
 
-/// Whether the piece above ended plainly.
+/// Whether the piece that was above the pending ones ended plainly.
 fn goes_on(ending: Ending) -> bool
     ensures { result ≡ true → ending ≡ GoesOn }
 {
@@ -42,7 +43,7 @@ fn same_after(names: &mut Names, after: After, other: After) -> bool
     }
 }
 
-/// Whether as many turns are left at the same place.
+/// Whether two `repeat`s have the same context and equally many turns left.
 fn same_turns(at: Context, left: u32, other: Context, other_left: u32) -> bool
     ensures at { result ≡ true → other ≡ at }
     ensures left { result ≡ true → other_left ≡ left }
@@ -50,7 +51,7 @@ fn same_turns(at: Context, left: u32, other: Context, other_left: u32) -> bool
     same_context(at, other) && left == other_left
 }
 
-/// Whether two callers run a body of the same object, and the same follows.
+/// Whether two callers run a body of the same object, and the same follows both calls, except for allocation numbers.
 fn same_caller(
     names: &mut Names,
     this: Ptr,
@@ -68,7 +69,7 @@ fn same_caller(
     same_after(names, after, other_after)
 }
 
-/// Whether two pieces begin with the same statements, or are the same turns of a `repeat`.
+/// Whether two pieces are the same rest of a block, or the same turns of a `repeat`.
 fn same_code(piece: PendingPiece, other: PendingPiece) -> bool
     ensures { result ≡ true → (names : numbers.Names) →
         IsSamePiece names piece.entry other.entry }
@@ -84,7 +85,7 @@ fn same_code(piece: PendingPiece, other: PendingPiece) -> bool
     }
 }
 
-/// Whether two pieces are the same that end a TRAP, or follow its end.
+/// Whether two pieces that end a TRAP, or follow the end of one, are the same.
 fn same_trap(piece: PendingPiece, other: PendingPiece) -> bool
     ensures same { result ≡ true → other.entry ≡ piece.entry }
     ensures trap { result ≡ true → is_of_trap piece.entry ≡ true }
@@ -102,7 +103,7 @@ fn same_trap(piece: PendingPiece, other: PendingPiece) -> bool
     }
 }
 
-/// Whether two pieces are the same but for numbers.
+/// Whether two pieces are the same except for allocation numbers.
 fn same_piece(names: &mut Names, piece: PendingPiece, other: PendingPiece) -> bool
     ensures same { result ≡ true → IsSamePiece names.new.names piece.entry other.entry }
     ensures grown { IsGrown names.old names.new }
@@ -123,7 +124,7 @@ fn same_piece(names: &mut Names, piece: PendingPiece, other: PendingPiece) -> bo
     }
 }
 
-/// The piece at a place.
+/// The piece at this index.
 fn piece_at<'a>(pieces: &[PendingPiece<'a>], at: usize) -> PendingPiece<'a>
     requires { at < length pieces.now }
     ensures { drop at pieces.now ≡ result ∷ drop (at + 1) pieces.now }
@@ -131,7 +132,7 @@ fn piece_at<'a>(pieces: &[PendingPiece<'a>], at: usize) -> PendingPiece<'a>
     pieces[at]
 }
 
-/// Whether all of them are.
+/// Whether there are equally many pieces on both sides, each the same as its counterpart except for allocation numbers.
 fn same_pieces(names: &mut Names, pieces: &[PendingPiece], others: &[PendingPiece]) -> bool
     ensures same { result ≡ true → AllBeside (IsSamePiece names.new.names) pieces.now others.now }
     ensures grown { IsGrown names.old names.new }
@@ -149,7 +150,8 @@ fn same_pieces(names: &mut Names, pieces: &[PendingPiece], others: &[PendingPiec
     true
 }
 
-/// Whether as many turns are left of each `repeat` that is pending, as far as pieces stand beside one another: what is quickly said.
+/// Whether equally many turns are left wherever both sides have a `repeat` at the same index. This is a quick test: it looks at no other
+/// pieces, and ends with the shorter side.
 fn same_turns_left(pieces: &[PendingPiece], others: &[PendingPiece]) -> bool {
     for i in 0..pieces.len().min(others.len()) {
         if let (PendingPiece::Turns(_, left, _), PendingPiece::Turns(_, other_left, _)) = (
@@ -163,7 +165,7 @@ fn same_turns_left(pieces: &[PendingPiece], others: &[PendingPiece]) -> bool {
     true
 }
 
-/// Two numbers of a piece, which are those of each piece that is the same but for allocation numbers.
+/// Two numbers of a piece, for a fingerprint. Pieces that are the same except for allocation numbers have the same two.
 fn numbers_of(piece: &PendingPiece) -> (u32, u32) {
     match piece {
         PendingPiece::Code(_, statements) => match statements.first() {
@@ -182,7 +184,7 @@ fn numbers_of(piece: &PendingPiece) -> (u32, u32) {
 }
 
 impl<'a> Control<'a> {
-    /// What is pending, as all runs have it in common in which it is the same but for allocation numbers.
+    /// Adds the pending pieces to a fingerprint. Two runs whose pieces are the same except for allocation numbers add the same.
     pub fn add_to(&self, print: &mut Fingerprint) {
         for piece in self.pieces.as_slice() {
             let (one, other) = numbers_of(piece);
@@ -190,19 +192,20 @@ impl<'a> Control<'a> {
         }
     }
 
-    /// The line of the statement that begins next; `None` if the piece on top begins with none.
+    /// The script line of the statement that the next step begins; `None` if the piece on top begins with no statement.
     fn next_line(&self) -> Option<u32> {
         let first = first_statement(self.pieces.last()?)?;
         Some(first.line)
     }
 
-    /// Whether another run is at the same line, with as many pieces pending.
+    /// Whether another run has equally many pieces pending, and its next statement is on the same line of the script, or neither run's next
+    /// step begins a statement.
     pub fn is_at_line_of(&self, other: &Control) -> bool {
         self.pieces.len() == other.pieces.len() && self.next_line() == other.next_line()
     }
 
-    /// Whether as much is pending as in another run, by the number of pieces, the line that comes next and the turns that are left, and
-    /// both go on.
+    /// Whether both runs go on, with equally many pieces pending, the next statement on the same line of the script, and equally many turns
+    /// left of each pending `repeat`. This is a quick test, made before all pieces are compared.
     pub fn is_at_place_of(&self, other: &Control) -> bool
         ensures here { result ≡ true → self.now.ending ≡ GoesOn }
         ensures there { result ≡ true → other.now.ending ≡ GoesOn }
@@ -213,7 +216,7 @@ impl<'a> Control<'a> {
             && same_turns_left(self.pieces.as_slice(), other.pieces.as_slice())
     }
 
-    /// Whether what is pending is the same as in another run but for numbers.
+    /// Whether the pending pieces are the same as another run's, except for allocation numbers.
     pub fn is_like(&self, names: &mut Names, other: &Control) -> bool
         ensures same { result ≡ true →
             ArePendingAlike names.new.names self.now.pieces.items other.now.pieces.items }

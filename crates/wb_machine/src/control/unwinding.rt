@@ -1,4 +1,4 @@
-//! What becomes of pieces that are done, and of how the piece above them ended.
+//! What becomes of pieces that are done: each decides how the run goes on, by how the piece above it ended.
 
 ghost use Rattle.std.specs.Prelude.{◌≡◌, ◌+◌, ◌-◌, ◌<◌, ◌≤◌, ◌⊎◌, ◌++◌, ◌∷◌, [], ℕ, List, true, false, length, max};
 ghost use Rattle.std.specs.Prelude.{take, drop, vec_capacity, vec_len, IsOk, IsTrue, OnOk};
@@ -28,7 +28,8 @@ use wb_model::heap::{Panic, Ptr};
 use wb_model::memory::NoMemory;
 
 impl<'a> Control<'a> {
-    /// Whether the piece on top takes how the one above it ended: the run isn't stopped, and no step is to come.
+    /// Whether the piece on top is done: the run isn't stopped, and either the piece has no step left, or the piece above it ended with a
+    /// return or a leave.
     #[inline(always)]
     fn is_done(&self) -> bool
         ensures yes { IsTrue result → (is_stop self.now.ending ≡ false)
@@ -41,14 +42,14 @@ impl<'a> Control<'a> {
     {
         match (self.ending, self.pieces.last()) {
             (_, None) => false,
-            // what most steps leave is asked for by itself
+            // most steps end with a block on top, which has an arm of its own
             (Ending::GoesOn, Some(PendingPiece::Code(_, statements))) => statements.is_empty(),
             (Ending::GoesOn, Some(piece)) => !needs_step(piece),
             (ending, Some(_)) => !ending.is_stop(),
         }
     }
 
-    /// The items above the `entry` first ones are to be destroyed, and a piece is under that.
+    /// Puts two pieces on top: `then`, and above it the destruction of all items but the `entry` oldest ones.
     fn destroy_to(
         &mut self,
         at: Context,
@@ -79,9 +80,9 @@ impl<'a> Control<'a> {
         Ok(())
     }
 
-    /// A TRAP's local gets 0 where its body ended plainly; the items of its entry must be those that are there now. Where it was
-    /// left, the items above those of its entry are to be destroyed, and then the local gets the code. No body returns out
-    /// of one.
+    /// Ends a TRAP. If its body ended plainly, the TRAP's local gets 0; there must be as many items now as at the TRAP's entry, or the run
+    /// panics. If the body was left, the items above those of the entry are to be destroyed, and then the local gets the code of the leave.
+    /// No script returns out of a TRAP.
     #[inline(never)]
     fn unwind_trap(
         &mut self,
@@ -127,7 +128,7 @@ impl<'a> Control<'a> {
         Ok(())
     }
 
-    /// A TRAP's local gets the code of a leave, once the items are destroyed.
+    /// Puts the code of a leave into the TRAP's local, once the items are destroyed.
     fn unwind_caught(&mut self, local: u8, code: i32, state: &mut State)
         requires { is_stop self.old.ending ≡ false }
         ensures kept { (script : Script) (r : Rule) (budget : ℕ) →
@@ -146,8 +147,8 @@ impl<'a> Control<'a> {
         }
     }
 
-    /// `main` ends plainly where its body returned; no item may be left then. Where it was left, all items are to be destroyed,
-    /// and then the leave goes on.
+    /// Ends `main`. If its body ended plainly or returned, no item may be left, or the run panics. If the body was left, all items are to
+    /// be destroyed, and then the leave ends the run.
     #[inline(never)]
     fn unwind_main(&mut self, state: &State) -> Result<(), AllocError>
         requires { is_stop self.old.ending ≡ false }
@@ -183,7 +184,7 @@ impl<'a> Control<'a> {
         Ok(())
     }
 
-    /// `main` is left with a code, once the items are destroyed.
+    /// Ends the run by a leave with this code, once the items are destroyed.
     fn unwind_main_caught(&mut self, code: i32)
         requires { is_stop self.old.ending ≡ false }
         ensures kept { (script : Script) (r : Rule) (budget : ℕ) (h : RunState) →
@@ -201,8 +202,8 @@ impl<'a> Control<'a> {
         }
     }
 
-    /// A body has ended: the caller's frame, which begins at `base` and runs a body of `this`, is the innermost again. Then
-    /// comes what follows; a body that ran out gives null. A leave goes on.
+    /// Ends a body: the caller's frame, which begins at `base` and runs a body of `this`, is the innermost again. Then `after` follows,
+    /// with the pointer that the body returned, or null if it ended without a `return`. If the body was left, the leave goes on instead.
     #[inline(always)]
     fn unwind_call(&mut self, base: usize, this: Ptr, after: After, state: &mut State)
         requires { is_stop self.old.ending ≡ false }
@@ -230,7 +231,7 @@ impl<'a> Control<'a> {
         self.ending = follow(after, result, state);
     }
 
-    /// A piece without a step takes how the one above it ended.
+    /// Handles a piece that was taken off: decides how the run goes on, by how the piece above it ended.
     #[inline(always)]
     fn unwind(&mut self, piece: PendingPiece<'a>, state: &mut State) -> Result<(), AllocError>
         requires stop { is_stop self.old.ending ≡ false }
@@ -269,8 +270,8 @@ impl<'a> Control<'a> {
         Ok(())
     }
 
-    /// Lets each piece without a step take how the one above it ended, until a step is to come or the run is over. What a TRAP makes
-    /// of a leave takes the places of the TRAP and of the piece that was left, so that it asks for no memory.
+    /// Takes off pieces that are done, until the piece on top has a step to take or the run is over. The pieces that a TRAP adds after a
+    /// leave take the room of the TRAP and of the piece that was left, so that they ask for no memory.
     #[inline(always)]
     pub fn settle(&mut self, state: &mut State) -> Result<(), NoMemory>
         ensures kept { OnOk result ((script : Script) (r : Rule) (budget : ℕ) →
@@ -299,7 +300,7 @@ impl<'a> Control<'a> {
     }
 }
 
-/// What follows the end of a body that gave a result, in its caller's frame.
+/// Carries out what follows a body that ended with the result `given`, in the caller's frame. Returns how that ends.
 fn follow(after: After, given: Ptr, state: &mut State) -> Ending
     ensures followed { CarriesOut state.old (followed_effect state.old after given) result
         state.new }

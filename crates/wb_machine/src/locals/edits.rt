@@ -14,9 +14,9 @@ use wb_hbuf::sources::{Edit, Source};
 use wb_model::heap::Panic;
 use wb_text::buf::Buf;
 
-/// Edits of the buffer in a local, where it is. A refusal leaves it as it was.
+/// Edits of the buffer in a local, in place. An edit that panics leaves the buffer as it was.
 impl Locals {
-    /// Changes it by the units of a source. The heap is where the source's cell is.
+    /// Changes the buffer by the units of a source. If the source is a text in a cell, its cell is in `heap`.
     pub fn edit_buffer(
         &mut self,
         index: u8,
@@ -45,7 +45,7 @@ impl Locals {
         }
     }
 
-    /// Takes `count` units from a position on out of it.
+    /// Deletes `count` units of the buffer's text, from `position` on.
     pub fn delete_in_buffer(&mut self, index: u8, position: u32, count: u32) -> Result<(), Panic>
         ensures answer { let b = buffer_in (value_in self.old.locals index) in
             result ≡ answer_of (delete_text b.units position count) }
@@ -62,7 +62,7 @@ impl Locals {
         }
     }
 
-    /// Gives it another length.
+    /// Gives the buffer's text another length, in units.
     pub fn set_buffer_length(&mut self, index: u8, length: u32) -> Result<(), Panic>
         ensures answer { let b = buffer_in (value_in self.old.locals index) in
             result ≡ answer_of (set_length_text b.max b.units length) }
@@ -79,7 +79,7 @@ impl Locals {
         }
     }
 
-    /// What was edited in the place of a buffer goes to its local, unless the edit was refused.
+    /// Puts `buf` into a local that holds no buffer, unless the edit of `buf` was refused. Returns `answer`, which that edit gave.
     fn put_back(&mut self, index: u8, buf: Buf, answer: Result<(), Panic>) -> Result<(), Panic>
         requires { buf.max ≡ max_in (value_in self.old.locals index) }
         ensures answer { result ≡ answer }

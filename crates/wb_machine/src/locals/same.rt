@@ -1,4 +1,4 @@
-//! Locals that are the same but for allocation numbers.
+//! Locals of two runs that are the same except for allocation numbers, and what locals add to a fingerprint.
 
 ghost use Rattle.std.specs.Prelude.{◌≡◌, ◌+◌, ◌<◌, ◌∷◌, drop, length, slice_get, true, IfSome, Some};
 ghost use Rattle.wb_model.specs.runs.SameButNumbers.{AllBeside, IsSameBase, IsSameValue, IsSameView};
@@ -53,14 +53,14 @@ fn same_slot(names: &mut Names, slot: &Slot, other: &Slot) -> bool
     }
 }
 
-/// Whether two buffers have one maximum and hold one text.
+/// Whether two buffers have the same maximum and hold the same text.
 fn same_buffer(buf: &Buf, other: &Buf) -> bool
     ensures { result ≡ true → other.now ≡ buf.now }
 {
     buf.max() == other.max() && buf.units() == other.units()
 }
 
-/// The buffer with an index.
+/// The buffer with this index; `None` if there is none.
 fn buffer_at(buffers: &[Buf], index: BufferIndex) -> Option<&Buf>
     ensures { IfSome result (λ buf. slice_get buffers.now index.at ≡ Some buf.now) }
 {
@@ -90,7 +90,7 @@ fn same_stored(
     }
 }
 
-/// What is stored at a place.
+/// The local that is stored at this index.
 fn slot_at(stored: &[Stored], at: usize) -> &Stored
     requires { at < length stored.now }
     ensures { drop at stored.now ≡ result.now ∷ drop (at + 1) stored.now }
@@ -122,7 +122,7 @@ fn same_slots(
     true
 }
 
-/// The length of a buffer, and its first units.
+/// Adds the length of a buffer and its first units to a fingerprint.
 fn add_buffer(print: &mut Fingerprint, buf: &Buf) {
     print.add(1, buf.length());
     for unit in buf.units().iter().take(MOST_WORDS as usize) {
@@ -130,7 +130,7 @@ fn add_buffer(print: &mut Fingerprint, buf: &Buf) {
     }
 }
 
-/// What a slot has in common with each that is the same but for allocation numbers.
+/// Adds what a slot holds to a fingerprint, without allocation numbers: of a pointer the place, of a view its position and its length.
 fn add_slot(print: &mut Fingerprint, slot: &Slot) {
     match slot {
         Slot::Pointer(ptr) => print.add(3, ptr.place),
@@ -143,7 +143,7 @@ fn add_slot(print: &mut Fingerprint, slot: &Slot) {
     }
 }
 
-/// The same of what a local holds.
+/// Adds what a local holds to a fingerprint, without allocation numbers.
 fn add_stored(print: &mut Fingerprint, stored: &Stored, buffers: &[Buf]) {
     match stored {
         Stored::Small(slot) => add_slot(print, slot),
@@ -156,14 +156,14 @@ fn add_stored(print: &mut Fingerprint, stored: &Stored, buffers: &[Buf]) {
 }
 
 impl Locals {
-    /// The locals of all frames, as all runs have them in common in which they are the same but for allocation numbers.
+    /// Adds the locals of all frames to a fingerprint. Two runs whose locals are the same except for allocation numbers add the same.
     pub fn add_to(&self, print: &mut Fingerprint) {
         for stored in self.slots.as_slice() {
             add_stored(print, stored, self.buffers.as_slice());
         }
     }
 
-    /// Whether the locals of all frames are those of another run but for numbers.
+    /// Whether the locals of all frames are the same as another run's, except for allocation numbers.
     pub fn are_like(&self, names: &mut Names, other: &Locals) -> bool
         ensures callers { result ≡ true → AllBeside (IsSameValue names.new.names)
             self.now.callers other.now.callers }

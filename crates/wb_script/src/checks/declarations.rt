@@ -1,4 +1,4 @@
-//! The script's own space, with tables by which something is found there at once.
+//! The script's own space: what is declared there, with tables that find a declaration without a search.
 
 ghost use Rattle.std.specs.Prelude.{◌≡◌, IfOk, Some, slice_get};
 ghost use Rattle.std.specs.Option.{option_and_then, option_map};
@@ -15,17 +15,17 @@ use std::collections::HashMap;
 use std::marker::Model;
 use wb_model::script_lines::{Form, ItemKind, Referent};
 
-/// What all lines of a script declare in its own space, in order.
+/// The classes, procedures and operations that all lines of a script declare, in order.
 #[derive(Drop)]
 pub(crate) struct Declarations<'a> {
     items: Vec<Declaration<'a>>,
     /// The index of the first declaration of each name.
     named: HashMap<&'a [u8], usize>,
-    /// What each item is, by its index among those of its kind.
+    /// What each item is: its kind, and its index among the items of that kind.
     referents: Vec<Referent>,
-    /// The indexes of the classes.
+    /// The indexes of the classes among all items.
     classes: Vec<usize>,
-    /// The indexes of the procedures.
+    /// The indexes of the procedures among all items.
     procedures: Vec<usize>,
     /// How many operations there are.
     operations: usize,
@@ -45,7 +45,7 @@ impl<'a> Model for Declarations<'a> {
         d.classes.items d.procedures.items d.operations };
 }
 
-/// The item whose index stands at this place of a table.
+/// The item whose index is at this place of a table; `None` if the table has no such place.
 fn item_by<'i, 'a>(
     items: &'i [Declaration<'a>],
     indexes: &[usize],
@@ -70,7 +70,7 @@ fn referent_by(referents: &[Referent], index: usize) -> Option<Referent>
 }
 
 impl<'a> Declarations<'a> {
-    /// What all these lines declare there.
+    /// What all these lines declare in the script's own space.
     pub(crate) fn of(
         alloc: Global,
         forms: &[Form<&'a [u8]>],
@@ -99,7 +99,7 @@ impl<'a> Declarations<'a> {
         self.items.as_slice()
     }
 
-    /// The index of the first declaration of a name.
+    /// The index of the first declaration of a name; `None` if the name isn't declared.
     pub(crate) fn place_of(&self, name: &[u8]) -> Option<usize>
         ensures { result ≡ first_declaration_of (names_of (bytes_of_items self.now)) name.now }
     {
@@ -109,7 +109,7 @@ impl<'a> Declarations<'a> {
         }
     }
 
-    /// The item with an index, by its index among those of its kind.
+    /// What the item with an index is: its kind, and its index among the items of that kind; `Nothing` if there is no such item.
     #[tactic(auto, using(crate::proofs::names::Tables::referent_here))]
     pub(crate) fn referent_at(&self, index: usize) -> Referent
         ensures { result ≡ item_at (bytes_of_items self.now) (Some index) }

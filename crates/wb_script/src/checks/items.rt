@@ -1,4 +1,4 @@
-//! The script's own space: what all its lines declare there.
+//! The script's own space: the classes, procedures and operations that all lines of a script declare.
 
 ghost use Rattle.std.specs.Prelude.{◌≡◌, IfOk, OnOk, ◌++◌, map};
 ghost use Rattle.std.specs.List.{flat_map};
@@ -27,7 +27,7 @@ pub(crate) struct Declaration<'a> {
     pub fields: Items<&'a [u8]>,
 }
 
-/// What the parameters among operands take.
+/// What the parameters among the operands take.
 fn parameters_among<'a>(
     alloc: Global,
     operands: &[Operand<&'a [u8]>],
@@ -42,7 +42,7 @@ fn parameters_among<'a>(
     Ok(found)
 }
 
-/// What the parameters take that a line declares.
+/// What the parameters that a line declares take.
 fn parameters_in<'a>(
     alloc: Global,
     form: &Form<&'a [u8]>,
@@ -56,7 +56,7 @@ fn parameters_in<'a>(
     }
 }
 
-/// The fields of a class whose first line these follow.
+/// The names of the fields of a class, from the lines that follow the first line of the class.
 fn following_fields<'a>(
     alloc: Global,
     forms: &[Form<&'a [u8]>],
@@ -75,7 +75,7 @@ fn following_fields<'a>(
     Ok(found)
 }
 
-/// The fields of something of a kind whose first line these follow: only a class has some.
+/// The names of the fields of an item of this kind, from the lines that follow the first line of the item. Only a class has fields.
 fn fields_in_item<'a>(
     alloc: Global,
     kind: ItemKind,
@@ -90,7 +90,7 @@ fn fields_in_item<'a>(
     }
 }
 
-/// What a line declares in the script's own space, by its kind and its name, where these lines follow.
+/// The declaration in the script's own space that a line makes, with this kind and name. `following` are all lines after the line.
 fn declaration_of<'a>(
     alloc: Global,
     form: &Form<&'a [u8]>,
@@ -111,7 +111,7 @@ fn declaration_of<'a>(
     })
 }
 
-/// Adds what a line declares in the script's own space, where these lines follow.
+/// Appends what a line declares in the script's own space, if it declares something there. `following` are all lines after the line.
 fn add_items<'a>(
     alloc: Global,
     items: &mut Vec<Declaration<'a>>,
@@ -131,7 +131,7 @@ fn add_items<'a>(
     }
 }
 
-/// The script's own space, from all its lines.
+/// All declarations in the script's own space, from all lines of the script.
 pub(crate) fn items_of<'a>(
     alloc: Global,
     forms: &[Form<&'a [u8]>],
@@ -156,7 +156,7 @@ pub(crate) fn is_same_kind(kind: ItemKind, other: ItemKind) -> bool
     }
 }
 
-/// How many of a kind are among items.
+/// How many of the items are of this kind.
 pub(crate) fn count_among(kind: ItemKind, items: &[Declaration]) -> usize
     ensures { result ≡ count_among kind (bytes_of_items items.now) }
 {

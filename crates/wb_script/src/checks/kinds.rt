@@ -1,4 +1,4 @@
-//! Which operands are of the kinds that their lines take.
+//! Whether operands are of the kinds that their lines take, and whether `main` is declared, and `return` used, as they may be.
 
 ghost use Rattle.std.specs.Prelude.{◌≡◌, length, map, not};
 ghost use Rattle.std.specs.List.{flat_map, list_any};
@@ -33,7 +33,7 @@ fn is_right(operand_place: OperandPlace, operand: &Operand<Referent>) -> bool
     takes(operand_place, operand_kind_of(operand))
 }
 
-/// Whether the words after a line kind are all right.
+/// Whether all operands of a line are right in their operand places.
 fn are_right(line_kind: LineKind, operands: &[Operand<Referent>]) -> bool
     ensures { result ≡ are_right (operand_places_for line_kind (length operands.now)) operands.now }
 {
@@ -55,7 +55,7 @@ fn is_pointer(operand: &Operand<Referent>) -> bool
     is_pointer_kind(operand_kind_of(operand))
 }
 
-/// Whether the two sides of a `set` are of one kind.
+/// Whether a `set` has pointers on both sides or on neither; true of lines that are no `set` of a local.
 fn sides_agree(line_kind: LineKind, operands: &[Operand<Referent>]) -> bool
     ensures { result ≡ sides_agree line_kind operands.now }
 {
@@ -68,7 +68,7 @@ fn sides_agree(line_kind: LineKind, operands: &[Operand<Referent>]) -> bool
     }
 }
 
-/// Whether an argument is of the kind that a parameter wants: a pointer may be of any class.
+/// Whether an argument is of the kind that a parameter takes: a pointer may be of any class.
 fn is_given(parameter: ParameterType<&[u8]>, operand: &Operand<Referent>) -> bool
     ensures { result ≡ is_given (renamed_parameter_type bytes_of_text parameter.entry) operand.now }
 {
@@ -81,7 +81,7 @@ fn is_given(parameter: ParameterType<&[u8]>, operand: &Operand<Referent>) -> boo
     }
 }
 
-/// Whether there is one for each parameter.
+/// Whether there is one argument for each parameter, of the kind that the parameter takes.
 fn are_given(parameters: &[ParameterType<&[u8]>], operands: &[Operand<Referent>]) -> bool
     ensures { result
         ≡ are_given (map (renamed_parameter_type bytes_of_text) parameters.now) operands.now }
@@ -97,7 +97,8 @@ fn are_given(parameters: &[ParameterType<&[u8]>], operands: &[Operand<Referent>]
     true
 }
 
-/// Whether a procedure is there with what it takes.
+/// Whether a procedure's name, the first of these operands, is followed by the arguments that the procedure takes; true if the first
+/// operand isn't the name of a procedure.
 fn call_agrees(items: &Declarations, operands: &[Operand<Referent>]) -> bool
     ensures { result ≡ call_agrees (bytes_of_items items.now) operands.now }
 {
@@ -112,7 +113,7 @@ fn call_agrees(items: &Declarations, operands: &[Operand<Referent>]) -> bool
     }
 }
 
-/// Whether a call gives what the procedure takes.
+/// Whether a call's arguments are as many as the procedure's parameters, each of its kind; true of lines that are no call.
 fn arguments_agree(
     items: &Declarations,
     line_kind: LineKind,
@@ -130,7 +131,7 @@ fn arguments_agree(
     }
 }
 
-/// Whether all operands of a line are of the kinds that it takes.
+/// Whether all operands of a line are of the kinds that the line takes, both sides of a `set` and the arguments of a call included.
 pub(crate) fn is_right_line(items: &Declarations, line: ResolvedLine) -> bool
     ensures { result ≡ is_right_line (bytes_of_items items.now) (form_of line.entry) }
 {
@@ -165,7 +166,7 @@ fn misuses_main(form: &Form<&[u8]>) -> bool
     }
 }
 
-/// Whether a parameter is among operands.
+/// Whether one of the operands declares a parameter.
 fn has_parameter(operands: &[Operand<&[u8]>]) -> bool
     ensures { not result
         ≡ is_nothing (flat_map parameter_type_of (bytes_of_operands operands.now)) }
@@ -190,14 +191,14 @@ fn ends_body(line_kind: LineKind) -> bool
     matches!(line_kind, LineKind::Return | LineKind::ReturnPointer)
 }
 
-/// Whether one of these blocks is a TRAP's.
+/// Whether one of these blocks is a `trap`.
 fn any_trap(blocks: &[LineKind]) -> bool
     ensures { result ≡ list_any is_trap blocks.now }
 {
     blocks.iter().any(|line_kind| is_trap(*line_kind))
 }
 
-/// Whether a line is a `return` inside a TRAP.
+/// Whether a line is a `return` inside a `trap`.
 fn returns_in_trap(known: &NamesSoFar, form: &Form<&[u8]>) -> bool
     ensures { result ≡ returns_in_trap (known_in known.now) (bytes_of_form form.now) }
 {
@@ -229,7 +230,7 @@ fn returns_outside(known: &NamesSoFar, form: &Form<&[u8]>) -> bool
     }
 }
 
-/// Whether a line has an operand of another kind than it takes, or has no place where it is.
+/// Whether a line has an operand or an argument of a wrong kind, misuses `main`, or returns where it may not.
 pub(crate) fn has_wrong_kind(
     items: &Declarations,
     known: &NamesSoFar,

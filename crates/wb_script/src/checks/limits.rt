@@ -1,4 +1,4 @@
-//! The limits of names and declarations.
+//! The limits of names, declarations and blocks.
 
 ghost use Rattle.std.specs.Prelude.{◌≡◌, length};
 ghost use Rattle.std.specs.List.{flat_map, list_any};
@@ -31,7 +31,7 @@ fn has_long_class(parameter_type: ParameterType<&[u8]>) -> bool
     }
 }
 
-/// Whether a name of an operand is too long: each half of a field or of a parameter by itself.
+/// Whether a name in an operand is too long. Both names of a field count, and so do both names of a parameter with a class.
 fn is_long(operand: &Operand<&[u8]>) -> bool
     ensures { result ≡ is_long (bytes_of_operand operand.now) }
 {
@@ -55,7 +55,7 @@ fn any_long(operands: &[Operand<&[u8]>]) -> bool
     false
 }
 
-/// Whether a line has a longer name than names may be.
+/// Whether a line has a name that is longer than names may be.
 fn has_long_name(form: &Form<&[u8]>) -> bool
     ensures { result ≡ has_long_name (bytes_of_form form.now) }
 {
@@ -65,7 +65,7 @@ fn has_long_name(form: &Form<&[u8]>) -> bool
     }
 }
 
-/// Whether the second of two words is a size, and larger than this.
+/// Whether the second of two operands is a size, and larger than `most`.
 fn is_size_above(most: u32, operands: &[Operand<&[u8]>]) -> bool
     ensures { result ≡ is_size_above most (bytes_of_operands operands.now) }
 {
@@ -75,7 +75,8 @@ fn is_size_above(most: u32, operands: &[Operand<&[u8]>]) -> bool
     }
 }
 
-/// Whether a line declares a text with a larger maximum than texts may have, or a class with more extra bytes.
+/// Whether a line declares a buffer with a larger maximum than buffers may have, or begins a class with more extra bytes than classes may
+/// have.
 fn is_large(form: &Form<&[u8]>) -> bool
     ensures { result ≡ is_large (bytes_of_form form.now) }
 {
@@ -86,7 +87,7 @@ fn is_large(form: &Form<&[u8]>) -> bool
     }
 }
 
-/// How many parameters are among operands.
+/// How many of the operands declare parameters.
 fn parameter_count(operands: &[Operand<&[u8]>]) -> usize
     ensures { result ≡ length (flat_map parameter_type_of (bytes_of_operands operands.now)) }
 {
@@ -111,7 +112,7 @@ fn has_more_parameters(form: &Form<&[u8]>) -> bool
     }
 }
 
-/// Whether a line of this role declares or begins one more than there may be.
+/// Whether a line with this role declares or begins one thing more than there may be.
 fn is_one_more(role: Role, known: &NamesSoFar) -> bool
     requires { IsFew known.now }
     ensures { result ≡ is_one_more role (known_in known.now) }

@@ -1,4 +1,4 @@
-//! What the lines of a script declare.
+//! What the lines of a script declare up to some line.
 
 ghost use Rattle.std.specs.Prelude.{◌≡◌, ◌+◌, ◌≤◌, [], ◌++◌, length, map, OnOk};
 ghost use Rattle.std.specs.Option.{option_map, option_to_list};
@@ -29,7 +29,7 @@ fn literal_text<'a>(operand: &Operand<&'a [u8]>) -> Option<&'a [u8]>
     }
 }
 
-/// Appends the literals among operands.
+/// Appends the texts of the literals among the operands.
 fn add_literals<'a>(
     literals: &mut Vec<&'a [u8]>,
     operands: &[Operand<&'a [u8]>],
@@ -44,9 +44,8 @@ fn add_literals<'a>(
     Ok(())
 }
 
-/// What is before a line: how many classes, procedures and operations of the script's own space, the fields of the class
-/// begun last, the literals, the locals of the body that is open or was the last, its parameters first, each with what it holds,
-/// and the line kinds of the blocks that are open.
+/// What the lines before a line declare: how many classes, procedures and operations; the fields of the class begun last; the literals; the
+/// locals of the body begun last, its parameters first, each with what it holds; and the line kinds of the open blocks.
 #[derive(Drop)]
 pub(crate) struct NamesSoFar<'a> {
     pub classes: usize,
@@ -54,7 +53,7 @@ pub(crate) struct NamesSoFar<'a> {
     pub operations: usize,
     pub fields: Vec<&'a [u8]>,
     pub literals: Vec<&'a [u8]>,
-    /// What the body is of that is open or was the last.
+    /// The kind of the body that was begun last.
     pub body: BodyKind,
     pub locals: Vec<&'a [u8]>,
     pub kinds: Vec<LocalKind<&'a [u8]>>,
@@ -79,7 +78,7 @@ impl<'a> NamesSoFar<'a> {
         }
     }
 
-    /// Takes in the parameters among operands.
+    /// Adds the parameters among the operands to the locals.
     fn add_parameters(&mut self, operands: &[Operand<&'a [u8]>]) -> Result<(), AllocError>
         ensures names { OnOk result (bytes_of_texts self.new.locals.items
             ≡ bytes_of_texts self.old.locals.items
@@ -120,7 +119,7 @@ impl<'a> NamesSoFar<'a> {
         self.classes + self.bodies_before()
     }
 
-    /// Counts the class, the procedure or the operation that a line begins, and takes in what the body is of.
+    /// Counts the class, the procedure or the operation that a line begins, if it begins one.
     fn add_item(&mut self, form: &Form<&'a [u8]>)
         requires { IsFew self.now }
         ensures known { known_in self.new ≡ record (known_in self.old) {
@@ -142,7 +141,7 @@ impl<'a> NamesSoFar<'a> {
         }
     }
 
-    /// Takes in what the body is of that a line begins.
+    /// Notes the kind of the body that a line begins, if it begins one.
     fn add_body(&mut self, form: &Form<&'a [u8]>)
         ensures known { known_in self.new ≡ record (known_in self.old) {
           body = body_after (body_in (bytes_of_form form.now)) (known_in self.old).body;
@@ -155,7 +154,7 @@ impl<'a> NamesSoFar<'a> {
         }
     }
 
-    /// No block is open where something begins.
+    /// Removes all blocks: none is open where a class or a body begins.
     fn close_blocks(&mut self)
         ensures known { known_in self.new ≡ record (known_in self.old) { blocks = [] } }
         ensures items { AreSameItems self.old self.new }
@@ -166,7 +165,7 @@ impl<'a> NamesSoFar<'a> {
         self.blocks.clear();
     }
 
-    /// Begins a class: it has no fields, and no block is open.
+    /// Begins a class, without fields and with no block open.
     fn begin_class(&mut self)
         ensures known { known_in self.new
             ≡ record (known_in self.old) { fields = []; blocks = [] } }
@@ -176,7 +175,7 @@ impl<'a> NamesSoFar<'a> {
         self.close_blocks();
     }
 
-    /// Takes in the field that a line declares.
+    /// Adds the field that a line declares.
     fn add_field(&mut self, form: &Form<&'a [u8]>) -> Result<(), AllocError>
         ensures known { OnOk result (known_in self.new ≡ record (known_in self.old) {
           fields = (known_in self.old).fields ++ first_name (bytes_of_form form.now);
@@ -186,7 +185,7 @@ impl<'a> NamesSoFar<'a> {
         add_some(&mut self.fields, first_name(form))
     }
 
-    /// Begins a body without locals, where no block is open.
+    /// Begins a body, without locals and with no block open.
     fn begin_body(&mut self)
         ensures known { known_in self.new
             ≡ record (known_in self.old) { locals = []; kinds = []; blocks = [] } }
@@ -216,7 +215,7 @@ impl<'a> NamesSoFar<'a> {
         }
     }
 
-    /// Takes in the locals of one more line.
+    /// Adds the local that a line declares.
     fn add_local(&mut self, form: &Form<&'a [u8]>) -> Result<(), AllocError>
         ensures names { OnOk result (bytes_of_texts self.new.locals.items
             ≡ bytes_of_texts self.old.locals.items ++ first_name (bytes_of_form form.now)) }
@@ -231,7 +230,7 @@ impl<'a> NamesSoFar<'a> {
         add_some(&mut self.kinds, local_kind_in(form))
     }
 
-    /// Takes in the block that a line begins.
+    /// Adds the block that a line begins.
     fn add_block(&mut self, form: &Form<&'a [u8]>) -> Result<(), AllocError>
         ensures blocks { OnOk result (self.new.blocks.items
             ≡ self.old.blocks.items ++ line_kind_in form.now) }
@@ -246,7 +245,7 @@ impl<'a> NamesSoFar<'a> {
         }
     }
 
-    /// Takes in the literals of one more line.
+    /// Adds the literals of one more line.
     fn add_literals(&mut self, form: &Form<&'a [u8]>) -> Result<(), AllocError>
         ensures literals { OnOk result (bytes_of_texts self.new.literals.items
             ≡ bytes_of_texts self.old.literals.items ++ literals_in (bytes_of_form form.now)) }
@@ -260,7 +259,7 @@ impl<'a> NamesSoFar<'a> {
         }
     }
 
-    /// Takes in the fields, the locals and the blocks of one more line, by its role.
+    /// Brings the fields, the locals and the open blocks up to date with one more line, by the role of the line.
     fn add_of_role(&mut self, role: Role, form: &Form<&'a [u8]>) -> Result<(), AllocError>
         ensures known { OnOk result (known_in self.new ≡ record (known_in self.old) {
           fields = fields_after role (bytes_of_form form.now) (known_in self.old).fields;
@@ -291,7 +290,7 @@ impl<'a> NamesSoFar<'a> {
         }
     }
 
-    /// Takes in one more line.
+    /// Adds what one more line declares and begins.
     pub(crate) fn add_line(&mut self, form: &Form<&'a [u8]>) -> Result<(), AllocError>
         requires { IsFew self.now }
         ensures known { OnOk result (known_in self.new

@@ -26,7 +26,7 @@ use wb_model::script_lines::{
     BodyKind, LineKind, LocalKind, Operand, OperandPlace, ParameterType, Referent,
 };
 
-/// What the local with an index holds.
+/// What the local with an index holds; `None` if there is no such local.
 fn kind_at<'a>(kinds: &[LocalKind<&'a [u8]>], index: usize) -> Option<LocalKind<&'a [u8]>>
     ensures { option_map bytes_of_kind result ≡ slice_get (map bytes_of_kind kinds.now) index }
 {
@@ -48,7 +48,7 @@ fn local_referent(index: usize, kind: Option<LocalKind<&[u8]>>) -> Referent
     }
 }
 
-/// What a name stands for that is used among these locals.
+/// What a name stands for among the locals declared so far.
 fn used_referent(known: &NamesSoFar, name: &[u8]) -> Referent
     ensures { result ≡ referent_at (known_in known.now).kinds
         (first_declaration_of (known_in known.now).locals name.now) }
@@ -82,7 +82,7 @@ fn this_referent(body: BodyKind) -> Referent
     }
 }
 
-/// What a name stands for in the space of the body.
+/// What a name stands for in the space of the body: `self`, a local, or nothing.
 fn own_referent(known: &NamesSoFar, name: &[u8]) -> Referent
     ensures { result ≡ own_referent (known_in known.now) name.now }
 {
@@ -112,14 +112,14 @@ fn class_in(referent: Referent) -> Option<usize>
     }
 }
 
-/// The class with a name, where it is one's.
+/// The index of the class with a name; `None` if the name isn't that of a class.
 fn class_named(items: &Declarations, name: &[u8]) -> Option<usize>
     ensures { result ≡ class_named (bytes_of_items items.now) name.now }
 {
     class_in(item_referent(items, name))
 }
 
-/// The class that a local of a kind is declared with.
+/// The class with which a local of this kind is declared; `None` if it has no class.
 fn class_of_kind(items: &Declarations, kind: Option<LocalKind<&[u8]>>) -> Option<usize>
     ensures { result
         ≡ class_of_kind (bytes_of_items items.now) (option_map bytes_of_kind kind.entry) }
@@ -130,7 +130,7 @@ fn class_of_kind(items: &Declarations, kind: Option<LocalKind<&[u8]>>) -> Option
     }
 }
 
-/// The class that a local with a name is declared with.
+/// The class with which the local with this name is declared; `None` if it has no class, or there is no such local.
 fn class_of_local(items: &Declarations, known: &NamesSoFar, name: &[u8]) -> Option<usize>
     ensures { result ≡ class_of_local (bytes_of_items items.now) (known_in known.now).kinds
         (first_declaration_of (known_in known.now).locals name.now) }
@@ -141,7 +141,7 @@ fn class_of_local(items: &Declarations, known: &NamesSoFar, name: &[u8]) -> Opti
     }
 }
 
-/// The class of `self`: the one begun last.
+/// The class of `self`, which is the class begun last; `None` outside of `construct` and `destroy`.
 fn class_of_this(known: &NamesSoFar) -> Option<usize>
     ensures { result ≡ class_of_this (known_in known.now) }
 {
@@ -152,7 +152,7 @@ fn class_of_this(known: &NamesSoFar) -> Option<usize>
     }
 }
 
-/// The class that what holds a pointer is declared with.
+/// The class of `self` or of the local with this name; `None` if it has no class.
 fn class_of_base(items: &Declarations, known: &NamesSoFar, name: &[u8]) -> Option<usize>
     ensures { result ≡ class_of_base (bytes_of_items items.now) (known_in known.now) name.now }
 {
@@ -172,7 +172,8 @@ fn field_at(class: usize, index: Option<usize>) -> Referent
     }
 }
 
-/// What a field stands for, by the class of what is before its dot.
+/// What the name of a field stands for, by the class of what is before the dot: `Classless` if that has no class, and `Nothing` if the
+/// class has no such field.
 fn field_referent(items: &Declarations, class: Option<usize>, name: &[u8]) -> Referent
     ensures { result ≡ field_referent (bytes_of_items items.now) class name.now }
 {
@@ -185,7 +186,7 @@ fn field_referent(items: &Declarations, class: Option<usize>, name: &[u8]) -> Re
     }
 }
 
-/// How many of its kind are before what a line of a line kind declares.
+/// The index of the name that a line of this kind declares: how many names of the same sort the earlier lines declare.
 fn names_before(line_kind: LineKind, known: &NamesSoFar) -> usize
     ensures { result ≡ names_before line_kind (known_in known.now) }
 {
@@ -269,7 +270,7 @@ fn resolved_operand(
     }
 }
 
-/// Adds what the operands of a line stand for, by the script's own space and what is before the line.
+/// Appends the operands of a line, with what their names stand for in the script's own space and among what the earlier lines declare.
 pub(crate) fn add_operands(
     found: &mut Vec<Operand<Referent>>,
     items: &Declarations,

@@ -1,5 +1,5 @@
-//! All lines of a script with what their names and literals stand for. The operands of all of them are in one list, so that
-//! a line needs no allocation of its own. What a name stands for is found in `resolved`.
+//! All lines of a script with what their names and literals stand for. The operands of all lines are in one list, so that a line needs no
+//! allocation of its own. What a name stands for is found out in `resolved`.
 
 ghost use Rattle.std.specs.Prelude.{◌≡◌, ◌<◌, ◌≤◌, ◌++◌, [], ◌∷◌, List, drop, length, take, IfOk, OnErr, OnOk};
 ghost use Rattle.wb_model.specs.declared.script_lines.Form as model;
@@ -18,7 +18,7 @@ use std::marker::Model;
 use wb_lines::lists::add;
 use wb_model::script_lines::{Form, LineKind, Operand, Referent};
 
-/// A line as it is lent, with its operands.
+/// A line with its operands, which it borrows.
 #[derive(Clone, Copy)]
 pub(crate) enum ResolvedLine<'a> {
     Skip,
@@ -31,7 +31,7 @@ pub(crate) enum ResolvedLine<'a> {
 pub(crate) enum Row {
     Skip,
     Unknown,
-    /// With how many operands the line has.
+    /// A line kind, and how many operands the line has.
     Line(LineKind, usize),
 }
 
@@ -57,7 +57,7 @@ impl Row {
         }
     }
 
-    /// The line, whose operands are the first of these, and the other operands.
+    /// The line of this row, which takes its operands from the front of these, and the operands that are left.
     pub(crate) fn split<'a>(
         self,
         operands: &'a [Operand<Referent>],
@@ -120,7 +120,7 @@ impl Model for ResolvedLines {
 }
 
 impl ResolvedLines {
-    /// No lines, with room for so many rows.
+    /// No lines, with room for `count` rows.
     pub(crate) fn with_capacity(alloc: Global, count: usize) -> Result<ResolvedLines, AllocError>
         ensures { IfOk result (λ lines. lines ≡ []) }
     {
@@ -138,7 +138,8 @@ impl ResolvedLines {
         self.rows.len()
     }
 
-    /// Adds one more line, by the script's own space and what is before it. Where memory runs out, no line is left.
+    /// Adds one more line, with what its names stand for in the script's own space and among what the earlier lines declare. If memory runs
+    /// out, all lines are removed.
     pub(crate) fn add(
         &mut self,
         items: &Declarations,
@@ -171,7 +172,7 @@ impl ResolvedLines {
         row.line_with(&self.operands[first..])
     }
 
-    /// The rows of all lines, and the operands of all.
+    /// The rows of all lines, and the operands of all lines.
     pub(crate) fn parts(&self) -> (&[Row], &[Operand<Referent>])
         ensures lines { lines_of_rows result.0.now result.1.now ≡ self.now }
         ensures counts { counted_in result.0.now ≡ length result.1.now }

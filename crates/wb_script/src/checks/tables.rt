@@ -1,4 +1,4 @@
-//! The tables by which something of the script's own space is found at once, made of all its items.
+//! The tables that find a declaration of the script's own space without a search, made from all its items.
 
 ghost use Rattle.std.specs.Prelude.{◌≡◌, ◌+◌, ◌<◌, ◌^◌, IfOk};
 ghost use Rattle.wb_script.specs.BytesOf.{bytes_of_items};
@@ -10,7 +10,7 @@ use std::collections::HashMap;
 use wb_lines::lists::add;
 use wb_model::script_lines::{ItemKind, Referent};
 
-/// How many of each kind are before an item.
+/// How many items of each kind come before an item.
 #[derive(Clone, Copy)]
 pub(crate) struct Counts {
     pub classes: usize,
@@ -19,7 +19,7 @@ pub(crate) struct Counts {
 }
 
 impl Counts {
-    /// What the next item of a kind is.
+    /// What the next item is, if it is of this kind: the kind, and its index among the items of that kind.
     fn next(self, kind: ItemKind) -> Referent
         ensures { result ≡ next_referent self kind }
     {
@@ -30,7 +30,7 @@ impl Counts {
         }
     }
 
-    /// With one more of a kind.
+    /// The counts with one more item of this kind.
     fn with_next(self, kind: ItemKind) -> Counts
         requires { self.classes + self.procedures + self.operations + 1 < 2 ^ 64 }
         ensures { result ≡ with_next self kind }
@@ -45,7 +45,7 @@ impl Counts {
     }
 }
 
-/// What each item is, by its index among those of its kind.
+/// What each item is: its kind, and its index among the items of that kind.
 pub(crate) fn referents_of(
     alloc: Global,
     items: &[Declaration],
@@ -66,7 +66,7 @@ pub(crate) fn referents_of(
     Ok(found)
 }
 
-/// The indexes of those of a kind.
+/// The indexes of the items of this kind.
 pub(crate) fn indexes_of(
     alloc: Global,
     kind: ItemKind,
@@ -83,7 +83,8 @@ pub(crate) fn indexes_of(
     Ok(found)
 }
 
-/// Each name with the index of its first declaration. From the last item on, so that the first with a name is put in last.
+/// Each name with the index of its first declaration. Items are put in from the last to the first, so that of those with one name the first
+/// is put in last and stays.
 pub(crate) fn names_of<'a>(
     alloc: Global,
     items: &[Declaration<'a>],

@@ -19,7 +19,7 @@ pub(crate) enum Head {
     Trap(u8),
 }
 
-/// A block that is open: the statements before it in what is around it, the number of its line, from 1, and what it
+/// A block that is open: the statements before it in the block or body around it, the number of its first line, counted from 1, and what it
 /// began with.
 #[derive(Drop)]
 pub(crate) struct OpenBlock {
@@ -28,14 +28,14 @@ pub(crate) struct OpenBlock {
     pub head: Head,
 }
 
-/// The open blocks, outermost first, and the statements so far in the innermost, or in the body where no block is open.
+/// The open blocks, outermost first, and the statements so far in the innermost block, or in the body if no block is open.
 #[derive(Drop)]
 pub(crate) struct BlockStack {
     pub blocks: Items<OpenBlock>,
     pub statements: Items<StatementAt>,
 }
 
-/// A block is or is no TRAP.
+/// Whether a block is a `trap`.
 fn is_trap_block(block: &OpenBlock) -> bool
     ensures { result ≡ is_trap (head_line_kind block.now.head) }
 {
@@ -45,7 +45,7 @@ fn is_trap_block(block: &OpenBlock) -> bool
     }
 }
 
-/// One of these blocks is a TRAP.
+/// Whether one of these blocks is a `trap`.
 pub(crate) fn has_trap(blocks: &[OpenBlock]) -> bool
     ensures { result ≡ list_any is_trap (line_kinds_of_blocks blocks.now) }
 {
@@ -57,7 +57,8 @@ pub(crate) fn has_trap(blocks: &[OpenBlock]) -> bool
     false
 }
 
-/// The statement that a block is, whose innermost statements are these.
+/// The statement that a block with this head becomes when it ends. `statements` are those in it; of an `if` with an `else`, those after the
+/// `else`.
 fn statement_of_block(head: Head, statements: Items<StatementAt>) -> Statement
     ensures { IsWhole head statements result }
 {
@@ -69,7 +70,7 @@ fn statement_of_block(head: Head, statements: Items<StatementAt>) -> Statement
     }
 }
 
-/// A block begins.
+/// The blocks and statements after the first line of a block.
 pub(crate) fn enter_block(
     alloc: Global,
     block_stack: BlockStack,
@@ -94,7 +95,7 @@ pub(crate) fn enter_block(
     })
 }
 
-/// The `else` of the innermost block; `None` if that is no `if`, or has one.
+/// The blocks and statements after an `else`; `None` if the innermost block is no `if`, or has an `else` already.
 pub(crate) fn turn_to_else(
     alloc: Global,
     block_stack: BlockStack,
@@ -121,16 +122,16 @@ pub(crate) fn turn_to_else(
     }
 }
 
-/// What the end of a block, or of a body, leaves.
+/// What is there after an `end`.
 #[derive(Drop)]
 pub(crate) enum Enclosing {
-    /// The innermost block is a statement of what is around it.
+    /// The innermost block has ended: it is a statement of the block or body around it.
     Block(BlockStack),
-    /// No block was open: these are the statements of the body.
+    /// No block was open, so the body has ended: these are the statements of the body.
     Body(Items<StatementAt>),
 }
 
-/// The end of the innermost block, or of the body.
+/// Ends the innermost block, or the body if no block is open.
 pub(crate) fn end_block(block_stack: BlockStack) -> Result<Enclosing, AllocError>
     ensures { IfOk result (IsClosed block_stack) }
 {

@@ -1,4 +1,4 @@
-//! A body that is open, line by line up to its end.
+//! Builds an open body, line by line up to its end.
 
 ghost use Rattle.std.specs.Prelude.{◌≡◌, ◌≤◌, ◌++◌, ◌∷◌, [], length, IfOk, IsTrue, OnOk};
 ghost use Rattle.wb_model.specs.declared.script_lines.Role.TheVariants as role;
@@ -23,8 +23,8 @@ use wb_model::limits::{DEEPEST_BLOCK, MOST_LOCALS};
 use wb_model::script::{Body, Local, Parameter, Statement, StatementAt};
 use wb_model::script_lines::{LineKind, Operand, Referent};
 
-/// A body whose end hasn't come: its parameters, the class of `self` in the body of a class, the locals that it declares, all
-/// its locals, of which the parameters are the first, and its statements.
+/// A body whose end hasn't been read: its parameters; the class of `self`, if it is a body of a class; the locals that its declarations
+/// declare; its scope, which is the parameters and then these locals; and its open blocks with the statements so far.
 #[derive(Drop)]
 pub(crate) struct OpenBody {
     pub parameters: Items<Parameter>,
@@ -34,11 +34,11 @@ pub(crate) struct OpenBody {
     pub block_stack: BlockStack,
 }
 
-/// What a line of an open body leaves.
+/// What an open body is after one more line.
 #[derive(Drop)]
 pub(crate) enum BodyProgress {
     Inside(OpenBody),
-    /// The whole body, with its parameters.
+    /// The line ended the body: its parameters, and the whole body.
     Done(Items<Parameter>, Body),
 }
 
@@ -56,7 +56,7 @@ fn scope_of<'a>(space: Space<'a>, body: &'a OpenBody) -> Scope<'a>
     }
 }
 
-/// The local that a line declares as the next of a body; `None` if it takes no such.
+/// The local that a line declares, as the next local of a body; `None` if the line declares no local, or none may be declared there.
 fn next_local(
     space: Space,
     body: &OpenBody,
@@ -93,7 +93,7 @@ fn with_local(body: OpenBody, local: Local) -> Result<OpenBody, AllocError>
     })
 }
 
-/// Adds a declaration, with the number of its line; `None` if it has no place.
+/// Adds a declaration; `number` is that of its line. `None` if the declaration is not allowed there.
 fn add_declaration(
     space: Space,
     body: OpenBody,
@@ -112,7 +112,7 @@ fn add_declaration(
     }
 }
 
-/// The statement of a line of an open body that begins no block; `None` if its operands don't fit.
+/// The statement of a line in an open body, if the line begins no block; `None` if its operands don't fit.
 fn statement_in(
     alloc: Global,
     space: Space,
@@ -131,7 +131,7 @@ fn statement_in(
     plain_statement(alloc, space.items, &here, blocks, line_kind, operands)
 }
 
-/// Appends a statement to the innermost block of an open body, or to the body.
+/// Appends a statement to the innermost block of an open body, or to the body itself if no block is open.
 fn push_statement(body: &mut OpenBody, line: u32, statement: Statement) -> Result<(), AllocError>
     ensures { OnOk result (body.new ≡
         with_statement body.old (record { line = line; statement = statement })) }
@@ -142,7 +142,8 @@ fn push_statement(body: &mut OpenBody, line: u32, statement: Statement) -> Resul
     Ok(())
 }
 
-/// Adds a statement that is no block in place, with the number of its line; false where its operands don't fit.
+/// Adds a statement, which begins no block, to an open body in place; `number` is that of its line. Returns false if its operands don't
+/// fit.
 pub(crate) fn add_statement_in_place(
     alloc: Global,
     space: Space,
@@ -165,7 +166,7 @@ pub(crate) fn add_statement_in_place(
     }
 }
 
-/// Adds a statement that is no block, with the number of its line; `None` if its operands don't fit.
+/// Adds a statement, which begins no block, to an open body; `number` is that of its line. `None` if its operands don't fit.
 fn add_statement(
     alloc: Global,
     space: Space,
@@ -187,7 +188,7 @@ fn add_statement(
     }
 }
 
-/// Begins a block, with the number of its line; `None` if its operands don't fit.
+/// Begins a block; `number` is that of its first line. `None` if the operands don't fit, or there are too many blocks inside one another.
 fn begin_block(
     alloc: Global,
     space: Space,
@@ -217,7 +218,7 @@ fn begin_block(
     }
 }
 
-/// Adds an `else`; `None` if it has no place.
+/// Adds an `else`; `None` if it is not allowed there, or has operands.
 fn add_else(
     alloc: Global,
     space: Space,
@@ -270,7 +271,7 @@ fn add_end(
     }
 }
 
-/// Adds a line to an open body, with its number; `None` if it has no place there.
+/// Adds the line with this number to an open body; `None` if it is not allowed there.
 pub(crate) fn add_to_body(
     alloc: Global,
     space: Space,

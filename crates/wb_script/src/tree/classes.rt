@@ -27,7 +27,7 @@ use wb_model::limits::{MOST_CLASSES, MOST_EXTRA, MOST_FIELDS};
 use wb_model::script::Class;
 use wb_model::script_lines::{LineKind, Operand, Referent};
 
-/// The extra bytes of the class with an index, by the operands of its first line; `None` if they are no such.
+/// The extra bytes of the class with an index, by the operands of its first line; `None` if the operands don't fit.
 fn extra_of(index: usize, operands: &[Operand<Referent>]) -> Option<u32>
     ensures extra { IfSome result (λ extra. (operands.now
         ≡ Name (referent.Declared index) ∷ Size extra ∷ []) × IsTrue (nat_le extra MOST_EXTRA)) }
@@ -51,7 +51,7 @@ fn extra_of(index: usize, operands: &[Operand<Referent>]) -> Option<u32>
     }
 }
 
-/// Begins a class, by its first line with the number of it; `None` if it has no place.
+/// Begins a class; `number` is that of its first line. `None` if the line is not allowed there.
 pub(crate) fn begin_class(
     alloc: Global,
     space: Space,
@@ -82,7 +82,7 @@ pub(crate) fn begin_class(
     }
 }
 
-/// A field of no class, where a line declares it by its name alone, with this index.
+/// `Some(None)`, a field without a class, if a line declares the field with this index by its name alone; `None` otherwise.
 fn plain_field(index: usize, operands: &[Operand<Referent>]) -> Option<Option<u16>>
     ensures line { IfSome result (λ f. field_line index f ≡ Line line_kind.Field operands.now) }
     ensures sound { (classes : ℕ) → IfSome result (λ f. IsTrue (is_class_among classes f)) }
@@ -98,7 +98,8 @@ fn plain_field(index: usize, operands: &[Operand<Referent>]) -> Option<Option<u1
     }
 }
 
-/// The class of a field, where a line declares it with this index, by a name and a class of the script.
+/// The class of a field, in two `Some`s, if a line declares the field with this index by a name and a class of the script; `None`
+/// otherwise.
 fn class_field(index: usize, counts: &[u8], operands: &[Operand<Referent>]) -> Option<Option<u16>>
     requires { length counts.now ≤ MOST_CLASSES }
     ensures line { IfSome result (λ f.
@@ -123,8 +124,8 @@ fn class_field(index: usize, counts: &[u8], operands: &[Operand<Referent>]) -> O
     }
 }
 
-/// The class of a field, where it has one, that a line declares with this index, in a script whose classes have these numbers of
-/// fields; `None` if the line declares no such field.
+/// The field with this index that a line declares: its class, or `Some(None)` if it has no class; `None` if the line declares no such
+/// field. `counts` says how many fields each class of the script has.
 fn declared_field(
     index: usize,
     counts: &[u8],
@@ -146,16 +147,16 @@ fn declared_field(
     }
 }
 
-/// What a line says to the class that is open.
+/// What a line adds to the open class.
 pub(crate) enum ClassLine {
-    /// One more field, of this class where it has one.
+    /// One more field: its class, if it has one.
     Field(Option<u16>),
     Constructor(OpenBody),
     Destructor(OpenBody),
     End,
 }
 
-/// A line that declares a field; `None` if it has no place.
+/// What a line that declares a field adds to the open class; `None` if the line is not allowed there.
 fn read_field(
     space: Space,
     whole: &WholeItems,
@@ -182,7 +183,7 @@ fn read_field(
     }
 }
 
-/// A body of the next class after its first line.
+/// A body of the open class, just after the first line of the body.
 fn own_body(alloc: Global, whole: &WholeItems) -> Result<OpenBody, AllocError>
     requires { length whole.now.classes < MOST_CLASSES }
     ensures { IfOk result (λ p. p ≡ new_body (Some (length whole.now.classes)) []) }
@@ -191,7 +192,7 @@ fn own_body(alloc: Global, whole: &WholeItems) -> Result<OpenBody, AllocError>
     new_body(alloc, Some(this), Items::new(alloc))
 }
 
-/// The first line of `construct`; `None` if it has no place.
+/// What the first line of a `construct` adds to the open class; `None` if the line is not allowed there.
 fn read_construct(
     alloc: Global,
     space: Space,
@@ -215,7 +216,7 @@ fn read_construct(
     Ok(Some(ClassLine::Constructor(body)))
 }
 
-/// The first line of `destroy`; `None` if it has no place.
+/// What the first line of a `destroy` adds to the open class; `None` if the line is not allowed there.
 fn read_destroy(
     alloc: Global,
     space: Space,
@@ -239,7 +240,7 @@ fn read_destroy(
     Ok(Some(ClassLine::Destructor(body)))
 }
 
-/// The end of the class; `None` if the line has operands.
+/// The end of the open class; `None` if the line has operands.
 fn read_end(
     space: Space,
     whole: &WholeItems,
@@ -259,7 +260,7 @@ fn read_end(
     }
 }
 
-/// What a line says to the class that is open; `None` if it has no place there.
+/// What a line adds to the open class; `None` if the line is not allowed there.
 fn read_class_line(
     alloc: Global,
     space: Space,
@@ -294,7 +295,7 @@ fn with_field(class: Class, field: Option<u16>) -> Result<Class, AllocError>
     Ok(Class { fields, ..class })
 }
 
-/// The tree after what a line says to the class that is open.
+/// The tree after what a line adds to the open class.
 fn building_after(whole: WholeItems, class: Class, said: ClassLine) -> Result<Building, AllocError>
     ensures { IfOk result (λ next. next ≡ building_after whole class said) }
 {
@@ -321,7 +322,7 @@ fn building_after(whole: WholeItems, class: Class, said: ClassLine) -> Result<Bu
     }
 }
 
-/// Adds a line to the class that is open, with its number; `None` if it has no place there.
+/// Adds the line with this number to the open class; `None` if it is not allowed there.
 pub(crate) fn add_to_class(
     alloc: Global,
     space: Space,

@@ -1,4 +1,4 @@
-//! What the first line of a block begins, from its operands. As with statements, what builds it is never inlined.
+//! What the first line of a block begins, from the operands of the line. As in `statements`, functions that build this are never inlined.
 
 ghost use Rattle.wb_model.specs.declared.script_lines.LineKind.TheVariants as line_kind;
 ghost use Rattle.std.specs.Prelude.{IsTrue};
@@ -31,7 +31,7 @@ fn if_some(here: &Scope, operands: &[Operand<Referent>]) -> Option<Head>
     }
 }
 
-/// The two numbers that a line compares, after its keyword.
+/// The two numbers that a line compares, after its keyword; `None` if the operands don't fit.
 fn numbers_to_compare(here: &Scope, operands: &[Operand<Referent>]) -> Option<(Number, Number)>
     ensures { (keyword : Keyword) → AreCompared here.now keyword operands.now result }
 {
@@ -81,7 +81,7 @@ fn trap(here: &Scope, operands: &[Operand<Referent>]) -> Option<Head>
     }
 }
 
-/// What a line begins; `None` if its operands don't fit.
+/// The head of the block that a line begins; `None` if its operands don't fit.
 pub(crate) fn head_of(
     here: &Scope,
     line_kind: LineKind,

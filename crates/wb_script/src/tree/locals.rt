@@ -18,7 +18,7 @@ use wb_model::limits::LARGEST_BUFFER;
 use wb_model::script::Local;
 use wb_model::script_lines::{LineKind, Operand, Referent};
 
-/// The local, where a line declares it by its name alone, with this index in its body.
+/// `local`, if these operands are only the name of the local with this index in its body; `None` otherwise.
 fn local_of_name(index: usize, operands: &[Operand<Referent>], local: Local) -> Option<Local>
     ensures named { IfSome result (λ l.
         (l ≡ local) × (operands.now ≡ Name (referent.Declared index) ∷ [])) }
@@ -34,7 +34,7 @@ fn local_of_name(index: usize, operands: &[Operand<Referent>], local: Local) -> 
     }
 }
 
-/// The text that a line declares by a name and a size.
+/// The buffer that a line declares by a name and a size, with this index in its body; `None` if the operands don't fit.
 fn buffer_of_size(index: usize, operands: &[Operand<Referent>]) -> Option<Local>
     ensures line { IfSome result (λ l. local_line index l ≡ Line line_kind.Buf operands.now) }
     ensures local { IfSome result (λ l. local_of line_kind.Buf operands.now ≡ Some l) }
@@ -56,7 +56,7 @@ fn buffer_of_size(index: usize, operands: &[Operand<Referent>]) -> Option<Local>
     }
 }
 
-/// The pointer that a line declares by a name and a class of the script.
+/// The pointer that a line declares by a name and a class of the script, with this index in its body; `None` if the operands don't fit.
 fn pointer_of_class(index: usize, fields: &[u8], operands: &[Operand<Referent>]) -> Option<Local>
     requires { length fields.now ≤ MOST_CLASSES }
     ensures line { IfSome result (λ l. local_line index l ≡ Line line_kind.ClassPtr operands.now) }
@@ -81,8 +81,8 @@ fn pointer_of_class(index: usize, fields: &[u8], operands: &[Operand<Referent>])
     }
 }
 
-/// The local that a line declares, with this index in its body, in a script whose classes have these numbers of fields; `None` if
-/// it declares no such.
+/// The local that a line declares, with this index in its body; `None` if the line declares no such local. `fields` says how many fields
+/// each class of the script has.
 pub(crate) fn declared_local(
     index: usize,
     fields: &[u8],

@@ -1,4 +1,4 @@
-//! The lines that begin a procedure or an operation, and the body after the first line of one.
+//! The lines that begin a procedure or an operation, and a body just after its first line.
 
 ghost use Rattle.std.specs.Prelude.{◌≡◌, ◌≤◌, ◌+◌, length, map, IfOk};
 ghost use Rattle.wb_model.specs.declared.limits.TheConstants.{MOST_CLASSES, MOST_PROCEDURES};
@@ -18,7 +18,7 @@ use wb_model::limits::{MOST_PARAMETERS, MOST_PROCEDURES};
 use wb_model::script::{Local, Parameter};
 use wb_model::script_lines::{Operand, ParameterType, Referent};
 
-/// The parameter that an operand declares, among a number of classes.
+/// The parameter that an operand declares, in a script with this number of classes; `None` if the operand declares no parameter.
 fn parameter(classes: usize, operand: &Operand<Referent>) -> Option<Parameter>
     requires { classes ≤ MOST_CLASSES }
     ensures { IsTaken classes operand.now result }
@@ -39,7 +39,7 @@ fn parameter(classes: usize, operand: &Operand<Referent>) -> Option<Parameter>
     }
 }
 
-/// The parameters that operands declare, where they declare nothing else.
+/// The parameters that operands declare; `None` if one of the operands declares no parameter.
 fn parameters(
     alloc: Global,
     classes: usize,
@@ -58,7 +58,7 @@ fn parameters(
     Ok(Some(found))
 }
 
-/// The locals that parameters are.
+/// The locals of parameters, one for each parameter.
 fn locals_of(alloc: Global, parameters: &[Parameter]) -> Result<Items<Local>, AllocError>
     ensures { IfOk result (λ locals. locals ≡ map local_of_parameter parameters.now) }
 {
@@ -72,7 +72,7 @@ fn locals_of(alloc: Global, parameters: &[Parameter]) -> Result<Items<Local>, Al
     Ok(locals)
 }
 
-/// The body after its first line: it has these parameters, and `self` is of this class.
+/// A body just after its first line, with these parameters. `this` is the class of `self`, if it is a body of a class.
 pub(crate) fn new_body(
     alloc: Global,
     this: Option<u16>,
@@ -93,7 +93,7 @@ pub(crate) fn new_body(
     })
 }
 
-/// There is room for one more procedure or operation.
+/// Whether there may be one more procedure or operation.
 fn has_room(whole: &WholeItems) -> bool
     requires { length whole.now.procedures + length whole.now.operations ≤ MOST_PROCEDURES }
     ensures { result ≡ has_room whole.now }
@@ -101,7 +101,7 @@ fn has_room(whole: &WholeItems) -> bool
     whole.procedures.len() + whole.operations.len() < MOST_PROCEDURES as usize
 }
 
-/// The parameters of the procedure with an index, by the operands of its first line; `None` if they are no such.
+/// The parameters of the procedure with an index, by the operands of its first line; `None` if the operands don't fit.
 fn parameters_of_head(
     alloc: Global,
     classes: usize,
@@ -123,7 +123,7 @@ fn parameters_of_head(
     }
 }
 
-/// The operands name the operation with this index, and its one parameter.
+/// Whether the operands are the name of the operation with this index, and its one parameter.
 fn begins_operation(index: usize, operands: &[Operand<Referent>]) -> bool
     ensures { result ≡ is_operation_head index operands.now }
 {
@@ -136,7 +136,7 @@ fn begins_operation(index: usize, operands: &[Operand<Referent>]) -> bool
     }
 }
 
-/// Begins a procedure, by its first line with the number of it; `None` if it has no place.
+/// Begins a procedure; `number` is that of its first line. `None` if the line is not allowed there.
 pub(crate) fn begin_procedure(
     alloc: Global,
     space: Space,
@@ -162,7 +162,7 @@ pub(crate) fn begin_procedure(
     }
 }
 
-/// Begins an operation, by its first line with the number of it; `None` if it has no place.
+/// Begins an operation; `number` is that of its first line. `None` if the line is not allowed there.
 pub(crate) fn begin_operation(
     alloc: Global,
     space: Space,

@@ -19,7 +19,7 @@ use std::alloc::{AllocError, Global};
 use wb_model::script::Statement;
 use wb_model::script_lines::{LineKind, Operand, Referent};
 
-/// The operation that an operand names.
+/// The operation that an operand names; `None` if it names no operation.
 fn operation(items: &Declarations, operand: &Operand<Referent>) -> Option<u16>
     requires { length items.now ≤ LONGEST_SCRIPT }
     ensures { (literals : ℕ) → IsOperationOf (declared_by literals items.now) operand.now result }
@@ -36,7 +36,7 @@ fn operation(items: &Declarations, operand: &Operand<Referent>) -> Option<u16>
     }
 }
 
-/// A `pushop` of a pointer, with an operation by its name; `None` if the operands don't fit.
+/// A `pushop` of a pointer, with the operation that an operand names; `None` if the operands don't fit.
 #[inline(never)]
 fn push_operation(
     items: &Declarations,
@@ -57,7 +57,7 @@ fn push_operation(
     }
 }
 
-/// A `construct` of the object of a pointer.
+/// A `construct` of the object that a pointer names.
 #[inline(never)]
 fn construct(here: &Scope, operands: &[Operand<Referent>]) -> Option<Statement>
     ensures { (declared : Declared) → declared.literals ≡ here.now.literals →
@@ -66,7 +66,7 @@ fn construct(here: &Scope, operands: &[Operand<Referent>]) -> Option<Statement>
     Some(Statement::Construct(one_pointer(here, operands)?))
 }
 
-/// A `delete` of the object of a pointer.
+/// A `delete` of the object that a pointer names.
 #[inline(never)]
 fn delete(here: &Scope, operands: &[Operand<Referent>]) -> Option<Statement>
     ensures { (declared : Declared) → declared.literals ≡ here.now.literals →

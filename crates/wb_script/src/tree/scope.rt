@@ -1,4 +1,4 @@
-//! What the operands of a body's lines are found among.
+//! What the operands of a body's lines may name.
 
 pub(crate) mod counted;
 mod operands;
@@ -8,8 +8,8 @@ ghost use Rattle.wb_model.specs.declared.limits.TheConstants.{MOST_CLASSES, MOST
 
 use wb_model::script::Local;
 
-/// What the operands of a body's lines are found among: the locals of the body, the class of `self` where it has one, how
-/// many fields each class of the script has, and the literals of the script, of which only the number matters.
+/// What the operands of a body's lines may name: the locals of the body, the class of `self` if it is a body of a class, how many fields
+/// each class of the script has, and how many literals the script has.
 #[derive(Clone, Copy)]
 pub(crate) struct Scope<'a> {
     pub literals: u32,

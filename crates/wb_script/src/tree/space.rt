@@ -11,7 +11,7 @@ use crate::checks::items::Declaration;
 use std::alloc::{AllocError, Global};
 use wb_model::script_lines::ItemKind;
 
-/// The literals of a script, of which only the number matters, its own space, and how many fields each class has.
+/// How many literals a script has, its own space, and how many fields each class has.
 #[derive(Clone, Copy)]
 pub(crate) struct Space<'a> {
     pub literals: u32,
@@ -22,7 +22,7 @@ pub(crate) struct Space<'a> {
     ghost counted: { fields.now ≡ fields_among (bytes_of_items items.now) },
 }
 
-/// Adds how many fields an item has, where it is a class.
+/// Appends how many fields an item has, if the item is a class.
 fn add_count(counts: &mut Vec<u8>, item: &Declaration) -> Result<(), AllocError>
     requires { item.now.kind ≡ kind.Class → length item.now.fields ≤ MOST_FIELDS }
     ensures { OnOk result (counts.new.items
@@ -38,7 +38,7 @@ fn add_count(counts: &mut Vec<u8>, item: &Declaration) -> Result<(), AllocError>
     }
 }
 
-/// How many fields each class among items has.
+/// How many fields each class among the items has.
 pub(crate) fn field_counts(alloc: Global, items: &[Declaration]) -> Result<Vec<u8>, AllocError>
     requires { IsTrue (list_all (λ n.
         nat_le n MOST_FIELDS) (fields_among (bytes_of_items items.now))) }

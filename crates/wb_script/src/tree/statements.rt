@@ -1,6 +1,7 @@
-//! The statements of lines, each from its operands.
+//! The statements of lines, each from the operands of its line.
 //!
-//! A function that builds one is never inlined: `statement_of` would else clear the room of all of them for each line.
+//! A function that builds a statement is never inlined: otherwise `statement_of` would clear stack space for all of these functions at each
+//! line.
 
 ghost use Rattle.std.specs.Prelude.{◌≡◌, [], ◌∷◌, false, IsTrue, MatchOption};
 ghost use Rattle.wb_model.specs.declared.script_lines.LineKind.TheVariants as line_kind;
@@ -21,7 +22,7 @@ use crate::tree::text_statements::{
 use wb_model::script::{Holder, Number, Pointer, Refusal, Statement};
 use wb_model::script_lines::{LineKind, Operand, Referent};
 
-/// The statement of a line that takes no operand.
+/// The statement of a line that takes no operands; `None` if it has some.
 #[inline(never)]
 fn statement_without_operands(
     here: &Scope,
@@ -56,7 +57,7 @@ fn one_number(here: &Scope, operands: &[Operand<Referent>]) -> Option<Number>
     here.number(number)
 }
 
-/// A `set` of a local to a source: of one that holds a pointer, or of one that holds a number.
+/// A `set` of a local, which holds a pointer or a number, to a source; `None` if the source doesn't fit.
 fn set_local(
     here: &Scope,
     target: &Operand<Referent>,
@@ -76,7 +77,7 @@ fn set_local(
     }
 }
 
-/// A `set` of a local that holds a pointer or a number, by what its target is.
+/// A `set` of a local; `None` if its operands don't fit.
 #[inline(never)]
 fn set(here: &Scope, operands: &[Operand<Referent>]) -> Option<Statement>
     ensures { IsStatementOf here.now line_kind.Set operands.now result }
@@ -119,7 +120,7 @@ fn new_object(here: &Scope, operands: &[Operand<Referent>], refusal: Refusal) ->
     }
 }
 
-/// The operands of a line that writes a pointer, by a number.
+/// The operands of a line that writes a pointer and takes a number.
 fn pointer_and_number(here: &Scope, operands: &[Operand<Referent>]) -> Option<(Pointer, Number)>
     ensures { IsPairSpelled here.now operands.now result }
 {
@@ -130,7 +131,7 @@ fn pointer_and_number(here: &Scope, operands: &[Operand<Referent>]) -> Option<(P
     }
 }
 
-/// The operands of a line that writes a pointer, by another and a number.
+/// The operands of a line that writes a pointer and takes another pointer and a number.
 fn pointers_and_number(
     here: &Scope,
     operands: &[Operand<Referent>],
@@ -336,7 +337,7 @@ pub(crate) fn statement_of(
     }
 }
 
-/// A `return` without a value; none inside a TRAP.
+/// A `return` without a value; `None` inside a `trap`, or if there are operands.
 #[inline(never)]
 pub(crate) fn return_nothing(
     here: &Scope,
@@ -351,7 +352,7 @@ pub(crate) fn return_nothing(
     statement_without_operands(here, Statement::Return, operands)
 }
 
-/// A `return` of a pointer; none inside a TRAP.
+/// A `return` of a pointer; `None` inside a `trap`, or if the operands don't fit.
 #[inline(never)]
 pub(crate) fn return_pointer(
     here: &Scope,

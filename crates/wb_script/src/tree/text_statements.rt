@@ -1,4 +1,4 @@
-//! The statements of lines on texts, each from its operands.
+//! The statements of lines about texts and views, each from the operands of its line.
 
 ghost use Rattle.std.specs.Prelude.{[], ◌∷◌};
 ghost use Rattle.wb_model.specs.declared.script_lines.LineKind.TheVariants as line_kind;
@@ -138,7 +138,7 @@ pub(crate) fn get_maximum(here: &Scope, operands: &[Operand<Referent>]) -> Optio
     }
 }
 
-/// A `print` of what one operand spells.
+/// A `print` of the number or text that one operand spells.
 fn print_statement(here: &Scope, operand: &Operand<Referent>) -> Option<Statement>
     ensures { IsStatementOf here.now line_kind.Print (operand.now ∷ []) result }
 {

@@ -1,4 +1,4 @@
-//! What is whole of a script's tree, and what is open.
+//! The parts of a script's tree that are complete, and the part that is open.
 
 ghost use Rattle.std.specs.Prelude.{◌≡◌, [], IfOk};
 ghost use Rattle.wb_script.specs.Growing.{with_whole_body, outside, with_class, with_procedure, with_operation};
@@ -16,7 +16,8 @@ pub(crate) struct WholeItems {
     pub operations: Items<Operation>,
 }
 
-/// What an open body is of: a procedure or an operation, by the number of its line, or a class, with what it has so far.
+/// What an open body belongs to: a procedure or an operation, given by the number of its first line, or a class, given with the parts that
+/// it has so far.
 #[derive(Drop)]
 pub(crate) enum Owner {
     Procedure(u32),
@@ -25,16 +26,16 @@ pub(crate) enum Owner {
     Destructor(Class),
 }
 
-/// What is open.
+/// The part of the tree that is open.
 #[derive(Drop)]
 pub(crate) enum Stage {
     Outside,
-    /// A class between its parts, with those that it has so far.
+    /// A class, outside of its bodies, with the parts that it has so far.
     InClass(Class),
     InBody(Owner, OpenBody),
 }
 
-/// The items that are whole, and what is open.
+/// The items that are complete, and the part that is open.
 #[derive(Drop)]
 pub(crate) struct Building {
     pub whole: WholeItems,
@@ -57,7 +58,7 @@ impl Building {
     }
 }
 
-/// A class is whole.
+/// Adds a class that is complete.
 pub(crate) fn with_class(whole: WholeItems, class: Class) -> Result<WholeItems, AllocError>
     ensures { IfOk result (λ next. next ≡ with_class whole class) }
 {
@@ -97,7 +98,7 @@ fn with_operation(whole: WholeItems, line: u32, body: Body) -> Result<WholeItems
     })
 }
 
-/// A body is whole.
+/// Adds a body that is complete to what it belongs to. This completes a procedure or an operation, but not a class.
 pub(crate) fn finish_body(
     whole: WholeItems,
     owner: Owner,

@@ -7,7 +7,7 @@ ghost use Rattle.wb_script.specs.Fitting.{operand_places_fit};
 
 use wb_model::script_lines::{Operand, Referent};
 
-/// The only operand.
+/// The operand, if there is just one; `None` otherwise.
 pub(crate) fn one<'o>(operands: &'o [Operand<Referent>]) -> Option<&'o Operand<Referent>>
     ensures { MatchOption result ((literals : ℕ) (scope : Scope)
         (operand_place : model.OperandPlace) →
@@ -20,7 +20,7 @@ pub(crate) fn one<'o>(operands: &'o [Operand<Referent>]) -> Option<&'o Operand<R
     }
 }
 
-/// Two operands, where there are no others.
+/// The operands, if there are just two; `None` otherwise.
 pub(crate) fn two<'o>(
     operands: &'o [Operand<Referent>],
 ) -> Option<(&'o Operand<Referent>, &'o Operand<Referent>)>
@@ -35,7 +35,7 @@ pub(crate) fn two<'o>(
     }
 }
 
-/// Three operands, where there are no others.
+/// The operands, if there are just three; `None` otherwise.
 pub(crate) fn three<'o>(
     operands: &'o [Operand<Referent>],
 ) -> Option<
@@ -56,7 +56,7 @@ pub(crate) fn three<'o>(
     }
 }
 
-/// Four operands, where there are no others.
+/// The operands, if there are just four; `None` otherwise.
 pub(crate) fn four<'o>(
     operands: &'o [Operand<Referent>],
 ) -> Option<

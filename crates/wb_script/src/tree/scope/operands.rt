@@ -1,4 +1,4 @@
-//! What the operands of a line spell, in the body where it is: pointers, numbers, texts and classes.
+//! What the operands of a line spell, in the body that the line is in: pointers, numbers, texts and classes.
 
 ghost use Rattle.std.specs.Prelude.{◌≡◌, ◌<◌, length, nat_lt, slice_get, false, IfSome, IsSome, IsTrue, MatchOption};
 ghost use Rattle.wb_model.specs.declared.script.Pointer.TheVariants as P;
@@ -18,7 +18,7 @@ use wb_model::script::{Holder, Local, Number, Pointer, Readable, Writable};
 use wb_model::script_lines::{Operand, Referent};
 
 impl<'a> Scope<'a> {
-    /// The local with an index.
+    /// The local with an index; `None` if there is no such local.
     fn local(&self, index: usize) -> Option<Local>
         ensures found { result ≡ slice_get self.now.locals.now index }
         ensures few { IsSome result → index < MOST_LOCALS }
@@ -29,7 +29,7 @@ impl<'a> Scope<'a> {
         }
     }
 
-    /// The local with an index, where it holds a pointer.
+    /// This index, if the local with it holds a pointer; `None` otherwise.
     fn pointer_local(&self, index: usize) -> Option<u8>
         ensures { IsPointerLocal (scope_in self.now) index result }
     {
@@ -39,7 +39,7 @@ impl<'a> Scope<'a> {
         }
     }
 
-    /// What holds a pointer by its name: a local, or `self`.
+    /// The local or `self` that a name stands for, if it holds a pointer; `None` otherwise.
     fn holder(&self, name: Referent) -> Option<Holder>
         ensures { IsHolderOf (scope_in self.now) name result }
     {
@@ -53,7 +53,7 @@ impl<'a> Scope<'a> {
         }
     }
 
-    /// The class that a local or `self` is declared with.
+    /// The class of `self`, or the one with which a local is declared; `None` if it has no class.
     fn class_of_holder(&self, holder: Holder) -> Option<u16>
         ensures { result
             ≡ Rattle.wb_model.specs.language.Sound.class_of_holder (scope_in self.now) holder }
@@ -67,7 +67,7 @@ impl<'a> Scope<'a> {
         }
     }
 
-    /// How many fields the class with an index has.
+    /// How many fields the class with an index has; `None` if there is no such class.
     fn field_count(&self, class: usize) -> Option<u8>
         ensures { result ≡ slice_get self.now.fields.now class }
     {
@@ -77,7 +77,8 @@ impl<'a> Scope<'a> {
         }
     }
 
-    /// The field with an index in a class, of what holds an object, where this is declared with that class.
+    /// The field with an index in a class, through a local or `self`; `None` if the local or `self` isn't of that class, or the class has
+    /// no such field.
     fn field_of(&self, holder: Holder, class: usize, index: usize) -> Option<Pointer>
         ensures { MatchOption result
             (is_pointer (scope_in self.now) (P.Field holder class index) ≡ false)
@@ -95,7 +96,8 @@ impl<'a> Scope<'a> {
         }
     }
 
-    /// The field of what a name stands for, where it is of the class that this is declared with.
+    /// The field that a name before a dot and a name after it stand for; `None` if the first isn't a local or `self` of the class that has
+    /// the field.
     fn field(&self, base: Referent, field: Referent) -> Option<Pointer>
         ensures { IsFieldOf (scope_in self.now) base field result }
     {
@@ -105,7 +107,7 @@ impl<'a> Scope<'a> {
         }
     }
 
-    /// The pointer that an operand spells: a local, `self`, or a field of one of these.
+    /// The pointer that an operand spells: a local, `self`, or a field of one of these; `None` if it spells no pointer.
     pub(crate) fn pointer(&self, operand: &Operand<Referent>) -> Option<Pointer>
         ensures { IsSpelled pointer_operand (is_pointer (scope_in self.now)) self.now.literals
             (scope_in self.now) operand_place.Pointer operand.now result }
@@ -117,7 +119,7 @@ impl<'a> Scope<'a> {
         }
     }
 
-    /// The pointer that an operand spells and that a line may write: a local, or a field.
+    /// The pointer that an operand spells, if a line may write it: a local, or a field; `None` otherwise.
     pub(crate) fn written_pointer(&self, operand: &Operand<Referent>) -> Option<Pointer>
         ensures { IsSpelled pointer_operand (is_target (scope_in self.now)) self.now.literals
             (scope_in self.now) operand_place.Written operand.now result }
@@ -128,7 +130,7 @@ impl<'a> Scope<'a> {
         }
     }
 
-    /// The local that holds a pointer and that an operand spells.
+    /// The local that an operand spells, if it holds a pointer; `None` otherwise.
     pub(crate) fn receiver(&self, operand: &Operand<Referent>) -> Option<u8>
         ensures { IsReceiver self.now operand.now result }
     {
@@ -138,7 +140,7 @@ impl<'a> Scope<'a> {
         }
     }
 
-    /// The field that an operand spells.
+    /// The field that an operand spells; `None` if it spells no field.
     pub(crate) fn field_target(&self, operand: &Operand<Referent>) -> Option<Pointer>
         ensures spelled { IsSpelled pointer_operand (is_target (scope_in self.now))
             self.now.literals (scope_in self.now) operand_place.FieldTarget operand.now result }
@@ -150,7 +152,7 @@ impl<'a> Scope<'a> {
         }
     }
 
-    /// The class that an operand spells.
+    /// The class that an operand spells; `None` if it spells no class.
     pub(crate) fn class(&self, operand: &Operand<Referent>) -> Option<u16>
         ensures { IsSpelled class_operand (λ class.
             nat_lt class (length self.now.fields.now)) self.now.literals (scope_in self.now)
@@ -168,7 +170,7 @@ impl<'a> Scope<'a> {
         }
     }
 
-    /// The local that holds a number and that an operand spells.
+    /// The local that an operand spells, if it holds a number; `None` otherwise.
     pub(crate) fn variable(&self, operand: &Operand<Referent>) -> Option<u8>
         ensures { IsSpelled variable_operand (is_variable self.now.locals.now) self.now.literals
             (scope_in self.now) operand_place.Variable operand.now result }
@@ -182,7 +184,7 @@ impl<'a> Scope<'a> {
         }
     }
 
-    /// The number that an operand spells, or the local that holds it.
+    /// The number that an operand spells, or the local that the operand spells and that holds a number; `None` if it spells neither.
     pub(crate) fn number(&self, operand: &Operand<Referent>) -> Option<Number>
         ensures { IsSpelled number_operand (is_number self.now.locals.now) self.now.literals
             (scope_in self.now) operand_place.Value operand.now result }
@@ -199,7 +201,7 @@ impl<'a> Scope<'a> {
         }
     }
 
-    /// The local that holds a view and that an operand spells.
+    /// The local that an operand spells, if it holds a view; `None` otherwise.
     pub(crate) fn view(&self, operand: &Operand<Referent>) -> Option<u8>
         ensures { IsSpelled view_operand (is_view self.now.locals.now) self.now.literals
             (scope_in self.now) operand_place.ViewName operand.now result }
@@ -213,7 +215,7 @@ impl<'a> Scope<'a> {
         }
     }
 
-    /// The text that an operand spells and that can be changed.
+    /// The text that an operand spells, if it can be changed; `None` otherwise.
     pub(crate) fn writable(&self, operand: &Operand<Referent>) -> Option<Writable>
         ensures { IsSpelled writable_operand (is_writable (scope_in self.now)) self.now.literals
             (scope_in self.now) operand_place.Writable operand.now result }
@@ -227,7 +229,7 @@ impl<'a> Scope<'a> {
         }
     }
 
-    /// The text that an operand spells and that can be read.
+    /// The text that an operand spells, if it can be read; `None` otherwise.
     pub(crate) fn readable(&self, operand: &Operand<Referent>) -> Option<Readable>
         ensures { IsSpelled text_operand (is_readable self.now.literals (scope_in self.now))
             self.now.literals (scope_in self.now) operand_place.Readable operand.now result }
