@@ -1,7 +1,8 @@
-"""Looks whether the files of all crates are laid out as `rt fmt` lays them out: `rt ci` accepts no other layout, and says so of a crate
-only once all below it is proved.
+"""Looks whether the files of all crates are laid out as `rt fmt` lays them out, and whether their wrong bodies fit the sources. `rt ci`
+accepts no other layout, and says so of a crate only once all below it is proved; a wrong body is tried later still.
 
-`rt fmt` in the folder of a crate that is named lays its files out."""
+`rt fmt` in the folder of a crate that is named lays its files out. A wrong body that doesn't fit has an old text that isn't in its source,
+or is there more than once."""
 
 import tempfile
 
@@ -10,6 +11,8 @@ from tools.kit import kit
 from tools.paths import ROOT
 from tools.program import parser_of
 from tools.tally import Tally
+from tools.wrong_body_edits import read_edits
+from tools.wrong_body_files import MUST_FAIL, WRONG_BODIES
 
 
 def fault_of(crates: Crates, crate: str) -> str:
@@ -21,11 +24,19 @@ def fault_of(crates: Crates, crate: str) -> str:
         return said.read().strip() or "its files have another layout"
 
 
+def misfits(crates: Crates, crate: str) -> list[str]:
+    """The wrong bodies of a crate that don't fit its sources, each with the reason."""
+    bad = read_edits(crates.folder(crate), [WRONG_BODIES, MUST_FAIL])[1]
+    return [f"{label}: {why}" for label, why in sorted(bad.items())]
+
+
 def main(words: list[str]) -> int:
-    """Looks at all crates, and names those with another layout."""
+    """Looks at all crates, and names those with another layout, and the wrong bodies that don't fit."""
     parser_of(__doc__).parse_args(words)
     crates, tally = Crates(ROOT), Tally()
     for crate in crates.lines:
         fault = fault_of(crates, crate)
         tally.check(not fault, f"{crate}: {fault}")
+        unfit = misfits(crates, crate)
+        tally.check(not unfit, "\n".join(unfit))
     return tally.end()

@@ -40,6 +40,14 @@ CODE = ("src",)
 COMMENT = re.compile(r"\s*--.*")
 
 
+def read_by_checks(file: Path) -> str:
+    """A file without the lines that are comments."""
+    text = file.read_text(encoding="utf-8")
+    if file.suffix == ".rt":
+        return without_comments(text)
+    return "\n".join(it for it in text.splitlines() if not COMMENT.fullmatch(it))
+
+
 class Reached:
     """The files of a repository's crates, and which lead to which."""
 
@@ -136,7 +144,8 @@ class ReachedWithin(Reached):
     def __init__(self, reached: Reached, crate: str, own: Set[Path]) -> None:
         super().__init__(reached.crates)
         self.reached, self.crate, self.own = reached, crate, own
-        self.words = frozenset(word for it in own for word in re.findall(r"\w+", it.read_text(encoding="utf-8")))
+        # comments name things that no check reads
+        self.words = frozenset(word for it in own for word in re.findall(r"\w+", read_by_checks(it)))
 
     def seen_in_all(self) -> dict[Path, str]:
         """The files that they lead to, with what is seen of each, but for themselves."""

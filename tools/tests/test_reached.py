@@ -5,7 +5,7 @@ import unittest
 from pathlib import Path
 
 from tools.crates import Crates
-from tools.reached import Reached, gives_to_others
+from tools.reached import Reached, ReachedWithin, gives_to_others
 
 ROW = """\
 use Rattle.lowest.specs.Words.{word}
@@ -84,6 +84,15 @@ class WhatIsReached(unittest.TestCase):
         """The files that the highest crate leads to if this is its code."""
         self.write("src/lib.rt", code, "high")
         return self.reached()
+
+    def test_words_of_comments_lead_nowhere(self) -> None:
+        self.write("src/halves.rt", "pub fn half(n: u32) -> u32 {\n    n / 2\n}\n", "low")
+        heap = self.root / "crates/low/src/heap.rt"
+        seen = []
+        for comment in ("", "// half of the cells\n"):
+            heap.write_text(f"{comment}pub fn none() -> u32 {{\n    0\n}}\n", encoding="utf-8")
+            seen.append(ReachedWithin(Reached(Crates(self.root)), "low", frozenset([heap])).seen_in_all())
+        self.assertEqual(seen[0], seen[1])
 
     def test_nothing_below(self) -> None:
         self.assertEqual(self.reached("lowest"), [])
