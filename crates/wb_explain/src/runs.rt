@@ -134,7 +134,7 @@ pub fn unasked_found(
 }
 
 /// Returns which further question of a check wasn't decided, and the command that asks it. The only error is that memory ran out.
-pub fn undecided(
+pub fn undecided_question(
     alloc: Global,
     lines: &ScriptLines<'_>,
     question: Question,

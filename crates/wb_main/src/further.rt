@@ -7,7 +7,7 @@ use crate::asked::{budget_of, parameters_of};
 use crate::run_shown::explain_run;
 use crate::unasked::{Verdict, ask, is_open};
 use std::alloc::Global;
-use wb_explain::runs::{Question, ShellOptions, nothing_else, unasked_found, undecided};
+use wb_explain::runs::{Question, ShellOptions, nothing_else, unasked_found, undecided_question};
 use wb_history::{Keep, RunParameters, ScriptLines, watch_run};
 use wb_model::heap::{Numbers, Rule, Shape};
 use wb_model::memory::NoMemory;
@@ -37,7 +37,7 @@ pub fn explain_unasked(
         asked = true;
         let options = options_for(command, question);
         let verdict = ask(alloc, command, script, question);
-        if let Some(shown) = verdict.shown() {
+        if let Some(shown) = verdict.shows() {
             let found = unasked_found(alloc, lines, shown, options)?;
             said.push_str(found.as_str())?;
             let run = explain_verdict(alloc, command, script, lines, &verdict)?;
@@ -46,7 +46,7 @@ pub fn explain_unasked(
         }
         if let Verdict::Undecided = verdict {
             all_fine = false;
-            let open = undecided(alloc, lines, question, options)?;
+            let open = undecided_question(alloc, lines, question, options)?;
             said.push_str(open.as_str())?;
         }
     }

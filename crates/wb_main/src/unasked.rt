@@ -52,7 +52,7 @@ pub enum Verdict {
 
 impl Verdict {
     /// What the user is told of the verdict; `None` if it shows neither a leak nor a panic.
-    pub fn shown(&self) -> Option<Shown<'_>> {
+    pub fn shows(&self) -> Option<Shown<'_>> {
         match self {
             Verdict::Fine | Verdict::Undecided => None,
             Verdict::From(first, end) => Some(Shown::Persistent(*first, *end)),

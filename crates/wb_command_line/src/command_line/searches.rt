@@ -131,9 +131,11 @@ fn failures_by(
     is_of_sets: bool,
 ) -> Result<Failures, CommandFault>
     ensures ok { IfOk result (λ failures. failures ≡ failures_by rates persistent pairs) }
-    ensures alone { OnOk result (are_both_sorts rates persistent pairs is_listed is_of_sets ≡ false) }
+    ensures alone { OnOk result
+        (are_both_sorts rates persistent pairs is_listed is_of_sets ≡ false) }
     ensures fault { IfErr result (λ fault. fault ≡ CommandFault.Both) }
-    ensures both { OnErr result (are_both_sorts rates persistent pairs is_listed is_of_sets ≡ true) }
+    ensures both { OnErr result
+        (are_both_sorts rates persistent pairs is_listed is_of_sets ≡ true) }
 {
     match (rates, persistent, pairs, is_listed, is_of_sets) {
         (false, false, false, false, _) => Ok(Failures::Single),
