@@ -23,8 +23,8 @@ _workbench()
     fi
     case ${COMP_WORDS[1]} in
         run)
-            options='--limit --fail --also --every --fail-from --set --follow --follow-steps --budget --min --step --moving --json --picture --help'
-            values='--limit --fail --also --every --fail-from --set --follow-steps --budget --min --step --picture'
+            options='--limit --fail --also --every --fail-from --set --follow --follow-steps --follow-around --budget --min --step --moving --json --picture --help'
+            values='--limit --fail --also --every --fail-from --set --follow-steps --follow-around --budget --min --step --picture'
             ;;
         size)
             options='--budget --min --step --moving --json --picture --help'

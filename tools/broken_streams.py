@@ -9,11 +9,12 @@ that signal was set to.
 import os
 import subprocess
 import tempfile
-import threading
 import time
 from collections.abc import Iterator
+from contextlib import contextmanager
 from pathlib import Path
-from typing import Any, NamedTuple
+from threading import Thread
+from typing import Any
 
 from tools.program import COMMAND_LINE_FAULT, FOUND, READ_OR_WRITE_FAULT, REFUSED, NoAnswer, Word, answer_of, program_parser
 from tools.tally import Tally
@@ -52,18 +53,9 @@ WORDS: list[tuple[str, Told, list[Word]]] = [
 ]
 
 
-class Trial(NamedTuple):
-    """A run, and what it must come to: on standard output, or on standard error where that is asked for."""
-
-    what: str
-    wanted: Told
-    words: list[Word]
-    streams: dict[str, Any]
-    of_messages: bool = False
-
-
-def fed(path: str | int, pieces: list[bytes]) -> threading.Thread:
-    """Starts to write pieces into a pipe, with pauses, and closes it."""
+@contextmanager
+def fed(path: str | int, pieces: list[bytes]) -> Iterator[None]:
+    """Writes pieces into a pipe meanwhile, with pauses, and closes it."""
 
     def feed() -> None:
         with open(path, "wb", buffering=0) as pipe:
@@ -71,70 +63,72 @@ def fed(path: str | int, pieces: list[bytes]) -> threading.Thread:
                 pipe.write(piece)
                 time.sleep(0.02)
 
-    writer = threading.Thread(target=feed)
+    writer = Thread(target=feed)
     writer.start()
-    return writer
+    yield
+    writer.join()
 
 
-def inputs(room: Path) -> Iterator[Trial]:
-    """Input that is broken."""
+class Runs(Tally):
+    """Runs of a program, and how many came to what they must."""
+
+    def make(self, program: Path, what: str, wanted: Told, words: list[Word], of_messages: bool = False, **streams: Any) -> None:
+        """Makes a run, which must come to this: on standard output, or on standard error where that is asked for."""
+        try:
+            answer = answer_of(program, *words, script=SCRIPT, seconds=LIMIT, **streams)
+            told: object = (answer.messages if of_messages else answer.output, answer.status)
+        except NoAnswer as late:
+            told = late
+        self.check(told == wanted, f"{what}: wanted {wanted}, got {told}")
+
+
+def give_input(runs: Runs, program: Path, room: Path) -> None:
+    """Makes runs with input that is broken."""
     big, fifo, directory = room / "big", room / "fifo", os.open(room, os.O_RDONLY)
     with big.open("wb") as file:
         file.truncate(4 << 30)
     for command, name in (("run", ""), ("lengths", "lengths of ")):
-        closed = {"stdin": None, "preexec_fn": lambda: os.close(0)}
-        yield Trial(f"{name}a directory", READ_FAULT, [command, room], {})
-        yield Trial(f"{name}closed standard input", READ_FAULT, [command], closed)
-        yield Trial(f"{name}nothing", NOTHING, [command], {"stdin": subprocess.DEVNULL})
-    yield Trial("a directory as standard input", READ_FAULT, ["run"], {"stdin": directory})
-    yield Trial("a file of 4 GiB", (b"refused 1\n", REFUSED), ["run", big], {})
+        runs.make(program, f"{name}a directory", READ_FAULT, [command, room])
+        runs.make(program, f"{name}closed standard input", READ_FAULT, [command], stdin=None, preexec_fn=lambda: os.close(0))
+        runs.make(program, f"{name}nothing", NOTHING, [command], stdin=subprocess.DEVNULL)
+    runs.make(program, "a directory as standard input", READ_FAULT, ["run"], stdin=directory)
+    runs.make(program, "a file of 4 GiB", (b"refused 1\n", REFUSED), ["run", big])
     for what, wanted, command, pieces in PIPES:
         reader, end = os.pipe()
-        writer = fed(end, pieces)
-        with open(reader, "rb") as given:
-            yield Trial(what, wanted, [command], {"stdin": given})
-        writer.join()
+        with fed(end, pieces), open(reader, "rb") as given:
+            runs.make(program, what, wanted, [command], stdin=given)
     os.mkfifo(fifo)
-    writer = fed(str(fifo), [SCRIPT])
-    yield Trial("a FIFO", FOUND_RUN, ["run", fifo], {})
-    writer.join()
-    yield from (Trial(what, wanted, words, {}) for what, wanted, words in WORDS)
+    with fed(str(fifo), [SCRIPT]):
+        runs.make(program, "a FIFO", FOUND_RUN, ["run", fifo])
+    for what, wanted, words in WORDS:
+        runs.make(program, what, wanted, words)
 
 
-def outputs() -> Iterator[Trial]:
-    """Output that is broken, of two reports, each in both forms; with SIGPIPE as it is by default, or ignored."""
+def take_output(runs: Runs, program: Path, missing: Path) -> None:
+    """Makes runs with output that is broken, of two reports, each in both forms, with SIGPIPE as it is by default, or ignored; and looks
+    which fault is named: the first of what was read and written."""
+    of_missing = f"workbench: {missing}: no such file\n".encode(), READ_OR_WRITE_FAULT
+    of_full = b"workbench: standard output: no space is left on the device\n", READ_OR_WRITE_FAULT
     reader, writer = os.pipe()
     os.close(reader)
     with open("/dev/full", "wb") as full, open(writer, "wb") as unread:
-        for words in (["run"], ["run", "--json"], ["lengths"], ["lengths", "--json"]):
-            yield Trial(f"closed standard output {words}", UNWRITTEN, [*words], {"stdout": None, "preexec_fn": lambda: os.close(1)})
-            yield Trial(f"a full device {words}", UNWRITTEN, [*words], {"stdout": full})
+        for words in ("run", "run --json", "lengths", "lengths --json"):
+            asked: list[Word] = [*words.split()]
+            runs.make(program, f"closed standard output {words}", UNWRITTEN, asked, stdout=None, preexec_fn=lambda: os.close(1))
+            runs.make(program, f"a full device {words}", UNWRITTEN, asked, stdout=full)
             for restore in (True, False):
-                streams = {"stdout": unread, "restore_signals": restore}
-                yield Trial(f"a pipe without a reader {words}, with SIGPIPE {restore}", UNWRITTEN, [*words], streams)
-
-
-def faults(missing: Path) -> Iterator[Trial]:
-    """Which fault is named: the first of what was read and written."""
-    of_missing = f"workbench: {missing}: no such file\n".encode(), READ_OR_WRITE_FAULT
-    of_full = b"workbench: standard output: no space is left on the device\n", READ_OR_WRITE_FAULT
-    with open("/dev/full", "wb") as full:
-        yield Trial("no such file, named", of_missing, ["run", missing], {"stdout": subprocess.DEVNULL}, True)
-        yield Trial("a full device, named", of_full, ["run"], {"stdout": full}, True)
-        yield Trial("no such file and a full device", of_missing, ["run", missing], {"stdout": full}, True)
-        yield Trial("the same as JSON", of_missing, ["run", "--json", missing], {"stdout": full}, True)
+                what = f"a pipe without a reader {words}, with SIGPIPE {restore}"
+                runs.make(program, what, UNWRITTEN, asked, stdout=unread, restore_signals=restore)
+        runs.make(program, "no such file, named", of_missing, ["run", missing], True, stdout=subprocess.DEVNULL)
+        runs.make(program, "a full device, named", of_full, ["run"], True, stdout=full)
+        runs.make(program, "no such file and a full device", of_missing, ["run", missing], True, stdout=full)
+        runs.make(program, "the same as JSON", of_missing, ["run", "--json", missing], True, stdout=full)
 
 
 def main(words: list[str]) -> int:
     """Makes the runs, and prints the totals."""
-    program, tally = program_parser(__doc__).parse_args(words).program, Tally()
+    program, runs = program_parser(__doc__).parse_args(words).program, Runs()
     with tempfile.TemporaryDirectory() as folder:
-        for trials in (inputs(Path(folder)), outputs(), faults(Path(folder, "none"))):
-            for it in trials:
-                try:
-                    answer = answer_of(program, *it.words, script=SCRIPT, seconds=LIMIT, **it.streams)
-                    told: object = (answer.messages if it.of_messages else answer.output, answer.status)
-                except NoAnswer as late:
-                    told = late
-                tally.check(told == it.wanted, f"{it.what}: wanted {it.wanted}, got {told}")
-    return tally.end()
+        give_input(runs, program, Path(folder))
+        take_output(runs, program, Path(folder, "none"))
+    return runs.end()

@@ -11,17 +11,19 @@ many processors to use, in the place of all.
 calls `rt run`, which builds whatever is missing."""
 
 import os
+import shutil
 import subprocess
 import sys
 import tempfile
 import time
+from collections.abc import Callable
 from functools import partial
 from pathlib import Path
 from threading import Event, Lock, Thread
 from typing import IO
 
 from tools.crates import NOT_BUILT, Crates, Step, building, processors, run_steps
-from tools.install import install
+from tools.documents.help_files import BASH, FISH, MAN_PAGE, NAME, ZSH
 from tools.kit import kit
 from tools.paths import PROGRAM, PROGRAM_CRATE, ROOT
 from tools.program import parser_of
@@ -35,20 +37,31 @@ LARGE = 2_000
 # a crate of so many lines is what all that stands on it waits for longest: it gets half of the processors at once
 LARGEST = 10_000
 
+# where each file goes that is installed, below the prefix
+PLACES = {
+    PROGRAM: f"bin/{NAME}",
+    MAN_PAGE: f"share/man/man1/{NAME}.1",
+    BASH: f"share/bash-completion/completions/{NAME}",
+    ZSH: f"share/zsh/site-functions/_{NAME}",
+    FISH: f"share/fish/vendor_completions.d/{NAME}.fish",
+}
+RUN, READ = 0o755, 0o644
+
 
 class Unproved(Exception):
     """That a crate isn't proved."""
 
 
 class Progress:
-    """Says how far a build is, on standard error."""
+    """Says how far a build is, on standard error: on a terminal in one line, which is written anew, and else in a line for each crate."""
 
     def __init__(self, count: int) -> None:
         self.count, self.begun, self.done = count, time.monotonic(), 0
         self.running: list[str] = []
         self.lock, self.ended = Lock(), Event()
-        self.is_terminal = sys.stderr.isatty()
-        if self.is_terminal:
+        # what removes the line
+        self.wiped = "\r\033[K" if sys.stderr.isatty() else ""
+        if self.wiped:
             Thread(target=self.keep_true, daemon=True).start()
 
     def keep_true(self) -> None:
@@ -57,46 +70,38 @@ class Progress:
             with self.lock:
                 self.show()
 
-    def show(self) -> None:
-        """Writes the line in the place of the one before."""
-        now = f", now {', '.join(self.running)}" if self.running else ""
-        line = f"{self.done} of {self.count} crates proved{now}, {self.minutes()}"
-        print(f"\r\033[K{line[: os.get_terminal_size(2).columns - 1]}", end="", file=sys.stderr, flush=True)
-
-    def minutes(self) -> str:
-        """How long the build has taken so far."""
+    def show(self, proved: str = "") -> None:
+        """Says how far the build is, once this crate is proved."""
         minutes, seconds = divmod(round(time.monotonic() - self.begun), 60)
-        return f"{minutes} min {seconds:02} s"
+        if self.wiped:
+            now = f", now {', '.join(self.running)}" if self.running else ""
+            line = f"{self.done} of {self.count} crates proved{now}, {minutes} min {seconds:02} s"
+            print(f"{self.wiped}{line[: os.get_terminal_size(2).columns - 1]}", end="", file=sys.stderr, flush=True)
+        elif proved:
+            print(f"{proved} proved, {self.done} of {self.count}, {minutes} min {seconds:02} s", file=sys.stderr, flush=True)
 
-    def begin(self, crate: str) -> None:
-        """Says that a crate is being proved."""
-        with self.lock:
-            self.running.append(crate)
-            if self.is_terminal:
+    def prove(self, crate: str, is_proved_by: Callable[[IO[str]], bool]) -> None:
+        """Has a crate proved by what writes into a log; shows that and raises `Unproved` where it isn't."""
+        with tempfile.TemporaryFile("w+", errors="replace") as log:
+            with self.lock:
+                self.running.append(crate)
                 self.show()
-
-    def end(self, crate: str, is_proved: bool, log: IO[str]) -> None:
-        """Says that a crate is proved, or shows why it isn't."""
-        with self.lock:
-            self.running.remove(crate)
-            self.done += is_proved
-            if not is_proved:
+            is_proved = is_proved_by(log)
+            with self.lock:
+                self.running.remove(crate)
+                self.done += is_proved
+                if is_proved:
+                    self.show(crate)
+                    return
                 log.seek(0)
-                print(f"{self.wiped()}{log.read()}{crate} is not proved", file=sys.stderr, flush=True)
-            elif self.is_terminal:
-                self.show()
-            else:
-                print(f"{crate} proved, {self.done} of {self.count}, {self.minutes()}", file=sys.stderr, flush=True)
-
-    def wiped(self) -> str:
-        """What removes the line from a terminal."""
-        return "\r\033[K" if self.is_terminal else ""
+                print(f"{self.wiped}{log.read()}{crate} is not proved", file=sys.stderr, flush=True)
+        raise Unproved(f"{crate} is not proved")
 
     def close(self) -> None:
         """Removes the line."""
         self.ended.set()
         with self.lock:
-            print(self.wiped(), end="", file=sys.stderr, flush=True)
+            print(self.wiped, end="", file=sys.stderr, flush=True)
 
 
 class Build:
@@ -105,7 +110,7 @@ class Build:
     def __init__(self, crates: Crates, names: list[str]) -> None:
         self.crates, self.names = crates, names
         self.libraries = list(dict.fromkeys(it for name in names for it in crates.below(name)))
-        self.asked = kit().libraries(crates.root, self.libraries)
+        self.asked = kit().crates(crates.root, self.libraries)
         self.progress = Progress(len(self.libraries) + names.count(PROGRAM_CRATE))
 
     def steps(self, lanes: int) -> list[Step]:
@@ -128,31 +133,22 @@ class Build:
 
     def build_library(self, name: str, jobs: int) -> None:
         """Builds a library."""
-        self.progress.begin(name)
-        with tempfile.TemporaryFile("w+", errors="replace") as log:
-            is_proved = self.asked[name].build(jobs, log)
-            self.progress.end(name, is_proved, log)
-        if not is_proved:
-            raise Unproved(f"{name} is not proved")
+        self.progress.prove(name, lambda log: kit().build(self.asked[name], jobs, log))
 
-    def build_program(self, jobs: int) -> None:
+    def build_program(self, jobs: int, log: IO[str]) -> bool:
         """Builds the program once its libraries are built. `rt` does so as it runs it: an empty script is refused, so that the
         status says nothing of the build."""
         PROGRAM.unlink(missing_ok=True)
-        self.progress.begin(PROGRAM_CRATE)
-        with tempfile.TemporaryFile("w+", errors="replace") as log:
-            words = ["rt", "run", "--jobs", str(min(jobs, AT_ONCE)), "--", "run", os.devnull]
-            subprocess.run(words, cwd=self.crates.folder(PROGRAM_CRATE), stdin=subprocess.DEVNULL, stdout=log, stderr=log)
-            self.progress.end(PROGRAM_CRATE, PROGRAM.exists(), log)
-        if not PROGRAM.exists():
-            raise Unproved(f"{PROGRAM_CRATE} is not proved")
+        words = ["rt", "run", "--jobs", str(min(jobs, AT_ONCE)), "--", "run", os.devnull]
+        subprocess.run(words, cwd=self.crates.folder(PROGRAM_CRATE), stdin=subprocess.DEVNULL, stdout=log, stderr=log)
+        return PROGRAM.exists()
 
     def run(self, lanes: int) -> None:
         """Builds the libraries while no other `rt` works on them, and then the program if it is wanted."""
         with kit().alone_with(self.asked.values()):
             run_steps(self.steps(lanes), lanes)
         if PROGRAM_CRATE in self.names:
-            self.build_program(lanes)
+            self.progress.prove(PROGRAM_CRATE, partial(self.build_program, lanes))
 
 
 def build_below(crates: Crates, names: list[str], lanes: int) -> None:
@@ -180,6 +176,19 @@ def build_if_older() -> int:
             os._exit(NOT_BUILT)
     print(f"{PROGRAM.relative_to(ROOT)} is proved and built")
     return 0
+
+
+def install(prefix: Path, places: dict[Path, str] = PLACES) -> None:
+    """Copies all files below the prefix, and names them. Each replaces the one before as a whole, so that a program that runs keeps its
+    own."""
+    for source, place in places.items():
+        target = prefix / place
+        target.parent.mkdir(parents=True, exist_ok=True)
+        beside = target.with_name(f".{target.name}.new")
+        shutil.copyfile(source, beside)
+        beside.chmod(RUN if os.access(source, os.X_OK) else READ)
+        beside.replace(target)
+        print(target)
 
 
 def main(words: list[str]) -> int:

@@ -6,7 +6,7 @@ files of their own, in `proofs/WorkedCases` of `wb_model`; check that crate then
 be written.
 
 A theorem that fails means that the case and the definitions differ. A word that is not known, of a script, of a report or of the
-arguments, ends this with that word and what to add.
+arguments, ends this with that word and what it was read as.
 """
 
 import argparse
@@ -14,24 +14,20 @@ import json
 import re
 import sys
 from collections import Counter
+from collections.abc import Iterable
+from itertools import groupby
 from pathlib import Path
-from typing import NamedTuple
+from typing import Any, NamedTuple
 
-from tools.case_groups import Case
-from tools.case_texts import CaseError
-from tools.paths import CASES, ROOT
+from tools.paths import CASES, ROOT, TOOLS
 from tools.program import CEILING, CUT, FINE, FOUND, parser_of
-from tools.report_terms import cut_term, end_term, rises_term, run_term
-from tools.script_terms import Reader
-from tools.terms import UnknownWord, among, apply, listed
-from tools.theorem_files import difference, files_of, write
-from tools.worked_cases import groups_in
+from tools.terms import Reader, UnknownWord, among, apply, cut_term, end_term, listed, rises_term, run_term
+from tools.worked_cases import Case, CaseError, files_in, read
 
-MODEL = ROOT / "crates/wb_model"
 TASKS = ("run", "size", "lengths", "sweep", "check")
-# the options with a number, with what holds where they aren't given, and the flags
-NUMBERS = {"limit": None, "fail": None, "fail-from": None, "also": None, "failures": None, "states": None, "budget": 10000}
-SHAPE = {"min": 4096, "step": 4096, "from": 0, "to": CEILING}
+# the options with a number that hold where they aren't given, the others, and the flags
+SHAPE = {"budget": 10000, "min": 4096, "step": 4096, "from": 0, "to": CEILING}
+NUMBERS = SHAPE | dict.fromkeys(("limit", "fail", "fail-from", "also", "failures", "states"))
 FLAGS = ("pairs", "persistent", "sets", "all", "moving", "json")
 # the failures that a sweep tries, by the word of the line that says that none was found, and the flags that ask for those
 FAILURES = {"number": "Single", "every": "Every", "pair": "Pairs", "persistent": "Persistent"}
@@ -43,47 +39,135 @@ MOST_RANGES = 10
 # what `proofs/PersistentExamples.antt` has
 LEFT_OUT = ("explained", "limits", "persistent-and-ends")
 
+MODEL = ROOT / "crates/wb_model"
+# the module that names the others, which are in a folder of its name, and the one that these have in common
+TOP, COMMON = "WorkedCases", "Shorthands"
+# no line is longer, unless a single word is, and a file is begun anew before its theorems have more lines; its head comes on top of them
+WIDTH, LINES = 140, 350
+
+# the imports that a file may need, and what all theorems have in common, below a comment
+SHORTHANDS = TOOLS / "shorthands.txt"
+# the files of specs/ whose `unfoldable` definitions a run computes through, beside those that are named there
+COMPUTED_IN = (
+    *("meaning/Attempts", "meaning/Meaning", "meaning/Operands", "meaning/Reading"),
+    *("runs/Run", "meaning/State", "meaning/Statements"),
+)
+WRITTEN = "Written by tools/cases_to_theorems.py; edit nothing here."
+
 
 class Accepted(NamedTuple):
-    """An accepted case: its script and shape as terms, its arguments, and the lines of its text report."""
+    """An accepted case: its script and shape as terms, its arguments, and the lines of its text report. What each command's text says is a
+    method of its name, which gives the claims."""
 
-    script: str
+    name: str
     given: str
     arguments: argparse.Namespace
     report: list[str]
 
+    def of(self, what: str) -> str:
+        """A function of the definitions for the script, the budget and the shape."""
+        return f"{what} {self.name} {self.given}"
+
     def rest(self, at: int, word: str, of: str) -> str:
         """What a line of the report says behind its first word, which must be this one."""
         first, _, rest = "".join(self.report[at : at + 1]).partition(" ")
-        among((word,), first, of, "read it in `tools/cases_to_theorems.py`")
+        among((word,), first, of)
         return rest
 
     def is_part(self) -> bool:
         """Whether the arguments ask for a part of the numbers."""
         return (self.arguments.first, self.arguments.last) != (0, CEILING)
 
+    def run(self) -> list[str]:
+        """Which run it is under a rule."""
+        return [f"{apply('run', self.name, rule_of(self.arguments))} {self.given} ≡ {run_term(self.report)}"]
+
+    def size(self) -> list[str]:
+        """Which length is required, and what shorter heaps refuse."""
+        if self.report[0].startswith("cut "):
+            return [f"(run {self.name} R.Unlimited {self.given}).outcome ≡ {cut_term(self.report[0].split(' ')[2])}"]
+        required = self.rest(0, "required", "the first word of a size text")
+        return [f"{self.of('required')} ≡ {required}", f"{self.of('rises')} ≡ {rises_term(self.report)}"]
+
+    def lengths(self) -> list[str]:
+        """How the runs at the first and the last length of each range end, and which run is that at the least bad length."""
+        ranges = [line.split(" ") for line in self.report if line.startswith("from ")]
+        least = self.rest(len(ranges), "length", "the first word of a text of lengths")
+        lasts = [int(words[1]) - 1 for words in ranges[1:]] + [CEILING]
+        ends = [(length, end_term(words[2:])) for words, last in zip(ranges, lasts) for length in sorted({int(words[1]), last})]
+        claims = [f"{self.of('end_in')} {length} ≡ {end}" for length, end in ends]
+        bad = [] if least == "none" else [f"{self.of('run_in')} {least} ≡ {run_term(self.report[len(ranges) + 1 :])}"]
+        return claims + bad
+
+    def sweep(self) -> list[str]:
+        """How many attempts there are, which numbers are found, and their run."""
+        a, report, is_cut = self.arguments, self.report, self.report[0].startswith("cut ")
+        tried = next((word for flag, word in TRIED.items() if getattr(a, flag)), "number")
+        runs, least = (self.of(f"{name} {FAILURES[tried]}") for name in ("runs_of", "least_bad_or_cut"))
+        if a.all or self.is_part():
+            runs, least = f"({runs})", ""
+        found, single = runs, list[str]()
+        if tried == "pair" and not a.all:
+            # a single number that was found or cut before any pair was tried is told of as by a sweep of numbers
+            tried = "pair" if len(report[0].split(" ")) == 4 or not is_cut and report[1].startswith("pair ") else "number"
+        if tried == "pair" and not a.all:
+            found, single, least = self.of("pair_run"), [f"{least} ≡ None"], self.of("least_bad_or_cut_pair")
+        if is_cut:
+            _, *numbers, why = report[0].split(" ")
+            before = [] if a.all else self.found(runs, least, numbers)
+            return [*single, *before, f"({found} {' '.join(numbers)}).outcome ≡ {cut_term(why)}"]
+        made = f"length ({runs} 0).trace ≡ {self.rest(0, 'attempts', 'the first word of a sweep text')}"
+        if a.all:
+            return [made, *self.all(runs)]
+        numbers = self.rest(1, tried, "the second line of this sweep's text").split(" ")
+        run = [] if numbers == ["none"] else [f"{found} {' '.join(numbers)} ≡ {run_term(report[2:])}"]
+        return [made, *single, *self.found(runs, least, numbers), *run]
+
+    def found(self, runs: str, least: str, numbers: list[str]) -> list[str]:
+        """That these are the least numbers that aren't fine, or that all are fine; of a part of the numbers, that those before are fine."""
+        first, last, is_none = self.arguments.first, self.arguments.last, numbers == ["none"]
+        if least:
+            return [f"{least} ≡ " + ("None" if is_none else apply("Some", ", ".join(numbers)))]
+        if is_none:
+            return [f"unfine_in {runs} (part {first} {last}) ≡ []"]
+        return [f"unfine_numbers {runs} {first} {max(int(numbers[0]) - first, 0)} ≡ []"]
+
+    def all(self, runs: str) -> list[str]:
+        """How the runs of all numbers end that are told, and of the least bad one that run."""
+        count = next((at for at, line in enumerate(self.report) if line.startswith("bad ")), len(self.report))
+        self.rest(count, "bad", "the line after the numbers")
+        told = [line.split(" ") for line in self.report[1:count]]
+        ends = listed([apply("ending", number, end_term(words)) for _, number, *words in told])
+        claims = [f"unfine_in {runs} (part {self.arguments.first} {self.arguments.last}) ≡ {ends}"]
+        bad = [number for _, number, word, *_ in told if word in ("leaks", "panic")]
+        return [*claims, f"{runs} {bad[0]} ≡ {run_term(self.report[count + 1 :])}"] if bad else claims
+
+    def check(self) -> list[str]:
+        """What a size text says, and a sweep text where the size wasn't cut."""
+        swept = next((at for at, line in enumerate(self.report) if at > 0 and line.split(" ")[0] in ("attempts", "cut")), len(self.report))
+        size, sweep = self._replace(report=self.report[:swept]), self._replace(report=self.report[swept:])
+        return size.size() + (sweep.sweep() if sweep.report else [])
+
 
 def arguments_of(words: list[str]) -> tuple[argparse.Namespace, list[str]]:
     """The program's own arguments, and those that name files."""
     parser = argparse.ArgumentParser(exit_on_error=False, add_help=False, allow_abbrev=False)
     parser.add_argument("task")
-    for name, default in (NUMBERS | SHAPE).items():
+    for name, default in NUMBERS.items():
         parser.add_argument(f"--{name}", type=int, default=default, dest={"from": "first", "to": "last"}.get(name))
     for name in FLAGS:
         parser.add_argument(f"--{name}", action="store_true")
     parser.add_argument("--set")
     # a number of `run`, and a flag of the others
-    if words[:1] == ["run"]:
-        parser.add_argument("--every", type=int)
-    else:
-        parser.add_argument("--every", action="store_true")
+    every: dict[str, Any] = {"type": int} if words[:1] == ["run"] else {"action": "store_true"}
+    parser.add_argument("--every", **every)
     try:
         known, files = parser.parse_known_args(words)
     except argparse.ArgumentError as error:
-        raise UnknownWord(" ".join(words), "arguments", f"{error}; read them in `arguments_of`") from error
-    among(TASKS, known.task, "a task", "give it a function in CLAIMS")
+        raise UnknownWord(" ".join(words), f"arguments: {error}") from error
+    among(TASKS, known.task, "a task")
     for word in [*(it for it in files if it.startswith("-")), *files[1:]]:
-        raise UnknownWord(word, "an option", "add it to `arguments_of`, and what it changes to `theorem`")
+        raise UnknownWord(word, "an option")
     return known, files
 
 
@@ -101,12 +185,13 @@ def rule_of(a: argparse.Namespace) -> str:
     return next((rule for value, rule in given if value is not None), "R.Unlimited")
 
 
-def lines_of_object(text: str, version: str) -> list[str]:
-    """The lines that a JSON report of this version holds."""
+def lines_of_report(text: str, version: str | None) -> list[str]:
+    """The lines of a report; in JSON of a version, if there is one."""
+    if not version:
+        return text.removesuffix("\n").split("\n")
     report = json.loads(text)
-    among((version,), str(report["version"]), "the version of a JSON report", "read its form in `lines_of_object`")
-    lines: list[str] = report["lines"]
-    return lines
+    among((version,), str(report["version"]), "the version of a JSON report")
+    return list(report["lines"])
 
 
 def accepted(case: Case, name: str) -> tuple[Accepted, str] | str:
@@ -118,108 +203,28 @@ def accepted(case: Case, name: str) -> tuple[Accepted, str] | str:
     if case.status not in (FINE, FOUND, CUT):
         return "not accepted"
     a, files = arguments_of(case.args)
-    script = (ROOT / files[0]).read_bytes() if files else case.script
     if a.failures is not None or a.sets:
         return "sets of failures"
-    version, told = "3" if a.task == "lengths" or a.all or a.persistent else "2", case.stdout.decode()
-    report = lines_of_object(told, version) if a.json else told.removesuffix("\n").split("\n")
+    version = "3" if a.task == "lengths" or a.all or a.persistent else "2"
+    report = lines_of_report(case.stdout.decode(), version if a.json else None)
     shape = f"{a.budget} ({'shaped_moving' if a.moving else 'shaped'} {a.min} {a.step})"
     it = Accepted(f"script_{name}", shape, a, report)
     if a.task == "run" and int(report[-1].removeprefix("steps ")) > MOST_STEPS:
         return f"more than {MOST_STEPS} steps"
     if a.task == "lengths" and sum(line.startswith("from ") for line in report) > MOST_RANGES:
         return f"more than {MOST_RANGES} ranges of lengths"
-    return "a part of the pairs" if a.pairs and it.is_part() else (it, script.decode())
-
-
-def run_claims(it: Accepted) -> list[str]:
-    """What a run text says of a script under a rule, a budget and a shape."""
-    return [f"{apply('run', it.script, rule_of(it.arguments))} {it.given} ≡ {run_term(it.report)}"]
-
-
-def size_claims(it: Accepted) -> list[str]:
-    """What a size text says of a script under a budget and a shape."""
-    if it.report[0].startswith("cut "):
-        return [f"(run {it.script} R.Unlimited {it.given}).outcome ≡ {cut_term(it.report[0].split(' ')[2])}"]
-    required = it.rest(0, "required", "the first word of a size text")
-    return [f"required {it.script} {it.given} ≡ {required}", f"rises {it.script} {it.given} ≡ {rises_term(it.report)}"]
-
-
-def lengths_claims(it: Accepted) -> list[str]:
-    """What a text of lengths says of a script under a budget and a shape: how the runs at the first and the last length of each
-    range end, and which run is that at the least bad length."""
-    ranges = [line.split(" ") for line in it.report if line.startswith("from ")]
-    least = it.rest(len(ranges), "length", "the first word of a text of lengths")
-    lasts = [int(words[1]) - 1 for words in ranges[1:]] + [CEILING]
-    ends = [(length, end_term(words[2:])) for words, last in zip(ranges, lasts) for length in sorted({int(words[1]), last})]
-    claims = [f"end_in {it.script} {it.given} {length} ≡ {end}" for length, end in ends]
-    bad = [] if least == "none" else [f"run_in {it.script} {it.given} {least} ≡ {run_term(it.report[len(ranges) + 1 :])}"]
-    return claims + bad
-
-
-def sweep_claims(it: Accepted) -> list[str]:
-    """What a sweep text says of a script under a budget and a shape: how many attempts there are, which numbers are found, and its run."""
-    a, report, is_cut = it.arguments, it.report, it.report[0].startswith("cut ")
-    tried = next((word for flag, word in TRIED.items() if getattr(a, flag)), "number")
-    runs, least = (f"{name} {FAILURES[tried]} {it.script} {it.given}" for name in ("runs_of", "least_bad_or_cut"))
-    if a.all or it.is_part():
-        runs, least = f"({runs})", ""
-    found, single = runs, list[str]()
-    if tried == "pair" and not a.all:
-        # a single number that was found or cut before any pair was tried is told of as by a sweep of numbers
-        tried = "pair" if len(report[0].split(" ")) == 4 or not is_cut and report[1].startswith("pair ") else "number"
-    if tried == "pair" and not a.all:
-        found, single, least = f"pair_run {it.script} {it.given}", [f"{least} ≡ None"], f"least_bad_or_cut_pair {it.script} {it.given}"
-    if is_cut:
-        _, *numbers, why = report[0].split(" ")
-        before = [] if a.all else found_claims(it, runs, least, numbers)
-        return [*single, *before, f"({found} {' '.join(numbers)}).outcome ≡ {cut_term(why)}"]
-    made = f"length ({runs} 0).trace ≡ {it.rest(0, 'attempts', 'the first word of a sweep text')}"
-    if a.all:
-        return [made, *all_claims(it, runs)]
-    numbers = it.rest(1, tried, "the second line of this sweep's text").split(" ")
-    run = [] if numbers == ["none"] else [f"{found} {' '.join(numbers)} ≡ {run_term(report[2:])}"]
-    return [made, *single, *found_claims(it, runs, least, numbers), *run]
-
-
-def found_claims(it: Accepted, runs: str, least: str, numbers: list[str]) -> list[str]:
-    """That these are the least numbers that aren't fine, or that all are fine; of a part of the numbers, that those before are fine."""
-    first, last, is_none = it.arguments.first, it.arguments.last, numbers == ["none"]
-    if least:
-        return [f"{least} ≡ " + ("None" if is_none else apply("Some", ", ".join(numbers)))]
-    if is_none:
-        return [f"unfine_in {runs} (part {first} {last}) ≡ []"]
-    return [f"unfine_numbers {runs} {first} {max(int(numbers[0]) - first, 0)} ≡ []"]
-
-
-def all_claims(it: Accepted, runs: str) -> list[str]:
-    """What a text of all that a sweep finds says: how the runs of these numbers end, and of the least bad one that run."""
-    count = next((at for at, line in enumerate(it.report) if line.startswith("bad ")), len(it.report))
-    it.rest(count, "bad", "the line after the numbers")
-    told = [line.split(" ") for line in it.report[1:count]]
-    ends = listed([apply("ending", number, end_term(words)) for _, number, *words in told])
-    claims = [f"unfine_in {runs} (part {it.arguments.first} {it.arguments.last}) ≡ {ends}"]
-    bad = [number for _, number, word, *_ in told if word in ("leaks", "panic")]
-    return [*claims, f"{runs} {bad[0]} ≡ {run_term(it.report[count + 1 :])}"] if bad else claims
-
-
-def check_claims(it: Accepted) -> list[str]:
-    """What a check text says: a size text, and a sweep text where the size wasn't cut."""
-    swept = next((at for at, line in enumerate(it.report) if at > 0 and line.split(" ")[0] in ("attempts", "cut")), len(it.report))
-    size, sweep = it._replace(report=it.report[:swept]), it._replace(report=it.report[swept:])
-    return size_claims(size) + (sweep_claims(sweep) if sweep.report else [])
-
-
-CLAIMS = {"run": run_claims, "size": size_claims, "lengths": lengths_claims, "sweep": sweep_claims, "check": check_claims}
+    if a.pairs and it.is_part():
+        return "a part of the pairs"
+    return it, ((ROOT / files[0]).read_bytes() if files else case.script).decode()
 
 
 def theorem(name: str, it: Accepted, text: str) -> str:
     """A case as antt text: its script, its claims and their proof."""
-    claims = CLAIMS[it.arguments.task](it)
+    claims: list[str] = getattr(it, it.arguments.task)()
     claim, proof = claims[0], "refl"
     if len(claims) > 1:
         claim, proof = " × ".join(f"({claim})" for claim in claims), f"({', '.join(['refl'] * len(claims))})"
-    script = f"abbrev {it.script} : Script\n{it.script} = {Reader(text).script()}\n\n"
+    script = f"abbrev {it.name} : Script\n{it.name} = {Reader(text).script()}\n\n"
     return f"{script}{name} : {claim}\nunfolding everything\n{name} = {proof}\n"
 
 
@@ -242,25 +247,104 @@ def theorems_of(cases: list[Case]) -> tuple[dict[str, dict[str, str]], Counter[s
     return theorems, left_out
 
 
+def shorthands(lines: list[str]) -> str:
+    """What all theorems have in common; it opens each definition that a run computes through and that is `unfoldable`."""
+    shut = []
+    for stem in COMPUTED_IN:
+        names = re.findall(r"^unfoldable pub (\S+)", (MODEL / f"specs/{stem}.antt").read_text(encoding="utf-8"), re.MULTILINE)
+        shut += [f"    Rattle.{MODEL.name}.specs.{stem.replace('/', '.')}.{name}" for name in names]
+    at = lines.index("everything = tt")
+    return without_unused([f"-- What the theorems of worked cases have in common. {WRITTEN}", *lines[:at], *shut, *lines[at:]])
+
+
+def theorem_file(lines: list[str], subject: str, theorems: Iterable[str]) -> str:
+    """A file of theorems, each line of which has at most so many characters."""
+    names = ", ".join(["everything", *(it[1] for it in map(re.compile(r"abbrev pub (\S+) :").match, lines) if it)])
+    common = f"use Rattle.{MODEL.name}.proofs.{TOP}.{COMMON}.{{{names}}}"
+    head = [f"-- Worked cases of `{subject}`, each by computing. {WRITTEN}", *(it for it in lines if it.startswith("use ")), common, ""]
+    return "\n".join(map(wrapped, without_unused([*head, *"\n".join(theorems).split("\n")]).split("\n")))
+
+
+def wrapped(line: str) -> str:
+    """A line, broken at blanks where it is too long; what comes after a break is indented. Of imported names each has a line then."""
+    if len(line) > WIDTH and (names := re.fullmatch(r"(use \S+\.\{)(.*)\}", line)):
+        return "\n".join([names[1], *(f"  {name}," for name in names[2].split(", ")), "}"])
+    lines = []
+    while len(line) > WIDTH and (at := line.rfind(" ", 5, WIDTH + 1)) > 0:
+        lines.append(line[:at])
+        line = "    " + line[at + 1 :]
+    return "\n".join([*lines, line])
+
+
+def without_unused(lines: list[str]) -> str:
+    """The text of an antt file without the imported names that it doesn't use."""
+    rest = "\n".join(line for line in lines if not line.startswith("use "))
+    # the fields of a record aren't names
+    words = re.findall(r"[^\s(){};]+", re.sub(r"([{;]\s)\S+ =", r"\1=", rest))
+    used, kept = {*words, *(it.split(".")[0] for it in words)}, []
+    for line in lines:
+        if listed := re.fullmatch(r"use (\S+)\.\{(.*)\}", line):
+            names = [name for name in listed[2].split(", ") if name.strip("◌") in used]
+            kept += [f"use {listed[1]}.{{{', '.join(names)}}}"] if names else []
+        elif not (renamed := re.fullmatch(r"use \S+ as (\S+)", line)) or renamed[1] in used:
+            kept.append(line)
+    return "\n".join(kept)
+
+
+def parts_of(theorems: dict[str, str]) -> list[list[str]]:
+    """The names of theorems in their order, parted between first letters so that no part is too long where that can be."""
+    parts: list[list[str]] = []
+    length = 0
+    for _, names in groupby(sorted(theorems), key=lambda name: name[0].lower()):
+        some = list(names)
+        # each with an empty line after it
+        more = sum(wrapped(line).count("\n") + 1 for name in some for line in theorems[name].split("\n"))
+        if not parts or length + more > LINES:
+            parts.append([])
+            length = 0
+        parts[-1] += some
+        length += more
+    return parts
+
+
+def module_of(subject: str, names: list[str], is_whole: bool) -> str:
+    """The name of the module that holds these theorems: what they are about and, if it holds a part of them, their first letters."""
+    name = "".join(word.capitalize() for word in re.split(r"[^A-Za-z0-9]+", subject))
+    first, last = names[0][0].upper(), names[-1][0].upper()
+    return name if is_whole else name + (first if first == last else f"{first}To{last}")
+
+
+def files_of(theorems: dict[str, dict[str, str]]) -> dict[str, str]:
+    """The text of each file by its place below the crate's folder of proofs, from theorems by what they are about and their names."""
+    lines = SHORTHANDS.read_text(encoding="utf-8").split("\n")[2:]
+    modules = {COMMON: shorthands(lines)}
+    for subject, some in sorted(theorems.items()):
+        parts = parts_of(some)
+        for names in parts:
+            modules[module_of(subject, names, len(parts) == 1)] = theorem_file(lines, subject, (some[name] for name in names))
+    return {f"{TOP}.antt": "".join(f"pub mod {it}\n" for it in modules), **{f"{TOP}/{it}.antt": text for it, text in modules.items()}}
+
+
 def main(words: list[str]) -> int:
     """Reads the arguments, and writes the files."""
     parser = parser_of(__doc__)
     parser.add_argument("--in", type=Path, default=CASES, metavar="FOLDER", dest="folder", help="the folder of the groups, if not cases/")
-    parser.add_argument("--out", type=Path, help="the folder to write into, in place of the crate's proofs/")
+    parser.add_argument("--out", type=Path, default=MODEL / "proofs", help="the folder to write into, if not the crate's proofs/")
     parser.add_argument("--compare", action="store_true", help="write nothing, and fail where the files hold something else")
     chosen = parser.parse_args(words)
     try:
-        groups = groups_in(chosen.folder)
+        groups = [read(file, name) for name, file in files_in(chosen.folder).items() if name.split("/")[0] not in LEFT_OUT]
     except CaseError as error:
         sys.exit(str(error))
-    cases = [case for it in groups if it.name.split("/")[0] not in LEFT_OUT for case in it.cases()]
-    theorems, left_out = theorems_of(cases)
-    files = files_of(MODEL, theorems)
-    folder = chosen.out or MODEL / "proofs"
-    if not chosen.compare:
-        write(folder, files)
-    elif (other := difference(folder, files)) is not None:
-        sys.exit(f"{other} is not what these cases give: write the theorems anew")
+    theorems, left_out = theorems_of([case for it in groups for case in it.cases()])
+    files = {chosen.out / place: text for place, text in files_of(theorems).items()}
+    held = {it: it.read_text() for it in [*(chosen.out / TOP).glob("*"), chosen.out / f"{TOP}.antt"] if it.is_file()}
+    other = sorted(it for it in {*files, *held} if files.get(it) != held.get(it))
+    if chosen.compare and other:
+        sys.exit(f"{other[0]} is not what these cases give: write the theorems anew")
+    for file in other:
+        file.parent.mkdir(exist_ok=True)
+        file.write_text(files[file]) if file in files else file.unlink()
     count = sum(map(len, theorems.values()))
     print("; ".join([f"{count} theorems", *(f"left out {count}: {why}" for why, count in left_out.items())]))
     return 0

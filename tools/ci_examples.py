@@ -17,9 +17,7 @@ from tools.paths import EXAMPLES, ROOT, examples
 from tools.program import CUT, FINE, FOUND, program_parser
 from tools.tally import Tally
 
-TOOL = EXAMPLES / "ci" / "check-folder"
-PARTS = EXAMPLES / "ci" / "sweep-parts"
-LENGTHS = EXAMPLES / "ci" / "required-lengths.txt"
+CHECK, PARTS, LENGTHS = (EXAMPLES / "ci" / it for it in ("check-folder", "sweep-parts", "required-lengths.txt"))
 
 REJECTED, MISSING, COMMAND_LINE = 2, 5, 6
 # what is asked of a sweep in parts: of scripts that show something by a number, by a rate, by a pair, and by nothing
@@ -28,9 +26,23 @@ FLAGS = ((), ("--every",), ("--pairs",), ("--all",), ("--every", "--all"))
 # how the words of a script begin that isn't as the baseline has it
 FAULTS = ("grown", "missing", "not in")
 
-GROWN = "proc main\n    ptr name\n    alloc name 1000\n    free name\nend\n"
-REJECTED_SCRIPT = "proc main\n    alloc\nend\n"
-CUT_SCRIPT = "proc main\n    repeat 1048576\n    end\nend\n"
+SMALL = "proc main\n    ptr name\n    alloc name 10\n    free name\nend\n"
+LONG = "proc main\n    repeat 1048576\n    end\nend\n"
+BASELINE, SETS = "--baseline lengths.txt", "4,5,6,7,8,9,10,11,12,13"
+# the faults of a folder, one after the other: what a script is then, an example of its name where nothing is said, and none where it goes;
+# options, the place of a line, that line, and the status. With --quick single failures and lengths are asked for alone, which pass over a
+# leak that more failures show
+STEPS: list[tuple[str, str | None, str, int, str, int]] = [
+    ("inner/small.oom", SMALL.replace("10", "1000"), BASELINE, 1, "inner/small.oom: required 1168, set none, grown from 176", FOUND),
+    ("second-phase-leaks.oom", "", BASELINE, 3, "second-phase-leaks.oom: required 256, number 3, not in the baseline", FOUND),
+    ("album-leaks.oom", "", "--quick", 0, "album-leaks.oom: required 2224, number none, length none", FOUND),
+    ("album-leaks.oom", "", "--quick", -1, "second-phase-leaks.oom: required 256, number 3, length 192", FOUND),
+    ("album-leaks.oom", "", "", 0, f"album-leaks.oom: required 2224, set {SETS}", FOUND),
+    ("album-leaks.oom", None, BASELINE, 0, "holes.oom: required 560, set none", FOUND),
+    ("retry.oom", "proc main\n    alloc\nend\n", BASELINE, 2, "retry.oom: refused 3 line 2", REJECTED),
+    ("long.oom", LONG, BASELINE, 2, "long.oom: cut 0 budget, not in the baseline", CUT),
+    ("holes.oom", None, f"{BASELINE} --jobs 1", 0, "holes.oom: missing", MISSING),
+]
 
 
 class Told(NamedTuple):
@@ -47,18 +59,14 @@ class Folder:
     def __init__(self, program: Path, room: Path) -> None:
         self.program, self.room = program, room
 
-    def write(self, name: str, script: str) -> None:
-        """Writes a script."""
+    def put(self, name: str, script: str | None = "") -> Path:
+        """Writes a script; an example of its name where there is no text, and none where it goes."""
         file = self.room / "scripts" / name
         file.parent.mkdir(parents=True, exist_ok=True)
-        file.write_text(script, encoding="ascii")
+        file.unlink() if script is None else file.write_text(script or (EXAMPLES / name).read_text(encoding="ascii"), encoding="ascii")
+        return file
 
-    def take(self, *names: str) -> None:
-        """Copies examples into the folder."""
-        for name in names:
-            self.write(name, (EXAMPLES / name).read_text(encoding="ascii"))
-
-    def call(self, *words: str | Path, tool: Path = TOOL) -> Told:
+    def call(self, *words: str | Path, tool: Path = CHECK) -> Told:
         """What `check-folder` says on these words, or the other script, in the folder above the scripts."""
         environment = dict(os.environ, WORKBENCH=str(self.program))
         ran = subprocess.run([tool, *words], cwd=self.room, env=environment, capture_output=True, text=True)
@@ -88,64 +96,31 @@ def try_examples(tests: Tests, program: Path) -> None:
 
 def try_baseline(tests: Tests, folder: Folder) -> None:
     """Whether a baseline is written, and whether a folder that is as it was passes."""
-    folder.take("holes.oom", "retry.oom")
-    folder.write("inner/small.oom", GROWN.replace("1000", "10"))
-    words = ("scripts", "--baseline", "lengths.txt")
-    told = folder.call(*words, "--write-baseline")
+    for name, script in (("holes.oom", ""), ("retry.oom", ""), ("inner/small.oom", SMALL)):
+        folder.put(name, script)
+    told = folder.call("scripts", *BASELINE.split(), "--write-baseline")
     tests.expect("a folder without faults", told.status, FINE)
     tests.expect("what is said of it beside its lines", told.explained, "")
     wanted = "560 holes.oom\n176 inner/small.oom\n"
     tests.expect("the baseline", (folder.room / "lengths.txt").read_text(encoding="utf-8")[: len(wanted)], wanted)
-    tests.expect("the folder as it was", folder.call(*words), told)
+    tests.expect("the folder as it was", folder.call("scripts", *BASELINE.split()), told)
 
 
 def try_faults(tests: Tests, folder: Folder) -> None:
     """Whether each fault of a folder has its line, and its status the whole."""
-    words = ("scripts", "--baseline", "lengths.txt")
-    folder.write("inner/small.oom", GROWN)
-    told = folder.call(*words)
-    wanted = "scripts/inner/small.oom: required 1168, set none, grown from 176"
-    tests.expect("a length that has grown", told.lines[1], wanted)
-    tests.expect("its status", told.status, FOUND)
-    folder.take("second-phase-leaks.oom")
-    told = folder.call(*words)
-    wanted = "scripts/second-phase-leaks.oom: required 256, number 3, not in the baseline"
-    tests.expect("a script that leaks", told.lines[3], wanted)
-    tests.expect("its status", told.status, FOUND)
-    try_quickly(tests, folder)
-    tests.expect("its explanation", "second-phase-leaks.oom:16: leak: " in told.explained, True)
-    folder.write("retry.oom", REJECTED_SCRIPT)
-    told = folder.call(*words)
-    tests.expect("a script that is rejected", told.lines[2], "scripts/retry.oom: refused 3 line 2")
-    tests.expect("its status", told.status, REJECTED)
-    folder.write("long.oom", CUT_SCRIPT)
-    told = folder.call(*words)
-    tests.expect("a script that is cut", told.lines[2], "scripts/long.oom: cut 0 budget, not in the baseline")
-    tests.expect("its status", told.status, CUT)
-    (folder.room / "scripts/holes.oom").unlink()
-    told = folder.call(*words, "--jobs", "1")
-    tests.expect("a script that is missing", told.lines[0], "scripts/holes.oom: missing")
-    tests.expect("its status", told.status, MISSING)
+    for name, script, options, at, line, status in STEPS:
+        folder.put(name, script)
+        told = folder.call("scripts", *options.split())
+        tests.expect(f"{name} with {options}", told.lines[at], f"scripts/{line}")
+        tests.expect(f"the status of {name} with {options}", told.status, status)
+        if name == "second-phase-leaks.oom":
+            tests.expect("its explanation", "second-phase-leaks.oom:16: leak: " in told.explained, True)
     tests.expect("all lines", len(told.lines), 5)
-
-
-def try_quickly(tests: Tests, folder: Folder) -> None:
-    """Whether single failures and lengths are asked for alone, which pass over a leak that two failures show."""
-    folder.take("album-leaks.oom")
-    told = folder.call("scripts", "--quick")
-    wanted = [
-        "scripts/album-leaks.oom: required 2224, number none, length none",
-        "scripts/second-phase-leaks.oom: required 256, number 3, length 192",
-    ]
-    tests.expect("what is found quickly", [told.lines[0], told.lines[-1]], wanted)
-    tests.expect("a leak that more failures show", folder.call("scripts").lines[0], "scripts/album-leaks.oom: required 2224, set 4,5,6,7,8,9,10,11,12,13")
-    (folder.room / "scripts" / "album-leaks.oom").unlink()
 
 
 def try_parts(tests: Tests, folder: Folder) -> None:
     """Whether a sweep in parts prints what a whole one does, also where there is no sweep."""
-    folder.take(*SWEPT)
-    scripts = [folder.room / "scripts" / name for name in (*SWEPT, "retry.oom", "long.oom")]
+    scripts = [*map(folder.put, SWEPT), *(folder.room / "scripts" / name for name in ("retry.oom", "long.oom"))]
     for script in scripts:
         for flags in FLAGS:
             ran = subprocess.run([folder.program, "sweep", *flags, script], capture_output=True, text=True)
@@ -157,18 +132,11 @@ def try_parts(tests: Tests, folder: Folder) -> None:
 def try_words(tests: Tests, folder: Folder) -> None:
     """Whether what can't be done is a fault of the command line, and leaves the baseline as it is."""
     before = (folder.room / "lengths.txt").read_bytes()
-    for words in (
-        ["none"],
-        ["scripts", "--write-baseline"],
-        ["scripts", "--jobs", "0"],
-        ["scripts", "--baseline", "no-such-file"],
-        ["scripts", "--baseline", "scripts/retry.oom"],
-    ):
-        tests.expect(" ".join(words), folder.call(*words).status, COMMAND_LINE)
+    for words in ("none", *(f"scripts {it}" for it in ("--write-baseline", "--jobs 0", "--baseline none", "--baseline scripts/retry.oom"))):
+        tests.expect(words, folder.call(*words.split()).status, COMMAND_LINE)
     tests.expect("no program", Folder(folder.room / "no-such-file", folder.room).call("scripts").status, COMMAND_LINE)
-    unreadable = folder.room / "scripts" / "unreadable.oom"
-    unreadable.symlink_to(folder.room / "scripts" / "inner" / "no-such-file")
-    tests.expect("a link to nothing", folder.call("scripts", "--baseline", "lengths.txt", "--write-baseline").status, MISSING)
+    (folder.room / "scripts" / "unreadable.oom").symlink_to("no-such-file")
+    tests.expect("a link to nothing", folder.call("scripts", *BASELINE.split(), "--write-baseline").status, MISSING)
     tests.expect("the baseline after these", (folder.room / "lengths.txt").read_bytes(), before)
 
 
@@ -182,7 +150,6 @@ def main(words: list[str]) -> int:
     tests = Tests()
     try_examples(tests, given.program)
     with tempfile.TemporaryDirectory() as room:
-        folder = Folder(given.program, Path(room))
         for part in (try_baseline, try_faults, try_parts, try_words):
-            part(tests, folder)
+            part(tests, Folder(given.program, Path(room)))
     return tests.end()

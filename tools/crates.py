@@ -77,23 +77,30 @@ class Crates:
 
 
 @contextmanager
-def building() -> Iterator[None]:
-    """Keeps other calls from building the program meanwhile. What is changed after it has begun counts as newer than the
-    program that is built."""
-    lock = os.open(TOOLS, os.O_RDONLY)
+def alone_in(folder: Path, waiting: str) -> Iterator[None]:
+    """Keeps other calls that take this folder from going on meanwhile, and says so where it waits for one."""
+    lock = os.open(folder, os.O_RDONLY)
     try:
         try:
             fcntl.flock(lock, fcntl.LOCK_EX | fcntl.LOCK_NB)
         except BlockingIOError:
-            print("waiting for another call to build the program", file=sys.stderr, flush=True)
+            print(waiting, file=sys.stderr, flush=True)
             fcntl.flock(lock, fcntl.LOCK_EX)
+        yield
+    finally:
+        os.close(lock)
+
+
+@contextmanager
+def building() -> Iterator[None]:
+    """Keeps other calls from building the program meanwhile. What is changed after it has begun counts as newer than the
+    program that is built."""
+    with alone_in(TOOLS, "waiting for another call to build the program"):
         began = time.time()
         before = PROGRAM.stat().st_ino if PROGRAM.exists() else None
         yield
         if PROGRAM.exists() and PROGRAM.stat().st_ino != before:
             os.utime(PROGRAM, (began, began))
-    finally:
-        os.close(lock)
 
 
 def is_being_built() -> bool:

@@ -17,16 +17,15 @@ COMMANDS = {
     "broken-streams": "broken_streams",
     "progress": "progress",
     "failing-allocations": "failing_allocations",
-    "pictures": "pictures",
+    "pictures": "documents.pictures",
     "mistakes": "mistakes",
-    "compare": "compare",
+    "compare": "comparisons.compare",
     "fuzz": "fuzz",
-    "made-scripts": "made_scripts",
     "theorems": "cases_to_theorems",
-    "wrong-bodies": "wrong_bodies",
-    "pages": "pages",
-    "editors": "editors",
-    "help-files": "help_files",
+    "wrong-bodies": "edits.wrong_bodies",
+    "pages": "documents.pages",
+    "editors": "documents.editors",
+    "help-files": "documents.help_files",
     "ci-examples": "ci_examples",
     "style": "style",
     "layout": "layout",
@@ -39,7 +38,7 @@ HELP = ("-h", "--help", "help")
 
 def about(command: str) -> str:
     """What a command does: the first paragraph of what its module says of itself, as one line."""
-    text = ast.get_docstring(ast.parse((TOOLS / f"{COMMANDS[command]}.py").read_text(encoding="utf-8"))) or ""
+    text = ast.get_docstring(ast.parse((TOOLS / f"{COMMANDS[command].replace('.', '/')}.py").read_text(encoding="utf-8"))) or ""
     return " ".join(text.partition("\n\n")[0].split())
 
 

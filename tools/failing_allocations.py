@@ -26,10 +26,11 @@ import shutil
 import subprocess
 import sys
 import tempfile
-from collections.abc import Iterator
+from bisect import bisect_left
+from collections.abc import Callable, Iterable
 from concurrent.futures import ThreadPoolExecutor
 from functools import partial
-from itertools import accumulate, takewhile, zip_longest
+from itertools import accumulate, pairwise, takewhile, zip_longest
 from pathlib import Path
 from typing import Any
 
@@ -42,40 +43,36 @@ from tools.worked_cases import case_called
 SOURCE = TOOLS / "failing_allocation.c"
 # the cases that are tried beside the examples, if nothing else is named
 TRIED = """
-sweep/first-fit-reuses-hole.check sweep/eighth-push-grows-the-cleanup-cell.check
-sweep/unpushed-object-leaks-when-construction-fails.check sweep/top-cell-grows-in-place.check
-sweep/marks-never-count-the-cleanup-cell.check sweep/procedure-returns-a-pushed-cell.check
-descriptors/refused-text-growth-keeps-the-text.run operations/leave-runs-a-cleanup-operation.run
-raw-heap/forged-header-in-a-payload.run json/empty-main-json-with-kind.size
-sweep/eighth-push-grows-the-cleanup-cell.sweep sweep/unpushed-object-leaks-when-construction-fails.sweep
-sweep/failure-that-outruns-the-budget.sweep sweep/leak-that-needs-two-failures.sweep
-sweep/pushed-object-survives-every-failure.sweep
+sweep/first-fit-reuses-hole.check sweep/eighth-push-grows-the-cleanup-cell.check sweep/unpushed-object-leaks-when-construction-fails.check
+sweep/top-cell-grows-in-place.check sweep/marks-never-count-the-cleanup-cell.check sweep/procedure-returns-a-pushed-cell.check
+descriptors/refused-text-growth-keeps-the-text.run operations/leave-runs-a-cleanup-operation.run raw-heap/forged-header-in-a-payload.run
+json/empty-main-json-with-kind.size sweep/eighth-push-grows-the-cleanup-cell.sweep
+sweep/unpushed-object-leaks-when-construction-fails.sweep sweep/failure-that-outruns-the-budget.sweep
+sweep/leak-that-needs-two-failures.sweep sweep/pushed-object-survives-every-failure.sweep
 cleanup/limit-stops-the-stack-above-a-large-hole.run cleanup/push-past-the-limit-destroys-all-items.run
 rates/leak-that-needs-two-failures-every.run rates/leak-that-needs-two-failures-every-json.sweep
-rates/eighth-push-grows-the-cleanup-cell-every.sweep examples/fallback-leaks-every-json.check
-pairs/leak-that-needs-two-failures-pair.run pairs/leak-that-needs-two-failures-pairs.sweep
-pairs/leak-that-needs-two-failures-pairs-json.sweep pairs/eighth-push-grows-the-cleanup-cell-pairs.sweep
-examples/clean-up-fails-pairs-json.check explained/pictures/two-runs.check
-explained/sets/three-given-failures.run explained/sets/picture-of-a-set.run
-lengths/unpushed-object-leaks-when-construction-fails.lengths lengths/small-minimum-and-step.lengths
-lengths/failure-that-outruns-the-budget-json.lengths lengths/more-leaks-in-longer-heaps.lengths
-examples/loader-leaks-json.lengths
-explained/meetings/loop-forgets-two-failures-pairs.sweep explained/meetings/trap-in-a-loop-forgets-two-failures-pairs.sweep
-explained/meetings/second-retry-outruns-the-budget-pairs.sweep explained/meetings/retries-outrun-the-budget-all.sweep
-explained/follow/items-that-a-leave-destroys.run
+rates/eighth-push-grows-the-cleanup-cell-every.sweep examples/fallback-leaks-every-json.check pairs/leak-that-needs-two-failures-pair.run
+pairs/leak-that-needs-two-failures-pairs.sweep pairs/leak-that-needs-two-failures-pairs-json.sweep
+pairs/eighth-push-grows-the-cleanup-cell-pairs.sweep examples/clean-up-fails-pairs-json.check explained/pictures/two-runs.check
+explained/sets/three-given-failures.run explained/sets/picture-of-a-set.run lengths/unpushed-object-leaks-when-construction-fails.lengths
+lengths/small-minimum-and-step.lengths lengths/failure-that-outruns-the-budget-json.lengths lengths/more-leaks-in-longer-heaps.lengths
+examples/loader-leaks-json.lengths explained/meetings/loop-forgets-two-failures-pairs.sweep
+explained/meetings/trap-in-a-loop-forgets-two-failures-pairs.sweep explained/meetings/second-retry-outruns-the-budget-pairs.sweep
+explained/meetings/retries-outrun-the-budget-all.sweep explained/follow/items-that-a-leave-destroys.run
 explained/sets/sweep-finds-three-failures.sweep explained/sets/picture-of-a-sweep-over-sets.sweep
-failures/leak-that-needs-three-failures-json.sweep failures/retry-that-fails-again.check
-failures/cut-set-before-a-bad-one.sweep failures/leak-that-needs-three-failures-of-two-json.check
-every-set/leak-that-needs-three-failures.sweep every-set/pointer-to-another-cell.sweep
-every-set/steps-before-a-budget.sweep every-set/more-states-than-one.sweep
+failures/leak-that-needs-three-failures-json.sweep failures/retry-that-fails-again.check failures/cut-set-before-a-bad-one.sweep
+failures/leak-that-needs-three-failures-of-two-json.check every-set/leak-that-needs-three-failures.sweep
+every-set/pointer-to-another-cell.sweep every-set/steps-before-a-budget.sweep every-set/more-states-than-one.sweep
 every-set/every-answer-is-looked-at-json.sweep
 """.split()
 # the program that makes a call once more where it found no memory
 CALLS = ROOT / "crates/wb_call_tests/out/wb_call_tests"
 WAYS = ("once", "from", "each")
+# how many allocations are tried from the first one on, and how many of those that follow
+FIRST, LATER = 1_500, 250
+
 # which panic a line of an explanation is about, before it says what raised it
 PANIC = re.compile(rb".*:\d+: panic [A-Z]+ [0-9a-f]+: \w+: ")
-
 # what is said of a question that `check` asks unasked and doesn't decide
 UNDECIDED = re.compile(rb".*: .+ take more than is tried unasked; `workbench .+` tries them$")
 
@@ -83,13 +80,9 @@ UNDECIDED = re.compile(rb".*: .+ take more than is tried unasked; `workbench .+`
 RISE_OF_RUN = re.compile(r"rise (\d+) of the run to \d+")
 TURN_TO_COME = "an attempt is to come"
 ATTEMPT_OF_RUN = re.compile(r"attempt (\d+) of the run, at line \d+")
-# what it writes of an attempt on a heap that isn't a rise
+# what it writes of an attempt on a heap that isn't a rise; it makes at least so many attempts that aren't
 NO_RISE = re.compile(r"(?:re)?alloc .*, rise false, trace 0")
-# it makes at least so many that aren't
 FEWEST_WITHOUT_RISE = 180
-
-# how many allocations are tried from the first one on, and how many of those that follow
-FIRST, LATER = 1_500, 250
 
 NO_MEMORY = Answer(b"no memory\n", b"", WANT_OF_MEMORY)
 NO_MEMORY_FOR_THE_COMMAND = (Answer(b"", b"error: no memory\n", WANT_OF_MEMORY), Answer(b"", b"", WANT_OF_MEMORY))
@@ -99,14 +92,10 @@ def says_less(answer: Answer, plain: Answer) -> bool:
     """Whether an answer is the plain one, but that its messages leave out what raised a panic, or a question is left undecided."""
     lines = plain.messages.splitlines()
     # what was asked and found behind a question that isn't decided is another one's
-    said = list(takewhile(lambda line: line in lines or not UNDECIDED.match(line), answer.messages.splitlines()))
+    said = takewhile(lambda line: line in lines or not UNDECIDED.match(line), answer.messages.splitlines())
     panics = {it[0] for it in map(PANIC.match, lines) if it}
-
-    def is_fine(line: bytes) -> bool:
-        panic = PANIC.match(line)
-        return line in lines or line.startswith((b"note: ", b"help: ")) or bool(panic and panic[0] in panics)
-
-    return answer._replace(messages=b"") == plain._replace(messages=b"") and all(map(is_fine, said))
+    is_fine = (line in lines or line.startswith((b"note: ", b"help: ")) or (it := PANIC.match(line)) and it[0] in panics for line in said)
+    return answer._replace(messages=b"") == plain._replace(messages=b"") and all(is_fine)
 
 
 def stops_early(answer: Answer, plain: Answer) -> bool:
@@ -116,56 +105,51 @@ def stops_early(answer: Answer, plain: Answer) -> bool:
     return begins and answer == NO_MEMORY._replace(output=written + NO_MEMORY.output)
 
 
-def is_without_rise(before: str, line: str, rises: set[str]) -> bool:
-    """Whether a line, after the one before it, is of an attempt that is none of these rises of the run, or none of its heap."""
-    attempt = ATTEMPT_OF_RUN.match(line)
-    return bool(NO_RISE.match(line) or before == TURN_TO_COME and attempt and attempt[1] not in rises)
+def shown(answer: Answer, plain: Answer) -> str:
+    """What a wrong answer says: the first line that is another one, and its messages."""
+    pairs = zip_longest(answer.output.splitlines(), plain.output.splitlines())
+    other = next((f"line {at} is {it!r} in place of {right!r}" for at, (it, right) in enumerate(pairs, 1) if it != right), "all lines")
+    return f"{other}, and {answer.messages!r}"
 
 
 class Trial:
     """A program that is given a script, with the library that refuses allocations."""
 
+    # how many allocations are tried from the first one on
+    first = FIRST
+
     def __init__(self, program: Path, script: Path, room: Path) -> None:
         self.program, self.library, self.count = program, room / "failing_allocation.so", room / f"{script.stem}.count"
         self.words, self.given = ["check", str(script.resolve())], b""
+        # makes runs by their numbers, one by one or side by side
+        self.each: Callable[[Callable[[int], Answer], Iterable[int]], Iterable[Answer]] = map
         # what is no file is a case by its place
         if not script.is_absolute() and not script.exists():
             case = case_called(script.as_posix())
             self.words, self.given = case.args, case.script
 
-    def world(self, how: str, fail_at: int) -> dict[str, str]:
-        """The environment in which the allocation with this number fails in this way; none does at 0."""
-        return dict(os.environ, LD_PRELOAD=str(self.library), FAIL_AT=str(fail_at), FAIL_HOW=how)
-
-    def answer(self, world: dict[str, str], **streams: Any) -> Answer:
-        """What comes of a run in this environment. File names in the words of a case start at the top of the repository."""
-        return answer_of(self.program, *self.words, script=self.given, env=world, cwd=ROOT, **streams)
-
-    def run(self, how: str, fail_at: int) -> Answer:
-        """What comes of a run whose allocation with this number fails in this way."""
-        world = self.world(how, fail_at)
+    def run(self, how: str, fail_at: int, **streams: Any) -> Answer:
+        """What comes of a run whose allocation with this number fails in this way; at 0 none does, and they are counted. File names in
+        the words of a case start at the top of the repository."""
+        world = dict(os.environ, LD_PRELOAD=str(self.library), FAIL_AT=str(fail_at), FAIL_HOW=how)
         if not fail_at:
             world["COUNT_TO"] = str(self.count)
-        return self.answer(world)
+        return answer_of(self.program, *self.words, script=self.given, env=world, cwd=ROOT, **streams)
 
     def numbers(self, last: int) -> list[int]:
         """Which allocations are tried of so many."""
-        later = range(FIRST + 1, last + 1)
-        return [*range(1, min(FIRST, last) + 1), *later[:: max(1, len(later) // LATER)]]
+        later = range(self.first + 1, last + 1)
+        return [*range(1, min(self.first, last) + 1), *later[:: max(1, len(later) // LATER)]]
 
-    def answers(self, how: str, numbers: list[int]) -> Iterator[Answer]:
-        """What comes of the runs whose allocations with these numbers fail in this way, in their order."""
-        return map(partial(self.run, how), numbers)
-
-    def unwritten(self, how: str, fail_at: int) -> int:
-        """The status of the same run where standard output takes nothing."""
-        with open("/dev/full", "wb") as full:
-            return self.answer(self.world(how, fail_at), stdout=full).status
-
-    def asked_again(self, wanted: list[int]) -> set[int]:
-        """Which of the runs that ended for want of memory are made with a standard output that takes nothing."""
+    def unwritten(self, how: str, wanted: list[int]) -> str | None:
+        """What is wrong where some of the runs that ended for want of memory have a standard output that takes nothing, or None."""
         # all write the same line
-        return {wanted[at] for at in (0, len(wanted) // 2, -1)} if wanted else set()
+        for number in {wanted[at] for at in (0, len(wanted) // 2, -1)} if wanted else set():
+            with open("/dev/full", "wb") as full:
+                status = self.run(how, number, stdout=full).status
+            if status != READ_OR_WRITE_FAULT:
+                return f"{how} {number}: status {status} where standard output takes nothing"
+        return None
 
     def wants(self, answer: Answer, plain: Answer) -> bool:
         """Whether a run ended for want of memory."""
@@ -176,10 +160,6 @@ class Trial:
         is_early = answer in NO_MEMORY_FOR_THE_COMMAND and not was_read
         return self.wants(answer, plain) or is_early or says_less(answer, plain)
 
-    def shown(self, answer: Answer, plain: Answer) -> str:
-        """What a wrong answer says."""
-        return f"{answer.output!r} and {answer.messages!r}"
-
     def asked_needlessly(self, plain: Answer) -> str | None:
         """Which line is of what takes no memory, and made an allocation; None if none did."""
         return None
@@ -187,44 +167,34 @@ class Trial:
     def fault(self) -> tuple[str | None, int, int]:
         """What is wrong with an answer, or None; how many allocations the plain run makes, and how many runs ended for want of memory."""
         plain = self.run("once", 0)
-        last = int(self.count.read_text().splitlines()[-1])
+        last, wanting = int(self.count.read_text().splitlines()[-1]), 0
         if asked := self.asked_needlessly(plain):
             return asked, last, 0
-        wanting = 0
         for how in WAYS:
-            was_read = False
-            wanted: list[int] = []
-            numbers = self.numbers(last)
-            for number, answer in zip(numbers, self.answers(how, numbers)):
+            was_read, wanted, numbers = False, list[int](), self.numbers(last)
+            for number, answer in zip(numbers, self.each(partial(self.run, how), numbers)):
                 was_read |= answer == NO_MEMORY
-                if self.wants(answer, plain):
-                    wanted.append(number)
+                wanted += [number] if self.wants(answer, plain) else []
                 if not self.is_fine(how, answer, plain, was_read):
-                    return f"{how} {number} of {last}: status {answer.status}, {self.shown(answer, plain)}", last, wanting
+                    return f"{how} {number} of {last}: status {answer.status}, {shown(answer, plain)}", last, wanting
             wanting += len(wanted)
-            for number in self.asked_again(wanted):
-                status = self.unwritten(how, number)
-                if status != READ_OR_WRITE_FAULT:
-                    return f"{how} {number} of {last}: status {status} where standard output takes nothing", last, wanting
+            if unwritten := self.unwritten(how, wanted):
+                return unwritten, last, wanting
         return None, last, wanting
 
 
 class SameTrial(Trial):
-    """A program that is given nothing, and makes a call once more where it found no memory. Its runs go side by side."""
+    """A program that is given nothing, and makes a call once more where it found no memory. Its runs go side by side, and all are made."""
+
+    first = sys.maxsize
 
     def __init__(self, program: Path, room: Path, pool: ThreadPoolExecutor) -> None:
         super().__init__(program, program, room)
-        self.words, self.pool = [], pool
+        self.words, self.each = [], pool.map
 
-    def numbers(self, last: int) -> list[int]:
-        return list(range(1, last + 1))
-
-    def answers(self, how: str, numbers: list[int]) -> Iterator[Answer]:
-        return self.pool.map(partial(self.run, how), numbers)
-
-    def asked_again(self, wanted: list[int]) -> set[int]:
+    def unwritten(self, how: str, wanted: list[int]) -> str | None:
         # it ends with 4 whether its last line is written or not
-        return set()
+        return None
 
     def wants(self, answer: Answer, plain: Answer) -> bool:
         return stops_early(answer, plain)
@@ -237,7 +207,13 @@ class SameTrial(Trial):
         rises = {it[1] for it in map(RISE_OF_RUN.match, lines) if it}
         # the run ends with the turn of its last attempt, which lists the leaks
         ending = max((at for at, it in enumerate(lines) if ATTEMPT_OF_RUN.match(it)), default=0)
-        without = [at for at, it in enumerate(lines) if at and at != ending and is_without_rise(lines[at - 1], it, rises)]
+
+        def is_without_rise(at: int) -> bool:
+            attempt = ATTEMPT_OF_RUN.match(lines[at])
+            is_none_of_run = lines[at - 1] == TURN_TO_COME and attempt is not None and attempt[1] not in rises
+            return at != ending and bool(NO_RISE.match(lines[at]) or is_none_of_run)
+
+        without = list(filter(is_without_rise, range(1, len(lines))))
         if len(without) < FEWEST_WITHOUT_RISE:
             return f"no more than {len(without)} attempts that aren't rises"
         made = self.made_by_line(plain.output)
@@ -246,23 +222,13 @@ class SameTrial(Trial):
 
     def made_by_line(self, output: bytes) -> list[int]:
         """How many allocations were made for each line of the output, after the line before it was written."""
-        rows = (it.split() for it in self.count.read_text().splitlines()[:-1])
-        pieces = [(int(size), int(made)) for size, made in rows]
-        ends = list(zip(accumulate(size for size, _ in pieces), (made for _, made in pieces)))
-        if not ends or ends[-1][0] != len(output):
+        pieces = [[int(it) for it in line.split()] for line in self.count.read_text().splitlines()[:-1]]
+        ends = list(accumulate(size for size, _ in pieces))
+        if ends[-1:] != [len(output)]:
             raise RuntimeError("the pieces that were counted aren't those that were written")
-        counts, total, before = [], 0, 0
-        for line in output.splitlines(keepends=True):
-            total += len(line)
-            now = next(made for end, made in ends if end >= total)
-            counts.append(now - before)
-            before = now
-        return counts
-
-    def shown(self, answer: Answer, plain: Answer) -> str:
-        pairs = zip_longest(answer.output.splitlines(), plain.output.splitlines())
-        other = next((f"line {at} is {it!r} in place of {right!r}" for at, (it, right) in enumerate(pairs, 1) if it != right), "all lines")
-        return f"{other}, and {answer.messages!r}"
+        totals = accumulate(map(len, output.splitlines(keepends=True)))
+        made = [pieces[bisect_left(ends, total)][1] for total in totals]
+        return [now - before for before, now in pairwise([0, *made])]
 
 
 def passes(trial: Trial, tried: Path) -> bool:
@@ -272,12 +238,10 @@ def passes(trial: Trial, tried: Path) -> bool:
         fault, last, wanting = trial.fault()
     except NoAnswer as late:
         fault, last, wanting = str(late), 0, 0
-    if fault:
-        print(f"{name}: failed: {fault}", flush=True)
-        return False
-    print(f"{name}: passed: {last} allocations, and {wanting} runs end in `no memory`", flush=True)
+    said = f"failed: {fault}" if fault else f"passed: {last} allocations, and {wanting} runs end in `no memory`"
+    print(f"{name}: {said}", flush=True)
     # a program that makes none, or none that matters, shows nothing
-    return wanting > 0
+    return not fault and wanting > 0
 
 
 def main(words: list[str]) -> int:

@@ -2,6 +2,7 @@
 that the tools take of them is here: where one is gone or takes other words, one message says so."""
 
 import os
+import re
 import shutil
 import subprocess
 import sys
@@ -18,50 +19,47 @@ from typing import IO, Any
 WRITTEN_FOR = "rattle-kit-13f"
 
 # what is called of the module, with words of the sorts that it is given, and what is looked at of a crate
-CALLS: dict[str, tuple[tuple[Any, ...], dict[str, Any]]] = {
-    "guarded": ((), {}),
-    "lock": ((["crate"],), {}),
-    "fmt": (("folder", "--check", "out"), {}),
-    "Crate": (("folder", "root", {}), {}),
-    "Crate.below": (("self",), {}),
-    "Crate.stamp": (("self",), {}),
-    "Crate.build_rlib": (("self", ["--jobs", "1"]), {"anew": False}),
+CALLS: dict[str, tuple[Any, ...]] = {
+    "guarded": (),
+    "lock": (["crate"],),
+    "fmt": ("folder", "--check", "out"),
+    "Crate": ("folder", "root", {}),
+    "Crate.below": ("self",),
+    "Crate.stamp": ("self",),
+    "Crate.build_rlib": ("self", ["--jobs", "1"], False),
 }
 LOOKED_AT = ("folder", "rlib", "out")
 
-
-class Library:
-    """A library as the toolchain builds it."""
-
-    def __init__(self, crate: Any) -> None:
-        stop_if_changed([f"a crate has no `{it}`" for it in LOOKED_AT if not hasattr(crate, it)])
-        self.crate = crate
-
-    def build(self, jobs: int, log: IO[str]) -> bool:
-        """Builds the library, if it isn't built, and tells whether it is proved; what the prover says goes into the log."""
-        os.makedirs(f"{self.crate.folder}/out", exist_ok=True)
-        self.crate.out = log
-        return bool(self.crate.build_rlib(["--jobs", str(jobs)], anew=False) == 0)
+# the line of the README that names the toolchain
+NAMED = re.compile(r"Proved with `(rattle-kit-[^`]*)`")
 
 
 class Kit:
-    """What the tools do with the module."""
+    """What the tools do with the module. A crate is as the module has it."""
 
     def __init__(self, module: Any) -> None:
         stop_if_changed(changes_in(module))
         self.module = module
 
-    def libraries(self, root: Path, crates: Iterable[str]) -> dict[str, Library]:
+    def crates(self, root: Path, names: Iterable[str]) -> dict[str, Any]:
         """These crates of a repository, by their names."""
         known: dict[str, Any] = {}
-        return {it: Library(self.module.Crate(str(root / "crates" / it), str(root), known)) for it in crates}
+        found = {it: self.module.Crate(str(root / "crates" / it), str(root), known) for it in names}
+        stop_if_changed(dict.fromkeys(f"a crate has no `{part}`" for it in found.values() for part in LOOKED_AT if not hasattr(it, part)))
+        return found
+
+    def build(self, crate: Any, jobs: int, log: IO[str]) -> bool:
+        """Builds the library of a crate, if it isn't built, and tells whether it is proved; what the prover says goes into the log."""
+        os.makedirs(f"{crate.folder}/out", exist_ok=True)
+        crate.out = log
+        return bool(crate.build_rlib(["--jobs", str(jobs)], False) == 0)
 
     @contextmanager
-    def alone_with(self, libraries: Iterable[Library]) -> Iterator[None]:
-        """Keeps every `rt` from working on these libraries meanwhile. What the module runs ends with this process, so it is entered before
+    def alone_with(self, crates: Iterable[Any]) -> Iterator[None]:
+        """Keeps every `rt` from working on these crates meanwhile. What the module runs ends with this process, so it is entered before
         any thread starts."""
         self.module.guarded()
-        held = self.module.lock([it.crate for it in libraries])
+        held = self.module.lock(list(crates))
         try:
             yield
         finally:
@@ -74,7 +72,7 @@ class Kit:
 
     def take_as_built(self, root: Path, crate: str) -> None:
         """Has `rt` take the libraries below a crate as they are: `rt ci`, which may have built them, leaves no stamp with them."""
-        for it in self.libraries(root, [crate])[crate].crate.below():
+        for it in self.crates(root, [crate])[crate].below():
             Path(it.rlib).with_name("stamp").write_text(it.stamp(), encoding="utf-8")
 
 
@@ -83,14 +81,20 @@ def version() -> str:
     return subprocess.run(["rt", "version"], stdout=subprocess.PIPE, text=True).stdout.strip() if shutil.which("rt") else "no toolchain"
 
 
+def kit_of_readme(readme: str) -> str:
+    """The toolchain that the README names, if it names one."""
+    named = NAMED.search(readme)
+    return named[1] if named else ""
+
+
 def changes_in(module: Any) -> Iterator[str]:
     """What the module lacks of what the tools call."""
-    for name, (words, named) in CALLS.items():
+    for name, words in CALLS.items():
         found = module
         for part in name.split("."):
             found = getattr(found, part, None)
         try:
-            signature(found).bind(*words, **named)
+            signature(found).bind(*words)
         except (TypeError, ValueError) as why:
             yield f"`{name}` is gone" if found is None else f"`{name}` takes other words ({why})"
 

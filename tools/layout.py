@@ -1,5 +1,6 @@
-"""Looks whether the files of all crates are laid out as `rt fmt` lays them out, and whether their wrong bodies fit the sources. `rt ci`
-accepts no other layout, and says so of a crate only once all below it is proved; a wrong body is tried later still.
+"""Looks whether the files of all crates are laid out as `rt fmt` lays them out, whether their wrong bodies fit the sources, and whether the
+bodies that make the error for memory that ran out are those of `no-memory.txt`. `rt ci` accepts no other layout, and says so of a crate
+only once all below it is proved; a wrong body is tried later still.
 
 `rt fmt` in the folder of a crate that is named lays its files out. A wrong body that doesn't fit has an old text that isn't in its source,
 or is there more than once."""
@@ -7,12 +8,12 @@ or is there more than once."""
 import tempfile
 
 from tools.crates import Crates
+from tools.edits.wrong_body_edits import MUST_FAIL, WRONG_BODIES, read_edits
 from tools.kit import kit
+from tools.no_memory import differences
 from tools.paths import ROOT
 from tools.program import parser_of
 from tools.tally import Tally
-from tools.wrong_body_edits import read_edits
-from tools.wrong_body_files import MUST_FAIL, WRONG_BODIES
 
 
 def fault_of(crates: Crates, crate: str) -> str:
@@ -31,7 +32,7 @@ def misfits(crates: Crates, crate: str) -> list[str]:
 
 
 def main(words: list[str]) -> int:
-    """Looks at all crates, and names those with another layout, and the wrong bodies that don't fit."""
+    """Looks at all crates, and names those with another layout, the wrong bodies that don't fit, and the bodies that make such an error."""
     parser_of(__doc__).parse_args(words)
     crates, tally = Crates(ROOT), Tally()
     for crate in crates.lines:
@@ -39,4 +40,6 @@ def main(words: list[str]) -> int:
         tally.check(not fault, f"{crate}: {fault}")
         unfit = misfits(crates, crate)
         tally.check(not unfit, "\n".join(unfit))
+    other = differences(crates)
+    tally.check(not other, "\n".join(other))
     return tally.end()

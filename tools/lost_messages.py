@@ -5,13 +5,14 @@ Standard error is closed, then a device without room, then a pipe that nobody re
 
 import os
 from collections.abc import Iterator
-from pathlib import Path
+from dataclasses import replace
+from functools import partial
 from typing import Any
 
-from tools.program import NoAnswer, program_parser
-from tools.run_cases import answer_to, fault_of
+from tools.program import program_parser
+from tools.run_cases import fault_of, tried
 from tools.tally import Tally
-from tools.worked_cases import Case, cases_of
+from tools.worked_cases import cases_of
 
 
 def ways_to_lose() -> Iterator[tuple[str, dict[str, Any]]]:
@@ -25,14 +26,6 @@ def ways_to_lose() -> Iterator[tuple[str, dict[str, Any]]]:
     os.close(write_end)
 
 
-def fault_with(program: Path, case: Case, streams: dict[str, Any]) -> str | None:
-    """What is wrong with the answer to a case where standard error is this stream, or None."""
-    try:
-        return fault_of(case, answer_to(program, case.args, case.script, **streams), has_messages=False)
-    except NoAnswer as error:
-        return str(error)
-
-
 def main(words: list[str]) -> int:
     """Runs each case in each way, names those that fail, and prints the totals."""
     parser = program_parser(__doc__)
@@ -41,7 +34,8 @@ def main(words: list[str]) -> int:
     cases, failed = [case for group in given.groups for case in cases_of(group) if case.stderr is not None], set()
     for way, streams in ways_to_lose():
         for case in cases:
-            if (fault := fault_with(given.program, case, streams)) is not None:
+            _, fault = tried(given.program, case.args, case.script, partial(fault_of, replace(case, stderr=None)), **streams)
+            if fault is not None:
                 print(f"{case.place}: standard error {way}: {fault}")
                 failed.add(case.place)
     tally.add(len(cases) - len(failed), len(failed))

@@ -10,17 +10,17 @@ is gone the line of its block will do, and of a declaration the name.
 
 import tempfile
 from collections.abc import Callable, Iterator
+from itertools import count
 from pathlib import Path
 from typing import NamedTuple
 
 from tools.language import words_of_roles
 from tools.paths import examples
-from tools.program import REFUSED, Answer, answer_of, program_parser
+from tools.program import REFUSED, answer_of, program_parser
 from tools.tally import Tally
 from tools.worked_cases import cases_of
 
-WANTED = 200
-LEAST = 180
+WANTED, LEAST = 200, 180
 # the words of lines that an `end` ends, if they stand in any line, and of those that declare something
 OPENERS = words_of_roles("Class", "Procedure", "If", "Loop", "Destroy")
 DECLARATIONS = words_of_roles("Declaration", "Field")
@@ -31,9 +31,15 @@ class Mistake(NamedTuple):
 
     lines: list[str]
     numbers: set[int]
-    words: set[str]
+    words: set[str] = set()
+
+    def is_named(self, explanation: str) -> bool:
+        """Whether an explanation names the mistaken word or line."""
+        names = [*(f"script.oom:{number}: " for number in self.numbers), *(f"`{word}`" for word in self.words)]
+        return any(it in explanation for it in names)
 
 
+# makes a mistake in a line of a script, in the turn of its sort; some sorts take another line of it
 Maker = Callable[[list[str], int, int], Mistake | None]
 
 
@@ -42,42 +48,31 @@ def words_of(line: str) -> list[str]:
     return [] if line.lstrip().startswith("#") or '"' in line else line.split()
 
 
-def changed(lines: list[str], at: int, words: list[str], named: set[str] | None = None) -> Mistake:
-    """The script with other words in the place of those of a line, as far to the right."""
-    indent = lines[at][: len(lines[at]) - len(lines[at].lstrip())]
-    return Mistake([*lines[:at], indent + " ".join(words), *lines[at + 1 :]], {at + 1}, named or set())
+def indented(line: str, words: list[str]) -> str:
+    """A line of other words, as far to the right as this one."""
+    return line[: len(line) - len(line.lstrip())] + " ".join(words)
 
 
-def without(lines: list[str], at: int, numbers: set[int], named: set[str] | None = None) -> Mistake:
-    """The script without a line."""
-    return Mistake(lines[:at] + lines[at + 1 :], {at + 1, *numbers}, named or set())
+def in_words(edit: Callable[[list[str], int, int], tuple[list[str], set[str]] | None]) -> Maker:
+    """Edits the words of a line, one of them above all, and says by which words that is named."""
+
+    def make(lines: list[str], at: int, turn: int) -> Mistake | None:
+        words = words_of(lines[at])
+        made = edit(words, turn % len(words), turn) if words else None
+        return Mistake([*lines[:at], indented(lines[at], made[0]), *lines[at + 1 :]], {at + 1}, made[1]) if made else None
+
+    return make
 
 
 def letter(edit: Callable[[str, int], str]) -> Maker:
     """Edits one letter of one word, which has at least three."""
 
-    def make(lines: list[str], at: int, turn: int) -> Mistake | None:
-        words = words_of(lines[at])
-        place = turn % len(words) if words else 0
-        if not words or len(words[place]) < 3:
-            return None
-        word = edit(words[place], turn // 3 % (len(words[place]) - 1))
-        return changed(lines, at, [*words[:place], word, *words[place + 1 :]], {word}) if word not in ("", words[place]) else None
+    def make(words: list[str], place: int, turn: int) -> tuple[list[str], set[str]] | None:
+        old = words[place]
+        new = edit(old, turn // 3 % (len(old) - 1)) if len(old) > 2 else old
+        return ([*words[:place], new, *words[place + 1 :]], {new}) if new != old else None
 
-    return make
-
-
-def word_gone(lines: list[str], at: int, turn: int) -> Mistake | None:
-    """Leaves out the last word of a line that has more than one."""
-    words = words_of(lines[at])
-    return changed(lines, at, words[:-1]) if len(words) > 1 else None
-
-
-def word_too_many(lines: list[str], at: int, turn: int) -> Mistake | None:
-    """Writes one of a line's words twice."""
-    words = words_of(lines[at])
-    place = turn % len(words) if words else 0
-    return changed(lines, at, [*words[: place + 1], *words[place:]]) if words else None
+    return in_words(make)
 
 
 def opens(words: list[str]) -> bool:
@@ -86,7 +81,7 @@ def opens(words: list[str]) -> bool:
 
 
 def end_gone(lines: list[str], at: int, turn: int) -> Mistake | None:
-    """Leaves out one `end` of the script, whatever the line that was chosen. The line of its block will do, too."""
+    """Leaves out one `end` of the script. The line of its block will do, too."""
     blocks: list[tuple[int, int]] = []
     begun: list[int] = []
     for place, words in enumerate(map(words_of, lines)):
@@ -95,7 +90,7 @@ def end_gone(lines: list[str], at: int, turn: int) -> Mistake | None:
         elif words == ["end"]:
             blocks.append((begun.pop(), place))
     opener, end = blocks[turn % len(blocks)]
-    return without(lines, end, {opener + 1})
+    return Mistake(lines[:end] + lines[end + 1 :], {opener + 1, end + 1})
 
 
 def end_too_many(lines: list[str], at: int, turn: int) -> Mistake | None:
@@ -103,22 +98,23 @@ def end_too_many(lines: list[str], at: int, turn: int) -> Mistake | None:
     words = words_of(lines[at])
     if not words or opens(words) or words[0] in {"else", "field"}:
         return None
-    return Mistake([*lines[: at + 1], *changed(lines, at, ["end"]).lines[at:]], {at + 2}, set())
+    return Mistake([*lines[: at + 1], indented(lines[at], ["end"]), *lines[at + 1 :]], {at + 2})
 
 
 def declaration_gone(lines: list[str], at: int, turn: int) -> Mistake | None:
-    """Leaves out one declaration of the script, whatever the line that was chosen."""
-    declared = [place for place, line in enumerate(lines) if words_of(line)[:1] and words_of(line)[0] in DECLARATIONS]
-    gone = declared[turn % len(declared)] if declared else 0
-    return without(lines, gone, set(), {words_of(lines[gone])[1]}) if declared else None
+    """Leaves out one declaration of the script."""
+    declared = [(place, words[1]) for place, words in enumerate(map(words_of, lines)) if words and words[0] in DECLARATIONS]
+    gone, name = declared[turn % len(declared)] if declared else (0, "")
+    return Mistake(lines[:gone] + lines[gone + 1 :], {gone + 1}, {name}) if declared else None
 
 
+# a letter or word that is dropped, doubled, swapped or another one, and an `end` or declaration
 MAKERS: list[Maker] = [
     letter(lambda word, at: word[:at] + word[at + 1 :]),
-    word_too_many,
+    in_words(lambda words, at, turn: ([*words[: at + 1], *words[at:]], set())),
     end_gone,
     letter(lambda word, at: word[:at] + word[at + 1] + word[at] + word[at + 2 :]),
-    word_gone,
+    in_words(lambda words, at, turn: (words[:-1], set()) if len(words) > 1 else None),
     end_too_many,
     letter(lambda word, at: word[:at] + word[at] + word[at:]),
     declaration_gone,
@@ -134,44 +130,28 @@ def sources() -> list[str]:
 
 def mistakes(scripts: list[str]) -> Iterator[Mistake]:
     """Mistakes without end, each in another script than the one before, of another sort, and further on."""
-    turn = 0
-    while True:
+    for turn in count():
         lines = scripts[turn % len(scripts)].splitlines()
-        made = MAKERS[turn % len(MAKERS)](lines, turn * 7 % len(lines), turn // len(MAKERS))
-        turn += 1
-        if made is not None:
+        if made := MAKERS[turn % len(MAKERS)](lines, turn * 7 % len(lines), turn // len(MAKERS)):
             yield made
-
-
-def told(program: Path, folder: str, made: Mistake) -> Answer:
-    """What the program answers to a script, whose file is `script.oom`."""
-    Path(folder, "script.oom").write_text("\n".join(made.lines) + "\n")
-    return answer_of(program, "run", "script.oom", cwd=folder)
-
-
-def is_named(made: Mistake, explanation: str) -> bool:
-    """Whether an explanation names the mistaken word or line."""
-    of_line = any(f"script.oom:{number}: " in explanation for number in made.numbers)
-    return of_line or any(f"`{word}`" in explanation for word in made.words)
 
 
 def main(words: list[str]) -> int:
     """Makes the scripts, shows each whose mistake isn't named, and prints the count."""
-    program = program_parser(__doc__).parse_args(words).program
-    refused = named = 0
+    program, tally, refused, named = program_parser(__doc__).parse_args(words).program, Tally(), 0, 0
     with tempfile.TemporaryDirectory() as folder:
         for made in mistakes(sources()):
-            answer = told(program, folder, made)
+            Path(folder, "script.oom").write_text("\n".join(made.lines) + "\n")
+            answer = answer_of(program, "run", "script.oom", cwd=folder)
             if answer.status != REFUSED:
                 continue
-            refused, explanation = refused + 1, answer.messages.decode()
-            if is_named(made, explanation):
-                named += 1
-            else:
+            explanation = answer.messages.decode()
+            is_named = made.is_named(explanation)
+            refused, named = refused + 1, named + is_named
+            if not is_named:
                 print(f"not named: lines {sorted(made.numbers)}, words {sorted(made.words)}\n{explanation}")
             if refused == WANTED:
                 break
     print(f"{named} of {refused} mistakes named")
-    tally = Tally()
     tally.check(named >= LEAST, f"{LEAST} are wanted")
     return tally.end()

@@ -1,6 +1,7 @@
 """Runs a program once, as all tools do: on words and streams, within a time. What it answers is what it writes and its status."""
 
 import argparse
+import os
 import subprocess
 import sys
 from pathlib import Path
@@ -16,6 +17,10 @@ CEILING = 16_777_216
 
 # how long a run may take, in seconds, if a tool says nothing else
 SECONDS = 120
+
+# the variable that says how many columns messages may have, and the environment without it
+COLUMNS = "COLUMNS"
+ENVIRONMENT = {name: value for name, value in os.environ.items() if name != COLUMNS}
 
 Word = str | bytes | Path
 
@@ -37,7 +42,7 @@ def answer_of(program: Path, *words: Word, script: bytes = b"", seconds: float =
     if not program.exists():
         sys.exit(f"there is no program {program}: ./build builds that of the workbench, and `rt run` in its crate another")
     given: dict[str, Any] = {} if "stdin" in how else {"input": script}
-    streams: dict[str, Any] = {"stdout": subprocess.PIPE, "stderr": subprocess.PIPE} | given | how
+    streams: dict[str, Any] = {"stdout": subprocess.PIPE, "stderr": subprocess.PIPE, "env": ENVIRONMENT} | given | how
     try:
         ran = subprocess.run([program, *words], timeout=seconds, **streams)
     except subprocess.TimeoutExpired as late:

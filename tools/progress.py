@@ -14,25 +14,28 @@ import select
 import subprocess
 import termios
 import time
-from collections.abc import Callable
+from collections.abc import Callable, Iterator
 from concurrent.futures import ThreadPoolExecutor
 from pathlib import Path
 from typing import Any, NamedTuple
 
-from tools.program import Answer, Word, answer_of, program_parser
+from tools.program import Answer, answer_of, program_parser
 from tools.tally import Tally, summed
 
 # how long a sweep goes on before anything is said of it, the shortest time between two lines, and for how much longer a sweep
 # that is looked at goes on, in seconds
 QUIET, PAUSE, LONGER = 2.0, 0.1, 0.4
-# how long a run may take
-LIMIT = 60
+# how long a run may take, and a budget that is enough
+LIMIT, BUDGET = 60, ("--budget", "1000000")
 
-LINE = re.compile(r"trying (attempt|rate) (\d+) of (\d+)(?:, (\d+)% done, (\d+) (?:s|min|h) left)?")
-LENGTH_LINE = re.compile(r"trying a heap of (\d+) bytes")
-SET_LINE = re.compile(r"trying (\d+) attempts, attempt (\d+) of (\d+) first(?:, (\d+)% done, (\d+) (?:s|min|h) left)?")
+LEFT = r"(?:, (?P<done>\d+)% done, (?P<left>\d+) (?:s|min|h) left)?"
+LINE = re.compile(rf"trying (?P<what>attempt|rate) (?P<at>\d+) of (?P<of>\d+){LEFT}")
 # the line of what is tried, where that is neither an attempt nor a rate
-LINES = {"heap": LENGTH_LINE, "set": SET_LINE}
+LINES = {
+    "heap": re.compile(r"trying a heap of (?P<at>\d+) bytes"),
+    "set": re.compile(rf"trying (?P<size>\d+) attempts, attempt (?P<at>\d+) of (?P<of>\d+) first{LEFT}"),
+}
+TYPED = b"workbench: the script is read from the terminal; end it with Ctrl-D on a line of its own\r\n"
 
 
 class Kind(NamedTuple):
@@ -46,6 +49,17 @@ class Kind(NamedTuple):
     power: int
     # what a line calls what is tried
     calls: str
+    # for how many seconds at most a command goes on without a line once the sweep is over
+    after: float = 0.0
+
+    @property
+    def least(self) -> float:
+        """How many seconds a run takes at least of which the sweep is long enough."""
+        return QUIET + LONGER + self.after
+
+    def run(self, program: Path, script: bytes, **streams: Any) -> Answer:
+        """A run with standard error no terminal."""
+        return answer_of(program, *self.words, *BUDGET, script=script, seconds=LIMIT, **streams)
 
 
 class Shown(NamedTuple):
@@ -60,20 +74,16 @@ class Shown(NamedTuple):
         return b"".join(piece for _, piece in self.pieces)
 
 
-def turns(attempts: int) -> str:
-    """So many attempts, and the sum of the turns in which they fail: so no run under a failure ends early, and few are ever in the same
-    state, so that sets must be tried one by one."""
-    return f"repeat {attempts}\nadd turn 1\nalloc a 16\nif null a\nadd failed turn\nend\nfree a\nend\n"
-
-
-def fine(attempts: int) -> str:
-    """A script in which no failure shows anything."""
-    return f"proc main\nptr a\nint turn\nint failed\n{turns(attempts)}end\n"
+def script_of(attempts: int, ends: str = "") -> str:
+    """A script of so many attempts, and the sum of the turns in which they fail: so no run under a failure ends early, and few are ever in
+    the same state, so that sets must be tried one by one. No failure shows anything, unless the statements at its end do."""
+    turns = f"repeat {attempts}\nadd turn 1\nalloc a 16\nif null a\nadd failed turn\nend\nfree a\nend\n"
+    return f"proc main\nptr a\nptr b\nint turn\nint failed\n{turns}{ends}end\n"
 
 
 def leaking(attempts: int) -> str:
     """A script that leaks where its last attempt fails: a cell grows, and its only pointer is overwritten."""
-    return f"proc main\nptr a\nptr b\nint turn\nint failed\n{turns(attempts)}alloc b 16\nalloc a 16\nif some a\nfree b\nend\nfree a\nend\n"
+    return script_of(attempts, "alloc b 16\nalloc a 16\nif some a\nfree b\nend\nfree a\n")
 
 
 def growing(attempts: int) -> str:
@@ -81,13 +91,21 @@ def growing(attempts: int) -> str:
     return f"proc main\nptr a\nint n\nalloc a 16\nset n 16\nrepeat {attempts}\nadd n 16\nrealloc a a n\nend\nfree a\nend\n"
 
 
+def slow_failures(turns: int) -> str:
+    """A script of which only the runs take long in which attempt 4 or 5 fails: each copies a long text so many times."""
+    makes = "hnewl s 500000\npush s\nhnewl t 500000\npush t\nsetlength s 500000\n"
+    falls_back = f"alloc a 16\nif null a\nrepeat {turns}\ncopy t s\nend\nend\nfree a\n"
+    return f"proc main\nptr a\nptr s\nptr t\n{makes}{falls_back}{falls_back}popdestroy 2\nend\n"
+
+
 KINDS = [
     Kind(["sweep"], leaking, 100, 2, "attempt"),
-    Kind(["check", "--every"], fine, 100, 2, "rate"),
-    Kind(["sweep", "--pairs", "--json"], fine, 20, 3, "set"),
+    Kind(["check", "--every"], script_of, 100, 2, "rate", after=2.5),
+    Kind(["sweep", "--pairs", "--json"], script_of, 20, 3, "set"),
     Kind(["lengths"], growing, 200, 2, "heap"),
-    Kind(["sweep", "--failures", "3"], fine, 10, 4, "set"),
+    Kind(["sweep", "--failures", "3"], script_of, 10, 4, "set"),
 ]
+SLOW = Kind(["sweep"], slow_failures, 20, 1, "attempt")
 
 
 class Checks(Tally):
@@ -98,119 +116,103 @@ class Checks(Tally):
         self.check(holds, f"{what}: not so: {shown!r}")
 
 
-def words_of(kind: Kind) -> list[Word]:
-    """The words of a sweep, with a budget that is enough."""
-    return [*kind.words, "--budget", "1000000"]
+def longer(size: int, seconds: float, wanted: float, power: int) -> int:
+    """The size of a script that takes somewhat more than is wanted, by what a run took, which may have been too short to be timed."""
+    return int(size * min(8.0, max(1.15, (1.15 * wanted / seconds) ** (1 / power))))
 
 
-def run(program: Path, kind: Kind, script: bytes, **streams: Any) -> Answer:
-    """A run with standard error no terminal."""
-    return answer_of(program, *words_of(kind), script=script, seconds=LIMIT, **streams)
+def pieces_from(master: int, seconds: float, stop: Callable[[], None]) -> Iterator[bytes]:
+    """What comes from a terminal until the program has closed its end, or is stopped since nothing comes for so long."""
+    while select.select([master], [], [], seconds)[0]:
+        try:
+            yield os.read(master, 65_536)
+        except OSError:
+            break
+    else:
+        stop()
+    os.close(master)
 
 
 def long_sweep(program: Path, kind: Kind, attempts: int) -> tuple[int, Answer]:
     """How many attempts, at least these, a sweep has that takes long enough, and what came of it."""
-    wanted = QUIET + LONGER
     while True:
         begun = time.monotonic()
-        ran = run(program, kind, kind.script(attempts).encode())
+        ran = kind.run(program, kind.script(attempts).encode())
         seconds = time.monotonic() - begun
-        if seconds >= wanted:
+        if seconds >= kind.least:
             return attempts, ran
-        # somewhat more than it should take, but not by what a run too short to be timed would say
-        attempts = int(attempts * min(8.0, max(1.1, (1.15 * wanted / seconds) ** (1 / kind.power))))
+        attempts = longer(attempts, seconds, kind.least, kind.power)
 
 
 def show(program: Path, kind: Kind, script: bytes) -> Shown:
     """A run with standard output and standard error on one terminal."""
     master, slave = pty.openpty()
-    begun, pieces = time.monotonic(), []
-    running = subprocess.Popen([program, *words_of(kind)], stdin=subprocess.PIPE, stdout=slave, stderr=slave)
+    begun = time.monotonic()
+    running = subprocess.Popen([program, *kind.words, *BUDGET], stdin=subprocess.PIPE, stdout=slave, stderr=slave)
     os.close(slave)
     assert running.stdin
     with running.stdin as given:
         given.write(script)
-    while select.select([master], [], [], LIMIT)[0]:
-        try:
-            piece = os.read(master, 65_536)
-        except OSError:
-            # the program has closed its end
-            break
-        pieces.append((time.monotonic() - begun, piece))
-    else:
-        running.kill()
-    os.close(master)
+    pieces = [(time.monotonic() - begun, piece) for piece in pieces_from(master, LIMIT, running.kill)]
     return Shown(pieces, running.wait(LIMIT), time.monotonic() - begun)
 
 
-def close_later(end: int) -> None:
-    """Closes an end of a terminal before anything is said."""
-    time.sleep(QUIET / 2)
-    os.close(end)
-
-
 def losing_terminal(program: Path, kind: Kind, script: bytes) -> Answer:
-    """A run whose standard error is a terminal that goes away."""
+    """A run whose standard error is a terminal that goes away before anything is said."""
     master, slave = pty.openpty()
     with ThreadPoolExecutor() as beside:
-        gone = beside.submit(close_later, master)
-        ran = run(program, kind, script, stderr=slave)
-        gone.result()
+        running = beside.submit(kind.run, program, script, stderr=slave)
+        time.sleep(QUIET / 2)
+        os.close(master)
     os.close(slave)
-    return ran
+    return running.result()
 
 
 def screen(written: bytes) -> list[str]:
     """The lines of a terminal that was wide enough, once this was written to it."""
-    lines: list[list[str]] = [[]]
-    column = 0
-    for character in written.decode("ascii"):
-        if character == "\r":
-            column = 0
-        elif character == "\n":
-            lines.append([])
-        else:
-            lines[-1][column : column + 1] = character
-            column += 1
-    return ["".join(it).rstrip(" ") for it in lines]
+    lines: list[str] = []
+    for line in written.decode("ascii").split("\n"):
+        shown = ""
+        for text in line.split("\r"):
+            shown = text + shown[len(text) :]
+        lines.append(shown.rstrip(" "))
+    return lines
 
 
 def look_at_lines(checks: Checks, kind: Kind, name: str, attempts: int, shown: Shown) -> None:
     """What is said while a sweep goes on."""
     written = shown.bytes().decode("ascii")
     lines = list(LINES.get(kind.calls, LINE).finditer(written))
+    numbers = [int(it["at"]) for it in lines]
     checks.look(f"{name}: a line", len(lines) > 0, written[:200])
     checks.look(f"{name}: none before two seconds", all(at >= QUIET - PAUSE for at, piece in shown.pieces if b"trying" in piece))
     checks.look(f"{name}: no more than ten a second", len(lines) <= 1 + (shown.seconds - QUIET + PAUSE) / PAUSE, len(lines))
     if kind.calls == "heap":
-        lengths = [int(it[1]) for it in lines]
-        checks.look(f"{name}: each shorter", lengths == sorted(set(lengths), reverse=True), lengths)
+        checks.look(f"{name}: each shorter", numbers == sorted(set(numbers), reverse=True), numbers)
         return
     # sets come by their sizes, those of one size by their first attempts; more and more is done of each size, and never yet all
     is_set = kind.calls == "set"
-    places = [(int(it[1]) if is_set else 1, int(it[2])) for it in lines]
-    done = [(size, int(it[4])) for (size, _), it in zip(places, lines) if it[4]]
-    said = [it[0] for it in lines]
-    checks.look(f"{name}: of how many", all(int(it[3]) == attempts >= int(it[2]) >= 1 for it in lines), said)
+    sizes = [int(it["size"]) if is_set else 1 for it in lines]
+    places, said = list(zip(sizes, numbers)), [it[0] for it in lines]
+    done = [(size, int(it["done"])) for size, it in zip(sizes, lines) if it["done"]]
+    checks.look(f"{name}: of how many", all(int(it["of"]) == attempts >= int(it["at"]) >= 1 for it in lines), said)
     checks.look(f"{name}: one after another", places == sorted(places if is_set else set(places)), said)
     checks.look(f"{name}: what is done, more and more", len(done) > 0 and done == sorted(done), said)
     checks.look(f"{name}: not yet all", all(percent < 100 for _, percent in done), done)
-    checks.look(f"{name}: what is left", is_set or all(int(it[5]) >= 1 for it in lines if it[4]), said)
-    checks.look(f"{name}: its kind", is_set or all(it[1] == kind.calls for it in lines), said)
+    checks.look(f"{name}: what is left", is_set or all(int(it["left"]) >= 1 for it in lines if it["done"]), said)
+    checks.look(f"{name}: its kind", is_set or all(it["what"] == kind.calls for it in lines), said)
 
 
 def look_at(program: Path, kind: Kind) -> Checks:
     """A kind of sweep: long ones and a short one, on a terminal and elsewhere."""
-    checks, name = Checks(), " ".join(kind.words)
-    attempts = kind.attempts
+    checks, name, attempts = Checks(), " ".join(kind.words), kind.attempts
     while True:
         attempts, ran = long_sweep(program, kind, attempts)
         script = kind.script(attempts).encode()
         with ThreadPoolExecutor() as beside:
             lost = beside.submit(losing_terminal, program, kind, script)
-            shown = show(program, kind, script)
-            gone = lost.result()
-        if shown.seconds >= QUIET + LONGER / 2:
+            shown, gone = show(program, kind, script), lost.result()
+        if shown.seconds >= kind.least - LONGER / 2:
             break
         # the machine has become quicker meanwhile
         attempts += attempts // 4
@@ -222,38 +224,22 @@ def look_at(program: Path, kind: Kind) -> Checks:
     whole = (ran.output + ran.messages).decode("ascii").split("\n")
     checks.look(f"{name}: the line is wiped, and the report whole", screen(shown.bytes()) == whole)
     short = kind.script(3).encode()
-    ran, shown = run(program, kind, short), show(program, kind, short)
+    ran, shown = kind.run(program, short), show(program, kind, short)
     wanted = (ran.output + ran.messages).replace(b"\n", b"\r\n")
     checks.look(f"{name}: a short one", shown.bytes() == wanted and shown.status == ran.status, shown)
     return checks
-
-
-def slow_failures(turns: int) -> str:
-    """A script of which only the runs take long in which attempt 4 or 5 fails: each copies a long text so many times."""
-    makes = "hnewl s 500000\npush s\nhnewl t 500000\npush t\nsetlength s 500000\n"
-    falls_back = f"alloc a 16\nif null a\nrepeat {turns}\ncopy t s\nend\nend\nfree a\n"
-    return f"proc main\nptr a\nptr s\nptr t\n{makes}{falls_back}{falls_back}popdestroy 2\nend\n"
-
-
-SLOW = Kind(["sweep"], slow_failures, 20, 1, "attempt")
 
 
 def look_at_slow_failures(program: Path) -> Checks:
     """A failure is named before its run and not after it: where the last two runs take two seconds each, the last one alone is
     named, since the one before it begins too early."""
     checks, turns = Checks(), SLOW.attempts
-    while True:
-        shown = show(program, SLOW, SLOW.script(turns).encode())
-        # half of it is the last run
-        if shown.seconds >= 2 * (QUIET + LONGER):
-            break
-        turns = int(turns * min(8.0, max(1.2, 1.15 * 2 * (QUIET + LONGER) / shown.seconds)))
-    named = [(it[2], it[3]) for it in LINE.finditer(shown.bytes().decode("ascii"))]
+    # half of it is the last run
+    while (shown := show(program, SLOW, SLOW.script(turns).encode())).seconds < 2 * (QUIET + LONGER):
+        turns = longer(turns, shown.seconds, 2 * (QUIET + LONGER), SLOW.power)
+    named = [(it["at"], it["of"]) for it in LINE.finditer(shown.bytes().decode("ascii"))]
     checks.look("a failure is named before its run", named == [("5", "5")], named)
     return checks
-
-
-TYPED = b"workbench: the script is read from the terminal; end it with Ctrl-D on a line of its own\r\n"
 
 
 def type_script(program: Path, script: bytes, told: bool) -> tuple[bytes, bytes]:
@@ -262,25 +248,16 @@ def type_script(program: Path, script: bytes, told: bool) -> tuple[bytes, bytes]
     modes = termios.tcgetattr(slave)
     modes[3] &= ~termios.ECHO
     termios.tcsetattr(slave, termios.TCSANOW, modes)
-    said = slave if told else subprocess.DEVNULL
-    running = subprocess.Popen([program, "run"], stdin=slave, stdout=subprocess.PIPE, stderr=said)
+    running = subprocess.Popen([program, "run"], stdin=slave, stdout=subprocess.PIPE, stderr=slave if told else subprocess.DEVNULL)
     os.close(slave)
     os.write(master, script + b"\x04")
     report, _ = running.communicate(timeout=LIMIT)
-    shown = b""
-    while select.select([master], [], [], 0)[0]:
-        try:
-            shown += os.read(master, 65_536)
-        except OSError:
-            # the program has closed its end
-            break
-    os.close(master)
-    return report, shown
+    return report, b"".join(pieces_from(master, 0, running.kill))
 
 
 def look_at_typed_scripts(program: Path) -> Checks:
     """A script that is typed: it is announced where what is said goes to the terminal, and nowhere else."""
-    checks, script = Checks(), fine(3).encode()
+    checks, script = Checks(), script_of(3).encode()
     wanted = answer_of(program, "run", script=script, seconds=LIMIT)
     for told, line in ((True, TYPED), (False, b"")):
         report, shown = type_script(program, script, told)

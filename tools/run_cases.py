@@ -5,48 +5,154 @@ A NAME is that of a group or of a folder of groups, of a script or a table in on
 that the program's answer would make. With --write that is put into the group's file: look at each difference then, since a case's answer
 must come from the rules and not from the program. Tables, and what very long outputs must contain, are never written. A case that is
 written has passed. Nothing is written by a program of ./build that is older than its sources. With --show cases are shown as they would
-be typed in a shell. With --add the cases of a folder come into a group: there each is files with one stem, STEM.oom, STEM.args,
-STEM.stdout, STEM.status and maybe STEM.stderr.
+be typed in a shell.
 """
 
+import re
+import shlex
 import sys
-from collections.abc import Iterator
+from collections.abc import Callable, Iterator
 from dataclasses import replace
 from difflib import unified_diff
+from functools import partial
+from itertools import islice
 from pathlib import Path
 from typing import Any, NamedTuple
 
-from tools.added_cases import add
-from tools.case_groups import SUFFIX, Block, Case, Group, read
-from tools.case_tables import row_fault, rows_of
-from tools.case_texts import CaseError
 from tools.crates import Crates
 from tools.paths import CASES, PROGRAM, ROOT
-from tools.program import SECONDS, Answer, NoAnswer, answer_of, program_parser
-from tools.shown_cases import shown
+from tools.program import CUT, FINE, FOUND, REFUSED, Answer, NoAnswer, answer_of, program_parser
 from tools.tally import Tally
-from tools.worked_cases import files_in
+from tools.worked_cases import SUFFIX, Block, Case, CaseError, Group, files_in, meaning, read, spelled
 
 # a longer difference is cut
 MOST_LINES = 100
 
+# what a table says of the rows below it, and what holds where it doesn't say it
+SETTINGS = {"words": "run", "rows": "scripts", "before": "", "behind": "", "script": "", "byte": "", "messages": "", "answer": ""}
+FORMS = {"rows": "scripts|words|cuts|bytes", "answer": r"accepted|refused \d+( line \d+)?|\d+( .+)?"}
+ROW = "    "
+SPAN = re.compile(r"(\d+)(?:\.\.(\d+))?")
 
-def answer_to(program: Path, args: list[str], script: bytes, **streams: Any) -> Answer:
-    """What a program answers to the words and the script of a case. File names in its words start at the top of the repository."""
-    return answer_of(program, *args, script=script, seconds=SECONDS, cwd=ROOT, **streams)
+
+class Row(NamedTuple):
+    """A row of a table: where it stands, what the program is given, and what it must answer."""
+
+    place: str
+    words: list[str]
+    script: bytes
+    answer: str
+    messages: str
+
+    def fault(self, answer: Answer) -> str | None:
+        """What is wrong with an answer to it, or None."""
+        statuses, wanted = wanted_of(self.answer)
+        if answer.status not in statuses:
+            return f"wanted status {' or '.join(map(str, statuses))}, got {answer.status} and {answer.output[:100]!r}"
+        if not wanted.fullmatch(answer.output):
+            return f"wanted {self.answer!r}, got {answer.output[-200:]!r}"
+        # messages may be broken between words
+        if self.messages.encode() not in answer.messages.replace(b"\n  ", b" ").replace(b"\n", b" "):
+            return f"wanted {self.messages!r} on standard error, got {answer.messages[:200]!r}"
+        return None
 
 
-def with_answer(case: Case, answer: Answer, has_messages: bool = True) -> Case:
-    """The case that an answer makes of another: with its status and output, and its messages where these are compared."""
-    messages = answer.messages if has_messages and case.stderr is not None else case.stderr
-    output = answer.output if case.stdout is not None else None
+def given_by(text: str, told: dict[str, str]) -> dict[str, tuple[list[str], bytes]]:
+    """The words and scripts that a row gives, by their places in it, under the settings above it."""
+    words, span = told["words"].split(), SPAN.fullmatch(text)
+    if not told["answer"]:
+        raise CaseError("a row without an answer")
+    if not text.strip():
+        raise CaseError("a row of blanks; an empty one is \\e")
+    if told["rows"] == "words":
+        return {"": ([*words, *meaning(text).decode("latin-1").split()], b"")}
+    if told["rows"] == "scripts":
+        return {"": (words, meaning(told["before"] + text + told["behind"]))}
+    if not span:
+        raise CaseError("neither a number nor a range")
+    script, byte, is_cut = meaning(told["script"]), meaning(told["byte"]), told["rows"] == "cuts"
+    places = range(int(span[1]), int(span[2] or span[1]) + 1)
+    if not places or places[-1] >= len(script) + is_cut or len(byte) == is_cut:
+        raise CaseError("the script has no such place, or there is not one byte for it")
+    return {f" at {at}": (words, script[:at] + (b"" if is_cut else byte + script[at + 1 :])) for at in places}
+
+
+def rows_of(table: list[str], file: Path, first: int) -> list[Row]:
+    """The rows of a table, whose lines stand in a file from that line on."""
+    told, rows, unused = dict(SETTINGS), list[Row](), f"{file}:{first}"
+    for number, line in enumerate(table, first):
+        place, (key, colon, text) = f"{file}:{number}", line.partition(":")
+        if line.startswith(ROW):
+            try:
+                given = given_by(line.removeprefix(ROW), told)
+            except CaseError as error:
+                raise CaseError(f"{place}: {error}") from None
+            rows += [Row(place + at, words, script, told["answer"], told["messages"]) for at, (words, script) in given.items()]
+            unused = ""
+        elif colon and key in SETTINGS and re.fullmatch(FORMS.get(key, ".*"), text.removeprefix(" ")):
+            if key == "answer" and unused and told["answer"]:
+                break
+            told[key] = text.removeprefix(" ")
+            unused = place if key == "answer" else unused
+        elif line and not line.startswith("#"):
+            raise CaseError(f"{place}: neither a setting nor a row")
+    if unused:
+        raise CaseError(f"{unused}: no row follows")
+    return rows
+
+
+def wanted_of(answer: str) -> tuple[tuple[int, ...], re.Pattern[bytes]]:
+    """The exit statuses and the standard output that an answer allows."""
+    if answer == "accepted":
+        return (FINE, FOUND, CUT), re.compile(rb"(?!refused )(?s:.*)")
+    if answer.startswith("refused "):
+        return (REFUSED,), re.compile(re.escape(answer).encode() + b"\n")
+    status, _, text = answer.partition(" ")
+    lines = ["(?:.*\n)*" if line == ".." else ".*".join(map(re.escape, line.split(".."))) + "\n" for line in text.split(" | ")]
+    return (int(status),), re.compile("".join(lines if text else []).encode())
+
+
+def shown(case: Case) -> str:
+    """The command of a case as it would be typed in a shell, and its answer as comments."""
+    lines = [f"# {case.place}: status {case.status}", typed(case.script, shlex.join(["./workbench", *case.args]))]
+    lines += [f"# {it}" for it in case.contains or []]
+    for name, text in (("standard output", case.stdout), ("standard error", case.stderr)):
+        lines += [] if text is None else [f"# {name}:", *(f"#     {it}".rstrip() for it in spelled(text))]
+    return "\n".join([*lines, ""])
+
+
+def typed(script: bytes, command: str) -> str:
+    """A command that is given a script."""
+    lines = script.decode("latin-1").split("\n")
+    if not script:
+        return f"{command} </dev/null"
+    if lines[-1] or "END" in lines or not re.fullmatch(rb"[\t\n\x20-\x7e]*", script):
+        octal = "".join(chr(it) if 32 <= it < 127 and chr(it) not in "\\%'" else f"\\{it:03o}" for it in script)
+        return f"printf '{octal}' | {command}"
+    return "\n".join([f"{command} <<'END'", *lines[:-1], "END"])
+
+
+def tried(
+    program: Path, words: list[str], script: bytes, fault_in: Callable[[Answer], str | None], **streams: Any
+) -> tuple[Answer | None, str | None]:
+    """What a program answers, if it does within its time, and what is wrong with that, or None. File names in its words start at the top of
+    the repository."""
+    try:
+        answer = answer_of(program, *words, script=script, cwd=ROOT, **streams)
+    except NoAnswer as late:
+        return None, str(late)
+    return answer, fault_in(answer)
+
+
+def with_answer(case: Case, answer: Answer) -> Case:
+    """The case that an answer makes of another: with its status, and its output and its messages where these are compared."""
+    output, messages = (None if it is None else new for it, new in ((case.stdout, answer.output), (case.stderr, answer.messages)))
     return replace(case, stdout=output, status=answer.status, stderr=messages)
 
 
 def first_missing(wanted: list[str], given: bytes) -> str | None:
     """The first line that an output must contain and lacks, or None."""
-    lines = given.decode("ascii", "backslashreplace").splitlines()
-    at = 0
+    lines, at = given.decode("ascii", "backslashreplace").splitlines(), 0
     for kind, text in (entry.split(": ", 1) for entry in wanted):
         if kind == "line":
             if text not in lines[at:]:
@@ -57,77 +163,57 @@ def first_missing(wanted: list[str], given: bytes) -> str | None:
     return None
 
 
-def fault_of(case: Case, answer: Answer, has_messages: bool = True) -> str | None:
-    """What is wrong with an answer to a case, or None. Its messages are looked at only if it has some."""
-    answered = with_answer(case, answer, has_messages)
-    missing = first_missing(case.contains or [], answer.output)
+def fault_of(case: Case, answer: Answer) -> str | None:
+    """What is wrong with an answer to a case, or None."""
+    answered, missing = with_answer(case, answer), first_missing(case.contains or [], answer.output)
     if answered == case:
         return missing
     return "\n".join([*([missing] if missing else []), "another answer:", *difference(case, answered)])
 
 
-def difference(case: Case, other: Case) -> list[str]:
+def difference(case: Case, other: Case) -> Iterator[str]:
     """The lines by which two cases differ, as they stand in their files; not all if they are very many."""
     old, new = (Group("", Path()).lines_of(it) for it in (case, other))
-    lines = list(unified_diff(old, new, "as the case says", "as the program answers", lineterm=""))
-    rest = len(lines) - MOST_LINES
-    return lines[:MOST_LINES] + ([f"and {rest} further lines"] if rest > 0 else [])
+    lines = unified_diff(old, new, "as the case says", "as the program answers", lineterm="")
+    yield from islice(lines, MOST_LINES)
+    if rest := sum(1 for _ in lines):
+        yield f"and {rest} further lines"
 
 
 class Chosen(NamedTuple):
-    """A case or a table that is to be run: its group, its block, and its place there, if it is a case."""
+    """A case or a table that is to be run: its group, its block, and the case, if it is one."""
 
     group: Group
     block: Block
-    at: int | None
+    case: Case | None
 
     def is_called(self, name: str) -> bool:
         """Whether a name of the command line means this, or what it is a part of."""
-        own = [self.block.name, *([] if self.at is None else [self.block.cases[self.at].name])]
+        own = [self.block.name, *([self.case.name] if self.case else [])]
         return not name or f"{self.group.name}/".startswith(f"{name}/") or name in own or name in (f"{self.group.name}/{it}" for it in own)
 
     def shown(self) -> str:
         """What it looks like in a shell; a table as it is written."""
-        return "\n".join([*self.group.lines_of_block(self.block), ""]) if self.at is None else shown(self.block.cases[self.at])
+        return shown(self.case) if self.case else "\n".join([*self.group.lines_of_block(self.block), ""])
 
     def told(self, program: Path, is_writing: bool) -> Iterator[tuple[bool, str]]:
         """Whether it has passed, or each of its rows, and what is to be said of that."""
-        if self.at is not None:
-            yield self.told_of_case(program, self.block.cases, self.at, is_writing)
-            return
-        try:
-            rows = rows_of(self.block.table or [], self.group.file, self.block.line + 1)
-        except CaseError as error:
-            yield False, str(error)
-            return
-        for row in rows:
+        if not self.case:
             try:
-                fault = row_fault(row, answer_to(program, row.words, row.script))
-            except NoAnswer as error:
-                fault = str(error)
-            yield not fault, f"{row.place}: {fault}" if fault else ""
-
-    def told_of_case(self, program: Path, cases: list[Case], at: int, is_writing: bool) -> tuple[bool, str]:
-        """Whether a case has passed, and what is to be said of it."""
-        case = cases[at]
-        try:
-            answer = answer_to(program, case.args, case.script)
-        except NoAnswer as error:
-            return False, f"{case.place}: {error}"
-        fault = fault_of(case, answer)
-        if fault is None or not is_writing:
-            return fault is None, f"{case.place}: {fault}" if fault else ""
-        cases[at] = with_answer(case, answer)
-        self.group.write()
-        return first_missing(case.contains or [], answer.output) is None, f"{case.place}: written: {fault}"
-
-
-def chosen_in(groups: list[Group], name: str) -> list[Chosen]:
-    """What a name means in groups."""
-    entries: list[Chosen] = []
-    for group, block in ((group, block) for group in groups for block in group.blocks):
-        entries += [Chosen(group, block, at) for at in range(len(block.cases))] if block.table is None else [Chosen(group, block, None)]
-    return [it for it in entries if it.is_called(name)]
+                for row in rows_of(self.block.table or [], self.group.file, self.block.line + 1):
+                    _, fault = tried(program, row.words, row.script, row.fault)
+                    yield not fault, f"{row.place}: {fault}" if fault else ""
+            except CaseError as error:
+                yield False, str(error)
+            return
+        case = self.case
+        answer, fault = tried(program, case.args, case.script, partial(fault_of, case))
+        if answer and fault and is_writing:
+            self.block.cases[self.block.cases.index(case)] = with_answer(case, answer)
+            self.group.write()
+            yield not first_missing(case.contains or [], answer.output), f"{case.place}: written: {fault}"
+        else:
+            yield not fault, f"{case.place}: {fault}" if fault else ""
 
 
 def why_old(program: Path) -> str:
@@ -136,20 +222,19 @@ def why_old(program: Path) -> str:
     return f"the program is older than its sources: {newer.relative_to(ROOT)} is newer" if newer else ""
 
 
-def files_left_alone(folder: Path) -> list[Path]:
-    """Files in a folder that are neither a group nor a page."""
-    return sorted(it for it in folder.rglob("*") if it.is_file() and it.suffix not in (SUFFIX, ".md"))
-
-
-def groups_of(folder: Path, tally: Tally) -> list[Group]:
-    """The groups in a folder. A file that is none counts as a failure."""
-    groups = []
+def all_in(folder: Path, tally: Tally) -> Iterator[Chosen]:
+    """All cases and tables in a folder. A file that is neither a group nor a page counts as a failure."""
+    for file in sorted(it for it in folder.rglob("*") if it.is_file() and it.suffix not in (SUFFIX, ".md")):
+        tally.check(False, f"{file}: it is no group")
     for name, file in files_in(folder).items():
         try:
-            groups.append(read(file, name))
+            group = read(file, name)
         except CaseError as error:
             tally.check(False, str(error))
-    return groups
+            continue
+        for block in group.blocks:
+            cases: list[Case | None] = [None] if block.table is not None else [*block.cases]
+            yield from (Chosen(group, block, case) for case in cases)
 
 
 def main(words: list[str]) -> int:
@@ -159,19 +244,14 @@ def main(words: list[str]) -> int:
     parser.add_argument("--in", type=Path, default=CASES, metavar="FOLDER", dest="folder", help="the folder of the groups, if not cases/")
     parser.add_argument("--show", action="store_true", help="show the cases as they would be typed in a shell, and run nothing")
     parser.add_argument("--write", action="store_true", help="write the program's answers into the cases that fail")
-    parser.add_argument("--add", nargs=2, metavar=("FOLDER", "GROUP"), help="add the cases of a folder to a group, and run nothing")
     given, tally = parser.parse_args(words), Tally()
-    if given.add:
-        return add(Path(given.add[0]), given.folder, given.add[1], tally)
     if not given.show and (why := why_old(given.program)):
         print(why + (": ./build comes before --write" if given.write else ""), file=sys.stderr)
         if given.write:
             return 1
-    for file in files_left_alone(given.folder):
-        tally.check(False, f"{file}: it is no group")
-    groups = groups_of(given.folder, tally)
+    known = list(all_in(given.folder, tally))
     for name in (it.removeprefix("cases/").removesuffix(SUFFIX).rstrip("/") for it in given.names):
-        chosen = chosen_in(groups, name)
+        chosen = [it for it in known if it.is_called(name)]
         if name and not chosen:
             tally.check(False, f"no case is called {name}")
         for it in chosen:

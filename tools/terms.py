@@ -1,45 +1,77 @@
-"""Terms of antt as text, and words that a reader of cases does not know.
+"""Scripts and reports of worked cases as terms of antt: the tree of `wb_model/src/script.rt` that each script spells, and the values that
+the definitions must give for its reports.
 
-Nothing here knows what a script or a report is."""
+Scripts are read by the small reader here, not by the workbench's own, so that the theorems speak of the definitions alone."""
 
+import re
 from collections.abc import Collection, Mapping
-from typing import TypeVar
+from typing import NamedTuple, TypeVar
+
+from tools.language import line_of, lines_by_kind, words_of_roles
 
 Value = TypeVar("Value")
 
+# the first words of a run's lines, and the words in them that name a value of the definitions, which tools/shorthands.txt imports
+RUN_LINES = ("print", "note", "attempt", "ended", "left", "leaks", "leak", "panic", "nocleanup", "cut", "steps")
+PANICS, NOTES = ("USER", "ALLOC", "WORKBENCH"), ("heap", "available", "compress")
+ANSWERS, CUTS = ("granted", "simulated", "refused"), ("budget", "ceiling")
+
+# the statements that are one line with the operands of its kind: its word, the constructor, and what follows the operands there. The
+# others are in `Reader.statement`
+STATEMENTS = {
+    entry.split()[0]: entry.split()[1:]
+    for entry in """
+    alloc Alloc GivesNull, allocl Alloc Leaves, realloc Realloc GivesNull, reallocl Realloc Leaves, free Free, alloclen AllocLen,
+    store Store, load Load, new New GivesNull, newleave New Leaves, construct Construct, delete Delete, null SetNull, add Add, push Push,
+    pushobj PushObject, pushop PushOperation, pop Pop, popdestroy PopDestroy, popcheck PopCheck, leave Leave, leaveiferror LeaveIfError,
+    leaveifnull LeaveIfNull, mark Mark, markend MarkEnd, check Check, checkall CheckAll, failnext FailNext, failevery FailEvery,
+    failnone FailNone, hnew NewText GivesNull, hnewl NewText Leaves, hrealloc ReallocText, copy Copy, append Append, insert Insert,
+    deltext DeleteText, setlength SetLength, left Left, right Right, mid Mid, getlen GetLength, getmax GetMaximum, heap NoteHeap,
+    available NoteAvailable, compress NoteCompress
+    """.split(",")
+}
+# the conditions by their keywords: the constructor, and the kind of line
+CONDITIONS = {"null": ("IsNull", "IfNull"), "some": ("NotNull", "IfSome"), "eq": ("Equal", "IfEqual"), "less": ("Less", "IfLess")}
+# lines that mean one thing where the first operand is a number, and another where not, with the places of their operands
+OVERLOADED = {
+    "set": (("SetNumber", ("Variable", "Value")), ("Set", ("Pointer", "Pointer"))),
+    "print": (("PrintNumber", ("Value",)), ("PrintText", ("Readable",))),
+}
+# lines that open a block
+BLOCKS = {"repeat": "Repeat", "trap": "Trap"}
+
+# what bodies may name before its declaration, by the word that declares it: no statement begins with such a word
+NAMED = {"class": "a class", "proc": "a procedure", "op": "an operation"}
+NUMERAL = re.compile("-?[0-9]+")
+
 
 class UnknownWord(Exception):
-    """A word that this tool does not know, what it was read as, and what to add to the tool."""
+    """A word that is not known, and what it was read as."""
 
-    def __init__(self, word: str, read_as: str, add: str) -> None:
-        super().__init__(f"`{word}` is not known as {read_as}: {add}")
+    def __init__(self, word: str, read_as: str) -> None:
+        super().__init__(f"`{word}` is not known as {read_as}")
 
 
-def among(words: Collection[str], word: str, read_as: str, add: str) -> str:
+def among(words: Collection[str], word: str, read_as: str) -> str:
     """The word, which is one of these."""
     if word not in words:
-        raise UnknownWord(word, read_as, add)
+        raise UnknownWord(word, read_as)
     return word
 
 
-def found(table: Mapping[str, Value], word: str, read_as: str, add: str) -> Value:
+def found(table: Mapping[str, Value], word: str, read_as: str) -> Value:
     """What a table says of a word."""
-    return table[among(table, word, read_as, add)]
+    return table[among(table, word, read_as)]
 
 
 def apply(name: str, *arguments: str) -> str:
-    """A constructor or function with its arguments."""
+    """A constructor or function with its arguments, or a record by the shorthand that makes it from its fields."""
     return " ".join([name, *(f"({it})" if " " in it else it for it in arguments)])
 
 
 def listed(items: list[str]) -> str:
     """A list."""
     return " ∷ ".join([*(f"({it})" if " " in it else it for it in items), "[]"])
-
-
-def made(shorthand: str, **fields: str) -> str:
-    """A record by the shorthand that makes it, with all its fields in their order."""
-    return apply(shorthand, *fields.values())
 
 
 def integer(n: int) -> str:
@@ -55,3 +87,262 @@ def option(term: str | None) -> str:
 def text_term(text: str) -> str:
     """A text as the list of its bytes."""
     return listed([str(ord(it)) for it in text])
+
+
+def named(words: Collection[str], word: str, read_as: str) -> str:
+    """The value of the definitions that a word of a report names."""
+    return among(words, word, read_as).capitalize()
+
+
+def cut_term(word: str) -> str:
+    """The outcome of a run that was cut."""
+    return apply("Cut", named(CUTS, word, "why a run is cut"))
+
+
+def panic_term(words: list[str]) -> str:
+    """A panic, by its category and its number."""
+    return apply("P." + named(PANICS, words[0], "a panic's category"), str(int(words[1], 16 if words[0] == "ALLOC" else 10)))
+
+
+def outcome_term(told: dict[str, list[list[str]]]) -> str:
+    """The outcome, from the words of a report's lines by their first ones."""
+    if "panic" in told:
+        return apply("Panicked", panic_term(told["panic"][0]))
+    if "cut" in told:
+        return cut_term(told["cut"][0][0])
+    if "nocleanup" in told:
+        return "NoCleanup"
+    leaks = [apply("leak", it[0], it[2], it[4]) for it in told.get("leak", [])]
+    return apply("Ended", option(integer(int(told["left"][0][0])) if "left" in told else None), listed(leaks))
+
+
+def run_term(lines: list[str]) -> str:
+    """The result that a run text tells."""
+    told: dict[str, list[list[str]]] = {key: [] for key in ("attempt", "note")}
+    printed: list[str] = []
+    for key, _, rest in (line.partition(" ") for line in lines):
+        told.setdefault(among(RUN_LINES, key, "the first word of a run's line"), []).append(rest.split(" "))
+        printed += [text_term(rest)] if key == "print" else []
+    trace = [apply("line", it[0], it[2], it[4], named(ANSWERS, it[5], "the answer of an attempt")) for it in told["attempt"]]
+    notes = [apply(named(NOTES, it[0], "a note"), *it[1:]) for it in told["note"]]
+    return apply("result", outcome_term(told), listed(trace), listed(printed), listed(notes), told["steps"][0][0])
+
+
+def rises_term(lines: list[str]) -> str:
+    """The rises that a size text tells: each with its number and its top, where the next line begins."""
+    rows = [line.split(" ") for line in lines[1:]]
+    for row in rows:
+        among(("from", "enough"), row[0], "the first word of a row of lengths")
+    tops = [row[1] for row in rows[1:-1]] + [rows[-1][2]]
+    return listed([apply("rise", row[3], top) for row, top in zip(rows, tops)])
+
+
+def end_term(words: list[str]) -> str:
+    """How a run ends, by the words of a range of lengths."""
+    match words:
+        case ["panic", *panic]:
+            return apply("E.Panicked", panic_term(panic))
+        case ["leaks", count]:
+            return apply("E.Leaked", count)
+        case ["left", code]:
+            return apply("E.Left", integer(int(code)))
+        case ["cut", why]:
+            return apply("E.Cut", named(CUTS, why, "why a run is cut"))
+    return found({"nocleanup": "E.NoCleanup", "ended": "E.Plain"}, words[0], "how a run ends")
+
+
+def words_of(line: str) -> list[str]:
+    """The words of a line; none for a comment or a line of blanks."""
+    words = re.findall(r'"[^"]*"|[^ \t\r]+', line)
+    return [] if words and words[0].startswith("#") else words
+
+
+class Local(NamedTuple):
+    """A local or parameter of a body: `ptr`, `int`, `buf` or `view`, and a pointer's class."""
+
+    sort: str
+    index: int
+    class_name: str | None = None
+
+
+def parameter(word: str, index: int) -> tuple[str, Local]:
+    """The name and the local of a PARAM."""
+    name, mark, of = word.partition(":")
+    if not mark:
+        raise UnknownWord(word, "a parameter")
+    return name, Local("int" if of == "int" else "ptr", index, None if of in ("int", "ptr") else of)
+
+
+class Reader:
+    """Reads an accepted script; faults were refused before, so none are looked for."""
+
+    def __init__(self, text: str) -> None:
+        lines = [(number, words) for number, words in enumerate(map(words_of, text.split("\n")), 1) if words]
+        # the lines still to read with their numbers, the next one last
+        self.lines, self.line = lines[::-1], 0
+        # the indexes of what bodies may name before its declaration, and the fields of each class with their classes
+        self.indexes: dict[str, dict[str, int]] = {sort: {} for sort in NAMED.values()}
+        self.fields: dict[str, dict[str, str | None]] = {}
+        for _, (word, *rest) in lines:
+            if word in NAMED:
+                known = self.indexes[NAMED[word]]
+                known[rest[0]] = len(known)
+            if word == "class":
+                self.fields[rest[0]] = {}
+            elif word == "field":
+                self.fields[list(self.fields)[-1]][rest[0]] = rest[1] if len(rest) > 1 else None
+        self.literals: list[str] = []
+        self.locals: dict[str, Local] = {}
+        self.this: str | None = None
+
+    def next_line(self) -> list[str]:
+        """Takes the next line's words, and keeps its number."""
+        self.line, words = self.lines.pop()
+        return words
+
+    def index(self, sort: str, name: str) -> str:
+        """The index of a class, a procedure or an operation, by its name."""
+        return str(found(self.indexes[sort], name, f"the name of {sort}"))
+
+    def class_option(self, name: str | None) -> str:
+        """The class of a pointer, a field or a parameter, where it has one."""
+        return option(None if name is None else self.index("a class", name))
+
+    def script(self) -> str:
+        """The whole script."""
+        items: dict[str, list[str]] = {word: [] for word in NAMED}
+        while self.lines:
+            words, line = self.next_line(), str(self.line)
+            match among(items, words[0], "the first word of an item"):
+                case "class":
+                    term = self.class_term(words[1], line, words[2])
+                case "proc":
+                    given = dict(map(parameter, words[2:], range(len(words))))
+                    term = apply("procedure", line, listed(list(map(self.parameter_term, given.values()))), self.body(given, None))
+                case _:
+                    term = apply("operation", line, self.body({words[2]: Local("ptr", 0)}, None))
+            items[words[0]].append(term)
+        literals = listed(list(map(text_term, self.literals)))
+        return apply("script", *map(listed, items.values()), literals, self.index("a procedure", "main"))
+
+    def parameter_term(self, of: Local) -> str:
+        """A parameter."""
+        return "Par.OfNumber" if of.sort == "int" else apply("Par.OfPointer", self.class_option(of.class_name))
+
+    def class_term(self, name: str, line: str, extra: str) -> str:
+        """A class, of which the first line has been read."""
+        bodies: dict[str, str | None] = {"construct": None, "destroy": None}
+        while (words := self.next_line())[0] != "end":
+            if among(("field", *bodies), words[0], "a line of a class") in bodies:
+                bodies[words[0]] = self.body({}, name)
+        fields = listed(list(map(self.class_option, self.fields[name].values())))
+        return apply("class_of", line, str(int(extra)), fields, *map(option, bodies.values()))
+
+    def body(self, given: dict[str, Local], this: str | None) -> str:
+        """A body up to its `end`, with its parameters and the class of `self`."""
+        self.locals, self.this = dict(given), this
+        begun: list[str] = []
+        while self.lines[-1][1][0] in words_of_roles("Declaration"):
+            begun.append(self.declaration(*self.next_line()))
+        return apply("body", listed(begun), listed(self.block()[0]))
+
+    def declaration(self, sort: str, name: str, *more: str) -> str:
+        """A local."""
+        most = sort in ("ptr", "buf")
+        if len(more) > most:
+            raise UnknownWord(more[most], f"a word of `{sort}`")
+        of = more[0] if sort == "ptr" and more else None
+        self.locals[name] = Local(sort, len(self.locals), of)
+        if sort == "ptr":
+            return apply("OfPointer", self.class_option(of))
+        return apply("OfBuffer", str(int(more[0]))) if sort == "buf" else {"int": "OfNumber"}.get(sort, "OfView")
+
+    def block(self) -> tuple[list[str], str]:
+        """Statements with their lines up to an `end` or `else`, and which of these it was."""
+        statements: list[str] = []
+        while (words := self.next_line())[0] not in ("end", "else"):
+            line = str(self.line)
+            statements.append(apply("on", line, "Statement-F." + self.statement(words[0], words[1:])))
+        return statements, words[0]
+
+    def statement(self, key: str, operands: list[str]) -> str:
+        """One statement, with what stands inside it."""
+        if key in STATEMENTS:
+            name, *rest = STATEMENTS[key]
+            return apply(name, *self.operands(key, line_of(key, "Plain").places, operands), *rest)
+        if key in OVERLOADED:
+            name, places = OVERLOADED[key][self.sort_of("".join(operands[:1])) != "int"]
+            return apply(name, *self.operands(key, places, operands))
+        if key in ("call", "callto"):
+            results, rest = ([self.local(operands[0])], operands[1:]) if key == "callto" else ([], operands)
+            arguments = listed([self.operand("Argument", it) for it in rest[1:]])
+            return apply("CallTo" if results else "Call", *results, self.index("a procedure", rest[0]), arguments)
+        if key == "return":
+            return apply("ReturnPointer", *self.operands(key, ("Pointer",), operands)) if operands else "Return"
+        if key == "if":
+            return self.choice(operands)
+        return apply(found(BLOCKS, key, "a statement"), *self.operands(key, line_of(key, "Loop").places, operands), listed(self.block()[0]))
+
+    def choice(self, operands: list[str]) -> str:
+        """`if` with its condition and both parts."""
+        name, kind = found(CONDITIONS, operands[0], "a condition")
+        condition = apply(name, *self.operands(operands[0], lines_by_kind()[kind].places, operands[1:]))
+        first, closed_by = self.block()
+        if closed_by == "end":
+            return apply("If", condition, listed(first))
+        return apply("IfElse", condition, listed(first), listed(self.block()[0]))
+
+    def operands(self, key: str, places: tuple[str, ...], words: list[str]) -> list[str]:
+        """All operands of a line, by their places in the tables of `wb_lines`."""
+        if len(words) > len(places):
+            raise UnknownWord(words[len(places)], f"an operand of `{key}`")
+        if len(words) < len(places):
+            raise UnknownWord(key, f"a line with {len(words)} operands")
+        return list(map(self.operand, places, words))
+
+    def operand(self, place: str, word: str) -> str:
+        """An operand by its place."""
+        match place:
+            case "Pointer" | "Written":
+                return self.pointer(word)
+            case "Value":
+                return apply("Constant", integer(int(word))) if NUMERAL.fullmatch(word) else apply("Variable", self.local(word))
+            case "Variable" | "ViewName":
+                return self.local(word)
+            case "Writable":
+                return apply("OwnBuffer", self.local(word)) if self.sort_of(word) == "buf" else apply("InCell", self.pointer(word))
+            case "Readable" if word.startswith('"'):
+                self.literals.append(word[1:-1])
+                return apply("Quoted", str(len(self.literals) - 1))
+            case "Readable":
+                return apply("ViewOf", self.local(word)) if self.sort_of(word) == "view" else apply("Of", self.operand("Writable", word))
+            case "Argument":
+                is_number = self.sort_of(word) == "int"
+                return apply("Given", self.operand("Value", word)) if is_number else apply("Passed", self.pointer(word))
+        return self.index(found({"Class": "a class", "Operation": "an operation"}, place, "the place of an operand"), word)
+
+    def local_named(self, word: str) -> Local:
+        """A local of the body."""
+        return found(self.locals, word, "a local or an operand")
+
+    def local(self, word: str) -> str:
+        """A local by its name."""
+        return str(self.local_named(word).index)
+
+    def sort_of(self, word: str) -> str:
+        """What a word stands for: `ptr`, `int`, `buf`, `view` or `literal`."""
+        if word.startswith('"'):
+            return "literal"
+        if NUMERAL.fullmatch(word):
+            return "int"
+        return "ptr" if "." in word or word == "self" else self.local_named(word).sort
+
+    def pointer(self, word: str) -> str:
+        """A pointer: a variable, or a field of what one points to."""
+        base, mark, name = word.partition(".")
+        holder = "H.This" if base == "self" else apply("H.Local", self.local(base))
+        if not mark:
+            return apply("Held", holder)
+        of = (self.this if base == "self" else self.local_named(base).class_name) or ""
+        index, fields = self.index("a class", of), list(self.fields.get(of, {}))
+        return apply("Field", holder, index, str(fields.index(among(fields, name, "a field of its class"))))

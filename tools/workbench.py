@@ -1,43 +1,207 @@
 """Turns into the workbench, on the same words and streams.
 
-Where the program isn't built, or is older than what it is made of, its sources are compiled without their proof, and what is compiled is
-kept for the next answer (`tools/unproved.py`)."""
+Where the program isn't built, or is older than what it is made of, its sources are compiled without their proof. What is compiled is kept
+below the repository until its sources or the toolchain change; where it can't be kept, it gives one answer. Where the toolchain leaves no
+program, it runs the sources itself (`tools/tried.py`).
 
+`rt try` compiles a program, runs it once and removes it. So it is run on a script that is a pipe, and the program is copied while it waits
+for the script."""
+
+import contextlib
+import hashlib
 import os
-import re
 import shutil
 import signal
 import subprocess
 import sys
 import tempfile
+import time
 from collections.abc import Iterator
 from contextlib import contextmanager
 from pathlib import Path
 from typing import NoReturn
 
-from tools.crates import NOT_BUILT, Crates, is_being_built
+from tools.crates import NOT_BUILT, Crates, alone_in, is_being_built
 from tools.paths import PROGRAM, PROGRAM_CRATE, ROOT
-from tools.unproved import NAME, NoProgram, Toolchain, Unproved, copy_sources, environment
+from tools.program import REFUSED
+from tools.tried import NAME, answer_of_try
 
-# the option whose file is written
-PICTURE = "--picture"
+# where the programs are kept, below the repository, and how many: those that were used last
+FOLDER = Path("out", "unproved")
+KEPT = 3
 
-# the commands that read a script, and the options that take a further word; those of the second set do so of `run` alone, those of
-# the third of `sweep` alone
-COMMANDS = {"run", "size", "lengths", "sweep", "check"}
-WITH_VALUE = {"--min", "--step", "--budget", "--limit", "--fail", "--failures", "--states", PICTURE}
-OF_RUN = {"--also", "--every", "--set", "--follow-steps"}
-OF_SWEEP = {"--from", "--to"}
+# what `rt try` reads of a crate
+SOURCES = "src"
 
-# the program reads one byte more than the longest script has
-LONGEST_INPUT = 65_537
+# how `rt try` calls what it compiled, and its words by which its interpreter, which runs the program before, ends at once
+WHAT_RUNS = "program"
+COMPILE_ALONE = ("--steps", "1")
+# how it says that it ran what it compiled
+RAN = "run=ended"
 
-# how the toolchain ends: how the run ended, and before that how each of its ways to run did
-ENDED = re.compile(rb"run=ended status=(\d+)\b.*proved=no\n?\Z")
-CLOSING = re.compile(rb"(?:checked|interpreter|races|run)\b[:=].*")
-NO_ANSWER = re.compile(rb"(?m)^checked: no-answer: (.*)$")
-# the toolchain runs what it compiles under another name
-OTHER_NAME = re.compile(rb"^Usage: program\b")
+# the folders of the toolchain whose files tell it from another one; its own identity lies beside these
+TELLING = ("bin", "c", "toolchain")
+LOADER = "ld-linux-x86-64.so.2"
+
+# how often it is looked whether the program runs, in seconds
+PAUSE = 0.05
+
+# what would change the checks that are compiled in
+CHECKS = "ASAN_OPTIONS"
+
+
+class NoProgram(Exception):
+    """Why the sources gave no program, in the toolchain's words."""
+
+    def __init__(self, why: str, ran: bool) -> None:
+        super().__init__(why)
+        # whether they were compiled and run all the same, so that the toolchain leaves nothing to keep
+        self.ran = ran
+
+
+class Unproved:
+    """The programs that are kept for a repository, as the toolchain of a command `rt` compiles them."""
+
+    def __init__(self, crates: Crates, command: Path) -> None:
+        self.crates, self.command = crates, command
+        self.toolchain = command.resolve().parent.parent
+        self.folder = crates.root / FOLDER
+
+    def marks(self) -> Iterator[str]:
+        """What tells the toolchain from another one: its files by size and times, since reading them would take a second."""
+        found = [self.toolchain.glob("*"), *((self.toolchain / part).rglob("*") for part in TELLING)]
+        for file in sorted(it for part in found for it in part if it.is_file()):
+            said = file.stat()
+            yield f"{file} {said.st_size} {said.st_mtime_ns} {said.st_ctime_ns}"
+
+    def place(self, crates: Crates) -> Path:
+        """Where the program of these sources is kept, by their checksum and the toolchain's."""
+        checksum = hashlib.sha256(("\n".join(self.marks()) + listed(crates)).encode())
+        for crate in program_crates(crates):
+            for file in sorted(it for it in (crates.folder(crate) / SOURCES).rglob("*") if it.is_file()):
+                text = file.read_bytes()
+                checksum.update(f"\n{file.relative_to(crates.root)} {len(text)}\n".encode() + text)
+        return self.folder / checksum.hexdigest()
+
+    def kept(self) -> Path | None:
+        """The program of the sources as they stand, if it is kept."""
+        place = self.place(self.crates)
+        # so that it is among those that were used last
+        with contextlib.suppress(OSError):
+            os.utime(place)
+        return place if place.exists() else None
+
+    def can_keep(self) -> bool:
+        """Whether a program can be kept: whether the folder can be written."""
+        with contextlib.suppress(OSError):
+            self.folder.mkdir(parents=True, exist_ok=True)
+        return os.access(self.folder, os.W_OK | os.X_OK)
+
+    def keep(self) -> Path:
+        """Compiles the program and keeps it, unless another call has done so meanwhile."""
+        with alone_in(self.folder, f"{NAME}: waiting for another call, which compiles them"), self.room() as room:
+            # of the copy, since the sources may be changed meanwhile
+            place, new = self.place(Crates(room)), self.folder / ".new"
+            if not place.exists():
+                new.unlink(missing_ok=True)
+                self.compile(room, new)
+                new.replace(place)
+                # one that runs stays until it ends, and only its name is gone
+                for old in sorted(self.folder.iterdir(), key=lambda it: it.stat().st_mtime)[:-KEPT]:
+                    old.unlink(missing_ok=True)
+            return place
+
+    def once(self) -> Path:
+        """Compiles the program for one answer: its file has no other name than the one that this process has for it."""
+        with self.room() as room:
+            self.compile(room, room / NAME)
+            held = os.open(room / NAME, os.O_RDONLY)
+        os.set_inheritable(held, True)
+        return Path(f"/proc/self/fd/{held}")
+
+    @contextmanager
+    def room(self) -> Iterator[Path]:
+        """A folder with a copy of what the program is compiled from, since `rt` works alone in a crate's folder. `rt try` reads no
+        definitions and no proofs."""
+        with tempfile.TemporaryDirectory(prefix=f"{NAME}-") as folder:
+            for crate in program_crates(self.crates):
+                shutil.copytree(self.crates.folder(crate) / SOURCES, Path(folder, "crates", crate, SOURCES))
+            Path(folder, "crates.txt").write_text(listed(self.crates), encoding="utf-8")
+            yield Path(folder)
+
+    def compile(self, room: Path, target: Path) -> None:
+        """Has `rt try` compile the sources in a room, and copies the program to the target while it runs. Raises `NoProgram` where there
+        is none."""
+        pipe, made, messages = room / "script", room / "made", room / "messages"
+        os.mkfifo(pipe)
+        made.mkdir()
+        command = [self.command, "try", *COMPILE_ALONE, "--", "run", pipe]
+        with messages.open("wb") as said, subprocess.Popen(
+            command,
+            cwd=room / "crates" / PROGRAM_CRATE,
+            env={**os.environ, "TMPDIR": str(made)},
+            stdin=subprocess.DEVNULL,
+            stdout=subprocess.DEVNULL,
+            stderr=said,
+        ) as running:
+            try:
+                while running.poll() is None and not target.exists():
+                    time.sleep(PAUSE)
+                    copy_held(target, pipe, made)
+            finally:
+                # it removes what it has made, and ends what it runs
+                running.terminate()
+        if not self.answers(target):
+            lines = messages.read_text(encoding="utf-8", errors="replace").splitlines()
+            ran = target.exists() or any(it.startswith(RAN) for it in lines)
+            target.unlink(missing_ok=True)
+            raise NoProgram("; ".join(lines[-3:]) or "nothing was said", ran)
+
+    def answers(self, program: Path) -> bool:
+        """Whether there is such a program, and it runs: an empty script is refused."""
+        words = [*self.words(program), "run", os.devnull]
+        with contextlib.suppress(OSError):
+            return program.exists() and subprocess.run(words, capture_output=True, env=environment()).returncode == REFUSED
+        return False
+
+    def words(self, program: Path) -> list[str]:
+        """The words that run a program with the libraries that it was linked with, as `rt try` does."""
+        libraries = self.toolchain / "toolchain" / "lib"
+        return [str(libraries / LOADER), "--inhibit-cache", "--library-path", str(libraries), "--argv0", NAME, str(program)]
+
+
+def copy_held(target: Path, pipe: Path, made: Path) -> None:
+    """Copies the program that waits for its script, if one does. It is whole, since it runs."""
+    try:
+        # refused until somebody reads it; the script ends as it is closed
+        held = os.open(pipe, os.O_WRONLY | os.O_NONBLOCK)
+    except OSError:
+        return
+    try:
+        # there is none where the toolchain's interpreter is what reads
+        for program in made.rglob(WHAT_RUNS):
+            shutil.copyfile(program, target)
+            target.chmod(0o755)
+            # whole on the disk too, before it gets its name
+            with target.open("rb") as copied:
+                os.fsync(copied.fileno())
+    finally:
+        os.close(held)
+
+
+def program_crates(crates: Crates) -> list[str]:
+    """The crates that the program is compiled from."""
+    return [*crates.below(PROGRAM_CRATE), PROGRAM_CRATE]
+
+
+def listed(crates: Crates) -> str:
+    """The lines of `crates.txt` that tell of these crates."""
+    return "".join(f"{crates.lines[it]}\n" for it in program_crates(crates))
+
+
+def environment() -> dict[str, str]:
+    """The environment of a program that is compiled without its proof."""
+    return {name: value for name, value in os.environ.items() if name != CHECKS}
 
 
 def say(text: str) -> None:
@@ -55,104 +219,13 @@ def why_not_built(crates: Crates) -> str:
     return f"the program is older than its sources: {newer.relative_to(ROOT)} is newer" if newer else ""
 
 
-def script_in(words: list[str]) -> str | None:
-    """The word that names the script, if one does."""
-    rest = iter(words[1:])
-    own = {"run": OF_RUN, "sweep": OF_SWEEP}
-    with_value = WITH_VALUE | own.get("".join(words[:1]), set())
-    for word in rest:
-        if word in with_value:
-            next(rest, None)
-        elif word == "--":
-            return next(rest, None)
-        elif not word.startswith("-"):
-            return word
-    return None
-
-
-def reads_standard_input(words: list[str]) -> bool:
-    """Whether the program reads its script from standard input."""
-    asks_for_help = not {"-h", "--help"}.isdisjoint(words)
-    return bool(words) and words[0] in COMMANDS and not asks_for_help and script_in(words) is None
-
-
-def with_whole_picture(words: list[str]) -> list[str]:
-    """The words with the whole path of the picture's file, since the run has a folder of its own."""
-    whole: list[str] = []
-    for word in words:
-        name, is_joined, file = word.partition("=")
-        if "--" in whole:
-            whole.append(word)
-        elif name == PICTURE and is_joined:
-            whole.append(f"{PICTURE}={whole_path(file)}")
-        else:
-            whole.append(whole_path(word) if whole[-1:] == [PICTURE] else word)
-    return whole
-
-
-def whole_path(file: str) -> str:
-    """The whole path of a file. The names of no file, an empty one and `-`, stay as they are."""
-    return file if file in ("", "-") else os.path.join(os.getcwd(), file)
-
-
-def handed_on(words: list[str]) -> tuple[list[str], list[str]]:
-    """The words for a run in a folder of its own, and those that hand the script on under its own name there. A name that
-    leads out of the folder is made a whole path."""
-    script = script_in(words)
-    if script is None or not Path(script).is_file():
-        return words, []
-    path = Path(script).resolve()
-    inside = os.path.normpath(script)
-    if os.path.isabs(script) or inside.startswith("..") or "=" in script:
-        return [str(path) if it == script else it for it in words], []
-    return words, ["--data", f"{inside}={path}"]
-
-
-def answer_of_try(crates: Crates, words: list[str]) -> int:
-    """Has `rt try` compile the sources and run them on these words, and gives the status that they end with."""
-    words, data = handed_on(with_whole_picture(words))
-    with tempfile.TemporaryDirectory(prefix=f"{NAME}-") as folder:
-        room = Path(folder)
-        copy_sources(crates, room)
-        with (room / "input").open("wb") as given:
-            given.write(sys.stdin.buffer.read(LONGEST_INPUT) if reads_standard_input(words) else b"")
-        with (room / "input").open("rb") as given:
-            command = ["rt", "try", *data, "--", *words]
-            ran = subprocess.run(command, cwd=room / "crates" / PROGRAM_CRATE, stdin=given, capture_output=True)
-    ended = ENDED.search(ran.stderr)
-    if not ended:
-        return say_no_answer(ran.stderr)
-    sys.stdout.buffer.write(ran.stdout)
-    sys.stdout.flush()
-    sys.stderr.buffer.write(b"".join(without_closing(ran.stderr.splitlines(keepends=True))))
-    sys.stderr.flush()
-    return int(ended[1])
-
-
-def say_no_answer(messages: bytes) -> int:
-    """Says why the toolchain gave no answer, by its own messages, and gives the status for that."""
-    found = NO_ANSWER.search(messages)
-    said = found[1] if found else b"; ".join(messages.splitlines()[-3:]) or b"nothing was said"
-    say(f"this way there is no answer: {said.decode(errors='replace')}")
-    say("./build proves and builds the program, which has no such bounds")
-    return NOT_BUILT
-
-
-def without_closing(lines: list[bytes]) -> Iterator[bytes]:
-    """What the program wrote to standard error, without the toolchain's own lines at the end, and by its own name."""
-    last = len(lines)
-    while last and CLOSING.match(lines[last - 1]):
-        last -= 1
-    yield from (OTHER_NAME.sub(b"Usage: " + NAME.encode(), it) for it in lines[:last])
-
-
 def answer_unproved(why: str, crates: Crates, words: list[str]) -> int:
-    """Answers by the program without its proof: by one that is kept, else by one that is compiled now, and kept where it can be."""
+    """Turns into the program without its proof: one that is kept, else one that is compiled now, and kept where it can be."""
     command = shutil.which("rt")
     if command is None:
         say(f"{why}, and the toolchain's command rt is not on the path")
         return NOT_BUILT
-    unproved = Unproved(crates, Toolchain(Path(command)))
+    unproved = Unproved(crates, Path(command))
     program = unproved.kept()
     can_keep = not program and unproved.can_keep()
     if program:
@@ -162,17 +235,35 @@ def answer_unproved(why: str, crates: Crates, words: list[str]) -> int:
     else:
         say(f"{why}, so these sources are compiled without their proof for this one answer, in about two to three minutes;")
     say("./build proves and builds the program, in about 20 to 40 minutes")
-    if can_keep:
+    try:
+        program = program or compiled(unproved, can_keep)
+    except NoProgram as refused:
+        return answer_tried(unproved, words) if refused.ran else say_no_answer(str(refused))
+    become([*unproved.words(program), *words], environment())
+
+
+def answer_tried(unproved: Unproved, words: list[str]) -> int:
+    """The answer of `rt try` itself, and its status."""
+    with unproved.room() as room:
+        answer = answer_of_try(room, words)
+    return answer if isinstance(answer, int) else say_no_answer(answer)
+
+
+def say_no_answer(why: str) -> int:
+    """Says why the toolchain gave no answer, and gives the status for that."""
+    say(f"this way there is no answer: {why}")
+    return NOT_BUILT
+
+
+def compiled(unproved: Unproved, can_keep: bool) -> Path:
+    """The program as it is compiled now."""
+    with interruptible():
         try:
-            with interruptible():
-                program = unproved.keep()
-        except NoProgram as refused:
-            return say_no_answer(refused.messages)
+            if can_keep:
+                return unproved.keep()
         except OSError as fault:
             say(f"what was compiled can't be kept: {fault}")
-    if program:
-        become(program[0], [*program, *words], environment())
-    return answer_of_try(crates, words)
+        return unproved.once()
 
 
 @contextmanager
@@ -188,12 +279,12 @@ def interruptible() -> Iterator[None]:
         signal.signal(signal.SIGINT, signal.SIG_DFL)
 
 
-def become(file: str, words: list[str], environment: dict[str, str]) -> NoReturn:
-    """Turns into a program."""
+def become(words: list[str], environment: dict[str, str], file: str = "") -> NoReturn:
+    """Turns into a program; its file is the first word, if it isn't given."""
     # Python ignores these, and the program would too
     for ignored in (signal.SIGPIPE, signal.SIGXFSZ):
         signal.signal(ignored, signal.SIG_DFL)
-    os.execve(file, words, environment)
+    os.execve(file or words[0], words, environment)
 
 
 def main(words: list[str]) -> int:
@@ -201,8 +292,7 @@ def main(words: list[str]) -> int:
     # as the program itself would end
     signal.signal(signal.SIGINT, signal.SIG_DFL)
     crates = Crates()
-    why = why_not_built(crates)
-    if why:
+    if why := why_not_built(crates):
         return answer_unproved(why, crates, words)
     # the name by which it calls itself in its help
-    become(str(PROGRAM), [NAME, *words], dict(os.environ))
+    become([NAME, *words], dict(os.environ), str(PROGRAM))

@@ -4,8 +4,8 @@ import tempfile
 import unittest
 from pathlib import Path
 
-from tools.case_groups import Block, Case, Group
 from tools.door import said_by
+from tools.worked_cases import Block, Case, Group
 
 SCRIPT = "proc main\nptr p\nfree p\nend\n"
 REPORT = "attempt 1 length 144 place 0 granted\nended\nleaks 0\nsteps 1\n"
@@ -13,11 +13,11 @@ REPORT = "attempt 1 length 144 place 0 granted\nended\nleaks 0\nsteps 1\n"
 # scripts and reports of accepted cases, their arguments, and a part of what is said of each
 CASES = [
     (SCRIPT, REPORT, "run", "1 theorems"),
-    (SCRIPT.replace("free p", "wait p"), REPORT, "run", "`wait` is not known as a statement: add it to STATEMENTS"),
+    (SCRIPT.replace("free p", "wait p"), REPORT, "run", "`wait` is not known as a statement"),
     (SCRIPT.replace("free p", "free p q"), REPORT, "run", "`q` is not known as an operand of `free`"),
     (SCRIPT.replace("free p", "free"), REPORT, "run", "`free` is not known as a line with 0 operands"),
     (SCRIPT.replace("free p", "free 0x10"), REPORT, "run", "`0x10` is not known as a local or an operand"),
-    (SCRIPT.replace("free p", "if same p p\nend"), REPORT, "run", "`same` is not known as a condition: add it to CONDITIONS"),
+    (SCRIPT.replace("free p", "if same p p\nend"), REPORT, "run", "`same` is not known as a condition"),
     (SCRIPT.replace("free p", "call other"), REPORT, "run", "`other` is not known as the name of a procedure"),
     (SCRIPT.replace("free p", "new p Other"), REPORT, "run", "`Other` is not known as the name of a class"),
     (SCRIPT.replace("ptr p", "ptr p C const"), REPORT, "run", "`const` is not known as a word of `ptr`"),
@@ -26,7 +26,7 @@ CASES = [
     (SCRIPT + "proc f p\nend\n", REPORT, "run", "`p` is not known as a parameter"),
     (SCRIPT, REPORT.replace("ended", "stopped"), "run", "`stopped` is not known as the first word of a run's line"),
     (SCRIPT, REPORT.replace("granted", "delayed"), "run", "`delayed` is not known as the answer of an attempt"),
-    (SCRIPT, "note time 1\n" + REPORT, "run", "`time` is not known as a note: add it to NOTES"),
+    (SCRIPT, "note time 1\n" + REPORT, "run", "`time` is not known as a note"),
     (SCRIPT, REPORT.replace("ended\nleaks 0", "panic OTHER 1"), "run", "`OTHER` is not known as a panic's category"),
     (SCRIPT, REPORT.replace("ended\nleaks 0", "cut clock"), "run", "`clock` is not known as why a run is cut"),
     (SCRIPT, "needed 144\n", "size", "`needed` is not known as the first word of a size text"),
@@ -67,6 +67,7 @@ class OfTheorems(unittest.TestCase):
         folder = tempfile.TemporaryDirectory()
         self.addCleanup(folder.cleanup)
         self.room = Path(folder.name)
+        (self.room / "some").mkdir()
 
     def said(self, script: str, report: str, words: str, *more: str) -> tuple[int, str]:
         """How the tool ends on a case, and what it says."""

@@ -1,21 +1,25 @@
-"""What counts as a failure of the gate, `./test`: a part that can't be tried does."""
+"""What counts as a failure of the gate, `./test`; how it runs tools side by side; and what it says of a run of `rt ci`."""
 
 import contextlib
 import io
 import os
+import re
 import sys
 import tempfile
 import unittest
+from argparse import Namespace
 from importlib.machinery import SourceFileLoader
 from importlib.util import module_from_spec, spec_from_loader
 from pathlib import Path
 from types import ModuleType
-from unittest.mock import patch
+from unittest.mock import DEFAULT, patch
 
+from tools import gate as gate_tools
+from tools.crates import Crates
 from tools.door import COMMANDS, said_by
+from tools.gate import Outcome, ProofChain, ToolRun, ToolRuns
 from tools.paths import ROOT, TOOLS
-from tools.tally import Tally
-from tools.tool_runs import Outcome, ToolRun, ToolRuns
+from tools.tally import Tally, read_tally, summed
 
 # the commands that the gate runs on the program, and what some are given
 RUN = """
@@ -23,6 +27,32 @@ cases, lost-messages, broken-streams, progress, compare sets, compare steps, com
 compare moving, compare parts, compare pairs, compare every, compare persistent, compare forks, mistakes, pictures, failing-allocations,
 failing-allocations --same, ci-examples, help-files, pages --runs
 """
+
+BUSY = "import time\nwhile time.process_time() < 0.3: pass\nprint('1 passed, 0 failed')"
+# says that it runs, and waits for another one that does so: a folder, its own file there, and the other's
+MEETING = """
+import sys, time
+from pathlib import Path
+Path(sys.argv[1], sys.argv[2]).touch()
+until = time.monotonic() + 60
+while not Path(sys.argv[1], sys.argv[3]).exists() and time.monotonic() < until:
+    time.sleep(0.01)
+print(f"{int(time.monotonic() < until)} passed, 0 failed")
+"""
+# programs in the place of tools, by their commands
+CODE = {
+    "right": "print('one'); print('2 passed, 0 failed')",
+    "wrong": "import sys; print('two', file=sys.stderr); print('4 passed, 3 failed'); sys.exit(1)",
+    "silent": "pass",
+    "late": "import sys; print('2 passed, 0 failed'); sys.exit(1)",
+    "busy": BUSY,
+    "waiting": "import time; time.sleep(0.3); print('1 passed, 0 failed')",
+    "told": "import os; print(os.environ['RT_JOBS'], 'processors'); print('1 passed, 0 failed')",
+    "parent": f"import subprocess, sys; sys.exit(subprocess.run([sys.executable, '-c', {BUSY!r}]).returncode)",
+    "meeting": MEETING,
+}
+
+CRATES = "# from the program down\nmain: page run kit_crate\npage: run word\nrun: heap word\nheap: word\nword:\n"
 
 
 def pass_once(runs: ToolRuns, tool: ToolRun, jobs: int) -> None:
@@ -41,29 +71,46 @@ def the_gate() -> ModuleType:
     return gate
 
 
-class WhatCounts(unittest.TestCase):
-    """What the gate counts of what it runs."""
+class Heard(unittest.TestCase):
+    """What is printed."""
 
     def setUp(self) -> None:
         self.gate = the_gate()
+        self.said = self.enterContext(contextlib.redirect_stdout(io.StringIO()))
 
-    def counts(self, said: str, status: int = 0, **words: bool) -> Tally:
-        """What counts of a command that says this and ends so."""
-        with contextlib.redirect_stdout(io.StringIO()):
-            counted: Tally = self.gate.tally([sys.executable, "-c", f"print({said!r}); raise SystemExit({status})"], **words)
-        return counted
+
+class WhatCounts(Heard):
+    """What the gate counts of what it runs."""
+
+    def test_checks(self) -> None:
+        tally = Tally()
+        for holds in (True, False, True):
+            tally.check(holds, "two isn't three")
+        self.assertEqual((tally, self.said.getvalue()), (Tally(2, 1), "two isn't three\n"))
+        self.assertEqual(summed([tally, Tally(1, 4)]), Tally(3, 5))
+
+    def test_last_lines(self) -> None:
+        for tally, status, may_be_none in (
+            (Tally(3, 0), 0, False), (Tally(3, 1), 1, False), (Tally(), 1, False), (Tally(), 0, True), (Tally(0, 1), 1, True)
+        ):
+            self.assertEqual(tally.end(may_be_none), status)
+            self.assertEqual(read_tally(self.said.getvalue().splitlines()[-1]), tally)
+        for line in ("", "3 passed", "gate: 3 passed, 1 failed"):
+            self.assertIsNone(read_tally(line))
 
     def test_what_a_command_says(self) -> None:
-        self.assertEqual(self.counts("3 passed, 0 failed"), Tally(3, 0))
-        self.assertEqual(self.counts("3 passed, 2 failed", 1), Tally(3, 2))
-
-    def test_a_failure_that_is_not_said(self) -> None:
-        self.assertEqual(self.counts("3 passed, 0 failed", 1), Tally(3, 1))
-        self.assertEqual(self.counts("3 passed"), Tally(0, 1))
-
-    def test_nothing_tried(self) -> None:
-        self.assertEqual(self.counts("0 passed, 0 failed"), Tally(0, 1))
-        self.assertEqual(self.counts("0 passed, 0 failed", may_be_none=True), Tally(0, 0))
+        for said, status, may_be_none, counts in (
+            ("3 passed, 0 failed", 0, False, Tally(3, 0)),
+            ("3 passed, 2 failed", 1, False, Tally(3, 2)),
+            # a failure that isn't said
+            ("3 passed, 0 failed", 1, False, Tally(3, 1)),
+            ("3 passed", 0, False, Tally(0, 1)),
+            # nothing tried
+            ("0 passed, 0 failed", 0, False, Tally(0, 1)),
+            ("0 passed, 0 failed", 0, True, Tally(0, 0)),
+        ):
+            words = [sys.executable, "-c", f"print({said!r}); raise SystemExit({status})"]
+            self.assertEqual(self.gate.tally(words, may_be_none=may_be_none), counts, (said, status))
 
     def test_tests_that_are_left_out(self) -> None:
         for said, counts in (
@@ -71,69 +118,160 @@ class WhatCounts(unittest.TestCase):
             ("Ran 0 tests\n\nOK", Tally(0, 1)),
             ("Ran 2 tests\n\nOK (skipped=1)", Tally(0, 1)),
         ):
-            with contextlib.redirect_stdout(io.StringIO()):
-                self.assertEqual(self.gate.check("tests", [sys.executable, "-c", f"print({said!r})"], unfit=self.gate.UNTRIED), counts)
+            self.assertEqual(self.gate.check("tests", [sys.executable, "-c", f"print({said!r})"], unfit=self.gate.UNTRIED), counts)
 
-    def test_each_tool_that_is_run_is_a_command(self) -> None:
-        with patch.object(self.gate, "tally", return_value=Tally(1, 0)) as tallied, patch.object(
-            self.gate, "check", return_value=Tally(1, 0)
-        ) as checked:
+
+class WhatIsRun(Heard):
+    """What the gate runs."""
+
+    def test_each_tool_is_a_command(self) -> None:
+        with patch.multiple(self.gate, tally=DEFAULT, check=DEFAULT) as ran:
+            for it in ran.values():
+                it.return_value = Tally(1, 0)
             counted = [self.gate.tools(), self.gate.pages()]
-        words = [*(it.args[0] for it in tallied.call_args_list), *(it.args[1] for it in checked.call_args_list)]
+        words = [*(it.args[0] for it in ran["tally"].call_args_list), *(it.args[1] for it in ran["check"].call_args_list)]
         self.assertEqual(sum(it.passed for it in counted), len(words))
         self.assertEqual([it[3] for it in words if it[2] != TOOLS / "dev" or it[3] not in COMMANDS], ["discover"])
 
     def test_each_tool_that_runs_the_program_is_run_once(self) -> None:
-        with patch.object(ToolRuns, "run", autospec=True, side_effect=pass_once) as ran, contextlib.redirect_stdout(io.StringIO()) as said:
+        with patch.object(ToolRuns, "run", autospec=True, side_effect=pass_once) as ran:
             counted = self.gate.runs()
         names = [it.args[1].name() for it in ran.call_args_list]
         self.assertEqual(counted, Tally(len(names), 0))
         self.assertEqual(sorted(names), sorted(RUN.replace("\n", " ").strip().split(", ")))
         self.assertLessEqual({it.split()[0] for it in names}, set(COMMANDS))
-        self.assertEqual(sorted(it.split()[0] for it in said.getvalue().splitlines()[1:]), sorted(it.split()[0] for it in names))
+        self.assertEqual(sorted(it.split()[0] for it in self.said.getvalue().splitlines()[1:]), sorted(it.split()[0] for it in names))
+
+    def test_wrong_bodies_for_a_quarter_of_an_hour_or_all(self) -> None:
+        for is_all, last in ((False, ["--after-ci", "--minutes", "15"]), (True, ["wrong-bodies", "--after-ci", "--all"])):
+            part = next(it for it in self.gate.parts_of(Namespace(quick=False, crates=[], all=is_all)) if it.name == "wrong bodies")
+            with patch.object(self.gate, "tally", return_value=Tally(1, 0)) as tally:
+                part.run()
+            self.assertEqual((part.is_needed, tally.call_args.args[0][-3:]), (False, last))
+            self.assertEqual(tally.call_args.kwargs["may_be_none"], not is_all)
 
     def test_the_chain_of_proofs(self) -> None:
         with tempfile.TemporaryDirectory() as folder, patch.dict(os.environ, PATH=f"{folder}{os.pathsep}{os.environ['PATH']}"):
             Path(folder, "rt").write_text("#!/bin/sh\necho 'rt: wb_model proved'\necho '3 passed, 0 failed'\n", encoding="utf-8")
             Path(folder, "rt").chmod(0o755)
-            with patch.object(self.gate, "building", contextlib.nullcontext), contextlib.redirect_stdout(io.StringIO()) as said:
+            with patch.object(self.gate, "building", contextlib.nullcontext):
                 self.assertEqual(self.gate.gate(), Tally(3, 0))
-        self.assertRegex(said.getvalue(), "(?s)rt: wb_model proved\n3 passed, 0 failed\n.*\n    wb_model +0.0 +0.0  waited for no crate\n")
+        said = "(?s)rt: wb_model proved\n3 passed, 0 failed\n.*\n    wb_model +0.0 +0.0  waited for no crate\n"
+        self.assertRegex(self.said.getvalue(), said)
 
     def test_what_is_tried_after_a_failure(self) -> None:
-        def ran(is_needed: bool, first: Tally) -> tuple[list[str], Tally]:
-            tried: list[str] = []
-
-            def run(name: str, counted: Tally) -> Tally:
-                tried.append(name)
-                return counted
-
-            parts = [
-                self.gate.Part("first", lambda: run("first", first), is_needed),
-                self.gate.Part("second", lambda: run("second", Tally(2, 0))),
-            ]
-            with contextlib.redirect_stdout(io.StringIO()) as said:
-                total = self.gate.run_parts(parts)
-            self.assertEqual("nothing else was tried" in said.getvalue(), len(tried) == 1)
-            return tried, total
-
-        self.assertEqual(ran(True, Tally(1, 0)), (["first", "second"], Tally(3, 0)))
-        self.assertEqual(ran(True, Tally(1, 1)), (["first"], Tally(1, 1)))
-        self.assertEqual(ran(False, Tally(1, 1)), (["first", "second"], Tally(3, 1)))
+        for is_needed, first, total in (
+            (True, Tally(1, 0), Tally(3, 0)), (True, Tally(1, 1), Tally(1, 1)), (False, Tally(1, 1), Tally(3, 1))
+        ):
+            self.said.truncate(0)
+            second = [Tally(2, 0)]
+            parts = [self.gate.Part("first", lambda first=first: first, is_needed), self.gate.Part("second", second.pop)]
+            self.assertEqual(self.gate.run_parts(parts), total)
+            self.assertEqual("nothing else was tried" in self.said.getvalue(), total == Tally(1, 1))
+            self.assertEqual(len(second), int(total == Tally(1, 1)))
 
     def test_no_compiler(self) -> None:
         runs, tools = ToolRuns(), [it for it in self.gate.RUNS if it.words[0] == "failing-allocations"]
-        with tempfile.TemporaryDirectory() as empty, patch.dict(os.environ, PATH=empty), contextlib.redirect_stdout(io.StringIO()):
+        with tempfile.TemporaryDirectory() as empty, patch.dict(os.environ, PATH=empty):
             runs.run_all(tools, 1)
+            said = said_by("failing-allocations", "--same", "--program", "no-program")
         # of the program on scripts, and of the one that makes calls once more
         self.assertEqual([it.tally for it in runs.outcomes], [Tally(0, 1), Tally(0, 1)])
-
-
-class WithoutCompiler(unittest.TestCase):
-    """What the tool itself says without a C compiler."""
-
-    def test_it_is_said(self) -> None:
-        with tempfile.TemporaryDirectory() as empty, patch.dict(os.environ, PATH=empty):
-            said = said_by("failing-allocations", "--same", "--program", "no-program")
         self.assertEqual(said.status, 1)
         self.assertIn("no C compiler", said.messages)
+
+
+class RunsOfTools(Heard):
+    """Some programs in the place of tools."""
+
+    def run_all(self, *tools: ToolRun, lanes: int = 2) -> tuple[str, dict[str, Tally]]:
+        """What is printed where these are run, and what each counts as."""
+        self.runs = ToolRuns()
+        self.said.truncate(0)
+        with patch.object(gate_tools, "tool", lambda command, *words: [sys.executable, "-c", CODE[command], *words]):
+            self.runs.run_all(tools, lanes)
+        return self.said.getvalue(), {it.name: it.tally for it in self.runs.outcomes}
+
+    def test_what_is_shown_and_counted(self) -> None:
+        said, tallies = self.run_all(*(ToolRun((it,)) for it in ("right", "wrong", "silent", "late")))
+        for block in ("== right\none\n2 passed, 0 failed\n", "== wrong\ntwo\n4 passed, 3 failed\n", "== silent\n"):
+            self.assertIn(block, said)
+        self.assertEqual(tallies, {"right": Tally(2, 0), "wrong": Tally(4, 3), "silent": Tally(0, 1), "late": Tally(2, 1)})
+        _, tallies = self.run_all(*(ToolRun((it,), is_one=True) for it in ("right", "wrong")))
+        self.assertEqual(tallies, {"right": Tally(1, 0), "wrong": Tally(0, 1)})
+
+    def test_they_run_side_by_side(self) -> None:
+        with tempfile.TemporaryDirectory() as room:
+            _, tallies = self.run_all(ToolRun(("meeting", room, "one", "two")), ToolRun(("meeting", room, "two", "one")))
+        self.assertEqual(list(tallies.values()), [Tally(1, 0), Tally(1, 0)])
+
+    def test_their_order_on_one_processor(self) -> None:
+        said, _ = self.run_all(*(ToolRun((it,)) for it in ("waiting", "right", "told")), lanes=1)
+        self.assertEqual(re.findall("== (.*)", said), ["waiting", "right", "told"])
+
+    def test_how_many_processors_a_tool_gets(self) -> None:
+        others = [ToolRun((it,)) for it in ("right", "wrong", "silent", "busy")]
+        for count, is_spread, is_long, beside, lanes in (
+            *((1, False, False, [], 4), (4, True, False, [], 4)),
+            *((1, True, False, others, 4), (2, True, True, others, 4), (1, True, True, others, 1)),
+        ):
+            said, _ = self.run_all(ToolRun(("told",), is_spread, is_long), *beside, lanes=lanes)
+            self.assertIn(f"{count} processors", said)
+
+    def test_times(self) -> None:
+        self.run_all(*(ToolRun((it,)) for it in ("waiting", "busy", "parent")))
+        rows = [re.fullmatch(r" {4}(.*?) +(\S+) s, and +(\S+) s of processor time", it) for it in self.runs.times()]
+        clock, worked = ({it[1]: float(it[column]) for it in rows if it} for column in (2, 3))
+        self.assertEqual(len(worked), 3)
+        self.assertGreaterEqual(min(clock.values()), 0.3)
+        # what a tool runs itself counts, and what it waits for doesn't
+        self.assertEqual([worked[it] >= 0.3 for it in ("waiting", "busy", "parent")], [False, True, True])
+        self.assertEqual(list(worked.values()), sorted(worked.values(), reverse=True))
+
+
+class ChainOfRun(unittest.TestCase):
+    """Lines of a run of `rt ci` whose lines come at given minutes, and what is said at its end."""
+
+    def said(self, minutes: int, *heard: tuple[int, str]) -> list[str]:
+        """What is said of a run of so many minutes, in which these crates end, without the headings and the columns of blanks."""
+        with tempfile.TemporaryDirectory() as folder:
+            Path(folder, "crates.txt").write_text(CRATES, encoding="utf-8")
+            chain = ProofChain(Crates(Path(folder)))
+        for minute, line in heard:
+            chain.hear(f"rt: {line}\n", 60.0 * minute)
+        lines = list(chain.lines(60.0 * minutes))
+        return [" ".join(it.split()) for it in lines if it.startswith("    ")] or lines
+
+    def test_each_waits_for_the_last_below(self) -> None:
+        names = {"word": 2, "heap": 5, "run": 9, "page": 11, "main": 12}
+        chain = ["main 1.0", "page 2.0", "run 4.0", "heap 3.0", "word 2.0", "in all 12.0, and 8.0 more until the run ended"]
+        self.assertEqual(self.said(20, *((minute, f"{name} proved") for name, minute in names.items())), [
+            "word 0.0 2.0 waited for no crate",
+            "heap 2.0 5.0 waited for word",
+            "run 5.0 9.0 waited for heap",
+            "page 9.0 11.0 waited for run",
+            "main 11.0 12.0 waited for page",
+            *chain,
+        ])
+
+    def test_a_crate_below_that_ended_before_another(self) -> None:
+        # a crate stands on all below its libraries too, and one that is kept ends at once
+        said = self.said(8, (3, "heap proved"), (4, "run is kept: an earlier run proved it"), (7, "word proved"), (8, "page proved"))
+        self.assertEqual(said[2:], ["page 7.0 8.0 waited for word", "page 1.0", "word 7.0", "in all 8.0, and 0.0 more until the run ended"])
+
+    def test_kept_crates_take_no_time(self) -> None:
+        kept = [(1, f"{it} is kept: an earlier run on this machine proved the same files") for it in ("word", "heap")]
+        self.assertEqual(self.said(6, *kept, (6, "run proved"))[:2], ["run 0.0 6.0 waited for no crate", "run 6.0"])
+
+    def test_tests_of_a_crate(self) -> None:
+        said = self.said(6, (2, "word proved"), (4, "heap proved"), (6, "heap: its tests are proved"), (5, "run proved"))
+        # what stands on a crate doesn't wait for its tests
+        self.assertEqual(said[2:6], ["heap's tests 2.0 6.0 waited for word", "run 4.0 5.0 waited for heap", "heap's tests 4.0", "word 2.0"])
+
+    def test_a_crate_that_is_not_proved(self) -> None:
+        said = self.said(2, (2, "word NOT PROVED"), (2, "heap NOT PROVED: its library word failed"))
+        self.assertEqual(said[:2], ["word 0.0 2.0 waited for no crate", "word 2.0"])
+
+    def test_other_lines(self) -> None:
+        others = "word::at: proved", "word: trying its must-fail edits (3)", "other proved", "note: rt: word proved"
+        self.assertEqual(self.said(1, *((1, it) for it in others)), ["no proof was done in this run, so there is no chain"])

@@ -1,14 +1,19 @@
-"""The lines of the language, beside the source of `wb_lines` that they are read from."""
+"""The lines of the language beside the source of `wb_lines` that they are read from, the reader of cases, and the words of C++ that
+`wb_mistakes` and the page have for them."""
 
 import re
 import unittest
 
 from tools.language import SOURCE, Line, line_of, lines_by_kind, lines_in, words_of_roles
 from tools.paths import DOCS, ROOT
-from tools.script_terms import BLOCKS, CONDITIONS, OVERLOADED, STATEMENTS
+from tools.terms import BLOCKS, CONDITIONS, OVERLOADED, STATEMENTS
 
-# the lines that `script_terms.py` reads by themselves
+# the lines that `terms.py` reads by themselves
 APART = {"call", "callto", "return"}
+
+COUNTERPARTS = ROOT / "crates/wb_mistakes/src/counterparts.rt"
+ROW = re.compile(r"^    Counterpart\(\s*&\[(.*?)\],\s*&\[(.*?)\],\s*(\"[^\"]*\"|\w+),?\s*\),$", re.DOTALL | re.MULTILINE)
+CODE = re.compile(r"`([^`]*)`")
 
 
 class Lines(unittest.TestCase):
@@ -39,13 +44,20 @@ class Lines(unittest.TestCase):
         with self.assertRaisesRegex(LookupError, "has no table role_of"):
             list(lines_in(source.replace("pub fn role_of(", "pub fn roles_of(")))
 
-
-class OfTheReader(unittest.TestCase):
-    """What the reader of cases has a meaning for: all lines that a body may have, and no others."""
-
-    def test_statements(self) -> None:
+    def test_what_the_reader_of_cases_has_a_meaning_for(self) -> None:
         self.assertEqual({*STATEMENTS, *OVERLOADED, *APART}, words_of_roles("Plain"))
         self.assertEqual(set(BLOCKS), words_of_roles("Loop"))
-
-    def test_conditions(self) -> None:
         self.assertEqual({kind for _, kind in CONDITIONS.values()}, {it.kind for it in lines_by_kind().values() if it.role == "If"})
+
+    def test_counterparts(self) -> None:
+        source, kinds = COUNTERPARTS.read_text(encoding="utf-8"), lines_by_kind()
+        texts = dict(re.findall(r'^(?:pub(?:\(crate\))? )?const (\w+): &str =\s+"(.*)";$', source, re.MULTILINE))
+        rows = [
+            (re.findall(r'"([^"]*)"', cpp), [kinds[it].word for it in re.findall(r"::(\w+)", lines)], texts.get(hint, hint.strip('"')))
+            for cpp, lines, hint in ROW.findall(source)
+        ]
+        section = (DOCS / "IDIOMS.md").read_text(encoding="utf-8").partition("\n## Line by line\n")[2].partition("\n\n## ")[0]
+        table = section.partition("|---|---|---|\n")[2].partition("\n\n")[0]
+        cells = [[it.strip() for it in line.strip("|").split("|")] for line in table.splitlines()]
+        self.assertGreater(len(rows), 40)
+        self.assertEqual([(CODE.findall(cpp), [it.split()[0] for it in CODE.findall(lines)], hint) for cpp, lines, hint in cells], rows)

@@ -5,8 +5,9 @@ import tempfile
 import unittest
 from pathlib import Path
 
+from bench.tables import measured_on, table_of, with_table
+from tools.documents.pages import MEASURED, pages, sentences
 from tools.door import Said, said_by
-from tools.pages import pages, sentences
 
 SWEEPS, LAWS = "crates/wb_model/specs/runs/Sweeps.antt", "crates/wb_model/src/set_laws.rt"
 PROMISES = "<!-- promises -->\n| A | B |\n|---|---|\n"
@@ -22,16 +23,17 @@ BLOCKS = {
     "dependencies": ("`wb_states` |", "`wb_size` |"),
     "crates": ("| `wb_streams` |", "| `wb_stream` |"),
     r"files (?i)\bpop_?check": ("`src/script.rt`", "`src/scripts.rt`"),
-    **{f"number {it}": ("-->", "-->1") for it in ("cases", "examples", "crates", "functions", "contracts", "wrong-bodies")},
+    **{f"number {it}": ("-->", "-->1") for it in ("functions", "contracts", "wrong-bodies")},
 }
 # what a page says, and what is said of it
 FAULTS = {
     f"<!-- quote {SWEEPS} failing -->\n<!-- end -->": "there is no one failing, but 0",
     f"<!-- quote {LAWS} sets_end.none -->\n<!-- end -->": "there is no one sets_end.none",
     "<!-- file docs/NONE -->\n<!-- end -->": "there is no docs/NONE",
-    "<!-- case guide/none.run -->\n<!-- end -->": "there is no one case: 0 cases are called guide/none.run",
+    "<!-- case guide/none.run -->\n<!-- end -->": "0 cases are called guide/none.run",
     "<!-- bodies wb_model/none -->\n<!-- end -->": "there is no wrong body of wb_model/none",
-    "<!-- number cases -->1": "a comment that neither begins nor ends a block",
+    "<!-- number cases --><!-- end -->": "there is no number of cases",
+    "<!-- number functions -->1": "a comment that neither begins nor ends a block",
     "<!-- run: workbench check -->\nNo block.": "a comment that neither begins nor ends a block",
     "<!-- measured bench/run -->\nToday.\n<!-- end -->": "measured on no commit",
     f"{PROMISES}| A | `wb_size::size`: `cut`, `none` |\n<!-- end -->": "wb_size::size has no clause none, or isn't public",
@@ -71,18 +73,25 @@ RUNS = (
 )
 
 
+MEASURED_PAGE = "Before.\n\n<!-- measured bench/run -->\nold\n<!-- end -->\n\n<!-- measured bench/run --growth -->\nother\n<!-- end -->\n"
+
+
 class OfPages(unittest.TestCase):
     """What fails, and what is written."""
 
     def setUp(self) -> None:
-        folder = tempfile.TemporaryDirectory()
-        self.addCleanup(folder.cleanup)
-        self.page, self.program = Path(folder.name, "page.md"), Path(folder.name, "program")
+        folder = Path(self.enterContext(tempfile.TemporaryDirectory()))
+        self.page, self.program = folder / "page.md", folder / "program"
 
     def said(self, text: str, *words: str | Path) -> Said:
         """What is said of a page with this text."""
         self.page.write_text(text, encoding="utf-8")
         return said_by("pages", *words, self.page)
+
+    def assert_stale(self, text: str, fault: str, *words: str | Path) -> None:
+        """A page with this text must fail, with this fault."""
+        said = self.said(text, *words)
+        self.assertEqual((said.status, fault in said.output), (1, True), f"{text}: {said.output}")
 
     def test_stale_blocks(self) -> None:
         for words, (right, stale) in BLOCKS.items():
@@ -90,13 +99,11 @@ class OfPages(unittest.TestCase):
             written = self.page.read_text(encoding="utf-8")
             self.assertEqual(self.said(written).status, 0, words)
             self.assertIn(right, written, words)
-            said = self.said(written.replace(right, stale, 1))
-            self.assertEqual((said.status, "aren't what the sources give" in said.output), (1, True), words)
+            self.assert_stale(written.replace(right, stale, 1), "aren't what the sources give")
 
     def test_faults(self) -> None:
         for text, fault in FAULTS.items():
-            said = self.said(text)
-            self.assertEqual((said.status, fault in said.output), (1, True), said.output)
+            self.assert_stale(text, fault)
 
     def test_runs(self) -> None:
         self.program.write_text(PROGRAM, encoding="utf-8")
@@ -104,12 +111,18 @@ class OfPages(unittest.TestCase):
         how = ("--runs", "--program", self.program)
         for right in (RUNS, RUNS.replace("check\nscript\n", "..\n")):
             self.assertEqual(self.said(right, *how).status, 0, right)
-        self.assertIn("check: the status is 1", self.said(RUNS.replace("run 1", "run 0"), *how).output)
+        self.assert_stale(RUNS.replace("run 1", "run 0"), "check: the status is 1", *how)
         for stale in (RUNS.replace("said", "sai"), RUNS.replace("check\nscript", "check\ntext")):
-            self.assertEqual(self.said(stale, *how).status, 1)
+            self.assert_stale(stale, "check: it answers", *how)
             self.said(stale, *how, "--write")
             self.assertEqual(self.page.read_text(encoding="utf-8"), RUNS)
 
     def test_sentences(self) -> None:
         self.assertEqual([len(it) for it in sentences(PAGE) if it], [6, 8, 1, 3, 1, 2, 1])
         self.assertGreater(len(pages()), 10)
+
+    def test_tables_that_benchmarks_write(self) -> None:
+        page = with_table(MEASURED_PAGE, "bench/run", table_of(["Work", "now"], [["a", "1"], ["b", "2"]]), "There.")
+        self.assertEqual(page, MEASURED_PAGE.replace("old", "There.\n\n| Work | now |\n|---|---|\n| a | 1 |\n| b | 2 |"))
+        self.assertRaises(ValueError, with_table, MEASURED_PAGE, "bench/memory", "", "")
+        self.assertRegex(measured_on(), MEASURED)

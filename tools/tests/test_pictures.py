@@ -1,101 +1,118 @@
-"""What is read off a picture, and how its file is named where the program isn't built."""
+"""What is wrong with a picture that shows something else than the reports of its runs."""
 
-import os
 import unittest
-import xml.etree.ElementTree as ET
 
-from tools.picture_file import Picture
-from tools.pictured import SCRIPTS, of_steps, rows
-from tools.pictures import KEPT, KINDS, shown_pictures
-from tools.workbench import reads_standard_input, script_in, with_whole_picture
+from tools.documents.picture_reports import Picture, faults_of
+from tools.paths import DOCS
 
-HEAD = '<svg xmlns="http://www.w3.org/2000/svg" role="img" aria-label="a heap"><title>a heap</title>'
-CELLS = (
-    '<rect class="cell raw"><title>cell 2</title></rect><rect class="thin leak"><title>leak: cell 3</title></rect>'
-    '<rect class="band"><title>TRAPs: 1</title></rect><rect class="raw"/><path class="need strong"><title>required 176</title></path>'
-)
+PICTURE = (DOCS / "pictures/second-phase-leaks.svg").read_text(encoding="utf-8")
+LINES = PICTURE.splitlines(keepends=True)
+FIRST = ["attempt 1 length 144 place 0 granted", "attempt 2 length 48 place 144 granted"]
+REPORTS = {
+    "run": [*FIRST, "attempt 3 length 64 place 192 granted", "ended", "leaks 0", "steps 8"],
+    "run --set 3": [*FIRST, "attempt 3 length 64 place 192 simulated", "left -4", "leaks 1", "leak 2 length 48 place 144", "steps 3"],
+    "size": ["required 256", "from 0 refuses 1", "from 144 refuses 2", "from 192 refuses 3", "enough from 256"],
+    "lengths": ["from 0 nocleanup", "from 144 left -4", "from 192 leaks 1", "from 256 ended", "length 192"],
+}
+# what the report for some words may have in the place of some text, and the faults that the picture has then
+OTHER_REPORTS = [
+    ("run --set 3", "length 64", "length 80", "attempts are", "failing attempts are"),
+    ("run --set 3", "simulated", "refused", "attempts are", "failing attempts are"),
+    ("run", "place 144", "place 160", "attempts are", "cells are"),
+    ("run --set 3", "leak 2", "leak 1", "leaks are"),
+    ("run --set 3", "left -4", "left -5", "the heading doesn't end with ': attempts 3, steps 3, left with -5, 1 leak'"),
+    ("size", "required 256", "required 272", "lengths are"),
+    ("size", "refuses 2", "refuses 3", "rows of the table are"),
+]
+
+
+def line(begins: str, among: list[str] = LINES) -> str:
+    """The first line that begins so."""
+    return next(it for it in among if it.startswith(begins))
+
+
+HEADING = line('<text class="h" x="76" y="4')
+LATER = line('<text class="h"', LINES[LINES.index(HEADING) + 1 :])
+LEAK, LAST = line('<rect class="cell leak"'), LINES[-1]
+BAND = '<rect class="band" x="1" y="1" width="9" height="9"><title>TRAPs: 2, in steps 1 to 2</title></rect>'
+SCALE = '<text class="dim" x="1" y="1">up to 2</text>'
+ENTRY = '<rect class="ref" x="1" y="1" width="14" height="11"/><text class="" x="1" y="1">refused by the limit</text>'
+RECT = '<rect class="cell ob1" x="1" y="1" width="1" height="1"><title>cell 9</title></rect>'
+# what a picture may have in the place of some text, and the faults that it has then
+OTHER_PICTURES = [
+    (line('<rect class="cell txt"'), "", "cells are", "entries of the legend are"),
+    (line('<path class="need strong" d="M76 100L'), "", "lengths are"),
+    (line('<text class="n" x="342"'), "", "a leak has no label"),
+    (HEADING, HEADING + RECT, "a rectangle of a cell has the title of none"),
+    ('x="182" y="161" width="747"', 'x="192" y="161" width="737"', "a cell is from"),
+    ('x="396" y="100" width="533"', 'x="396" y="100" width="633"', "a cell is from"),
+    ('y="161" width="747" height="46"', 'y="151" width="747" height="56"', "a cell is from"),
+    ('y="100" width="533" height="61"', 'y="100" width="533" height="71"', "a cell is from"),
+    ('y="161" width="747" height="46"', 'y="160" width="748" height="47"'),
+    (LEAK, LEAK.replace('width="320"', 'width="5"'), "a cell is from", "a leak is 5 pixels wide"),
+    (LAST, ENTRY + LAST, "entries of the legend are"),
+    (LATER, LATER + BAND, "the scales of bands are [], and", "the scales of bands are [], and"),
+    (LATER, LATER + BAND + SCALE, "the scales of bands are [], and"),
+    (LATER, LATER.replace("in which attempt 3 fails", "of attempt 3"), "no rule has this heading"),
+]
+# what the end of a run, drawn once more, may have in the place of some text, and the fault that it has then
+LEGEND = line('<rect class="stk"')
+LOWER = PICTURE[PICTURE.index(LATER) : PICTURE.index(LEGEND)]
+END = LOWER.replace(LATER, '<text class="h" x="1" y="1">The end of this run once more: attempts 1 to 3, from step 0 on</text>')
+OTHER_ENDS = [
+    ("", ""),
+    ("attempts 1 to 3", "attempts 2 to 3", "the first and the last attempt are"),
+    ("attempt 2, granted: 48", "attempt 2, granted: 32", "attempts are"),
+    ("leak: cell 2", "leak: cell 1", "leaks are"),
+    ('x="182"', 'x="192"', "a cell is from"),
+]
 
 
 class OfPictures(unittest.TestCase):
-    """Shapes and titles."""
+    """A picture of two runs, and reports."""
 
-    def test_shapes(self) -> None:
-        picture = Picture(f"{HEAD}{CELLS}</svg>")
-        self.assertEqual(picture.cells(), 2)
-        self.assertEqual(picture.titles("rect"), ["cell 2", "leak: cell 3", "TRAPs: 1"])
-        self.assertEqual(picture.titles("path"), ["required 176"])
-        self.assertTrue(picture.is_plain())
+    def assert_faults(self, wanted: list[str], picture: str = PICTURE, command: str = "check", other: dict[str, list[str]] = {}) -> None:
+        """A picture beside these reports must have one fault for each of these texts, with it."""
+        found = list(faults_of(Picture(picture), command, lambda words: (REPORTS | other)[" ".join(words)]))
+        self.assertEqual(len(found), len(wanted), found)
+        for fault, part in zip(found, wanted):
+            self.assertIn(part, fault)
 
-    def test_legend(self) -> None:
-        swatch = '<rect class="raw" width="14" height="11"/><text>raw cell</text>'
-        self.assertEqual(Picture(f"{HEAD}{CELLS}{swatch}</svg>").legend(), [("raw", "raw cell")])
+    def test_other_reports(self) -> None:
+        self.assert_faults([])
+        for words, old, new, *faults in OTHER_REPORTS:
+            lines = [it.replace(old, new) for it in REPORTS[words]]
+            self.assertNotEqual(lines, REPORTS[words])
+            self.assert_faults(faults, other={words: lines})
 
-    def test_places(self) -> None:
-        places = "".join(
-            f'<text class="e dim">{place}</text><path class="grid" d="M1 {y}H9"/>' for place, y in ((0, 100), (1, 80), (2, 60), (1000, 20), (1001, 0))
-        )
+    def test_other_pictures(self) -> None:
+        for old, new, *faults in OTHER_PICTURES:
+            self.assertEqual(PICTURE.count(old), 1, old)
+            self.assert_faults(faults, PICTURE.replace(old, new))
+        above = PICTURE.replace(HEADING, SCALE + HEADING)
+        self.assert_faults(["the scales of bands are [], and"], above.replace(LATER, LATER + BAND + SCALE))
+        self.assert_faults(["it has no panel"], '<svg xmlns="http://www.w3.org/2000/svg"/>')
+        for old, new, *faults in OTHER_ENDS:
+            self.assert_faults(faults, PICTURE.replace(LEGEND, END.replace(old, new) + LEGEND))
+
+    def test_a_table_of_ends(self) -> None:
+        self.assert_faults(["rows of the table are"], command="lengths")
+        picture = PICTURE
+        for row, other in (("0 refuses 1", "0 no cleanup stack"), ("144 refuses 2", "144 left with -4"), ("192 refuses 3", "192 1 leak")):
+            picture = picture.replace(f"from {row}", f"from {other}")
+        self.assert_faults(["'rect from 256 ended'"], picture, "lengths")
+        self.assert_faults([], picture, "lengths", {"lengths": REPORTS["lengths"][:3]})
+
+    def test_folded_places(self) -> None:
+        labels = ((0, 100), (1, 80), (2, 60), (1000, 20), (1001, 0))
+        places = "".join(f'<text class="e dim">{place}</text><path class="grid" d="M1 {y}H9"/>' for place, y in labels)
         fold = '<rect class="paper"><title>places 2304 to 1023000 are drawn shorter</title></rect>'
-        text = f'{HEAD}<text class="h">a run</text><text class="e dim">KiB</text>{places}{fold}</svg>'
+        text = f'<svg xmlns="http://www.w3.org/2000/svg"><text class="h">a run</text><text class="e dim">KiB</text>{places}{fold}</svg>'
         panel = Picture(text).panels()[0]
         self.assertEqual([panel.y_of(it) for it in (0, 1024, 2304, 1023488, 1025024)], [100, 80, 55, 30, 0])
-        self.assertEqual([panel.is_folded(it) for it in (2304, 2305, 1023000)], [False, True, False])
+        self.assertEqual([panel.is_near(it, it) for it in (2304, 2305, 1023000)], [True, False, True])
 
-    def test_other_elements(self) -> None:
-        self.assertFalse(Picture(f"{HEAD}<script>1</script></svg>").is_plain())
-        self.assertFalse(Picture(HEAD.replace("a heap", "", 1) + "</svg>").is_plain())
-
-    def test_markup_that_is_not_escaped(self) -> None:
-        with self.assertRaises(ET.ParseError):
-            Picture(f"{HEAD}<rect><title></title></svg><script></title></rect></svg>")
-
-
-class OfKeptPictures(unittest.TestCase):
-    """Which pictures are kept."""
-
-    def test_those_of_pages_and_of_kinds(self) -> None:
-        self.assertIn("second-phase-leaks", shown_pictures())
-        self.assertFalse(shown_pictures() & set(KINDS))
-        self.assertEqual({it.name for it in KEPT.iterdir()}, {f"{it}.svg" for it in shown_pictures() | set(KINDS)})
-
-
-class OfScripts(unittest.TestCase):
-    """Which scripts are drawn, and what is said of each."""
-
-    def test_a_block(self) -> None:
-        said = "A comment.\n\n== a leak: run --fail 2\nproc main\nend\n-- 2 cells\n-- 1 rect leak: cell 2\n-- 0 path cut\n"
-        (row,) = rows(said)
-        self.assertEqual((row.name, row.words, row.script), ("a leak", ["run", "--fail", "2"], "proc main\nend\n"))
-        self.assertEqual((row.cells, row.titles, row.shows), (2, {("rect", "leak: cell 2"): 1, ("path", "cut"): 0}, None))
-        shown = [it.shows for it in rows("== one: check\nend\n-- shows end, fold\n\n== other: check\nend\n-- shows neither\n")]
-        self.assertEqual(shown, [{"end", "fold"}, set()])
-
-    def test_the_file(self) -> None:
-        text = SCRIPTS.read_text(encoding="utf-8")
-        self.assertEqual(len(list(rows())), text.count("\n== "))
-        self.assertGreater(len(list(rows())), 25)
-        self.assertEqual(len([it for it in rows() if it.shows is None and not it.cells]), 0)
-
-    def test_steps(self) -> None:
-        self.assertEqual(of_steps(5, False), "proc main\nptr a\nptr b\nint n\nrepeat 2\nadd n 1\nend\nend\n")
-
-
-class OfWords(unittest.TestCase):
-    """The file of a picture, where a run has a folder of its own."""
-
-    def test_whole_path(self) -> None:
-        here = os.path.join(os.getcwd(), "a.svg")
-        self.assertEqual(with_whole_picture(["run", "--picture", "a.svg", "x.oom"]), ["run", "--picture", here, "x.oom"])
-        self.assertEqual(with_whole_picture(["run", "--picture=a.svg"]), ["run", f"--picture={here}"])
-        self.assertEqual(with_whole_picture(["run", "--picture", ""]), ["run", "--picture", ""])
-        self.assertEqual(with_whole_picture(["run", "--picture", "-"]), ["run", "--picture", "-"])
-        self.assertEqual(with_whole_picture(["run", "--picture=-"]), ["run", "--picture=-"])
-        self.assertEqual(with_whole_picture(["run", "--", "--picture", "a.svg"]), ["run", "--", "--picture", "a.svg"])
-
-    def test_script(self) -> None:
-        self.assertEqual(script_in(["check", "--picture", "a.svg", "x.oom"]), "x.oom")
-        self.assertIsNone(script_in(["check", "--picture", "a.svg"]))
-
-    def test_standard_input(self) -> None:
-        for command in ("run", "size", "lengths", "sweep", "check"):
-            self.assertTrue(reads_standard_input([command, "--budget", "5"]))
-            self.assertFalse(reads_standard_input([command, "x.oom"]))
+    def test_plain_pictures(self) -> None:
+        self.assertTrue(Picture(PICTURE).is_plain())
+        self.assertFalse(Picture(PICTURE.replace(LAST, f"<script>1</script>{LAST}")).is_plain())
+        self.assertFalse(Picture(PICTURE.replace("aria-label", "label")).is_plain())

@@ -1,298 +1,290 @@
-"""When the wrong bodies of a crate are tried again: on a tiny repository in a temporary folder, with these tools in it."""
+"""What the tool tries of the wrong bodies of a small repository, in which order and within which time, and what comes of it. The toolchain
+itself tries some, and those tests fail without it; for others one stands in that only answers, or hangs."""
 
+import contextlib
+import io
+import os
 import shutil
+import signal
 import subprocess
 import tempfile
+import time
 import unittest
 from pathlib import Path
+from unittest.mock import patch
 
+from tools.door import said_by
+from tools.edits.verdicts import FILE, OpenSource, Verdicts, logic_of_toolchain
+from tools.edits.wrong_bodies import AT_ONCE, PICKED_EDITS, Choice
+from tools.edits.wrong_body_checks import Checks, OutOfTime, Said, Verdict, is_disproof, read_verdict, session_of
+from tools.edits.wrong_body_edits import WRONG_BODIES
+from tools.edits.wrong_body_trial import Trial
 from tools.paths import TOOLS
-from tools.seen_code import without_bodies
-from tools.verdicts import FILE, Verdicts
+from tools.tally import Tally
+from tools.tests.test_verdicts import LOGIC, InRepository, files_in
 
-LOW = """\
-//! A number and the next one.
-#![tactic(auto)]
-
-ghost use Rattle.std.specs.Prelude.{◌≡◌, ◌<◌, ◌+◌};
-
-/// The number after `n`.
-pub fn next(n: u32) -> u32
-    requires { n < 100 }
-    ensures { result ≡ n + 1 }
-{
-    n + 1
-}
-"""
-HIGH = """\
-//! The number after the next one.
-#![tactic(auto)]
-
-ghost use Rattle.std.specs.Prelude.{◌≡◌, ◌<◌, ◌+◌};
-
-use low::next;
-
-/// The number two after `n`.
-pub fn after_next(n: u32) -> u32
-    requires { n < 99 }
-    ensures { result ≡ n + 2 }
-{
-    next(next(n))
-}
-"""
-TWICE = """\
-//! Numbers taken more than once.
-
-/// The most that is taken.
-pub struct Limit {
-    most: u32,
-}
-
-/// Twice the number.
-pub fn twice(n: u32) -> u32
-    requires { n < 100 }
-    ensures { result ≡ n + n }
-{
-    n + n
-}
-
-/// Thrice the number.
-pub fn thrice(n: u32) -> u32
-    requires { n < 100 }
-    ensures { result ≡ n + n + n }
-{
-    n + n + n
-}
-"""
-LOW_EDIT = "[too-little]\nfunction: low::next\nold:     n + 1\nnew:     n\n"
-HIGH_EDIT = "[too-little]\nfunction: high::after_next\nold: next(next(n))\nnew: next(n)\n"
 # means the same as the function, so that it is proved
 RIGHT_EDIT = "\n[right]\nfunction: high::after_next\nold: next(next(n))\nnew: n + 2\n"
-# where the wrong bodies of each crate are
-LOW_EDITS = "crates/low/wrong-bodies/lib.edits"
-HIGH_EDITS = "crates/high/wrong-bodies/lib.edits"
+OTHER_DAYS, OTHER_HOURS = "old: u32 = 7;\nnew: u32 = 8;\n", "old: u32 = 24;\nnew: u32 = 25;\n"
+# edits of the lower crate, and what is said of each that is tried with the one before it
+OF_LOW = {
+    "\n[twice]\nfunction: low::next\nold:     n + 1\nnew:     n + n\n": "low/twice: disproved",
+    f"\n[days]\nfunction: low::week\n{OTHER_DAYS}": "low/days: disproved",
+    f"\n[both]\nfunction: low::week, low::as_many\n{OTHER_DAYS}": "low/both: low::as_many: PROVED",
+    f"\n[one-clause]\nfunction: every clause of low::numbers_are\n{OTHER_DAYS}": "low/one-clause: PROVED in its clauses hours",
+    f"\n[all]\nfunction: every clause of low::numbers_are\n{OTHER_DAYS}{OTHER_HOURS}": "low/all: disproved",
+}
+LOW_EDITS, HIGH_EDITS = "crates/low/wrong-bodies/lib.edits", "crates/high/wrong-bodies/lib.edits"
+
+PRINTED = """\
+note: src/low.rt:7:5: it is not proved that what the function ensures holds when it returns (`returns-clause-next`)
+fn low::next: no proof: expected answers in ./proofs/next/Answers.antt; `search` did not prove `returns-clause-next`
+fn low::after_next: no proof: it calls `low::next`, which is not proved
+fn low::put_next: no proof: the borrow checker's part in its proof is not made yet: a call of `low::next`, which has no proof: \
+help: prove it first, and the check then prints what is left of this function
+fn low::zero: proved
+only=4 proved=1
+"""
 
 
-class TinyRepository(unittest.TestCase):
-    """A repository of two crates, one below the other, with a wrong body each."""
+class WhatIsRead(unittest.TestCase):
+    """What is read of a check."""
+
+    def test_disproved_is_what_has_an_open_goal(self) -> None:
+        said = {name: it.text for name, it in read_verdict(PRINTED).functions.items()}
+        self.assertEqual(said, {"low::next": "disproved", "low::after_next": "", "low::put_next": "", "low::zero": "PROVED"})
+        self.assertEqual([is_disproof(it) for it in ("disproved", "disproved, by a", "disproved only", "")], [True, True, False, False])
+
+
+class SmallRepository(InRepository):
+    """A repository of two crates, one below the other, with these tools in it."""
+
+    files = files_in("small-repository.txt")
 
     def setUp(self) -> None:
-        self.folder = tempfile.TemporaryDirectory()
-        self.addCleanup(self.folder.cleanup)
-        self.root = Path(self.folder.name)
+        super().setUp()
         shutil.copytree(TOOLS, self.root / "tools", ignore=shutil.ignore_patterns("tests", "__pycache__"))
-        self.write("crates.txt", "low:\nhigh: low\n")
-        self.write("HANDLES", "Handles allowed: none.\n")
-        for crate, code, edit in (("low", LOW, LOW_EDIT), ("high", HIGH, HIGH_EDIT)):
-            self.write(f"crates/{crate}/src/lib.rt", code)
-            self.write(f"crates/{crate}/wrong-bodies/lib.edits", edit)
-
-    def write(self, name: str, text: str) -> None:
-        """Writes a file of the repository."""
-        (self.root / name).parent.mkdir(parents=True, exist_ok=True)
-        (self.root / name).write_text(text, encoding="utf-8")
-
-    def replace(self, name: str, old: str, new: str) -> None:
-        """Changes a file of the repository."""
-        text = (self.root / name).read_text(encoding="utf-8")
-        self.assertIn(old, text)
-        self.write(name, text.replace(old, new))
+        (self.root / "kit/rt").chmod(0o755)
 
     def add(self, name: str, text: str) -> None:
         """Adds lines to a file of the repository."""
         self.write(name, (self.root / name).read_text(encoding="utf-8") + text)
 
-    def run_tool(self, *words: str) -> "subprocess.CompletedProcess[str]":
-        """Runs the tool with these words."""
-        return subprocess.run([self.root / "tools/dev", "wrong-bodies", "--jobs", "1", *words], capture_output=True, text=True)
+    def try_bodies(self, *words: str, env: dict[str, str] | None = None) -> tuple[list[str], int]:
+        """What the tool prints, or else the last line of what is wrong with these words, and its status."""
+        ran = subprocess.run([self.root / "tools/dev", "wrong-bodies", "--jobs", "1", *words], capture_output=True, text=True, env=env)
+        return ran.stdout.splitlines() or ran.stderr.splitlines()[-1:], ran.returncode
 
-    def verdicts(self, logic: str = "logic 0") -> Verdicts:
-        """The verdicts of the repository, by a toolchain of that logic."""
-        return Verdicts(self.root, logic)
-
-    def standing(self, logic: str = "logic 0") -> list[str]:
-        """The crates whose lines stand."""
-        verdicts = self.verdicts(logic)
-        return [it for it in ("low", "high") if not verdicts.open_sources(it)]
-
-    def write_lines(self, logic: str = "logic 0") -> None:
-        """Gives each source a line that is valid."""
-        verdicts = self.verdicts(logic)
-        for crate in ("low", "high"):
-            verdicts.write(crate, {it: verdicts.checksum(crate, it) for it in verdicts.sources(crate)})
+    def standing(self, logic: str = LOGIC) -> list[str]:
+        """The sources whose lines stand."""
+        verdicts = Verdicts(self.root, logic)
+        return [f"{crate}/{it}" for crate in ("low", "high") for it in verdicts.sources(crate) if verdicts.stands(crate, it)]
 
 
-class WhatLinesStand(TinyRepository):
-    """Which lines stand after a change, without a check of anything."""
+class ByTheToolchain(SmallRepository):
+    """What the tool tries, by checks of the two crates, and what it can't try."""
+
+    def test_words_that_ask_for_no_edit(self) -> None:
+        for words, said in {
+            ("low", "--only", "too-much"): "low has no edit too-much",
+            ("--only", "too-little"): "--only goes with the name of one crate",
+            ("none",): "crates.txt lists no crate none",
+            **dict.fromkeys(
+                (("--open", "low"), ("--open", "--all"), ("--minutes", "1", "low"), ("--minutes", "1", "--must-fail")),
+                "--minutes and --open are about all that is open, and go with no crate, --all or --must-fail",
+            ),
+        }.items():
+            self.assertEqual(self.try_bodies(*words), ([f"dev wrong-bodies: error: {said}"], 2))
+        self.assertEqual(self.try_bodies("--after-ci", "high"), (["not tried: low, below high, is not built", "0 passed, 1 failed"], 1))
+
+    def test_lines_are_written_and_tried(self) -> None:
+        lines, status = self.try_bodies()
+        self.assertEqual((sorted(lines), status), (["2 passed, 0 failed", "high/too-little: disproved", "low/too-little: disproved"], 0))
+        # an edit that is proved, with a line that says it was disproved
+        self.add(HIGH_EDITS, RIGHT_EDIT)
+        logic = logic_of_toolchain()
+        self.assertEqual(self.standing(logic), ["low/lib"])
+        self.write_lines(logic)
+        self.assertEqual(self.standing(logic), ["low/lib", "high/lib"])
+        lines, status = self.try_bodies()
+        self.assertIn("high/right: PROVED", lines)
+        self.assertEqual((lines[-1], status), ("2 passed, 1 failed", 1))
+
+    def test_one_alone(self) -> None:
+        self.add(LOW_EDITS, "".join(OF_LOW))
+        lines, status = self.try_bodies("low", "--only", "twice", "--logs", str(self.root / "logs"))
+        self.assertEqual((lines, status), (["low/twice: disproved", "1 passed, 0 failed"], 0))
+        self.assertIn("it is not proved that", (self.root / "logs/low.log").read_text(encoding="utf-8"))
+        self.assertFalse((self.root / FILE).exists())
+
+    def test_each_function_and_each_clause_must_be_disproved(self) -> None:
+        self.add(LOW_EDITS, "".join(OF_LOW))
+        self.write("crates/low/wrong-bodies/further.edits", self.files[LOW_EDITS].replace("too-little", "all"))
+        twice = "low/all: BAD EDIT: another edit of the crate has its name"
+        lines, status = self.try_bodies("low")
+        self.assertEqual(sorted(lines[:-1]), sorted(["low/too-little: disproved", twice, *list(OF_LOW.values())[:-1]]))
+        self.assertEqual((lines[-1], status, (self.root / FILE).exists()), ("3 passed, 3 failed", 1, False))
+        (self.root / "crates/low/wrong-bodies/further.edits").unlink()
+        lines, status = self.try_bodies("low", "--only", "all")
+        self.assertEqual((lines, status), (["low/all: disproved", "1 passed, 0 failed"], 0))
+
+
+class WithSources(SmallRepository):
+    """The repository with sources that are added, with a wrong body for each of their functions, in the place of its own."""
 
     def setUp(self) -> None:
         super().setUp()
-        self.write_lines()
+        for it in (LOW_EDITS, HIGH_EDITS):
+            (self.root / it).unlink()
 
-    def test_nothing_changed(self) -> None:
-        self.assertEqual(self.standing(), ["low", "high"])
+    def write_source(self, crate: str, source: str, *names: str) -> None:
+        """Adds a source with functions of these names."""
+        functions = (f"/// A number.\npub fn {it}() -> u32\n{{\n    number({at})\n}}\n" for at, it in enumerate(names, 1))
+        edits = (f"[{it}]\nfunction: {crate}::{source}::{it}\nold: number({at})\nnew: number(0)\n" for at, it in enumerate(names, 1))
+        self.write(f"crates/{crate}/src/{source}.rt", "\n".join(functions))
+        self.write(f"crates/{crate}/wrong-bodies/{source}.edits", "\n".join(edits))
 
-    def test_another_kit(self) -> None:
-        self.assertEqual(self.standing("logic 1"), [])
+    def choice(self, sources: dict[str, list[str]], picked: list[str], seed: str = "a commit") -> Choice:
+        """What is tried, by what picks."""
+        choice = Choice(Verdicts(self.root, LOGIC), sources, picked, seed)
+        choice.read([WRONG_BODIES], [])
+        return choice
 
-    def test_a_changed_text(self) -> None:
-        self.replace(HIGH_EDITS, "new: next(n)", "new: next(n + 1)")
-        self.assertEqual(self.standing(), ["low"])
 
-    def test_a_blank_more_in_a_text(self) -> None:
-        self.replace(HIGH_EDITS, "new: next(n)", "new:  next(n)")
-        self.assertEqual(self.standing(), ["low"])
+class WhatIsChosen(WithSources):
+    """Which edits are tried, and in which batches. Nothing is checked for it."""
 
-    def test_another_name(self) -> None:
-        self.replace(HIGH_EDITS, "[too-little]", "[one-too-little]")
-        self.assertEqual(self.standing(), ["low"])
+    def setUp(self) -> None:
+        super().setUp()
+        self.write_source("low", "first", *(f"a{it}" for it in range(2 * AT_ONCE + 1)))
+        self.write_source("low", "standing", *(f"b{it}" for it in range(2 * PICKED_EDITS)))
+        self.write_source("high", "second", "c")
 
-    def test_another_function(self) -> None:
-        self.replace(HIGH_EDITS, "high::after_next", "high::after_next, high::other")
-        self.assertEqual(self.standing(), ["low"])
+    def test_some_of_many_and_all_of_few(self) -> None:
+        def tried(seed: str, sources: dict[str, list[str]], *picked: str) -> list[str]:
+            return sorted(it.label for batch in self.choice(sources, list(picked), seed).whole_batches() for it in batch.edits)
 
-    def test_a_further_edit(self) -> None:
-        self.add(LOW_EDITS, "\n" + LOW_EDIT.replace("too-little", "more"))
-        self.assertEqual(self.standing(), ["high"])
+        self.assertEqual(len(tried("a commit", {"low": ["first", "standing"]})), 2 * AT_ONCE + 1 + 2 * PICKED_EDITS)
+        some = tried("a commit", {}, "low")
+        self.assertEqual((len(some), tried("a commit", {}, "low")), (PICKED_EDITS, some))
+        self.assertNotEqual(tried("another", {}, "low"), some)
+        self.assertEqual(tried("a commit", {}, "high"), ["high/c"])
 
-    def test_an_edit_less(self) -> None:
-        self.write(LOW_EDITS, "")
-        self.assertEqual(self.standing(), ["high"])
+    def test_a_few_of_one_source_and_by_turns_of_what_is_picked(self) -> None:
+        choice = self.choice({"low": ["first"], "high": ["second"]}, ["low"])
+        opened = [OpenSource("", "low", "first", 0), OpenSource("", "high", "second", 0)]
+        found = [[it.label.partition("/")[2] for it in batch.edits] for batch in choice.small_batches(opened)]
+        self.assertEqual([(its[0][0], len(its)) for its in found], [
+            *(("a", AT_ONCE), ("b", AT_ONCE), ("a", AT_ONCE), ("b", AT_ONCE)),
+            *(("a", 1), ("b", PICKED_EDITS - 2 * AT_ONCE), ("c", 1)),
+        ])
+        self.assertEqual([it for its in found[::2] for it in its], [*(f"a{it}" for it in range(2 * AT_ONCE + 1)), "c"])
 
-    def test_a_doubled_edit(self) -> None:
-        self.add(LOW_EDITS, "\n" + LOW_EDIT)
-        self.assertEqual(self.standing(), ["high"])
 
-    def test_an_edit_moved_to_another_file(self) -> None:
-        (self.root / HIGH_EDITS).unlink()
-        moved = HIGH_EDIT.replace("old:", "file: src/lib.rt\nold:")
-        self.write("crates/high/wrong-bodies/further/numbers.edits", moved)
-        self.assertEqual(self.standing(), ["low", "high"])
-        # of another source it isn't the same edit
-        self.write("crates/high/wrong-bodies/further/numbers.edits", HIGH_EDIT)
-        self.assertEqual(self.standing(), ["low"])
+class WithinATime(WithSources):
+    """What the tool tries within a time, by a toolchain that only answers."""
 
-    def test_edits_in_another_order(self) -> None:
-        self.add(HIGH_EDITS, RIGHT_EDIT)
-        self.write_lines()
-        self.write(HIGH_EDITS, f"{RIGHT_EDIT}\n\n{HIGH_EDIT}")
-        self.assertEqual(self.standing(), ["low", "high"])
+    def setUp(self) -> None:
+        super().setUp()
+        (self.root / "crates/low/out/rlib").mkdir(parents=True)
+        self.tried, self.hanging = self.root / "tried", self.root / "hanging"
+        path = f"{self.root / 'kit'}:{os.environ['PATH']}"
+        self.environment = {**os.environ, "PATH": path, "TRIED": str(self.tried), "HANGING": str(self.hanging)}
 
-    def test_a_changed_contract_below(self) -> None:
-        self.replace("crates/low/src/lib.rt", "n < 100", "n < 200")
-        self.assertEqual(self.standing(), [])
+    def try_for(self, seconds: float) -> tuple[list[str], int]:
+        """What the tool prints, and its status."""
+        return self.try_bodies("--after-ci", "--minutes", str(seconds / 60), env=self.environment)
 
-    def test_a_changed_body_below(self) -> None:
-        self.replace("crates/low/src/lib.rt", "    n + 1\n", "    1 + n\n")
-        self.assertEqual(self.standing(), ["high"])
+    def hung(self) -> list[int]:
+        """The processes that hung."""
+        return [int(it) for it in self.hanging.read_text(encoding="utf-8").split()] if self.hanging.exists() else []
 
-    def test_a_definition_below_that_is_named(self) -> None:
-        self.write_definition("n + 1")
-        self.assertEqual(self.standing(), ["low", "high"])
-        self.write("crates/low/specs/Numbers.antt", "-- the number after one\nabbrev pub after : ℕ → ℕ\nafter n = n + 2\n")
-        # no source of its own crate names it
-        self.assertEqual(self.standing(), ["low"])
+    def test_a_check_that_runs_is_ended_and_what_came_before_is_kept(self) -> None:
+        self.write_source("low", "last", "slow")
+        self.write_lines(LOGIC, are_valid=False)
+        self.write_source("low", "first", "one", "two")
+        day = Verdicts(self.root, LOGIC).read()["low/last"].day
+        # the time is over once a check hangs
+        with (
+            patch("tools.edits.wrong_bodies.ROOT", self.root),
+            patch("tools.edits.wrong_bodies.logic_of_toolchain", return_value=LOGIC),
+            patch("tools.edits.wrong_body_checks.kit"),
+            patch.dict(os.environ, self.environment),
+            patch.object(Checks, "are_over", lambda _: bool(self.hung())),
+        ):
+            said = said_by("wrong-bodies", "--jobs", "1", "--after-ci", "--minutes", "1")
+        kept = ["low/one: disproved", "low/two: disproved", "open: 1 wrong body of 1 source", f"  low/last: 1, last disproved on {day}"]
+        number = "README.md says `At present no wrong body is open`: `At present 1 wrong body is open` belongs there once"
+        self.assertEqual((said.output.splitlines(), said.status), ([*kept, number, "2 passed, 0 failed"], 0))
+        self.assertEqual(self.standing(), ["low/first"])
+        self.assertEqual([session_of(it) for it in self.hung()], [None])
 
-    def test_a_comment_of_a_definition_below(self) -> None:
-        self.write_definition("n + 1")
-        self.write("crates/low/specs/Numbers.antt", "-- the next number\nabbrev pub after : ℕ → ℕ\nafter n = n + 1\n")
-        self.assertEqual(self.standing(), ["low", "high"])
+    def test_a_body_that_is_proved_fails(self) -> None:
+        self.write_source("low", "first", "one", "right")
+        self.write_source("low", "second", "three")
+        lines, status = self.try_for(600)
+        said = ["low/one: disproved", "low/right: PROVED", "low/three: disproved", "open: 2 wrong bodies of 1 source"]
+        self.assertEqual((lines[:4], lines[-1], status), (said, "2 passed, 1 failed", 1))
+        self.assertEqual(self.standing(), ["low/second"])
 
-    def write_definition(self, value: str) -> None:
-        """Gives the lower crate a definition that the higher one names, and both a line."""
-        self.write("crates/low/specs/Lib.antt", "pub mod Numbers\n")
-        self.write("crates/low/specs/Numbers.antt", f"-- the number after one\nabbrev pub after : ℕ → ℕ\nafter n = {value}\n")
-        self.replace("crates/high/src/lib.rt", "use low::next;", "ghost use Rattle.low.specs.Numbers.{after};\nuse low::next;")
-        self.write_lines()
+    def test_no_time_at_all(self) -> None:
+        self.write_source("low", "first", "one")
+        still = ["open: 1 wrong body of 1 source", "  low/first: 1, never disproved"]
+        self.assertEqual(self.try_for(0), ([*still, "0 passed, 0 failed"], 0))
+        self.assertFalse(self.tried.exists())
+        # an edit that is none fails all the same
+        self.add("crates/low/src/first.rt", "number(1)\n")
+        lines, status = self.try_for(0)
+        self.assertEqual((lines[0][:17], lines[1:], status), ("low/one: BAD EDIT", [*still, "0 passed, 1 failed"], 1))
 
-    def test_a_definition_below_that_nothing_names(self) -> None:
-        self.write("crates/low/specs/Lib.antt", "pub mod Further\n")
-        self.write("crates/low/specs/Further.antt", "abbrev pub two : ℕ\ntwo = 2\n")
-        self.assertEqual(self.standing(), ["low", "high"])
+    def test_the_parts_of_a_source_make_one_line(self) -> None:
+        self.write_source("high", "second", "b")
+        self.write_lines(LOGIC, are_valid=False)
+        self.write_source("low", "first", *(f"a{it}" for it in range(2 * AT_ONCE)))
+        lines, status = self.try_for(600)
+        self.assertEqual((lines[-2:], status), (["open: no wrong body", f"{2 * AT_ONCE + 1} passed, 0 failed"], 0))
+        self.assertEqual(self.standing(), ["low/first", "high/second"])
+        tried = [it.split() for it in self.tried.read_text(encoding="utf-8").splitlines()]
+        self.assertEqual([(len(it), it[0].rpartition("::")[0]) for it in tried], [
+            (AT_ONCE, "low::first"), (AT_ONCE, "low::first"), (1, "high::second")
+        ])
 
-    def write_other_source(self) -> None:
-        """Gives the lower crate another source, with wrong bodies of its own, whose first function the first source calls; and a line to
-        each."""
-        self.write("crates/low/src/twice.rt", TWICE)
-        self.replace("crates/low/src/lib.rt", "    n + 1\n", "    twice(n) - n + 1\n")
-        self.replace(LOW_EDITS, "    n + 1", "    twice(n) - n + 1")
-        self.write("crates/low/wrong-bodies/twice.edits", "[once]\nfunction: low::twice::twice\nold: n + n\nnew: n\n")
-        self.write_lines()
+    def test_a_source_that_changes_meanwhile_has_no_line(self) -> None:
+        for change, standing in (("\npub const TEN: u32 = 10;\n", []), ("", ["low/first"])):
+            self.write_source("low", "first", "one")
+            choice = self.choice({"low": ["first"]}, [])
 
-    def open_sources(self) -> list[str]:
-        """The sources of the lower crate whose line doesn't stand."""
-        return self.verdicts().open_sources("low")
+            def check(*_: object, change: str = change) -> Verdict:
+                self.add("crates/low/src/first.rt", change)
+                return Verdict({"low::first::one": Said("disproved")})
 
-    def test_a_body_of_another_source(self) -> None:
-        self.write_other_source()
-        self.replace("crates/low/src/twice.rt", "    n + n\n", "    2 * n\n")
-        self.assertEqual(self.open_sources(), ["twice"])
+            with (
+                tempfile.TemporaryDirectory() as rooms,
+                patch("tools.edits.wrong_body_checks.kit"),
+                patch("tools.edits.wrong_body_trial.check", check),
+            ):
+                trial = Trial(choice.verdicts, Path(rooms), Checks(), choice.sources)
+                with contextlib.redirect_stdout(io.StringIO()):
+                    trial.judge(choice.whole_batches()[0], 1)
+            self.assertEqual((trial.tally, self.standing(), (self.root / FILE).exists()), (Tally(1, 0), standing, standing != []))
 
-    def test_a_contract_of_what_a_source_calls(self) -> None:
-        self.write_other_source()
-        self.replace("crates/low/src/twice.rt", "result ≡ n + n", "result ≡ 2 * n")
-        self.assertEqual(self.open_sources(), ["lib", "twice"])
+    def test_a_signal_ends_what_runs(self) -> None:
+        self.write_source("low", "first", "slow")
+        words = [self.root / "tools/dev", "wrong-bodies", "--jobs", "1", "--after-ci", "--minutes", "10"]
+        with subprocess.Popen(words, env=self.environment, stdout=subprocess.PIPE, stderr=subprocess.PIPE) as tool:
+            while not self.hung():
+                time.sleep(0.05)
+            tool.send_signal(signal.SIGTERM)
+            tool.communicate()
+        self.assertEqual(tool.returncode, 128 + signal.SIGTERM)
+        self.assertEqual([session_of(it) for it in self.hung()], [None])
 
-    def test_a_contract_of_what_a_source_does_not_call(self) -> None:
-        self.write_other_source()
-        self.replace("crates/low/src/twice.rt", "result ≡ n + n + n", "result ≡ 3 * n")
-        self.assertEqual(self.open_sources(), ["twice"])
-
-    def test_a_struct_of_another_source(self) -> None:
-        self.write_other_source()
-        self.replace("crates/low/src/twice.rt", "most: u32", "most: u16")
-        self.assertEqual(self.open_sources(), ["lib", "twice"])
-
-    def test_proofs_of_functions_of_one_source(self) -> None:
-        self.write_other_source()
-        self.write("crates/low/proofs/twice/thrice/Answers.antt", "\n")
-        self.assertEqual(self.open_sources(), ["twice"])
-
-    def test_a_lemma_that_one_source_names(self) -> None:
-        self.write_other_source()
-        self.replace("crates/low/src/twice.rt", "pub fn thrice", "#[tactic(auto, using(crate::proofs::Sums::sum))]\npub fn thrice")
-        self.write("crates/low/proofs/Sums.antt", "pub sum : ℕ\nsum = 1\n\npub other : ℕ\nother = 1\n")
-        self.write_lines()
-        self.replace("crates/low/proofs/Sums.antt", "other = 1", "other = 2")
-        self.assertEqual(self.open_sources(), [])
-        self.replace("crates/low/proofs/Sums.antt", "sum = 1", "sum = 2")
-        self.assertEqual(self.open_sources(), ["twice"])
-
-    def test_a_function_of_another_source_that_must_be_disproved(self) -> None:
-        self.write_other_source()
-        self.replace("crates/low/src/twice.rt", "\npub struct", "\npub const MOST: u32 = 9;\n\npub struct")
-        self.add(LOW_EDITS, "\n[most]\nfunction: low::next\nfile: src/twice.rt\nold: u32 = 9\nnew: u32 = 8\n")
-        self.write_lines()
-        self.replace("crates/low/src/lib.rt", "    twice(n) - n + 1\n", "    1 + twice(n) - n\n")
-        # the first source has an edit that is none any more, and the other one the wrong constant
-        self.assertEqual(self.open_sources(), ["lib", "twice"])
-
-    def test_a_law_below(self) -> None:
-        self.write("crates/low/src/laws.rt", "pub fn two_is()\n    ensures { 2 ≡ 2 }\n{}\n")
-        self.assertEqual(self.standing(), ["low", "high"])
-
-    def test_a_proof_of_one_function_below(self) -> None:
-        self.write("crates/low/proofs/next/Answers.antt", "\n")
-        self.assertEqual(self.standing(), ["high"])
-
-    def test_a_changed_comment(self) -> None:
-        self.replace("crates/low/src/lib.rt", "/// The number after", "/// The number that follows")
-        self.assertEqual(self.standing(), ["low", "high"])
-
-    def test_how_a_function_is_compiled(self) -> None:
-        self.replace("crates/low/src/lib.rt", "pub fn next", "#[inline(always)]\npub fn next")
-        self.assertEqual(self.standing(), ["low", "high"])
-        self.replace("crates/low/src/lib.rt", "#[inline(always)]\n", "#[tactic(auto)]\n")
-        self.assertEqual(self.standing(), ["high"])
-
-    def test_another_library_below(self) -> None:
-        self.write("crates.txt", "low: arrayvec\nhigh: low\n")
-        self.assertEqual(self.standing(), ["high"])
-
-    def test_a_line_in_another_form(self) -> None:
-        self.replace(FILE, "high/lib 1 ", "high/lib one ")
-        self.assertEqual(self.standing(), ["low"])
-
-    def test_the_bodies_that_nobody_above_sees(self) -> None:
-        self.assertNotIn("n + 1\n}", without_bodies(LOW))
-        self.assertIn("result ≡ n + 1", without_bodies(LOW))
+    def test_a_check_within_its_time(self) -> None:
+        begun = time.monotonic()
+        with (self.root / "log").open("w+", encoding="utf-8") as written:
+            Checks(600).run(["echo", "said"], self.root, written)
+            for seconds in (0, 1):
+                with self.assertRaises(OutOfTime):
+                    Checks(seconds).run(["sh", "-c", "sleep 600; echo too late"], self.root, written)
+        self.assertLess(time.monotonic() - begun, 300)
+        self.assertEqual((self.root / "log").read_text(encoding="utf-8"), "said\n")

@@ -6,6 +6,7 @@ ghost use Rattle.std.specs.Prelude.{◌≡◌, ◌+◌, ◌^◌, ◌<◌, ◌≤
 ghost use Rattle.wb_model.specs.heap.Debug.{IsSoundDebug, alloc_made};
 ghost use Rattle.wb_model.specs.heap.Row.{cell_at};
 
+use std::alloc::AllocError;
 use wb_debug::{DebugHeap, Heap};
 use wb_model::heap::{Gave, Kind, Ptr};
 use wb_model::limits::CEILING;
@@ -19,7 +20,7 @@ pub(crate) fn alloc(heap: &mut DebugHeap, bytes: u32, kind: Kind) -> Result<Gave
     ensures sound { OnOk result (IsSoundDebug heap.new) }
 {
     if heap.attempts() == u32::MAX || bytes > CEILING {
-        return Err(NoMemory);
+        return Err(NoMemory::from(AllocError));
     }
     match heap.attempt_alloc(bytes, kind) {
         Ok(gave) => Ok(gave),
@@ -32,7 +33,7 @@ pub(crate) fn realloc(heap: &mut DebugHeap, ptr: Ptr, bytes: u32) -> Result<Gave
     ensures { heap.new.heap.level ≡ heap.old.heap.level }
 {
     if heap.attempts() == u32::MAX || bytes > CEILING || heap.header(ptr).is_none() {
-        return Err(NoMemory);
+        return Err(NoMemory::from(AllocError));
     }
     match realloc_live(heap, ptr, bytes) {
         Ok(gave) => Ok(gave),

@@ -5,7 +5,7 @@ ghost use Rattle.std.specs.Prelude.{◌≡◌};
 use crate::calls;
 use crate::lines::{show, write_gave, write_heap};
 use crate::stop::Stop;
-use std::alloc::Global;
+use std::alloc::{AllocError, Global};
 use wb_debug::DebugHeap;
 use wb_model::heap::{Kind, Ptr, Rule, Shape};
 use wb_model::limits::CEILING;
@@ -90,7 +90,7 @@ impl Marked {
     pub(crate) fn new(alloc: Global) -> Result<Marked, NoMemory> {
         match DebugHeap::new(alloc, Rule::Unlimited, SHAPE) {
             Ok(heap) => Ok(Marked { heap, marks: 0 }),
-            Err(_) => Err(NoMemory),
+            Err(_) => Err(NoMemory::from(AllocError)),
         }
     }
 

@@ -7,6 +7,7 @@ ghost use Rattle.wb_model.specs.meaning.Statements.{payload_of_object};
 use crate::heaps::SHAPE;
 use crate::lines::{show, write_gave};
 use crate::stop::Stop;
+use std::alloc::AllocError;
 use wb_debug::DebugHeap;
 use wb_model::heap::{Gave, Rule};
 use wb_model::limits::CEILING;
@@ -39,7 +40,7 @@ fn make_and_show(rt: &HostRuntime, heap: &mut DebugHeap, script: &Script) -> Res
 /// Calls `make`, a second time if memory ran out.
 fn make_again(heap: &mut DebugHeap, script: &Script, class: u16) -> Result<Gave, NoMemory> {
     if heap.attempts() == u32::MAX || !has_class(script, class) {
-        return Err(NoMemory);
+        return Err(NoMemory::from(AllocError));
     }
     match make(heap, script, class) {
         Ok(gave) => Ok(gave),

@@ -6,7 +6,7 @@ ghost use Rattle.wb_model.specs.heap.Debug.{keeps_rises};
 ghost use Rattle.wb_model.specs.heap.Row.{cell_at};
 
 use crate::stop::Stop;
-use std::alloc::Global;
+use std::alloc::{AllocError, Global};
 use wb_debug::DebugHeap;
 use wb_model::heap::{Gave, Kind, Ptr, Shape};
 use wb_model::limits::CEILING;
@@ -76,7 +76,7 @@ fn new_heap(alloc: Global) -> Result<DebugHeap, NoMemory>
 {
     match DebugHeap::new_rises(alloc, SHAPE) {
         Ok(heap) => Ok(heap),
-        Err(_) => DebugHeap::new_rises(alloc, SHAPE).map_err(|_| NoMemory),
+        Err(_) => DebugHeap::new_rises(alloc, SHAPE).map_err(|_| NoMemory::from(AllocError)),
     }
 }
 
@@ -175,7 +175,7 @@ fn attempt(heap: &mut DebugHeap, bytes: u32) -> Result<Gave, NoMemory>
     ensures { keeps_rises heap.new ≡ keeps_rises heap.old }
 {
     if heap.attempts() == u32::MAX || bytes > CEILING {
-        return Err(NoMemory);
+        return Err(NoMemory::from(AllocError));
     }
     heap.attempt_alloc(bytes, Kind::Raw)
 }
@@ -185,7 +185,7 @@ fn reattempt(heap: &mut DebugHeap, ptr: Ptr, bytes: u32) -> Result<Gave, NoMemor
     ensures { keeps_rises heap.new ≡ keeps_rises heap.old }
 {
     if heap.attempts() == u32::MAX || bytes > CEILING || heap.header(ptr).is_none() {
-        return Err(NoMemory);
+        return Err(NoMemory::from(AllocError));
     }
     reattempt_live(heap, ptr, bytes)
 }

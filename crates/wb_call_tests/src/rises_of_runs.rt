@@ -7,7 +7,7 @@ ghost use Rattle.wb_model.specs.language.Sound.{is_script};
 
 use crate::runs::{BUDGET, MOST_TURNS, SHAPE, copy, step};
 use crate::stop::Stop;
-use std::alloc::Global;
+use std::alloc::{AllocError, Global};
 use wb_machine::{Machine, Turn, run_rises};
 use wb_model::memory::NoMemory;
 use wb_model::run::RisesResult;
@@ -32,7 +32,9 @@ fn machine<'a>(alloc: Global, script: &'a Script) -> Result<Machine<'a>, NoMemor
 {
     match Machine::new_rises(alloc, script, BUDGET, SHAPE) {
         Ok(machine) => Ok(machine),
-        Err(_) => Machine::new_rises(alloc, script, BUDGET, SHAPE).map_err(|_| NoMemory),
+        Err(_) => Machine::new_rises(alloc, script, BUDGET, SHAPE).map_err(|_| NoMemory::from(
+            AllocError,
+        )),
     }
 }
 
@@ -42,7 +44,7 @@ fn rises_of(alloc: Global, script: &Script) -> Result<RisesResult, NoMemory>
 {
     match run_rises(alloc, script, BUDGET, SHAPE) {
         Ok(sized) => Ok(sized),
-        Err(_) => run_rises(alloc, script, BUDGET, SHAPE).map_err(|_| NoMemory),
+        Err(_) => run_rises(alloc, script, BUDGET, SHAPE).map_err(|_| NoMemory::from(AllocError)),
     }
 }
 

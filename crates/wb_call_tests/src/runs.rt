@@ -6,7 +6,7 @@ ghost use Rattle.std.specs.Prelude.{IsTrue};
 ghost use Rattle.wb_model.specs.language.Sound.{is_script};
 
 use crate::stop::Stop;
-use std::alloc::Global;
+use std::alloc::{AllocError, Global};
 use wb_machine::{Finished, Heap, Machine, Turn};
 use wb_model::heap::{Rule, Shape};
 use wb_model::memory::NoMemory;
@@ -48,7 +48,7 @@ fn new_machine<'a>(alloc: Global, script: &'a Script) -> Result<Machine<'a>, NoM
 {
     match Machine::new(alloc, script, Rule::Number(0), BUDGET, SHAPE) {
         Ok(machine) => Ok(machine),
-        Err(_) => Err(NoMemory),
+        Err(_) => Err(NoMemory::from(AllocError)),
     }
 }
 

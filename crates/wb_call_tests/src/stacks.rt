@@ -8,7 +8,7 @@ use crate::calls;
 use crate::heaps::SHAPE;
 use crate::lines::{show, write_gave, write_heap};
 use crate::stop::Stop;
-use std::alloc::Global;
+use std::alloc::{AllocError, Global};
 use std::marker::Model;
 use wb_cleanup::{Cleanup, Pushed};
 use wb_debug::DebugHeap;
@@ -57,11 +57,11 @@ fn push_and_take(rt: &HostRuntime, stacked: &mut Stacked) -> Result<(), Stop> {
 /// An empty stack in a heap of its own.
 fn empty_stack(alloc: Global) -> Result<Stacked, NoMemory> {
     let Ok(mut heap) = DebugHeap::new(alloc, Rule::Unlimited, SHAPE) else {
-        return Err(NoMemory);
+        return Err(NoMemory::from(AllocError));
     };
     match start(&mut heap)? {
         Some(stack) => Ok(Stacked { heap, stack }),
-        None => Err(NoMemory),
+        None => Err(NoMemory::from(AllocError)),
     }
 }
 
@@ -91,7 +91,7 @@ impl Stacked {
     /// Pushes an item, a second time if memory ran out.
     fn push(&mut self, item: Item) -> Result<Pushed, NoMemory> {
         if self.stack.is_full() || self.heap.attempts() == u32::MAX {
-            return Err(NoMemory);
+            return Err(NoMemory::from(AllocError));
         }
         match self.stack.push(&mut self.heap, item) {
             Ok(pushed) => Ok(pushed),

@@ -7,6 +7,7 @@ use crate::calls;
 use crate::heaps::SHAPE;
 use crate::lines::{show, write_gave};
 use crate::stop::Stop;
+use std::alloc::AllocError;
 use wb_debug::DebugHeap;
 use wb_hbuf::{length, make, max_len, remake, set_length};
 use wb_model::heap::{Gave, Kind, Ptr, Rule};
@@ -78,7 +79,7 @@ fn make_again(heap: &mut DebugHeap, n: u32) -> Result<Gave, NoMemory>
     ensures { IfOk result (IsGrantedText heap.new []) }
 {
     if heap.attempts() == u32::MAX {
-        return Err(NoMemory);
+        return Err(NoMemory::from(AllocError));
     }
     match make(heap, n) {
         Ok(gave) => Ok(gave),
@@ -107,7 +108,7 @@ fn remake_again(heap: &mut DebugHeap, ptr: Ptr, n: u32) -> Result<Gave, NoMemory
     ensures { IfOk result (IsRemadeText heap.new ptr (text_at ptr heap.old)) }
 {
     if heap.attempts() == u32::MAX || n < length(heap, ptr) {
-        return Err(NoMemory);
+        return Err(NoMemory::from(AllocError));
     }
     match remake(heap, ptr, n) {
         Ok(gave) => Ok(gave),

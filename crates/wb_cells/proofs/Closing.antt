@@ -9,7 +9,7 @@ use Rattle.wb_chunk.specs.declared.TheConstants.{MOST_WORDS}
 use Rattle.wb_model.specs.declared.heap.Ptr.{Ptr}
 use Rattle.wb_model.specs.heap.Row.{Cell, headers, is_at, without}
 use Rattle.wb_model.specs.cells.Spelling.{spelled}
-use Rattle.wb_model.proofs.Rows.{headers-without}
+use Rattle.wb_model.proofs.heaps.Rows.{headers-without}
 use Rattle.wb_cells.specs.FreeList.{NO_PLACE, linked_words, linked_first}
 use Rattle.wb_cells.specs.declared.free_list.Hole.{Hole}
 use Rattle.wb_cells.specs.Holes.{closed_words, closed_ends}

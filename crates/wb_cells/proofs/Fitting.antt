@@ -7,7 +7,7 @@ use Rattle.wb_model.specs.declared.heap.Ptr.{Ptr}
 use Rattle.wb_model.specs.cells.CellRow.{room_after}
 use Rattle.wb_model.specs.heap.Row.{IsSpacedFrom, end_of, is_at, place_from, top_from}
 use Rattle.wb_model.specs.heap.Space.{free_runs, longest}
-use Rattle.wb_model.proofs.Places.{top_from-above}
+use Rattle.wb_model.proofs.heaps.Places.{top_from-above}
 use Rattle.wb_cells.specs.Maxima.{IsFirstLong, IsThere}
 use Rattle.wb_cells.specs.RowGaps.{gap_from, found_or}
 use Rattle.wb_cells.proofs.RowGaps.{one_here, one_off, gap-below}

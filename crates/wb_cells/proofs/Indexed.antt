@@ -6,7 +6,7 @@ use Rattle.wb_model.specs.declared.heap.Ptr.{Ptr}
 use Rattle.wb_model.specs.heap.Row.{Cell, headers, end_of, is_at}
 use Rattle.wb_model.specs.cells.CellRow.{with_level}
 use Rattle.wb_model.specs.cells.Spelling.{spelled}
-use Rattle.wb_model.proofs.Rows.{headers-changed}
+use Rattle.wb_model.proofs.heaps.Rows.{headers-changed}
 use Rattle.wb_cells.specs.FreeList.{NO_PLACE}
 use Rattle.wb_cells.specs.Inside.{cells_in, IsIndexed}
 use Rattle.wb_cells.specs.RowGaps.{one_at, gap_from, AreGapsOf}

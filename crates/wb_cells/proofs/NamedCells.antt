@@ -7,7 +7,7 @@ use Rattle.wb_model.specs.declared.heap.Header.{Header}
 use Rattle.wb_model.specs.declared.heap.Ptr.{Ptr}
 use Rattle.wb_model.specs.heap.Row.{IsSpacedFrom, headers, end_of, is_at, cell_at}
 use Rattle.wb_model.specs.cells.Spelling.{spelled}
-use Rattle.wb_model.proofs.Rows.{head-cell_at}
+use Rattle.wb_model.proofs.heaps.Rows.{head-cell_at}
 use Rattle.wb_cells.specs.Inside.{IsLaid}
 use Rattle.wb_cells.specs.Segments.{Segment, cell_from, row_from}
 use Rattle.wb_cells.proofs.Laying.{spelled-laid}

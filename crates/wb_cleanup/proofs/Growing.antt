@@ -21,9 +21,9 @@ use Rattle.wb_model.specs.heap.Heap.{alloc_request, new_cell, after_alloc, reall
 use Rattle.wb_model.specs.heap.LimitedHeap.{zero_words}
 use Rattle.wb_model.specs.heap.Space.{limit_under}
 use Rattle.wb_model.specs.heap.Debug.{Debug, IsLiveIn, Made, IsSoundDebug, made_by, answer_in, number_of_next, alloc_made, longer_made, shorter_made, realloc_made}
-use Rattle.wb_model.proofs.LimitedHeaps.{limit_under-ceiling}
-use Rattle.wb_model.proofs.NewCells.{found-inserted}
-use Rattle.wb_model.proofs.Reallocations.{found-all, found-head, length-resized}
+use Rattle.wb_model.proofs.heaps.LimitedHeaps.{limit_under-ceiling}
+use Rattle.wb_model.proofs.heaps.NewCells.{found-inserted}
+use Rattle.wb_model.proofs.heaps.Reallocations.{found-all, found-head, length-resized}
 use Rattle.wb_cleanup.specs.declared.cleanup.Cleanup.{Cleanup}
 use Rattle.wb_cleanup.specs.Pushes.{cell_by, growth, remade, slots_by}
 use Rattle.wb_cleanup.specs.Stacks.{IsStack, cell_of, slots_of, count_of, items_of}

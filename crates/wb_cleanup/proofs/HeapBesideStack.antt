@@ -9,7 +9,7 @@ use Rattle.wb_model.specs.heap.Rules.{Request}
 use Rattle.wb_model.specs.heap.Heap.{alloc_request, after_alloc, new_cell}
 use Rattle.wb_model.specs.heap.LimitedHeap.{zero_words}
 use Rattle.wb_model.specs.heap.Debug.{Debug, IsLiveIn, IsSoundDebug, alloc_made, answer_in, made_by, number_of_next}
-use Rattle.wb_model.proofs.Reallocations.{at-number, cell_at-inserted_other, found-all, found-from, found-head, not_at-number}
+use Rattle.wb_model.proofs.heaps.Reallocations.{at-number, cell_at-inserted_other, found-all, found-from, found-head, not_at-number}
 use Rattle.wb_cleanup.specs.declared.cleanup.Cleanup.{Cleanup}
 use Rattle.wb_cleanup.specs.Stacks.{IsStack, cell_of, items_of}
 use Rattle.wb_cleanup.proofs.StackInHeap.{Stands, stack-kept}

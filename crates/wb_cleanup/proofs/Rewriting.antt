@@ -5,7 +5,7 @@ use Rattle.wb_model.specs.declared.heap.Ptr.{Ptr}
 use Rattle.wb_model.specs.heap.Row.{Cell, cell_at}
 use Rattle.wb_model.specs.cells.CellRow.{content_or_nil, payload_of, with_payload}
 use Rattle.wb_model.specs.heap.Debug.{Debug, debug_changed, with_row}
-use Rattle.wb_model.proofs.TextCellsHeap.{found-changed, changed-same, changed-twice}
+use Rattle.wb_model.proofs.heaps.TextCellsHeap.{found-changed, changed-same, changed-twice}
 use Rattle.wb_cleanup.specs.Slots.{with_words}
 use Rattle.wb_cleanup.proofs.SlotWords.{set-four}
 

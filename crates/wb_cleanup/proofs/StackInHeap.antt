@@ -11,8 +11,8 @@ use Rattle.wb_model.specs.cells.CellRow.{content_or_nil, payload_of}
 use Rattle.wb_model.specs.cells.CleanupCells.{slot_words, IsItem, IsCleanup, IsCleanupAt, items_in}
 use Rattle.wb_model.specs.heap.Debug.{Debug, debug_changed}
 use Rattle.wb_model.specs.meaning.Statements.{newest}
-use Rattle.wb_model.proofs.CleanupCells.{cleanup-read}
-use Rattle.wb_model.proofs.TextCellsHeap.{found-changed}
+use Rattle.wb_model.proofs.heaps.CleanupCells.{cleanup-read}
+use Rattle.wb_model.proofs.heaps.TextCellsHeap.{found-changed}
 use Rattle.wb_cleanup.specs.declared.cleanup.Cleanup.{Cleanup}
 use Rattle.wb_cleanup.specs.Slots.{with_words, words_of_slot}
 use Rattle.wb_cleanup.specs.Stacks.{has_above, newest_above, IsStack, IsPopped, cell_of, slots_of, count_of, items_of, all_but}

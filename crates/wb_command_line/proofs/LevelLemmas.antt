@@ -4,7 +4,7 @@ use Rattle.std.specs.Prelude.{◌==◌}
 use Rattle.std.specs.Str.{bytes_eq}
 use Rattle.clap.specs.Simple.{filled}
 use Rattle.clap.specs.Walk.{Row, Rule, Text, arg_by_index, arg_by_long, arg_by_short}
-use Rattle.wb_command_line.specs.CommandLine.{all_flag, also_option, budget_option, ends_flag, every_option, fail_from_option, fail_option, failures_option, follow_flag, follow_steps_option, from_option, joined_level, json_flag, level, limit_option, min_option, moving_flag, pairs_flag, persistent_flag, rates_flag, sets_flag, states_option, step_option, to_option}
+use Rattle.wb_command_line.specs.CommandLine.{all_flag, also_option, budget_option, ends_flag, every_option, fail_from_option, fail_option, failures_option, follow_around_option, follow_flag, follow_steps_option, from_option, joined_level, json_flag, level, limit_option, min_option, moving_flag, pairs_flag, persistent_flag, rates_flag, sets_flag, states_option, step_option, to_option}
 use Rattle.wb_command_line.specs.Passed.{IsIn, RowsPass}
 use Rattle.wb_command_line.specs.declared.command_line.parser.Takes.{Takes}
 use Rattle.wb_command_line.specs.declared.command_line.parser.Takes.TheVariants as taking
@@ -52,13 +52,14 @@ level_long called taking.Rule name e =
     let set = first_false (bytes_eq (codes "set") name) _ fail_from.1 in
     let follow = first_false (bytes_eq (codes "follow") name) _ set.1 in
     let follow_steps = first_false (bytes_eq (codes "follow-steps") name) _ follow.1 in
-    let budget = first_false (bytes_eq (codes "budget") name) _ follow_steps.1 in
+    let follow_around = first_false (bytes_eq (codes "follow-around") name) _ follow_steps.1 in
+    let budget = first_false (bytes_eq (codes "budget") name) _ follow_around.1 in
     let min = first_false (bytes_eq (codes "min") name) _ budget.1 in
     let step = first_false (bytes_eq (codes "step") name) _ min.1 in
     let moving = first_false (bytes_eq (codes "moving") name) _ step.1 in
     let json = first_false (bytes_eq (codes "json") name) _ moving.1 in
     let picture = first_false (bytes_eq (codes "picture") name) _ json.1 in
-    rw (limit.0, fail.0, also.0, every.0, fail_from.0, set.0, follow.0, follow_steps.0, budget.0, min.0, step.0, moving.0, json.0, picture.0) (help_asks (bytes_eq (codes "help") name))
+    rw (limit.0, fail.0, also.0, every.0, fail_from.0, set.0, follow.0, follow_steps.0, follow_around.0, budget.0, min.0, step.0, moving.0, json.0, picture.0) (help_asks (bytes_eq (codes "help") name))
 level_long called taking.Failures name e =
     let every = first_false (bytes_eq (codes "every") name) _ e in
     let persistent = first_false (bytes_eq (codes "persistent") name) _ every.1 in
@@ -128,27 +129,28 @@ own_rule_in a (inr (inr (inr (inr (inr (inl first)))))) = inr (inr (inr (inr (in
 own_rule_in a (inr (inr (inr (inr (inr (inr (inl set))))))) = inr (inr (inr (inr (inr (inr (inl set))))))
 own_rule_in a (inr (inr (inr (inr (inr (inr (inr (inl follow)))))))) = inr (inr (inr (inr (inr (inr (inr (inl follow)))))))
 own_rule_in a (inr (inr (inr (inr (inr (inr (inr (inr (inl steps))))))))) = inr (inr (inr (inr (inr (inr (inr (inr (inl steps))))))))
-own_rule_in a (inr (inr (inr (inr (inr (inr (inr (inr (inr shared))))))))) = inr (inr (inr (inr (inr (inr (inr (inr (inr (inr (inr (inr (inr (inr (inr (inr (inr (inr (inr shared))))))))))))))))))
+own_rule_in a (inr (inr (inr (inr (inr (inr (inr (inr (inr (inl around)))))))))) = inr (inr (inr (inr (inr (inr (inr (inr (inr (inl around)))))))))
+own_rule_in a (inr (inr (inr (inr (inr (inr (inr (inr (inr (inr shared)))))))))) = inr (inr (inr (inr (inr (inr (inr (inr (inr (inr (inr (inr (inr (inr (inr (inr (inr (inr (inr (inr shared)))))))))))))))))))
 
 part_in : (a : Rule) → IsIn a (level [] taking.Part).rules → IsIn a joined_level.rules
 part_in a (inl file) = inl file
-part_in a (inr rest) = inr (inr (inr (inr (inr (inr (inr (inr (inr rest))))))))
+part_in a (inr rest) = inr (inr (inr (inr (inr (inr (inr (inr (inr (inr rest)))))))))
 
 failures_in : (a : Rule) → IsIn a (level [] taking.Failures).rules → IsIn a joined_level.rules
 failures_in a (inl file) = inl file
-failures_in a (inr (inl rates)) = inr (inr (inr (inr (inr (inr (inr (inr (inr (inl rates)))))))))
-failures_in a (inr (inr (inl persistent))) = inr (inr (inr (inr (inr (inr (inr (inr (inr (inr (inl persistent))))))))))
-failures_in a (inr (inr (inr (inl pairs)))) = inr (inr (inr (inr (inr (inr (inr (inr (inr (inr (inr (inl pairs)))))))))))
-failures_in a (inr (inr (inr (inr (inl all))))) = inr (inr (inr (inr (inr (inr (inr (inr (inr (inr (inr (inr (inl all))))))))))))
-failures_in a (inr (inr (inr (inr (inr (inl ends)))))) = inr (inr (inr (inr (inr (inr (inr (inr (inr (inr (inr (inr (inr (inl ends)))))))))))))
-failures_in a (inr (inr (inr (inr (inr (inr (inl together))))))) = inr (inr (inr (inr (inr (inr (inr (inr (inr (inr (inr (inr (inr (inr (inl together))))))))))))))
-failures_in a (inr (inr (inr (inr (inr (inr (inr (inl sets)))))))) = inr (inr (inr (inr (inr (inr (inr (inr (inr (inr (inr (inr (inr (inr (inr (inl sets)))))))))))))))
-failures_in a (inr (inr (inr (inr (inr (inr (inr (inr (inl states))))))))) = inr (inr (inr (inr (inr (inr (inr (inr (inr (inr (inr (inr (inr (inr (inr (inr (inl states))))))))))))))))
-failures_in a (inr (inr (inr (inr (inr (inr (inr (inr (inr shared))))))))) = inr (inr (inr (inr (inr (inr (inr (inr (inr (inr (inr (inr (inr (inr (inr (inr (inr (inr (inr shared))))))))))))))))))
+failures_in a (inr (inl rates)) = inr (inr (inr (inr (inr (inr (inr (inr (inr (inr (inl rates))))))))))
+failures_in a (inr (inr (inl persistent))) = inr (inr (inr (inr (inr (inr (inr (inr (inr (inr (inr (inl persistent)))))))))))
+failures_in a (inr (inr (inr (inl pairs)))) = inr (inr (inr (inr (inr (inr (inr (inr (inr (inr (inr (inr (inl pairs))))))))))))
+failures_in a (inr (inr (inr (inr (inl all))))) = inr (inr (inr (inr (inr (inr (inr (inr (inr (inr (inr (inr (inr (inl all)))))))))))))
+failures_in a (inr (inr (inr (inr (inr (inl ends)))))) = inr (inr (inr (inr (inr (inr (inr (inr (inr (inr (inr (inr (inr (inr (inl ends))))))))))))))
+failures_in a (inr (inr (inr (inr (inr (inr (inl together))))))) = inr (inr (inr (inr (inr (inr (inr (inr (inr (inr (inr (inr (inr (inr (inr (inl together)))))))))))))))
+failures_in a (inr (inr (inr (inr (inr (inr (inr (inl sets)))))))) = inr (inr (inr (inr (inr (inr (inr (inr (inr (inr (inr (inr (inr (inr (inr (inr (inl sets))))))))))))))))
+failures_in a (inr (inr (inr (inr (inr (inr (inr (inr (inl states))))))))) = inr (inr (inr (inr (inr (inr (inr (inr (inr (inr (inr (inr (inr (inr (inr (inr (inr (inl states)))))))))))))))))
+failures_in a (inr (inr (inr (inr (inr (inr (inr (inr (inr shared))))))))) = inr (inr (inr (inr (inr (inr (inr (inr (inr (inr (inr (inr (inr (inr (inr (inr (inr (inr (inr (inr shared)))))))))))))))))))
 
 shared_in : (a : Rule) → IsIn a (level [] taking.Neither).rules → IsIn a joined_level.rules
 shared_in a (inl file) = inl file
-shared_in a (inr shared) = inr (inr (inr (inr (inr (inr (inr (inr (inr (inr (inr (inr (inr (inr (inr (inr (inr (inr (inr shared))))))))))))))))))
+shared_in a (inr shared) = inr (inr (inr (inr (inr (inr (inr (inr (inr (inr (inr (inr (inr (inr (inr (inr (inr (inr (inr (inr shared)))))))))))))))))))
 
 wider_rows : (c d : List Rule) → ((a : Rule) → IsIn a c → IsIn a d) → (rows : List Row) → RowsPass c rows → RowsPass d rows
 wider_rows c d wide [] passed = tt
@@ -182,6 +184,9 @@ follow_rule = filled follow_flag
 
 abbrev pub follow_steps_rule : Rule
 follow_steps_rule = filled follow_steps_option
+
+abbrev pub follow_around_rule : Rule
+follow_around_rule = filled follow_around_option
 
 abbrev pub rates_rule : Rule
 rates_rule = filled rates_flag
@@ -249,6 +254,9 @@ only_follow = only joined_level.rules (codes "follow") follow_rule refl
 
 pub only_follow_steps : IsOnly joined_level.rules (codes "follow-steps") follow_steps_rule
 only_follow_steps = only joined_level.rules (codes "follow-steps") follow_steps_rule refl
+
+pub only_follow_around : IsOnly joined_level.rules (codes "follow-around") follow_around_rule
+only_follow_around = only joined_level.rules (codes "follow-around") follow_around_rule refl
 
 pub only_rates : IsOnly joined_level.rules (codes "rates") rates_rule
 only_rates = only joined_level.rules (codes "rates") rates_rule refl

@@ -34,7 +34,7 @@ use Rattle.wb_command_line.specs.declared.command.CommandFault.{CommandFault}
 use Rattle.wb_command_line.specs.declared.command.CommandFault.TheVariants.{Usage, Both, Also, Range, NoMemory}
 use Rattle.wb_command_line.specs.declared.command.CommandFault.TheVariants as F
 use Rattle.wb_command_line.proofs.CommandLineLemmas.{one_is_met, text_is}
-use Rattle.wb_command_line.proofs.LevelLemmas.{all_rule, also_rule, budget_rule, ends_rule, every_rule, fail_from_rule, fail_rule, failures_rule, follow_rule, follow_steps_rule, from_rule, json_rule, level_wide, limit_rule, min_rule, moving_rule, only_all, only_also, only_budget, only_ends, only_every, only_fail, only_fail_from, only_failures, only_follow, only_follow_steps, only_from, only_json, only_limit, only_min, only_moving, only_pairs, only_persistent, only_rates, only_sets, only_states, only_step, only_to, pairs_rule, persistent_rule, rates_rule, sets_rule, states_rule, step_rule, to_rule}
+use Rattle.wb_command_line.proofs.LevelLemmas.{all_rule, also_rule, budget_rule, ends_rule, every_rule, fail_from_rule, fail_rule, failures_rule, follow_around_rule, follow_rule, follow_steps_rule, from_rule, json_rule, level_wide, limit_rule, min_rule, moving_rule, only_all, only_also, only_budget, only_ends, only_every, only_fail, only_fail_from, only_failures, only_follow, only_follow_around, only_follow_steps, only_from, only_json, only_limit, only_min, only_moving, only_pairs, only_persistent, only_rates, only_sets, only_states, only_step, only_to, pairs_rule, persistent_rule, rates_rule, sets_rule, states_rule, step_rule, to_rule}
 use Rattle.wb_command_line.specs.Passed.{RowsPass}
 use Rattle.wb_command_line.proofs.PassedValues.{IsOnly, PassedAs, first_passed}
 
@@ -198,6 +198,9 @@ module _ (E : Type 0) (G : List ℕ → Result ℕ E → Type 0) (parses : (u : 
 
   pub follow_steps_is : OptionRead (codes "follow-steps") 1 MOST_FOLLOWED
   follow_steps_is f r passed = number_is joined_level.rules (codes "follow-steps") follow_steps_rule 1 MOST_FOLLOWED f r refl (omega arith) only_follow_steps passed
+
+  pub follow_around_is : OptionRead (codes "follow-around") 1 CEILING
+  follow_around_is f r passed = number_is joined_level.rules (codes "follow-around") follow_around_rule 1 CEILING f r refl (omega arith) only_follow_around passed
 
   pub failures_is : OptionRead (codes "failures") 1 MOST_TOGETHER
   failures_is f r passed = number_is joined_level.rules (codes "failures") failures_rule 1 MOST_TOGETHER f r refl (omega arith) only_failures passed

@@ -30,6 +30,14 @@ number-of-steps-alone : Spell (codes "run" ∷ codes "--follow-steps=7" ∷ []) 
 unfolding walked walk_passes walk_fault defaults_fault
 number-of-steps-alone = record { taken = refl; faultless = refl; one_rule = refl; in_order = refl; listed = refl; meaning = refl }
 
+around-an-attempt : Spell (codes "run" ∷ codes "--follow-around" ∷ codes "3" ∷ codes "a.oom" ∷ []) (record (run_with Unlimited 4096 4096 (Some (codes "a.oom"))) { follow = Some 1000; around = Some 3 })
+unfolding walked walk_passes walk_fault defaults_fault
+around-an-attempt = record { taken = refl; faultless = refl; one_rule = refl; in_order = refl; listed = refl; meaning = refl }
+
+few-steps-around-an-attempt : Spell (codes "run" ∷ codes "--follow-around=16777216" ∷ codes "--follow-steps" ∷ codes "5" ∷ codes "--follow" ∷ []) (record (run_with Unlimited 4096 4096 None) { follow = Some 5; around = Some 16777216 })
+unfolding walked walk_passes walk_fault defaults_fault
+few-steps-around-an-attempt = record { taken = refl; faultless = refl; one_rule = refl; in_order = refl; listed = refl; meaning = refl }
+
 flag-as-a-file : Spell (codes "run" ∷ codes "--" ∷ codes "--follow" ∷ []) (run_with Unlimited 4096 4096 (Some (codes "--follow")))
 unfolding walked walk_passes walk_fault defaults_fault
 flag-as-a-file = record { taken = refl; faultless = refl; one_rule = refl; in_order = refl; listed = refl; meaning = refl }
@@ -73,3 +81,19 @@ steps-of-a-size = record { refused = refl; fault = refl }
 number-of-steps-of-a-sweep : Fail (codes "sweep" ∷ codes "--follow-steps=3" ∷ []) (UnknownArgument ∷ [])
 unfolding walked walk_passes walk_fault defaults_fault flags_fault flags_pass bundle_met chars
 number-of-steps-of-a-sweep = record { refused = refl; fault = refl }
+
+around-no-attempt : Fail (codes "run" ∷ codes "--follow-around=0" ∷ []) (ValueValidation ∷ [])
+unfolding walked walk_passes walk_fault defaults_fault flags_fault flags_pass bundle_met chars
+around-no-attempt = record { refused = refl; fault = refl }
+
+past-the-last-attempt : Fail (codes "run" ∷ codes "--follow-around=16777217" ∷ []) (ValueValidation ∷ [])
+unfolding walked walk_passes walk_fault defaults_fault flags_fault flags_pass bundle_met chars
+past-the-last-attempt = record { refused = refl; fault = refl }
+
+around-two-attempts : Fail (codes "run" ∷ codes "--follow-around=3" ∷ codes "--follow-around=3" ∷ []) (ArgumentConflict ∷ [])
+unfolding walked walk_passes walk_fault defaults_fault flags_fault flags_pass bundle_met chars
+around-two-attempts = record { refused = refl; fault = refl }
+
+around-an-attempt-of-a-check : Fail (codes "check" ∷ codes "--follow-around=3" ∷ []) (UnknownArgument ∷ [])
+unfolding walked walk_passes walk_fault defaults_fault flags_fault flags_pass bundle_met chars
+around-an-attempt-of-a-check = record { refused = refl; fault = refl }

@@ -80,6 +80,10 @@ is_sixteenfold shape = nat_eq (shape.min % 16) 0 && nat_eq (shape.step % 16) 0
 abbrev pub is_followed_in_range : Option ℕ → Bool
 is_followed_in_range follow = option_map_or (λ steps. nat_le 1 steps && nat_le steps MOST_FOLLOWED) follow true
 
+-- the attempt about which steps are followed, where one is named
+abbrev pub is_around_in_range : Option ℕ → Bool
+is_around_in_range around = option_map_or (λ number. nat_le 1 number && nat_le number CEILING) around true
+
 -- the numbers of a command are in their ranges
 abbrev pub is_answerable : Command → Bool
-is_answerable c = nat_le 1 c.budget && nat_le c.budget LARGEST_BUDGET && is_shape c.shape && is_in_range c.task && is_filled c.task && is_followed_in_range c.follow
+is_answerable c = nat_le 1 c.budget && nat_le c.budget LARGEST_BUDGET && is_shape c.shape && is_in_range c.task && is_filled c.task && is_followed_in_range c.follow && is_around_in_range c.around

@@ -91,6 +91,9 @@ follow_flag = flag (codes "follow") (codes "follow")
 abbrev pub follow_steps_option : Rule
 follow_steps_option = number_option (codes "follow-steps") 1 MOST_FOLLOWED
 
+abbrev pub follow_around_option : Rule
+follow_around_option = number_option (codes "follow-around") 1 CEILING
+
 -- `--failures K`, where K attempts fail together at most
 abbrev pub failures_option : Rule
 failures_option = number_option (codes "failures") 1 MOST_TOGETHER
@@ -117,7 +120,7 @@ rule_options = limit_option ∷ fail_option ∷ also_option ∷ every_option ∷
 
 -- those that ask for the steps of a run
 abbrev pub following_options : List Rule
-following_options = follow_flag ∷ follow_steps_option ∷ []
+following_options = follow_flag ∷ follow_steps_option ∷ follow_around_option ∷ []
 
 -- the options that a subcommand has beside those of all
 abbrev pub own_options : Takes → List Rule
@@ -145,8 +148,8 @@ with_rules = fold with_rule
 abbrev pub line_with : Text → List Rule → App
 line_with name options = with_rules (new_app name) (file_argument ∷ options ++ shared_options)
 
--- `NAME [--limit L] [--fail N] [--also J] [--every N] [--fail-from N] [--set LIST] [--follow] [--follow-steps N] [--budget B] [--min M]
--- [--step G] [--moving] [--json] [--picture FILE] [FILE]`, the same with `--every`, `--persistent`, `--pairs`, `--all`, `--ends`,
+-- `NAME [--limit L] [--fail N] [--also J] [--every N] [--fail-from N] [--set LIST] [--follow] [--follow-steps N] [--follow-around N]
+-- [--budget B] [--min M] [--step G] [--moving] [--json] [--picture FILE] [FILE]`, the same with `--every`, `--persistent`, `--pairs`, `--all`, `--ends`,
 -- `--failures K`, `--sets` and `--states N` in the place of a rule and of the steps, with these and `[--from I] [--to J]`, or with none
 abbrev pub subcommand_line : Text → Takes → App
 subcommand_line name takes = line_with name (own_options takes)

@@ -188,13 +188,17 @@ abbrev pub task_of : Text → List Row → Option Task
 task_of name rows =
     option_map (λ s. s.task (rule_of rows) (trial_of rows)) (subcommand_named name)
 
--- how many of the first steps are followed and how many of the last, where steps are
+-- the attempt about which steps are followed, where one is named
+abbrev pub around_of : List Row → Option ℕ
+around_of rows = number_of (codes "follow-around") rows
+
+-- how many of the first steps are followed and how many of the last, or how many before an attempt and how many after it, where steps are
 abbrev pub followed_of : List Row → ℕ
 followed_of rows = unwrap_or (number_of (codes "follow-steps") rows) DEFAULT_FOLLOWED
 
--- `None` where none are: a number without the flag asks for none
+-- `None` where none are: `--follow-steps` alone asks for none
 abbrev pub follow_of : List Row → Option ℕ
-follow_of rows = if flag_of (codes "follow") rows then Some (followed_of rows) else None
+follow_of rows = if flag_of (codes "follow") rows || is_some (around_of rows) then Some (followed_of rows) else None
 
 -- the command of a task, by the matches of its subcommand
 abbrev pub command_with : List Row → Task → Command
@@ -206,6 +210,7 @@ command_with rows task = record {
   json = flag_of (codes "json") rows;
   picture = first_of (codes "picture") rows;
   follow = follow_of rows;
+  around = around_of rows;
 }
 
 -- the command of a subcommand's name and matches

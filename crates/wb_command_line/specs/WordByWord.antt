@@ -36,7 +36,7 @@ failure_names =
 
 -- those that a subcommand has beside them
 abbrev pub own_names : Takes → List Text
-own_names taking.Rule = codes "limit" ∷ codes "fail" ∷ codes "also" ∷ codes "every" ∷ codes "fail-from" ∷ codes "set" ∷ codes "follow" ∷ codes "follow-steps" ∷ []
+own_names taking.Rule = codes "limit" ∷ codes "fail" ∷ codes "also" ∷ codes "every" ∷ codes "fail-from" ∷ codes "set" ∷ codes "follow" ∷ codes "follow-steps" ∷ codes "follow-around" ∷ []
 own_names taking.Failures = failure_names
 own_names taking.Part = failure_names ++ codes "from" ∷ codes "to" ∷ []
 own_names taking.Neither = []
@@ -80,6 +80,7 @@ plain_command task file = record {
   json = false;
   picture = None;
   follow = None;
+  around = None;
 }
 
 pub record AreTaken (words : List Text) (command : Command) : Type 0 where

@@ -61,8 +61,10 @@ pub struct Command {
     /// The file that a picture of the runs is written to; `None` if none is wanted.
     pub picture: Option<FileName>,
     /// How many of the run's first steps are followed, which is also how many of its last, from 1 to 1,000,000; `None` if none are
-    /// followed.
+    /// followed. If `around` is an attempt, how many before it, and how many after it.
     pub follow: Option<u32>,
+    /// The number of the attempt about which steps are followed, from 1 to 16,777,216; `None` if the first steps and the last are.
+    pub around: Option<u32>,
 }
 
 /// Why words are no command. If words have several faults, the first of them in this order is the answer.

@@ -1,6 +1,7 @@
 //! How the words of a command line are read. Nothing is opened or run here.
 //!
-//! `workbench run` takes `[--limit L | --fail N [--also J] | --every N | --fail-from N | --set LIST] [--follow] [--follow-steps N]`.
+//! `workbench run` takes `[--limit L | --fail N [--also J] | --every N | --fail-from N | --set LIST] [--follow] [--follow-steps N]
+//! [--follow-around N]`.
 //! `sweep` and `check` take `--every`, `--persistent`, `--pairs`, `--all`, `--ends`, `--failures K`, `--sets` and `--states N` instead, and
 //! `sweep` also takes `[--from I] [--to J]`. `size` and `lengths` take none of these. All five take `[--budget B] [--min M] [--step G]
 //! [--moving] [--json] [--picture FILE] [FILE]`.
@@ -31,7 +32,7 @@ mod set_list;
 mod sets;
 
 use crate::command::{Command, CommandFault, Task};
-use crate::command_line::following::follow_in;
+use crate::command_line::following::{around_in, follow_in};
 use crate::command_line::number_help::NumberHelp;
 use crate::command_line::parser::parser;
 use crate::command_line::rules::rule_in;
@@ -91,6 +92,7 @@ fn command_in(alloc: Global, name: &str, options: &ArgMatches) -> Result<Command
         json: json_in(options),
         picture: picture_in(alloc, options)?,
         follow: follow_in(options),
+        around: around_in(options),
     })
 }
 

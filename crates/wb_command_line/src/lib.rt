@@ -5,4 +5,6 @@ pub mod command;
 pub mod command_line;
 pub mod file_name;
 pub mod limit_laws;
+pub mod line_breaks;
 pub mod messages;
+mod tips;

@@ -2,6 +2,8 @@
 //! mentions this text.
 
 use crate::command::CommandFault;
+use crate::line_breaks::broken;
+use crate::tips::{follow_tip, hyphen_tip, number_given, set_tip, several_tip, word_at};
 use clap::error::ErrorKind;
 use std::alloc::{AllocError, Global};
 use std::convert::AsStr;
@@ -9,8 +11,20 @@ use std::convert::AsStr;
 /// The usage that `clap` adds to an error that `set_list` makes. It adds none to the errors of values that it finds itself.
 const USAGE: &str = "\n\nUsage: workbench run\n\nFor more information, try '--help'.\n";
 
-/// Returns the text of a fault of these words, of which the first is the program's name. The only error is that memory ran out.
+/// Returns the text of a fault of these words, of which the first is the program's name, in lines of at most `columns` columns where words
+/// allow it. The only error is that memory ran out.
 pub fn message_of<S: AsStr>(
+    alloc: Global,
+    words: &[S],
+    fault: &CommandFault,
+    columns: usize,
+) -> Result<String, AllocError> {
+    let text = text_of(alloc, words, fault)?;
+    broken(alloc, text.as_str(), columns)
+}
+
+/// The text of a fault, its lines however long.
+fn text_of<S: AsStr>(
     alloc: Global,
     words: &[S],
     fault: &CommandFault,
@@ -97,18 +111,23 @@ fn tip_for<S: AsStr>(
     let subcommand = word_at(words, 1);
     match kind {
         ErrorKind::InvalidSubcommand => script_tip(alloc, subcommand),
-        ErrorKind::UnknownArgument => argument_tip(alloc, words, subcommand, quoted_in(text)),
-        ErrorKind::TooManyValues => flag_tip(alloc, words, subcommand),
+        ErrorKind::UnknownArgument => argument_tip(alloc, words, subcommand, text),
+        ErrorKind::TooManyValues => number_tip(alloc, words, subcommand),
+        ErrorKind::ValueValidation => value_tip(alloc, words, text),
         _ => Ok(None),
     }
 }
 
-/// The word with this index; empty if there is none.
-fn word_at<S: AsStr>(words: &[S], place: usize) -> &str {
-    match words.get(place) {
-        Some(word) => word.as_str(),
-        None => "",
+/// A tip for a value that isn't one of its option; `None` if there is none.
+fn value_tip<S: AsStr>(
+    alloc: Global,
+    words: &[S],
+    text: &str,
+) -> Result<Option<String>, AllocError> {
+    if text.contains("'--set <LIST>'") {
+        return set_tip(alloc, words);
     }
+    several_tip(alloc, quoted_in(text), text)
 }
 
 /// The first text between quotes, which is the refused word; empty if there is none.
@@ -131,25 +150,37 @@ fn script_tip(alloc: Global, word: &str) -> Result<Option<String>, AllocError> {
     Ok(Some(tip))
 }
 
-/// A tip for an option of another subcommand, or for a second file; `None` if there is none.
+/// A tip for an option of another subcommand or of none, or for a second file; `None` if `clap` has one that helps.
 fn argument_tip<S: AsStr>(
     alloc: Global,
     words: &[S],
     subcommand: &str,
-    refused: &str,
+    text: &str,
 ) -> Result<Option<String>, AllocError> {
+    let refused = quoted_in(text);
+    if !refused.starts_with('-') {
+        return file_tip(alloc, words, subcommand);
+    }
     if let Some(name) = refused.strip_prefix("--") {
         let owners = subcommands_with(name);
-        if owners.is_empty() {
-            return Ok(None);
+        if !owners.is_empty() {
+            let tip = format!(in alloc; "'--{name}' is an option of {owners}")?;
+            return Ok(Some(tip));
         }
-        let tip = format!(in alloc; "'--{name}' is an option of {owners}")?;
+    }
+    hyphen_tip(alloc, words, refused, text)
+}
+
+/// A tip for a second file, which may be meant as a number of an option.
+fn file_tip<S: AsStr>(
+    alloc: Global,
+    words: &[S],
+    subcommand: &str,
+) -> Result<Option<String>, AllocError> {
+    if let Some(tip) = set_tip(alloc, words)? {
         return Ok(Some(tip));
     }
-    if refused.starts_with('-') {
-        return Ok(None);
-    }
-    match flag_tip(alloc, words, subcommand)? {
+    match number_tip(alloc, words, subcommand)? {
         Some(tip) => Ok(Some(tip)),
         None => {
             let tip = "a command reads one script; docs/CI.md says how to check many";
@@ -158,10 +189,24 @@ fn argument_tip<S: AsStr>(
     }
 }
 
+/// A tip for a number after a flag; `None` if there is no such number.
+fn number_tip<S: AsStr>(
+    alloc: Global,
+    words: &[S],
+    subcommand: &str,
+) -> Result<Option<String>, AllocError> {
+    if subcommand == "run" {
+        follow_tip(alloc, words)
+    } else {
+        flag_tip(alloc, words, subcommand)
+    }
+}
+
 /// The subcommands that have this option; empty if all subcommands have it, or none has.
 fn subcommands_with(name: &str) -> &'static str {
     match name {
-        "limit" | "fail" | "also" | "fail-from" | "set" | "follow" | "follow-steps" => "run",
+        "limit" | "fail" | "also" | "fail-from" | "set" => "run",
+        "follow" | "follow-steps" | "follow-around" => "run",
         "every" => "run, sweep and check",
         "persistent" | "pairs" | "all" | "ends" => "sweep and check",
         "failures" | "sets" | "states" => "sweep and check",
@@ -176,7 +221,7 @@ fn flag_tip<S: AsStr>(
     words: &[S],
     subcommand: &str,
 ) -> Result<Option<String>, AllocError> {
-    let number = number_of_flag(words);
+    let number = number_given(words, "--every");
     if number.is_empty() || (subcommand != "sweep" && subcommand != "check") {
         return Ok(None);
     }
@@ -185,24 +230,4 @@ fn flag_tip<S: AsStr>(
          'workbench run --every {number}' takes one"
     )?;
     Ok(Some(tip))
-}
-
-/// The number that is given to `--every`; empty if none is.
-fn number_of_flag<S: AsStr>(words: &[S]) -> &str {
-    let mut is_after = false;
-    for word in words {
-        let word = word.as_str();
-        if is_after && is_number(word) {
-            return word;
-        }
-        if let Some(number) = word.strip_prefix("--every=") {
-            return number;
-        }
-        is_after = word == "--every";
-    }
-    ""
-}
-
-fn is_number(word: &str) -> bool {
-    !word.is_empty() && word.as_bytes().iter().all(|byte| byte.is_ascii_digit())
 }

@@ -14,9 +14,9 @@ use Rattle.wb_model.specs.heap.LimitedHeap.{LimitedHeap, IsSoundHeap, space_in, 
 use Rattle.wb_model.specs.runs.Rises.{end_of_line, granted_end, rise_of, rises_with, top_of_rises, trace_with}
 use Rattle.wb_model.specs.heap.Row.{Cell, IsSpacedFrom, headers, end_of, inserted, is_at, cell_at, without}
 use Rattle.wb_model.specs.heap.Space.{bound_below, space_below}
-use Rattle.wb_model.proofs.AccountLemmas.{last-rise}
-use Rattle.wb_model.proofs.LimitedHeaps.{top_of-committed, All-heap_with, All-heap_without}
-use Rattle.wb_model.proofs.Rows.{headers-changed, head-cell_at}
+use Rattle.wb_model.proofs.runs.AccountLemmas.{last-rise}
+use Rattle.wb_model.proofs.heaps.LimitedHeaps.{top_of-committed, All-heap_with, All-heap_without}
+use Rattle.wb_model.proofs.heaps.Rows.{headers-changed, head-cell_at}
 use Rattle.wb_debug.specs.declared.debug_heap.DebugHeap.TheInside.{Inside}
 use Rattle.wb_debug.specs.declared.setting.Setting.{Setting}
 use Rattle.wb_debug.specs.Debug.{debug_of, IsStepped, IsKept}

@@ -6,7 +6,7 @@ use Rattle.wb_model.specs.heap.Row.{end_of}
 use Rattle.wb_model.specs.heap.Heap.{is_cleanup, cells_of_all_levels}
 use Rattle.wb_model.specs.runs.Run.{leak_of}
 use Rattle.wb_model.specs.heap.LimitedHeap.{next_live_of}
-use Rattle.wb_model.proofs.Onward.{onward, onward_none, IsNextCell}
+use Rattle.wb_model.proofs.heaps.Onward.{onward, onward_none, IsNextCell}
 
 -- the leaks of a row
 abbrev pub leaks_of : List Header → List Leak

@@ -19,10 +19,10 @@ use Rattle.wb_model.specs.heap.Row.{Cell, headers, end_of, cell_at, cell_length,
 use Rattle.wb_model.specs.heap.Rules.{Request, after_attempt}
 use Rattle.wb_model.specs.heap.Rules as rules
 use Rattle.wb_model.specs.heap.Space.{committed_by, bound_below, space_below}
-use Rattle.wb_model.proofs.LimitedHeaps.{All-heap_without}
-use Rattle.wb_model.proofs.Reallocations.{found-all, found-head}
-use Rattle.wb_model.proofs.ReallocatedHeaps.{All-heap_reallocated}
-use Rattle.wb_model.proofs.Rows.{All-inserted}
+use Rattle.wb_model.proofs.heaps.LimitedHeaps.{All-heap_without}
+use Rattle.wb_model.proofs.heaps.Reallocations.{found-all, found-head}
+use Rattle.wb_model.proofs.heaps.ReallocatedHeaps.{All-heap_reallocated}
+use Rattle.wb_model.proofs.heaps.Rows.{All-inserted}
 use Rattle.wb_debug.specs.declared.debug_heap.DebugHeap.TheInside.{Inside}
 use Rattle.wb_debug.specs.declared.setting.Setting.{Setting}
 use Rattle.wb_debug.specs.Debug.{debug_of, IsKept}

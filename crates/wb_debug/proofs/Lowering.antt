@@ -8,7 +8,7 @@ use Rattle.wb_model.specs.cells.CellRow.{with_level}
 use Rattle.wb_model.specs.heap.Heap.{lower, lowered}
 use Rattle.wb_model.specs.heap.LimitedHeap.{LimitedHeap, IsSoundHeap, heap_leveled, next_live_of}
 use Rattle.wb_model.specs.heap.Row.{Cell, headers, end_of, is_at, cell_at, pointer_to, IsSpacedFrom}
-use Rattle.wb_model.proofs.Onward.{onward, onward_next, onward_fewer, IsNextCell}
+use Rattle.wb_model.proofs.heaps.Onward.{onward, onward_next, onward_fewer, IsNextCell}
 use Rattle.wb_debug.specs.Levels.{is_counted}
 use Rattle.wb_debug.specs.declared.checks.Levels.TheVariants.{One}
 use Rattle.wb_debug.specs.Tally.{is_below, number}

@@ -16,7 +16,7 @@ use Rattle.wb_model.specs.heap.Placement.{place_to_put}
 use Rattle.wb_model.specs.heap.Row.{cell_length, headers, place_of}
 use Rattle.wb_model.specs.heap.Rules.{Request, answer_to, limit_of, refusal_of, refusal_past, simulates, unless_refused}
 use Rattle.wb_model.specs.heap.Space.{below_ceiling, committed_by, limit_under}
-use Rattle.wb_model.proofs.LimitedHeaps.{shape_is}
+use Rattle.wb_model.proofs.heaps.LimitedHeaps.{shape_is}
 use Rattle.wb_rheap.specs.declared.fault.HeapFault.{HeapFault}
 use Rattle.wb_rheap.specs.declared.fault.HeapFault.TheVariants as faults
 use Rattle.wb_debug.specs.declared.debug_heap.DebugHeap.TheInside.{Inside}

@@ -6,7 +6,7 @@ use Rattle.wb_model.specs.declared.heap.Header.{Header}
 use Rattle.wb_model.specs.declared.heap.Ptr.{Ptr}
 use Rattle.wb_model.specs.heap.Heap.{is_cleanup}
 use Rattle.wb_model.specs.heap.Row.{Cell, headers, is_at, cell_at, inserted, without}
-use Rattle.wb_model.proofs.Reallocations.{without-absent, others-apart}
+use Rattle.wb_model.proofs.heaps.Reallocations.{without-absent, others-apart}
 use Rattle.wb_debug.specs.declared.level_counts.Counted.{Counted}
 use Rattle.wb_debug.specs.declared.level_counts.LevelCount.{LevelCount}
 use Rattle.wb_debug.specs.declared.checks.Levels.TheVariants.{One, All}

@@ -20,7 +20,7 @@ use crate::log::Log;
 use crate::rules::{answer, cell_length, limit_under};
 use crate::setting::Setting;
 use crate::tally::Tally;
-use std::alloc::Global;
+use std::alloc::{AllocError, Global};
 use std::marker::Model;
 use wb_model::heap::{Answer, Attempt, Gave, Header, Kind, Panic, Ptr, Rule, Shape};
 use wb_model::limits::CEILING;
@@ -210,7 +210,7 @@ fn with_log(alloc: Global, rule: Rule, shape: Shape, log: Log) -> Result<DebugHe
     let heap = match Heap::new(alloc, limit_under(&rule), shape) {
         Ok(heap) => heap,
         Err(HeapFault::BadShape) => return Err(DebugFault::BadShape),
-        Err(_) => return Err(NoMemory.into()),
+        Err(_) => return Err(DebugFault::NoMemory),
     };
     Ok(DebugHeap {
         alloc,
@@ -382,7 +382,7 @@ fn answer_or_undo(
         Ok(ptr) => Ok(Gave::Granted(ptr)),
         Err(_) => {
             log.take_back(added);
-            Err(NoMemory)
+            Err(NoMemory::from(AllocError))
         }
     }
 }

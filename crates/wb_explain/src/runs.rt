@@ -13,6 +13,7 @@ mod ends;
 mod failures;
 mod heap_checks;
 mod heaps;
+mod item_gone;
 mod items_left;
 mod leaks;
 mod lengths;
@@ -32,6 +33,7 @@ mod states;
 mod stories;
 mod told;
 mod unasked;
+mod worse;
 
 use crate::runs::ends::put_findings;
 use crate::runs::heaps::put_heaps;
@@ -41,6 +43,7 @@ use crate::runs::script_page::ScriptPage;
 use crate::runs::shell_words::RuleOption;
 use crate::runs::states::put_many_states;
 use crate::runs::unasked::{put_nothing_else, put_shown, put_undecided};
+use crate::runs::worse::put_worse;
 pub use heaps::greatest_bad;
 pub use lengths::last_named;
 pub use numbers::last_bad;
@@ -54,6 +57,7 @@ use wb_model::heap::Rule;
 use wb_model::lengths::LengthRange;
 use wb_model::number_ends::NumberEnd;
 use wb_model::size::Rise;
+pub use worse::longest_better;
 
 /// Returns what a run found, with the lines of the script that it is about; empty if there is nothing to say. The only error is that memory
 /// ran out.
@@ -80,18 +84,23 @@ pub fn lengths_found(
     page.whole_text()
 }
 
-/// Returns which line's attempt is refused first in the heaps whose runs leak or panic, and in which heaps runs are cut; empty if no run
-/// does any of this. `ranges` cover all lengths. `attempts` are those of the run in the longest heap, up to the first rise past
-/// `greatest_bad`; `None` if no run leaks or panics. The only error is that memory ran out.
+/// Returns which line's attempt is refused first in the heaps whose runs leak or panic, in which heaps runs are cut, and where a longer heap
+/// does worse; empty if no run does any of this. `ranges` cover all lengths. `attempts` are those of the run in the longest heap, up to the
+/// first rise past `greatest_bad`; `None` if no run leaks or panics. `better` are those of the run in a heap of the length `longest_better`.
+/// The only error is that memory ran out.
 pub fn heaps_found(
     alloc: Global,
     lines: &ScriptLines<'_>,
     attempts: Option<&Attempts<'_>>,
+    better: Option<&Attempts<'_>>,
     budget: u32,
     ranges: &[LengthRange],
 ) -> Result<String, AllocError> {
     let mut page = ScriptPage::new(alloc, lines);
     put_heaps(&mut page, alloc, attempts, budget, ranges)?;
+    if let Some(better) = better {
+        put_worse(&mut page, ranges, better)?;
+    }
     page.whole_text()
 }
 

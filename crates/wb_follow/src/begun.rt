@@ -1,6 +1,6 @@
 //! What a machine turn begins, and where.
 
-use crate::open::{Doomed, ItemAt, RepeatAt};
+use crate::open::{BegunAt, Doomed, ItemAt, RepeatAt};
 use wb_history::Ahead;
 
 /// What a machine turn begins.
@@ -25,6 +25,6 @@ pub(crate) struct Begun<'a> {
     pub(crate) what: What<'a>,
     pub(crate) line: u32,
     pub(crate) depth: u32,
-    /// The previous line that was begun at the same depth; 0 if none was.
-    pub(crate) after: u32,
+    /// The previous statement that was begun at the same depth.
+    pub(crate) after: BegunAt,
 }

@@ -7,6 +7,7 @@ use crate::endings::{ending_of, put_ending};
 use crate::open::Open;
 use crate::rows::{RowSink, Rows, Widths};
 use crate::turns::{Plan, follow_turns};
+use crate::window::{Asked, window_of};
 use std::alloc::Global;
 use wb_history::{RunParameters, ScriptLines, machine_of};
 use wb_model::limits::LARGEST_BUDGET;
@@ -16,32 +17,35 @@ use wb_model::script::Script;
 /// What is said if the workbench runs out of memory, after the rows that were written.
 const NO_MEMORY: &str = "note: memory ran out, so the rest of the run isn't followed\n";
 
+/// What is said if the run makes fewer attempts than the one around which it is to be followed.
+const NO_ATTEMPT: &str = "note: the run ends before the attempt of '--follow-around'\n";
+
 /// The least width of the columns of steps and lines: that of their headings.
 const LEAST_WIDTH: usize = 4;
 
 /// The least width of the column of statements, and the greatest.
 const LEAST_STATEMENT: usize = 20;
 
-const MOST_STATEMENT: usize = 44;
+const MOST_STATEMENT: usize = 22;
 
 /// How many columns are left for the indentation of statements.
-const MOVED: usize = 4;
+const MOVED: usize = 2;
 
-/// Writes the run of a script with these parameters as rows, of which those of the first `most` steps and of the last `most` are shown. If
-/// memory runs out, the other rows are left out, and a note says so.
+/// Writes the run of a script with these parameters as rows, of which those of the steps are shown that are asked for. If memory runs out,
+/// the other rows are left out, and a note says so.
 pub fn follow_run<O: RowSink>(
     alloc: Global,
     lines: &ScriptLines<'_>,
     script: &Script,
     parameters: &RunParameters,
-    most: u32,
+    asked: Asked,
     sink: &mut O,
 )
     requires script { IsTrue (is_script script.now) }
     requires least { 1 ≤ parameters.now.budget }
     requires greatest { parameters.now.budget ≤ LARGEST_BUDGET }
 {
-    if follow_all(alloc, lines, script, parameters, most, sink).is_err() {
+    if follow_all(alloc, lines, script, parameters, asked, sink).is_err() {
         sink.take_rows(NO_MEMORY);
     }
 }
@@ -52,7 +56,7 @@ fn follow_all<O: RowSink>(
     lines: &ScriptLines<'_>,
     script: &Script,
     parameters: &RunParameters,
-    most: u32,
+    asked: Asked,
     sink: &mut O,
 ) -> Result<(), NoMemory>
     requires script { IsTrue (is_script script.now) }
@@ -62,11 +66,15 @@ fn follow_all<O: RowSink>(
     let Some(ending) = ending_of(alloc, script, parameters)? else {
         return Ok(());
     };
+    let Some(window) = window_of(alloc, script, parameters, asked, ending.steps)? else {
+        sink.take_rows(NO_ATTEMPT);
+        return Ok(());
+    };
     let plan = Plan {
         lines,
         script,
         ending,
-        most,
+        window,
         budget: parameters.budget,
     };
     let mut rows = Rows::new(alloc, widths_of(lines, ending.steps));
@@ -107,7 +115,7 @@ fn put_heading(rows: &mut Rows, name: &str) {
     rows.begin(true);
     rows.head("step", "line");
     rows.text("statement");
-    rows.effect_text("what it does");
+    rows.effect_text("what it does (cell 2 is that of attempt 2)");
     rows.end();
 }
 

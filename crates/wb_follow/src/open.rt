@@ -40,6 +40,18 @@ pub(crate) struct RepeatAt {
     pub(crate) turns: i64,
 }
 
+/// The line of a statement that was begun, and whether it is a `callto` that no leave has ended.
+#[derive(Clone, Copy)]
+pub(crate) struct BegunAt {
+    pub(crate) line: u32,
+    pub(crate) calls_to: bool,
+}
+
+const NOT_BEGUN: BegunAt = BegunAt {
+    line: 0,
+    calls_to: false,
+};
+
 /// All that is open.
 pub(crate) struct Open {
     items: Vec<ItemAt>,
@@ -55,8 +67,8 @@ pub(crate) struct Open {
     undone_at: At,
     /// The line and the depth of what was begun last.
     last: At,
-    /// For each depth, which is how many bodies run, the line that was begun last there.
-    lines: Vec<u32>,
+    /// For each depth, which is how many bodies run, the statement that was begun last there.
+    lines: Vec<BegunAt>,
 }
 
 /// Written by hand, so that a proof about a function that drops such a value has a single call there, and only this function goes over
@@ -90,7 +102,7 @@ impl Open {
     /// Nothing is open yet. The only error is that memory ran out.
     pub(crate) fn new(alloc: Global) -> Result<Open, AllocError> {
         let mut lines = Vec::new(alloc);
-        lines.resize(MOST_FRAMES as usize + 2, 0)?;
+        lines.resize(MOST_FRAMES as usize + 2, NOT_BEGUN)?;
         Ok(Open {
             items: Vec::new(alloc),
             traps: Vec::new(alloc),
@@ -114,9 +126,9 @@ impl Open {
         (self.deleted.len(), self.traps.len())
     }
 
-    /// The line that was begun last at this depth; 0 if none was.
-    fn line_at(&self, depth: u32) -> u32 {
-        self.lines.get(depth as usize).copied().unwrap_or(0)
+    /// The statement that was begun last at this depth.
+    fn begun_at(&self, depth: u32) -> BegunAt {
+        self.lines.get(depth as usize).copied().unwrap_or(NOT_BEGUN)
     }
 
     /// Sees what the last machine turn began, and returns it. The only error is that memory ran out.
@@ -126,14 +138,15 @@ impl Open {
         before: &Before<'a>,
     ) -> Result<Begun<'a>, AllocError> {
         let mut begun = self.begun_by(machine, before);
-        begun.after = self.line_at(begun.depth);
+        begun.after = self.begun_at(begun.depth);
         self.last = At {
             line: begun.line,
             depth: begun.depth,
         };
         if let What::Statement(ahead) = begun.what {
-            if let Some(line) = self.lines.get_mut(begun.depth as usize) {
-                *line = begun.line;
+            if let Some(at) = self.lines.get_mut(begun.depth as usize) {
+                at.line = begun.line;
+                at.calls_to = matches!(ahead.statement, Statement::CallTo(..));
             }
             if !has_panicked(machine) {
                 self.see_statement(machine, before, ahead)?;
@@ -295,9 +308,13 @@ impl Open {
             }
             self.repeats.pop();
         }
+        let depth = caught.map_or(1, |it| it.at.depth);
+        if let Some(at) = self.lines.get_mut(depth as usize) {
+            at.calls_to = false;
+        }
         self.undone_at = At {
             line: self.last.line,
-            depth: caught.map_or(1, |it| it.at.depth),
+            depth,
         };
         caught
     }
@@ -356,6 +373,6 @@ fn begun_at<'a>(what: What<'a>, at: At) -> Begun<'a> {
         what,
         line: at.line,
         depth: at.depth,
-        after: 0,
+        after: NOT_BEGUN,
     }
 }

@@ -1,14 +1,17 @@
 //! The rows of a run that is followed: their columns, and how they go out.
 
-use std::alloc::Global;
+use std::alloc::{AllocError, Global};
 use std::fmt::{Display, Write};
 use wb_model::memory::NoMemory;
 
 /// How many bytes of whole rows are kept before they go out.
 const MOST_KEPT: usize = 8192;
 
-/// The most columns of a statement that are shown.
-const MOST_COLUMNS: usize = 100;
+/// How many columns a row has at most, unless a single word needs more.
+const MOST_COLUMNS: usize = 80;
+
+/// What is written instead of the rest of a statement.
+const ELLIPSIS: &str = "...";
 
 /// How many columns a statement is indented for each body that called its own.
 const INDENT: usize = 2;
@@ -30,6 +33,17 @@ pub(crate) struct Widths {
     pub(crate) statement: usize,
 }
 
+impl Widths {
+    /// The column in which a row begins to say what its step does.
+    fn column_of_effects(self) -> usize {
+        let column = self
+            .step
+            .saturating_add(self.line)
+            .saturating_add(self.statement);
+        column.saturating_add(6)
+    }
+}
+
 /// Rows that are being written. If memory runs out the rest is left out, and `hand_to` says so.
 pub(crate) struct Rows {
     widths: Widths,
@@ -37,9 +51,12 @@ pub(crate) struct Rows {
     whole: String,
     /// The row that is being written.
     row: String,
-    /// Whether that row is to be shown, and whether it already says something that its step does.
+    /// The lines of the row that ended last.
+    lines: String,
+    /// Whether that row is to be shown.
     is_shown: bool,
-    has_effect: bool,
+    /// How long the row is without what it says that its step does; `None` as long as it says nothing of that.
+    effects: Option<usize>,
     is_cut: bool,
 }
 
@@ -51,8 +68,9 @@ impl Drop for Rows {
             widths: _,
             whole: _,
             row: _,
+            lines: _,
             is_shown: _,
-            has_effect: _,
+            effects: _,
             is_cut: _,
         } = self;
     }
@@ -65,8 +83,9 @@ impl Rows {
             widths,
             whole: String::new(alloc),
             row: String::new(alloc),
+            lines: String::new(alloc),
             is_shown: false,
-            has_effect: false,
+            effects: None,
             is_cut: false,
         }
     }
@@ -81,7 +100,7 @@ impl Rows {
         let takes = self.whole.is_empty() || sink.take_rows(self.whole.as_str());
         self.whole.clear();
         if self.is_cut {
-            Err(NoMemory)
+            Err(NoMemory::from(AllocError))
         } else {
             Ok(takes)
         }
@@ -91,16 +110,19 @@ impl Rows {
     pub(crate) fn begin(&mut self, is_shown: bool) {
         self.row.clear();
         self.is_shown = is_shown;
-        self.has_effect = false;
+        self.effects = None;
     }
 
-    /// Ends the row.
+    /// Ends the row. What it says of its step goes on in further lines, if it doesn't fit in one.
     pub(crate) fn end(&mut self) {
         if !self.is_shown || self.is_cut {
             return;
         }
-        self.is_cut = self.row.push_str("\n").is_err()
-            || self.whole.push_str(self.row.as_str()).is_err();
+        let column = self.widths.column_of_effects();
+        let length = self.effects.unwrap_or(self.row.len());
+        self.lines.clear();
+        self.is_cut = put_row(&mut self.lines, self.row.as_str(), length, column).is_err()
+            || self.whole.push_str(self.lines.as_str()).is_err();
         self.is_shown = false;
     }
 
@@ -148,33 +170,30 @@ impl Rows {
 
     /// Writes a line of the script without the blanks around it; of a long line only its beginning.
     pub(crate) fn statement(&mut self, line: &str) {
-        let mut count: usize = 0;
-        for byte in line.trim().as_bytes() {
-            if count == MOST_COLUMNS {
-                self.text("...");
-                return;
-            }
-            count = count.saturating_add(1);
+        let line = line.trim();
+        let room = MOST_COLUMNS.saturating_sub(self.row.len());
+        let is_whole = line.len() <= room;
+        let shown = if is_whole {
+            room
+        } else {
+            room.saturating_sub(ELLIPSIS.len())
+        };
+        let bytes = line.as_bytes();
+        let (part, _) = bytes.split_at_checked(shown).unwrap_or((bytes, &[]));
+        for byte in part {
             self.char(*byte);
+        }
+        if !is_whole {
+            self.text(ELLIPSIS);
         }
     }
 
     /// Begins one thing that the row says of its step: in the column for that, or after what the row already says there.
     pub(crate) fn effect(&mut self) {
-        if self.has_effect {
-            self.text("; ");
-            return;
+        match self.effects {
+            Some(_) => self.text("; "),
+            None => self.effects = Some(self.row.len()),
         }
-        self.has_effect = true;
-        let Widths {
-            step,
-            line,
-            statement,
-        } = self.widths;
-        let column = step.saturating_add(line).saturating_add(statement);
-        let missing = column.saturating_add(4).saturating_sub(self.row.len());
-        self.blanks(missing);
-        self.text("  ");
     }
 
     /// Writes a text as one thing that the step does.
@@ -198,4 +217,53 @@ impl Rows {
             self.char(b' ');
         }
     }
+}
+
+/// Writes a row. What its step does is what comes after the first `length` bytes. It is written in its column, broken between words; or behind
+/// a long statement, if it fits there as a whole.
+fn put_row(lines: &mut String, row: &str, length: usize, column: usize) -> Result<(), AllocError> {
+    let (head, effects) = row.split_at_checked(length).unwrap_or((row, ""));
+    let behind = head.len().saturating_add(2);
+    let fits = behind.saturating_add(effects.len()) <= MOST_COLUMNS;
+    let column = if fits { column.max(behind) } else { column };
+    lines.push_str(head)?;
+    let mut at = head.len();
+    let mut is_first = true;
+    for word in effects.split(' ') {
+        if !word.is_empty() {
+            at = put_word(lines, word, at, column, is_first)?;
+            is_first = false;
+        }
+    }
+    lines.push_str("\n")
+}
+
+/// Writes a word of what a step does behind `at` columns, or in the next line if it doesn't fit there. Returns how many columns the line has
+/// then.
+fn put_word(
+    whole: &mut String,
+    word: &str,
+    at: usize,
+    column: usize,
+    is_first: bool,
+) -> Result<usize, AllocError> {
+    let fits = if is_first {
+        at.saturating_add(2) <= column
+    } else {
+        at.saturating_add(word.len()) < MOST_COLUMNS
+    };
+    let at = if fits { at } else { 0 };
+    if !fits {
+        whole.push_str("\n")?;
+    }
+    let blanks = if is_first || !fits {
+        column.saturating_sub(at)
+    } else {
+        1
+    };
+    for _ in 0..blanks {
+        whole.push_str(" ")?;
+    }
+    whole.push_str(word)?;
+    Ok(at.saturating_add(blanks).saturating_add(word.len()))
 }

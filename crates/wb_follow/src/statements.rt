@@ -8,27 +8,22 @@ use wb_machine::Machine;
 use wb_model::heap::{Answer, Attempt, Header, Kind, Ptr};
 use wb_model::script::Statement;
 
-/// Says what became of an attempt. `before` is the place of the cell that it was to make longer; `None` if it was for a new cell.
+/// Says what became of an attempt. `before` is the cell that it was to make longer; `None` if it was for a new cell.
 pub(crate) fn put_attempt(
     rows: &mut Rows,
     machine: &Machine<'_>,
     attempt: Attempt,
-    before: Option<u32>,
+    before: Option<Header>,
     open: &mut Open,
 ) {
     rows.effect_text("attempt ");
     rows.number(attempt.number);
     match attempt.answer {
         Answer::Granted => put_granted(rows, machine, attempt, before, open),
-        Answer::Simulated => {
-            rows.text(" is made to fail: ");
-            put_bytes(rows, attempt.length, attempt.place);
-        }
-        Answer::Refused => {
-            rows.text(" is denied: ");
-            put_bytes(rows, attempt.length, attempt.place);
-        }
+        Answer::Simulated => rows.text(" is made to fail: "),
+        Answer::Refused => rows.text(" is denied: "),
     }
+    put_bytes(rows, attempt.length, attempt.place);
 }
 
 /// Says which cell an attempt was granted: a new one, one that moved, or one that is longer at its place.
@@ -36,29 +31,46 @@ fn put_granted(
     rows: &mut Rows,
     machine: &Machine<'_>,
     attempt: Attempt,
-    before: Option<u32>,
+    before: Option<Header>,
     open: &mut Open,
 ) {
     let cell = live_at(machine, attempt.place);
-    let is_stack = cell.is_some_and(|it| it.kind == Kind::Cleanup);
-    let before = if is_stack && attempt.number > 1 {
-        Some(open.move_stack(attempt.place))
-    } else {
-        before
-    };
+    if attempt.number > 1 && cell.is_some_and(|it| it.kind == Kind::Cleanup) {
+        put_stack(rows, attempt.place, open.move_stack(attempt.place));
+        return;
+    }
     match (cell, before) {
-        (Some(cell), _) if cell.number != attempt.number => rows.text(" makes the cell longer: "),
-        (Some(_), Some(place)) => {
-            rows.text(" moves the cell from place ");
-            rows.number(place);
+        (Some(cell), _) if cell.number != attempt.number => {
+            rows.text(" makes ");
+            put_name(rows, cell.number);
+            rows.text(" longer: ");
+        }
+        (Some(_), Some(before)) => {
+            rows.text(" moves ");
+            put_name(rows, before.number);
+            rows.text(" from place ");
+            rows.number(before.place);
             rows.text(": ");
         }
         _ => rows.text(" is granted: "),
     }
-    put_bytes(rows, attempt.length, attempt.place);
-    if is_stack {
-        rows.text(", of the cleanup stack");
+}
+
+/// Says that the cell of the cleanup stack is longer, and where it was before if it moved.
+fn put_stack(rows: &mut Rows, place: u32, before: u32) {
+    if place == before {
+        rows.text(" makes the cleanup stack longer: ");
+    } else {
+        rows.text(" moves the cleanup stack from place ");
+        rows.number(before);
+        rows.text(": ");
     }
+}
+
+/// Names a cell by the attempt that made it or moved it last.
+fn put_name(rows: &mut Rows, number: u32) {
+    rows.text("cell ");
+    rows.number(number);
 }
 
 fn put_bytes(rows: &mut Rows, length: u32, place: u32) {
@@ -70,6 +82,8 @@ fn put_bytes(rows: &mut Rows, length: u32, place: u32) {
 /// Says that a cell is freed.
 pub(crate) fn put_freed(rows: &mut Rows, cell: Header) {
     rows.effect_text("frees ");
+    put_name(rows, cell.number);
+    rows.text(": ");
     put_bytes(rows, cell.length, cell.place);
 }
 
@@ -87,7 +101,8 @@ pub(crate) fn put_pointer(rows: &mut Rows, pointer: Ptr) {
     if pointer.number == 0 {
         rows.text("null");
     } else {
-        rows.text("the cell at place ");
+        put_name(rows, pointer.number);
+        rows.text(" at place ");
         rows.number(pointer.place);
     }
 }
@@ -101,12 +116,12 @@ pub(crate) fn put_statement<'a>(
     open: &mut Open,
 ) {
     if let Some(attempt) = before.attempt(machine) {
-        let place = if ahead.reallocates() {
-            before.cell.map(|it| it.place)
+        let cell = if ahead.reallocates() {
+            before.cell
         } else {
             None
         };
-        put_attempt(rows, machine, attempt, place, open);
+        put_attempt(rows, machine, attempt, cell, open);
         if attempt.answer != Answer::Granted && !ahead.leaves(Some(attempt)) {
             rows.effect_text("gives null");
         }
@@ -140,11 +155,14 @@ fn put_shorter(rows: &mut Rows, machine: &Machine<'_>, before: Option<Header>) {
     let Some(cell) = live_at(machine, before.place) else {
         return;
     };
-    if cell.length < before.length {
-        rows.effect_text("makes the cell shorter: ");
+    let is_shorter = cell.length < before.length;
+    rows.effect_text(if is_shorter { "makes " } else { "leaves " });
+    put_name(rows, cell.number);
+    rows.text(if is_shorter {
+        " shorter: "
     } else {
-        rows.effect_text("leaves the cell as long: ");
-    }
+        " as long: "
+    });
     put_bytes(rows, cell.length, cell.place);
 }
 

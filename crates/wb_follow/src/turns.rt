@@ -2,44 +2,33 @@
 
 use crate::before::Before;
 use crate::begun::{Begun, What};
+use crate::calls::{Did, done_by, gives_null, put_arguments};
 use crate::effects::put_effects;
 use crate::endings::Ending;
 use crate::open::{Doomed, ItemAt, Open};
 use crate::rows::{RowSink, Rows};
+use crate::window::Window;
 use wb_history::ScriptLines;
 use wb_machine::{Machine, Turn};
 use wb_model::heap::{Item, Kind};
 use wb_model::memory::NoMemory;
 use wb_model::script::Script;
 
-/// What is followed: a script's run, how it ends, and how many of its first steps and of its last steps are shown.
+/// What is followed: a script's run, how it ends, and which of its steps are shown.
 #[derive(Clone, Copy)]
 pub(crate) struct Plan<'s> {
     pub(crate) lines: &'s ScriptLines<'s>,
     pub(crate) script: &'s Script,
     pub(crate) ending: Ending,
-    pub(crate) most: u32,
+    pub(crate) window: Window,
     pub(crate) budget: u32,
 }
 
-impl<'s> Plan<'s> {
-    /// Whether a step is shown.
-    fn shows(&self, step: u32) -> bool {
-        step <= self.most || step > self.ending.steps.saturating_sub(self.most)
-    }
-
-    /// How many steps are left out between the first that are shown and the last.
-    fn left_out(&self) -> u32 {
-        let shown = self.most.saturating_mul(2);
-        self.ending.steps.saturating_sub(shown)
-    }
-}
-
-/// How many bodies ran where the last row began, and whether its statement left.
+/// How many bodies ran where the last row began, and what its statement did as far as the next row depends on it.
 #[derive(Clone, Copy)]
 struct Last {
     depth: u32,
-    leaves: bool,
+    did: Did,
 }
 
 /// Lets the machine take its turns, at most one for each step of the budget, besides the first turn and the one that ends the run, and
@@ -53,7 +42,7 @@ pub(crate) fn follow_turns<'a, O: RowSink>(
 ) -> Result<bool, NoMemory> {
     let mut last = Last {
         depth: 1,
-        leaves: false,
+        did: Did::Other,
     };
     for _ in 0..=plan.budget.saturating_add(1) {
         let before = Before::of(machine, open.newest());
@@ -85,36 +74,38 @@ fn put_turn<'a>(
     if let What::Nothing = begun.what {
         return last;
     }
-    put_way(rows, last, begun);
+    if !matches!(last.did, Did::Left) {
+        put_way(rows, last, begun);
+    }
     rows.end();
     let step = machine.steps();
-    if step == plan.most.saturating_add(1) {
-        put_left_out(rows, plan.left_out());
-    }
-    rows.begin(plan.shows(step));
+    put_left_out(rows, plan.window.left_out(step));
+    rows.begin(plan.window.shows(step));
     put_begun(rows, begun, step, plan);
     let is_cut = step == plan.ending.steps && plan.ending.is_at_ceiling();
+    let leaves = !is_cut && put_effects(rows, machine, before, begun, open);
+    put_arguments(rows, machine, begun, plan);
     Last {
         depth: begun.depth,
-        leaves: !is_cut && put_effects(rows, machine, before, begun, open),
+        did: if leaves { Did::Left } else { done_by(begun) },
     }
 }
 
 /// Says where the run goes on after a row, if in another body: in one that is entered, or back in one that called.
 fn put_way(rows: &mut Rows, last: Last, next: Begun<'_>) {
-    if last.leaves || next.depth == last.depth {
-        return;
+    if gives_null(last.did, last.depth, next) {
+        rows.effect_text("returns null");
     }
     if next.depth > last.depth {
         rows.effect_text("enters depth ");
         rows.number(next.depth);
-    } else {
+    } else if next.depth < last.depth {
         rows.effect_text("back to line ");
-        rows.number(next.after);
+        rows.number(next.after.line);
     }
 }
 
-/// Writes a row that stands for all rows that aren't shown, if there are any.
+/// Writes a row that stands for rows that aren't shown, if there are any.
 fn put_left_out(rows: &mut Rows, steps: u32) {
     if steps == 0 {
         return;
@@ -122,7 +113,11 @@ fn put_left_out(rows: &mut Rows, steps: u32) {
     rows.begin(true);
     rows.head("..", "..");
     rows.number(steps);
-    rows.text(" steps are left out");
+    rows.text(if steps == 1 {
+        " step is left out"
+    } else {
+        " steps are left out"
+    });
     rows.end();
 }
 
@@ -130,7 +125,7 @@ fn put_left_out(rows: &mut Rows, steps: u32) {
 fn put_begun(rows: &mut Rows, begun: Begun<'_>, step: u32, plan: Plan<'_>) {
     if let What::Run = begun.what {
         rows.head("0", "");
-        rows.text("(the run begins)");
+        rows.text("(the cleanup stack)");
         return;
     }
     rows.head(step, begun.line);

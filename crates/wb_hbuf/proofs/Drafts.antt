@@ -9,10 +9,10 @@ use Rattle.wb_model.specs.cells.CellRow.{content_or_nil, payload_of}
 use Rattle.wb_model.specs.meaning.Texts.{AreUnits, exactly}
 use Rattle.wb_model.specs.heap.Debug.{Debug, IsSoundDebug, debug_changed, with_row}
 use Rattle.wb_model.specs.heap.Space.{limit_under}
-use Rattle.wb_model.proofs.LimitedHeaps.{limit_under-ceiling}
+use Rattle.wb_model.proofs.heaps.LimitedHeaps.{limit_under-ceiling}
 use Rattle.wb_model.specs.cells.TextCells.{joined, room_in, units_after, text_in, text_at, IsTextAt}
-use Rattle.wb_model.proofs.TextCells.{IsUnit, zeros, joined-halves, halves-joined, length-halves, length-joined, room-even, text-read, IsUnit-exactly, IsUnit-shorter}
-use Rattle.wb_model.proofs.TextCellsHeap.{IsTextNow, text-changed, found-changed, changed-twice, changed-same}
+use Rattle.wb_model.proofs.heaps.TextCells.{IsUnit, zeros, joined-halves, halves-joined, length-halves, length-joined, room-even, text-read, IsUnit-exactly, IsUnit-shorter}
+use Rattle.wb_model.proofs.heaps.TextCellsHeap.{IsTextNow, text-changed, found-changed, changed-twice, changed-same}
 use Rattle.wb_hbuf.specs.Drafts.{HasUnits, IsDraft, put}
 use Rattle.wb_hbuf.proofs.Units.{set-following, put-following, length-put, units-put}
 

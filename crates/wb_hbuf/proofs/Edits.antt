@@ -9,8 +9,8 @@ use Rattle.wb_model.specs.cells.CellRow.{content_or_nil, payload_of}
 use Rattle.wb_model.specs.meaning.Texts.{Edited, exactly, units_of_part, answer_of, at_most, insert_text, delete_text, set_length_text}
 use Rattle.wb_model.specs.heap.Debug.{Debug, IsSoundDebug, debug_changed}
 use Rattle.wb_model.specs.cells.TextCells.{joined, room_in, units_after, text_in, text_at, IsTextAt, debug_edited}
-use Rattle.wb_model.proofs.TextCells.{length-exactly}
-use Rattle.wb_model.proofs.TextCellsHeap.{IsTextNow, found-other}
+use Rattle.wb_model.proofs.heaps.TextCells.{length-exactly}
+use Rattle.wb_model.proofs.heaps.TextCellsHeap.{IsTextNow, found-other}
 use Rattle.wb_hbuf.specs.declared.sources.Source.{Source}
 use Rattle.wb_hbuf.specs.declared.sources.Source.TheVariants.{Literal, Buffer, Cell, Own}
 use Rattle.wb_hbuf.specs.Sources.{IsApart, IsForeign, source_units}

@@ -13,8 +13,8 @@ use Rattle.wb_model.specs.heap.Heap.{alloc_request, new_cell, after_alloc, reall
 use Rattle.wb_model.specs.heap.LimitedHeap.{zero_words}
 use Rattle.wb_model.specs.heap.Debug.{Debug, IsSoundDebug, made_by, answer_in, number_of_next, alloc_made, longer_made, shorter_made, realloc_made}
 use Rattle.wb_model.specs.cells.TextCells.{text_in, text_at, IsText, IsTextAt, IsGrantedText, IsRemadeText}
-use Rattle.wb_model.proofs.NewCells.{found-inserted}
-use Rattle.wb_model.proofs.TextCells.{text-read, zeros-text, resized-text}
+use Rattle.wb_model.proofs.heaps.NewCells.{found-inserted}
+use Rattle.wb_model.proofs.heaps.TextCells.{text-read, zeros-text, resized-text}
 
 granted-text : (new : Debug) (c : Cell (List ℕ)) (row : List (Cell (List ℕ))) (t : List ℕ) → new.heap.row ≡ inserted c row → IsSoundDebug new → c.head.kind ≡ Text →
     IsText c.content t → IsTextAt (pointer_to c.head) new × (text_at (pointer_to c.head) new ≡ t)

@@ -9,7 +9,7 @@ use Rattle.wb_chunk.proofs.WrittenHalves.{length-halves_from, get_or-halves_from
 use Rattle.wb_model.specs.cells.Spelling.{halves}
 use Rattle.wb_model.specs.meaning.Texts.{AreUnits, exactly, units_of_part}
 use Rattle.wb_model.specs.cells.TextCells.{joined}
-use Rattle.wb_model.proofs.TextCells.{IsUnit, length-exactly}
+use Rattle.wb_model.proofs.heaps.TextCells.{IsUnit, length-exactly}
 use Rattle.wb_hbuf.specs.Drafts.{put}
 
 following-two : (i : ℕ) → suc (suc i) / 2 ≡ suc (i / 2)

@@ -5,7 +5,7 @@ use Rattle.wb_model.specs.declared.heap.Ptr.{Ptr}
 use Rattle.wb_model.specs.cells.CellRow.{payload_of}
 use Rattle.wb_model.specs.heap.Debug.{Debug}
 use Rattle.wb_model.specs.cells.TextCells.{room_in, units_after, text_at}
-use Rattle.wb_model.proofs.TextCells.{length-exactly}
+use Rattle.wb_model.proofs.heaps.TextCells.{length-exactly}
 use Rattle.wb_hbuf.specs.declared.sources.Source.{Source}
 use Rattle.wb_hbuf.specs.Sources.{base_units, count_of, from_of, source_units}
 use Rattle.wb_hbuf.specs.Drafts.{HasUnits, IsDraft, put}

@@ -42,10 +42,10 @@ impl<'a> AttemptMade<'a> {
     }
 }
 
-/// How many attempts of a run were made to fail, each counted once.
+/// How many attempts of a run failed, each counted once.
 #[derive(Clone, Copy, Debug, PartialEq, Eq)]
 pub struct FailedCounts {
-    /// Attempts that the rule makes fail, whether or not the script's own setting makes them fail too.
+    /// Attempts that the rule makes fail or its limit denies, whether or not the script's own setting makes them fail too.
     pub by_rule: u32,
     /// Attempts that only the script's own setting makes fail.
     pub by_script: u32,
@@ -96,7 +96,7 @@ impl<'a> Attempts<'a> {
         self.top
     }
 
-    /// Returns how many attempts were made to fail.
+    /// Returns how many attempts failed.
     pub fn failed_counts(&self) -> FailedCounts {
         self.failed
     }
@@ -204,17 +204,25 @@ impl<'a> Attempts<'a> {
         }
     }
 
-    fn count_failed(&mut self, attempt: Attempt) {
-        if attempt.answer != Answer::Simulated {
-            return;
+    /// Returns whether an attempt failed because of the rule.
+    pub fn is_by_rule(&self, attempt: Attempt) -> bool {
+        if attempt.answer == Answer::Granted {
+            return false;
         }
-        let is_by_rule = match &self.rule {
+        match &self.rule {
             Rule::Every(rate) => attempt.number.checked_rem(*rate) == Some(0),
             Rule::From(first) => *first != 0 && attempt.number >= *first,
             Rule::Number(_) | Rule::Pair(..) | Rule::Set(_) => self.is_named(attempt),
-            Rule::Unlimited | Rule::Limit(_) => false,
-        };
-        if is_by_rule {
+            Rule::Limit(_) => attempt.answer == Answer::Refused,
+            Rule::Unlimited => false,
+        }
+    }
+
+    fn count_failed(&mut self, attempt: Attempt) {
+        if attempt.answer == Answer::Granted {
+            return;
+        }
+        if self.is_by_rule(attempt) {
             self.failed.by_rule = self.failed.by_rule.saturating_add(1);
         } else {
             self.failed.by_script = self.failed.by_script.saturating_add(1);

@@ -160,6 +160,16 @@ impl<'a> Calls<'a> {
         Ok(path)
     }
 
+    /// Returns the path `before` with the lines that were begun last from the depth `from` to the depth `to`. The only error is that memory
+    /// ran out.
+    pub fn path_on(&mut self, before: u32, from: u32, to: u32) -> Result<u32, AllocError> {
+        let mut path = before;
+        for at in from..=to.min(MOST_FRAMES) {
+            path = self.longer(path, self.line_at(at))?;
+        }
+        Ok(path)
+    }
+
     /// The call path that the frame at this depth has; the empty path if the depth is 0.
     fn known_path(&self, depth: u32) -> u32 {
         match self.frames.get(depth as usize) {

@@ -1,6 +1,6 @@
 //! The items on the cleanup stack, and where each was pushed.
 
-use crate::moments::Moment;
+use crate::moments::{Moment, ShortLine};
 use std::alloc::{AllocError, Global};
 use wb_model::heap::{Item, Ptr};
 
@@ -9,6 +9,17 @@ use wb_model::heap::{Item, Ptr};
 pub struct ItemOnStack {
     pub item: Item,
     pub pushed: Moment,
+    /// How many bodies ran when it was pushed.
+    pub depth: u32,
+    /// The pop that last took off the item above it; `None` if none did.
+    pub above: Option<Popped>,
+}
+
+/// A line that popped an item, and the line that had pushed the item.
+#[derive(Clone, Copy, Debug, PartialEq, Eq)]
+pub struct Popped {
+    pub line: ShortLine,
+    pub pushed: ShortLine,
 }
 
 impl ItemOnStack {
@@ -24,6 +35,8 @@ impl ItemOnStack {
 #[derive(Drop)]
 pub struct Items {
     items: Vec<ItemOnStack>,
+    /// The pop that last took off an item which a calling body had pushed; `None` if none did.
+    pub of_caller: Option<Popped>,
 }
 
 impl Items {
@@ -31,6 +44,7 @@ impl Items {
     pub fn new(alloc: Global) -> Items {
         Items {
             items: Vec::new(alloc),
+            of_caller: None,
         }
     }
 
@@ -48,9 +62,33 @@ impl Items {
         self.items.last().copied()
     }
 
-    pub fn push(&mut self, item: Item, pushed: Moment) -> Result<(), AllocError> {
-        self.items.push(ItemOnStack { item, pushed })?;
+    /// A line pushes an item, while `depth` bodies run.
+    pub fn push(&mut self, item: Item, pushed: Moment, depth: u32) -> Result<(), AllocError> {
+        self.items.push(ItemOnStack {
+            item,
+            pushed,
+            depth,
+            above: None,
+        })?;
         Ok(())
+    }
+
+    /// A line pops the newest, while `depth` bodies run. Returns the item; `None` if there is none.
+    pub fn pop_by(&mut self, line: u32, depth: u32) -> Option<ItemOnStack> {
+        let Some(item) = self.items.pop() else {
+            return None;
+        };
+        let popped = Popped {
+            line: ShortLine::of(line),
+            pushed: ShortLine::of(item.pushed.line),
+        };
+        if item.depth < depth {
+            self.of_caller = Some(popped);
+        }
+        if let Some(below) = self.items.last_mut() {
+            below.above = Some(popped);
+        }
+        Some(item)
     }
 
     /// Takes the newest off; `None` if there is none.

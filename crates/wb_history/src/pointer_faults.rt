@@ -102,6 +102,16 @@ pub fn is_same_pointer(first: Pointer, second: Pointer) -> bool {
     }
 }
 
+/// Whether two operands, perhaps of two bodies, are the same field of objects of one class.
+pub fn is_same_field(first: Pointer, second: Pointer) -> bool {
+    match (first, second) {
+        (Pointer::Field(_, class, index), Pointer::Field(_, other_class, other_index)) => {
+            class == other_class && index == other_index
+        }
+        _ => false,
+    }
+}
+
 fn is_same_holder(first: Holder, second: Holder) -> bool {
     match (first, second) {
         (Holder::Local(one), Holder::Local(other)) => one == other,

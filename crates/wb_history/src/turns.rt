@@ -11,6 +11,7 @@ use crate::course::Course;
 use crate::items::{ItemOnStack, Items};
 use crate::lives::{By, End, Lives};
 use crate::looks::has_panicked;
+use crate::marks::Marks;
 use crate::moments::Moment;
 use crate::statements::{Ahead, NULL};
 use crate::traps::Traps;
@@ -36,6 +37,8 @@ struct Outside<'a> {
     /// How many bodies ran, and the call path of the line.
     depth: u32,
     path: u32,
+    /// How many bodies ran when the first line after it began.
+    inside: u32,
 }
 
 /// What happened in a run so far.
@@ -44,6 +47,7 @@ pub struct History<'a> {
     pub lives: Lives,
     pub items: Items,
     pub traps: Traps,
+    pub marks: Marks,
     pub views: Views,
     pub calls: Calls<'a>,
     pub bodies: Bodies,
@@ -74,6 +78,7 @@ impl Drop for History<'_> {
             lives: _,
             items: _,
             traps: _,
+            marks: _,
             views: _,
             calls: _,
             bodies: _,
@@ -105,6 +110,7 @@ impl<'a> History<'a> {
             lives: Lives::new(alloc),
             items: Items::new(alloc),
             traps: Traps::new(alloc),
+            marks: Marks::new(alloc),
             views: Views::new(alloc),
             calls: Calls::new(alloc)?,
             bodies: Bodies::of(alloc, script)?,
@@ -123,6 +129,7 @@ impl<'a> History<'a> {
                 statement: None,
                 depth: 0,
                 path: 0,
+                inside: 0,
             },
         })
     }
@@ -157,6 +164,18 @@ impl<'a> History<'a> {
         } else {
             self.calls.depth()
         };
+        self.calls.path(depth)
+    }
+
+    /// Returns the call path to the line that was begun last. In a body that undoes it goes on from the line because of which something is
+    /// destroyed, even if that line left. The only error is that memory ran out.
+    pub fn last_path(&mut self) -> Result<u32, AllocError> {
+        let depth = self.calls.depth();
+        if self.undoes && self.outside.path != 0 {
+            return self
+                .calls
+                .path_on(self.outside.path, self.outside.inside, depth);
+        }
         self.calls.path(depth)
     }
 
@@ -255,7 +274,7 @@ impl<'a> History<'a> {
         self.steps = machine.steps();
         let line = machine.line();
         if self.bodies.undoes(line) != self.undoes {
-            self.see_undoing()?;
+            self.see_undoing(machine.depth())?;
         }
         self.attempts.see_turn(line, self.undoes);
         self.last = line;
@@ -263,9 +282,9 @@ impl<'a> History<'a> {
             .begin(machine.depth(), line, machine.statement(), self.steps)
     }
 
-    /// Sees that a body that undoes begins, or that none runs any more. Such a body takes the depth, and so the frames, of bodies that a
-    /// leave ended. So the statement that was begun before it is kept, with its call path.
-    fn see_undoing(&mut self) -> Result<(), AllocError> {
+    /// Sees that a body that undoes begins at the depth `inside`, or that none runs any more. Such a body takes the depth, and so the frames,
+    /// of bodies that a leave ended. So the statement that was begun before it is kept, with its call path.
+    fn see_undoing(&mut self, inside: u32) -> Result<(), AllocError> {
         self.undoes = !self.undoes;
         if self.undoes {
             let depth = self.calls.depth();
@@ -274,6 +293,7 @@ impl<'a> History<'a> {
                 statement: self.calls.statement_at(depth),
                 depth,
                 path: self.calls.path(depth)?,
+                inside,
             };
         }
         Ok(())

@@ -113,7 +113,7 @@ pub fn machine_of<'a>(
     match Machine::new(alloc, script, rule, parameters.budget, parameters.shape) {
         Ok(machine) => Ok(Some(machine)),
         Err(RunFault::BadShape) => Ok(None),
-        Err(RunFault::NoMemory) => Err(NoMemory),
+        Err(RunFault::NoMemory) => Err(NoMemory::from(AllocError)),
     }
 }
 
@@ -297,7 +297,7 @@ fn end_of<'a>(
 ) -> Result<EndOfRun<'a>, AllocError> {
     let raised = machine.raised_panic();
     let path = match raised {
-        Some(raised) => path_to(raised, machine, history)?,
+        Some(raised) => path_to(raised, history)?,
         None => 0,
     };
     let counted = counted_by(machine, alloc)?;
@@ -313,13 +313,9 @@ fn end_of<'a>(
 }
 
 /// The call path of the line that is to be named for a panic.
-fn path_to<'a>(
-    raised: Raised,
-    machine: &Machine<'a>,
-    history: &mut History<'a>,
-) -> Result<u32, AllocError> {
+fn path_to(raised: Raised, history: &mut History<'_>) -> Result<u32, AllocError> {
     match raised.raiser {
-        Raiser::Statement | Raiser::Holder => history.calls.path(machine.depth()),
+        Raiser::Statement | Raiser::Holder => history.last_path(),
         Raiser::TrapEnd => history.calls.path(raised.depth),
         Raiser::MainEnd => history.calls.path(1),
         Raiser::Item | Raiser::Release => history.outside_path(),

@@ -11,8 +11,8 @@ use Rattle.wb_model.specs.declared.script.Script.{Script}
 use Rattle.wb_model.specs.runs.Lengths.{end_in, run_in, IsLeastBadLength, IsLengthTable, IsNoBadLength, IsTableFrom}
 use Rattle.wb_model.specs.runs.Run.{highest_end}
 use Rattle.wb_model.specs.runs.RunEnds.{end_of, is_bad_end, is_cut_end}
-use Rattle.wb_model.proofs.LengthLemmas.{heap-grants-within, heap-within, heaps-same}
-use Rattle.wb_model.proofs.LengthTables.{bad-end, cut-end, from_within}
+use Rattle.wb_model.proofs.runs.LengthLemmas.{heap-grants-within, heap-within, heaps-same}
+use Rattle.wb_model.proofs.runs.LengthTables.{bad-end, cut-end, from_within}
 use Rattle.wb_lengths.specs.Lengths.{first_bad, has_cut, IsCutNowhere, IsCutSomewhere}
 use Rattle.wb_lengths.specs.Walk.{range, GrantsWithin, IsPutBefore, IsRightFrom}
 

@@ -4,7 +4,7 @@ ghost use Rattle.std.specs.Option.{option_to_list};
 ghost use Rattle.std.specs.Prelude.{◌≡◌, [], ◌∷◌, ◌++◌, None, OnOk};
 ghost use Rattle.wb_lengths.specs.Walk.{IsPutBefore, range};
 
-use std::alloc::Global;
+use std::alloc::{AllocError, Global};
 use std::marker::Model;
 use wb_model::items::Items;
 use wb_model::lengths::{LengthRange, LengthTable};
@@ -65,7 +65,9 @@ impl TableSoFar {
     fn put_first(&mut self, range: LengthRange) -> Result<(), NoMemory>
         ensures { OnOk result (self.new ≡ range ∷ self.old) }
     {
-        self.ranges.push(range).map_err(|_| NoMemory)
+        self.ranges
+            .push(range)
+            .map_err(|failed| NoMemory::from(AllocError::from(failed)))
     }
 
     /// The ranges as a table, in ascending order.

@@ -3,6 +3,8 @@ pub mod Asked
 pub mod AskedPieces
 pub mod Counted
 pub mod Later
+pub mod Made
+pub mod NextMade
 pub mod NoRise
 pub mod NothingAsked
 pub mod Quiet

@@ -13,13 +13,13 @@ ghost use Rattle.wb_machine.specs.Flow.{is_stop};
 ghost use Rattle.wb_machine.specs.RunState.{first_state};
 ghost use Rattle.wb_machine.specs.Seen.{seen_at_start};
 ghost use Rattle.wb_machine.specs.Results.{leaks_at_end};
-ghost use Rattle.wb_machine.specs.Turns.{IsSameRun, TurnLeaves, WillMakeNoRise};
+ghost use Rattle.wb_machine.specs.Turns.{IsSameRun, MakesMore, TurnLeaves, WillMakeNoRise};
 
 use crate::control::Control;
 use crate::fault::RunFault;
 use crate::pieces::Ending;
 use crate::state::State;
-use std::alloc::Global;
+use std::alloc::{AllocError, Global};
 use std::marker::Model;
 use wb_debug::Heap;
 use wb_model::heap::{Rule, Shape};
@@ -128,7 +128,7 @@ impl<'a> Machine<'a> {
         ensures quiet { WillMakeNoRise self.old → OnErr result (self.new.over ≡ true) }
     {
         if self.failed {
-            return Err(NoMemory);
+            return Err(NoMemory::from(AllocError));
         }
         if self.begun && self.control.is_over() {
             return Ok(Turn::Ended);
@@ -187,6 +187,7 @@ impl<'a> Machine<'a> {
     pub fn will_attempt(&self) -> bool
         ensures asks { result ≡ self.now.asks }
         ensures going { result ≡ true → (self.now.over ≡ false) × (self.now.failed ≡ false) }
+        ensures made { result ≡ true → MakesMore self.now }
     {
         if self.failed {
             return false;

@@ -11,7 +11,8 @@ use crate::runs::{Answer, Runs, has_run_to_explain, plain_run};
 use std::alloc::Global;
 use wb_explain::files::{Deed, file_fault};
 use wb_explain::runs::{
-    greatest_bad, heaps_found, last_bad, last_named, lengths_found, numbers_found, states_found,
+    greatest_bad, heaps_found, last_bad, last_named, lengths_found, longest_better, numbers_found,
+    states_found,
 };
 use wb_history::{Attempts, ScriptLines, Until, watch_attempts};
 use wb_model::failures::Failures;
@@ -37,7 +38,17 @@ pub fn has_nothing_to_say(answer: Answer<'_>) -> bool {
 
 /// Whether nothing was found, and there is no run to explain all the same.
 fn is_found_nothing(answer: Answer<'_>) -> bool {
-    answer.status == NOTHING_FOUND && !has_run_to_explain(&answer.command.task, answer.findings)
+    answer.status == NOTHING_FOUND
+        && !has_run_to_explain(&answer.command.task, answer.findings)
+        && better_length(answer.findings).is_none()
+}
+
+/// The length of a heap in which the run does better than in a longer one; `None` if there is none, or if the report has no table of lengths.
+fn better_length(findings: &Findings) -> Option<u32> {
+    match &findings.ranges {
+        Some(ranges) => longest_better(ranges.as_slice()),
+        None => None,
+    }
 }
 
 /// Returns why the script could not be read, or the report could not be written; empty if no fault was recorded. The only error is that
@@ -163,7 +174,22 @@ fn explain_heaps(
         Some(length) => watch_attempts(alloc, script, parameters, Until::Past(length))?,
         None => None,
     };
-    Ok(heaps_found(alloc, lines, attempts.as_ref(), budget_of(command), ranges)?)
+    let better = match longest_better(ranges) {
+        Some(length) => {
+            let parameters = parameters_of(command, Rule::Limit(length));
+            watch_attempts(alloc, script, parameters, Until::Attempt(u32::MAX))?
+        }
+        None => None,
+    };
+    let budget = budget_of(command);
+    Ok(heaps_found(
+        alloc,
+        lines,
+        attempts.as_ref(),
+        better.as_ref(),
+        budget,
+        ranges,
+    )?)
 }
 
 /// Returns the kind of failure that the report lists, and how the run of each number ended; `None` if the report has no such list, or if

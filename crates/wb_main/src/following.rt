@@ -5,7 +5,7 @@ ghost use Rattle.wb_model.specs.language.Sound.{is_script};
 
 use crate::asked::{parameters_of, script_name};
 use std::io::Write;
-use wb_follow::{RowSink, follow_run};
+use wb_follow::{Asked, RowSink, follow_run};
 use wb_history::{ScriptFile, ScriptLines};
 use wb_model::heap::Rule;
 use wb_model::memory::NoMemory;
@@ -33,7 +33,11 @@ pub fn put_steps(rt: &HostRuntime, exit: &Exit) {
         && let (Some(most), Task::Run(rule)) = (command.follow, &command.task)
         && exit.status != READ_OR_WRITE_FAULT
     {
-        let _ = follow_script(rt, command, findings, rule, most);
+        let asked = Asked {
+            steps: most,
+            around: command.around,
+        };
+        let _ = follow_script(rt, command, findings, rule, asked);
     }
 }
 
@@ -43,7 +47,7 @@ fn follow_script(
     command: &Command,
     findings: &Findings,
     rule: &Rule,
-    most: u32,
+    asked: Asked,
 ) -> Result<(), NoMemory> {
     let alloc = rt.alloc();
     let bytes = findings.bytes.as_slice();
@@ -58,7 +62,7 @@ fn follow_script(
         &lines,
         &script,
         &parameters,
-        most,
+        asked,
         &mut StandardError { rt },
     );
     Ok(())

@@ -10,6 +10,7 @@ mod further;
 mod messages;
 mod picture;
 mod picture_file;
+mod picture_name;
 mod process_afterwards;
 mod progress_line;
 mod recorded;

@@ -5,6 +5,7 @@ ghost use Rattle.std.specs.Prelude.{⊤};
 use std::alloc::AllocError;
 use std::io::{IsTerminal, Write};
 use std::{env, io};
+use wb_command_line::line_breaks::columns_of;
 use wb_command_line::messages::message_of;
 use workbench::CommandFault;
 use workbench::host::{Messages, WordsFault};
@@ -12,6 +13,10 @@ use workbench::host::{Messages, WordsFault};
 /// What is said when a script is read from a terminal. Without this the program would wait in silence.
 const TYPED: &[u8] =
     b"workbench: the script is read from the terminal; end it with Ctrl-D on a line of its own\n";
+
+/// What is said then if `--picture` got the name of a script.
+const TAKEN: &[u8] =
+    b"workbench: the word after '--picture' names the file for the picture; the script's name comes after that\n";
 
 /// Standard error. Nothing depends on whether a message could be written.
 #[derive(Drop)]
@@ -37,7 +42,16 @@ impl<'a> Messages for ProcessMessages<'a> {
 impl<'a> ProcessMessages<'a> {
     fn message(&self, fault: &CommandFault) -> io::Result<String> {
         let words: Vec<String> = env::args(self.rt)?.collect(self.rt.alloc())?;
-        Ok(message_of(self.rt.alloc(), words.as_slice(), fault)?)
+        let columns = columns_of_messages(self.rt);
+        Ok(message_of(self.rt.alloc(), words.as_slice(), fault, columns)?)
+    }
+}
+
+/// How many columns the lines of a message may have: as the variable `COLUMNS` says, if it is set.
+fn columns_of_messages(rt: &HostRuntime) -> usize {
+    match env::var(rt, "COLUMNS") {
+        Ok(text) => columns_of(text.as_str()),
+        Err(_) => columns_of(""),
     }
 }
 
@@ -45,5 +59,22 @@ impl<'a> ProcessMessages<'a> {
 pub fn say_if_typed(rt: &HostRuntime) {
     if rt.stdin().is_terminal() && rt.stderr().is_terminal() {
         let _ = rt.stderr().write_all(TYPED);
+        if let Ok(true) = has_script_as_picture(rt) {
+            let _ = rt.stderr().write_all(TAKEN);
+        }
     }
+}
+
+/// Whether the word after `--picture` ends as the name of a script does.
+fn has_script_as_picture(rt: &HostRuntime) -> io::Result<bool> {
+    let words: Vec<String> = env::args(rt)?.collect(rt.alloc())?;
+    let mut is_after = false;
+    for word in &words {
+        let word = word.as_str();
+        if (is_after || word.starts_with("--picture=")) && word.ends_with(".oom") {
+            return Ok(true);
+        }
+        is_after = word == "--picture";
+    }
+    Ok(false)
 }

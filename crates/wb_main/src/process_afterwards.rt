@@ -6,11 +6,11 @@ use crate::afterwards::Afterwards;
 use crate::following::put_steps;
 use crate::picture::PictureFiles;
 use crate::picture_file::ProcessFiles;
+use crate::picture_name::{say_if_no_picture, say_if_script};
 use crate::recorded::FirstFault;
 use crate::told::tell_answer;
 use std::cell::RefCell;
 use std::io::Write;
-use wb_model::memory::NoMemory;
 use workbench::FileName;
 use workbench::program::Exit;
 
@@ -27,7 +27,11 @@ impl<'a> PictureFiles for ProcessAfterwards<'a> {
     ghost puts = { λ _ _ _ _. ⊤ };
 
     fn put(&mut self, name: &FileName, picture: &str) -> bool {
-        self.files.put(name, picture)
+        let is_put = self.files.put(name, picture);
+        if is_put {
+            say_if_no_picture(self.rt, name);
+        }
+        is_put
     }
 }
 
@@ -47,9 +51,12 @@ impl<'a> Afterwards for ProcessAfterwards<'a> {
         match tell_answer(self.rt.alloc(), exit, *first) {
             Ok(told) => {
                 let _ = self.rt.stderr().write_all(told.text.as_bytes());
+                if let Some(command) = &exit.command {
+                    say_if_script(self.rt, command);
+                }
                 told.picture
             }
-            Err(NoMemory) => None,
+            Err(_) => None,
         }
     }
 }

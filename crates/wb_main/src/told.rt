@@ -105,7 +105,7 @@ fn say_runs(
     }
     match explain_runs(alloc, answer, script, lines, runs) {
         Ok(said) => said,
-        Err(NoMemory) => String::new(alloc),
+        Err(_) => String::new(alloc),
     }
 }
 

@@ -42,7 +42,7 @@ pub const WORDS_APART: &str = "words are separated by blanks, without brackets, 
 /// The hint that says how a new cell is put on the cleanup stack.
 const THEN_PUSHED: &str = "`push POINTER` is a line of its own, after it";
 
-static COUNTERPARTS: [Counterpart; 46] = [
+static COUNTERPARTS: [Counterpart; 48] = [
     Counterpart(
         &["CleanupStack::PushL"],
         &[LineKind::Push, LineKind::PushObj, LineKind::PushOp],
@@ -95,14 +95,31 @@ static COUNTERPARTS: [Counterpart; 46] = [
     Counterpart(&["User::Alloc"], &[LineKind::Alloc], ""),
     Counterpart(&["User::AllocL"], &[LineKind::AllocL], ""),
     Counterpart(&["User::AllocLC"], &[LineKind::AllocL], THEN_PUSHED),
-    Counterpart(&["User::ReAlloc"], &[LineKind::Realloc], ""),
-    Counterpart(&["User::ReAllocL"], &[LineKind::ReallocL], ""),
+    Counterpart(
+        &["User::ReAlloc"],
+        &[LineKind::Realloc],
+        "the first pointer gets the answer, the second names the cell",
+    ),
+    Counterpart(
+        &["User::ReAllocL"],
+        &[LineKind::ReallocL],
+        "the first pointer gets the answer, the second names the cell",
+    ),
     Counterpart(&["User::AllocLen"], &[LineKind::AllocLen], ""),
     Counterpart(&["User::Free"], &[LineKind::Free], ""),
     Counterpart(&["HBufC::New"], &[LineKind::HNew], ""),
     Counterpart(&["HBufC::NewL"], &[LineKind::HNewL], ""),
     Counterpart(&["HBufC::NewLC"], &[LineKind::HNewL], THEN_PUSHED),
-    Counterpart(&["ReAlloc"], &[LineKind::HRealloc], ""),
+    Counterpart(
+        &["AllocL"],
+        &[LineKind::HNewL, LineKind::AllocL],
+        "that of a descriptor is `hnewl`, and then a `copy`",
+    ),
+    Counterpart(
+        &["ReAlloc"],
+        &[LineKind::HRealloc],
+        "the first pointer gets the answer, the second names the cell",
+    ),
     Counterpart(
         &["ReAllocL", "hreallocl"],
         &[LineKind::HRealloc],
@@ -112,6 +129,11 @@ static COUNTERPARTS: [Counterpart; 46] = [
         &["Des"],
         &[LineKind::Copy, LineKind::Append],
         "the text itself is the operand, without `Des`",
+    ),
+    Counterpart(
+        &["_L", "_LIT"],
+        &[],
+        "a text stands in the line that uses it, between double quotes",
     ),
     Counterpart(
         &["while", "for", "do"],

@@ -62,9 +62,8 @@ pub fn first_wrong_word(line_kind: LineKind, words: &[Word]) -> Option<usize> {
 /// The placeholder for an operand in a form that a message shows.
 fn placeholder_of(operand_place: OperandPlace) -> &'static [u8] {
     match operand_place {
-        OperandPlace::Declared => b"NAME",
-        OperandPlace::Pointer | OperandPlace::Written | OperandPlace::Receiver => b"POINTER",
-        OperandPlace::FieldTarget | OperandPlace::ItsPointer => b"POINTER",
+        OperandPlace::Declared | OperandPlace::ItsPointer | OperandPlace::Receiver => b"NAME",
+        OperandPlace::Pointer | OperandPlace::Written | OperandPlace::FieldTarget => b"POINTER",
         OperandPlace::Value | OperandPlace::Source | OperandPlace::Size => b"NUMBER",
         OperandPlace::Variable | OperandPlace::Target => b"INT",
         OperandPlace::Writable => b"EDITED",
@@ -118,4 +117,12 @@ pub fn write_form_list(page: &mut Page, line_kinds: &[LineKind]) {
         }
         write_form(page, *line_kind);
     }
+}
+
+/// Says which forms begin with a word.
+pub fn help_with_forms(page: &mut Page, word: &[u8]) {
+    page.begin_help();
+    page.write_text("its form is ");
+    write_forms(page, word);
+    page.end_line();
 }

@@ -5,6 +5,7 @@
 
 mod arguments;
 mod blocks;
+mod conditions;
 mod counterparts;
 mod cpp_lines;
 mod double;
@@ -16,6 +17,7 @@ mod leaving;
 mod limits;
 mod lines;
 mod main_missing;
+mod meant;
 mod misplaced;
 mod misspelled;
 mod near_names;

@@ -1,25 +1,25 @@
 //! A line that has no form: there is no such statement, there are too few or too many words, or a word doesn't fit.
 
+use crate::conditions::{explain_condition, has_no_condition};
 use crate::counterparts::{NUMBER_RETURNED, WORDS_APART};
 use crate::cpp_lines::{
     begins_cpp_comment, cpp_word, cpp_word_of, help_with_cpp, help_with_hint, name_in,
 };
 use crate::forms::{
-    admits_count, begins_statement, begins_with, first_wrong_word, operand_place_at, write_form,
-    write_forms,
+    admits_count, begins_statement, begins_with, first_wrong_word, help_with_forms,
+    operand_place_at, write_form, write_forms,
 };
 use crate::lines::Line;
+use crate::meant::{
+    OtherText, explain_other_text, help_with_member, help_with_missing, help_with_sum, other_text,
+};
 use crate::nearest::{Candidate, Search};
 use crate::words::{has_byte, is_field};
 use crate::wrong_words::{complaint_of, expectation_of, hint_at_end};
-use wb_lines::forms::begins_comment;
+use wb_lines::forms::{begins_comment, operand_of};
 use wb_lines::line_kinds::{line_kinds, operand_places_of, text_of};
-use wb_lines::words::text_of_keyword;
-use wb_model::script_lines::{Keyword, LineKind, OperandPlace};
+use wb_model::script_lines::{LineKind, OperandPlace};
 use wb_pages::{Page, Shown, Span, Spot, Word};
-
-/// The keywords of conditions.
-static CONDITIONS: [Keyword; 4] = [Keyword::Null, Keyword::Some, Keyword::Equal, Keyword::Less];
 
 /// The part of a line from a word to the end of the line.
 fn spot_from<'a>(line: &Line<'a>, word: Word<'a>) -> Spot<'a> {
@@ -65,31 +65,6 @@ fn nearest_statement(word: &[u8]) -> Option<Candidate<'static>> {
     search.found
 }
 
-fn nearest_condition(word: &[u8]) -> Option<Candidate<'static>> {
-    let mut search = Search::of(word);
-    for condition in &CONDITIONS {
-        search.consider(text_of_keyword(*condition), 0);
-    }
-    search.found
-}
-
-fn is_condition(word: &[u8]) -> bool {
-    for condition in &CONDITIONS {
-        if text_of_keyword(*condition) == word {
-            return true;
-        }
-    }
-    false
-}
-
-/// Says which forms begin with a word.
-fn help_with_forms(page: &mut Page, word: &[u8]) {
-    page.begin_help();
-    page.write_text("its form is ");
-    write_forms(page, word);
-    page.end_line();
-}
-
 /// Says what may be meant by a first word that is neither a statement nor C++.
 fn help_with_statement(page: &mut Page, line: &Line) {
     match nearest_statement(line.text_at(0)) {
@@ -114,6 +89,10 @@ fn explain_statement(page: &mut Page, line: &Line) {
         format_args!("no such statement: `{}`", line.shown_word(0)),
     );
     let name = name_in(line.text_at(0));
+    help_with_member(page, line.text_at(0));
+    if help_with_sum(page, line) {
+        return;
+    }
     if let Some(found) = cpp_word_of(line) {
         help_with_cpp(page, found);
     } else if begins_statement(name) {
@@ -122,26 +101,6 @@ fn explain_statement(page: &mut Page, line: &Line) {
     } else {
         help_with_statement(page, line);
     }
-}
-
-fn explain_condition(page: &mut Page, spot: Spot) {
-    page.mark(
-        spot,
-        format_args!("no such condition: `{}`", spot.shown_word()),
-    );
-    if let Some(near) = nearest_condition(spot.word) {
-        page.write_help(format_args!("did you mean `{}`?", Shown::word(near.word)));
-    }
-    if let [b'(', ..] = spot.word {
-        page.write_help_text("in a script `if (p)` is `if some p`, and `if (!p)` is `if null p`");
-    }
-    help_with_forms(page, b"if");
-}
-
-/// Whether the line is an `if` whose second word is no condition.
-fn has_no_condition(line: &Line) -> bool {
-    let condition = line.text_at(1);
-    line.text_at(0) == b"if".as_slice() && !condition.is_empty() && !is_condition(condition)
 }
 
 /// Whether a line may be meant as a line of this kind, whatever the number of its words. The first word must be right, the keyword of a
@@ -197,6 +156,7 @@ fn first_wrong_text<'a>(line: &Line<'a>, line_kind: LineKind) -> &'a [u8] {
 fn help_with_wrong_word(page: &mut Page, word: &[u8], hint: &str) {
     match cpp_word(word) {
         Some(found) => help_with_cpp(page, found),
+        None if help_with_member(page, word) => {}
         None => help_with_hint(page, hint),
     }
 }
@@ -215,6 +175,9 @@ fn explain_word_count(page: &mut Page, line: &Line, line_kind: LineKind) {
     }
     let wrong = first_wrong_text(line, line_kind);
     help_with_wrong_word(page, wrong, hint_at_end(wrong, ""));
+    if !is_more {
+        help_with_missing(page, line, line_kind);
+    }
     help_with_forms(page, line.text_at(0));
 }
 
@@ -292,19 +255,32 @@ fn explain_words(page: &mut Page, line: &Line, line_kind: LineKind) {
     }
 }
 
-/// Says why a line has no form.
-pub fn explain_misspelled(page: &mut Page, line: &Line) {
+/// A text in other quotes than a script has, with the line kind that is meant and the operand place of the text, if a text may stand there;
+/// `None` otherwise.
+fn text_meant<'a>(line: &Line<'a>) -> Option<(OtherText<'a>, LineKind, OperandPlace)> {
+    let found = other_text(line)?;
+    let line_kind = intended_key(line)?;
+    let operand_place = operand_place_at(line_kind, found.place)?;
+    operand_of(operand_place, b"\"\"")?;
+    Some((found, line_kind, operand_place))
+}
+
+/// Says why the line at an index has no form.
+pub fn explain_misspelled(page: &mut Page, lines: &[Line], index: usize, line: &Line) {
     if line.first().is_none() {
         return;
     }
     if !begins_statement(line.text_at(0)) {
         explain_statement(page, line);
+    } else if let Some((found, line_kind, operand_place)) = text_meant(line) {
+        explain_other_text(page, found);
+        help_with_place(page, line_kind, operand_place);
     } else if let Some(word) = first_comment(line) {
         explain_late_comment(page, spot_from(line, word));
     } else if let Some(word) = open_quote(line) {
         explain_open_quote(page, spot_from(line, word));
     } else if has_no_condition(line) {
-        explain_condition(page, line.spot(1));
+        explain_condition(page, lines, index, line);
     } else if let Some(line_kind) = intended_key(line) {
         explain_words(page, line, line_kind);
     }

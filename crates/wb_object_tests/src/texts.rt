@@ -6,7 +6,7 @@ ghost use Rattle.wb_model.specs.heap.Debug.{IsSoundDebug};
 ghost use Rattle.wb_model.specs.cells.TextCells.{IsTextAt};
 
 use crate::literals::literal;
-use std::alloc::Global;
+use std::alloc::{AllocError, Global};
 use wb_debug::DebugHeap;
 use wb_hbuf::{Edit, Source, delete, edit, edit_buf, length, make, print_units, set_length};
 use wb_model::heap::{Gave, Panic, Ptr, Rule, Shape};
@@ -58,7 +58,7 @@ pub(crate) struct WorkedTexts {
 pub(crate) fn first_other(alloc: Global, worked: &WorkedTexts) -> Result<Option<usize>, NoMemory> {
     let shape = Shape::new(0, 4096);
     let Ok(mut heap) = DebugHeap::new(alloc, Rule::Unlimited, shape) else {
-        return Err(NoMemory);
+        return Err(NoMemory::from(AllocError));
     };
     let letters = literal(alloc, b"abcdefgXY")?;
     let first = grant_text(&mut heap, u32::from(worked.first))?;
@@ -246,11 +246,11 @@ pub(crate) fn grant_text(heap: &mut DebugHeap, n: u32) -> Result<Ptr, NoMemory>
     ensures sound { IfOk result (λ _. IsSoundDebug heap.new) }
 {
     if heap.attempts() == u32::MAX {
-        return Err(NoMemory);
+        return Err(NoMemory::from(AllocError));
     }
     match make(heap, n) {
         Ok(Gave::Granted(ptr)) => Ok(ptr),
-        _ => Err(NoMemory),
+        _ => Err(NoMemory::from(AllocError)),
     }
 }
 
@@ -265,10 +265,10 @@ fn grant_text_beside(heap: &mut DebugHeap, other: Ptr, n: u32) -> Result<Ptr, No
     ensures apart { IfOk result (λ ptr. ptr ≢ other) }
 {
     if heap.attempts() == u32::MAX {
-        return Err(NoMemory);
+        return Err(NoMemory::from(AllocError));
     }
     match make(heap, n) {
         Ok(Gave::Granted(ptr)) if ptr != other => Ok(ptr),
-        _ => Err(NoMemory),
+        _ => Err(NoMemory::from(AllocError)),
     }
 }

@@ -12,7 +12,7 @@ use Rattle.wb_model.specs.cells.Spelling.{fields_in}
 use Rattle.wb_model.specs.meaning.Texts.{answer_of}
 use Rattle.wb_model.specs.heap.Debug.{Debug, with_row, debug_changed}
 use Rattle.wb_model.specs.cells.ObjectCells.{IsObject, IsObjectAt}
-use Rattle.wb_model.proofs.TextCellsHeap.{found-changed, changed-twice}
+use Rattle.wb_model.proofs.heaps.TextCellsHeap.{found-changed, changed-twice}
 use Rattle.wb_objects.specs.Objects.{is_of_class, words_of_cell, words_found, HasField, field_in, field_of, with_field, field_changed}
 use Rattle.wb_objects.proofs.Fields.{field-read, field-among, field-written, fields-written, object-written}
 

@@ -6,7 +6,7 @@ use Rattle.wb_model.specs.declared.heap.Ptr.{Ptr}
 use Rattle.wb_model.specs.meaning.State.{null}
 use Rattle.wb_model.specs.cells.Spelling.{pointers, fields_in}
 use Rattle.wb_model.specs.cells.ObjectCells.{pointer_words, object_words, IsObject}
-use Rattle.wb_model.proofs.TextCells.{exactly-longer, zeros}
+use Rattle.wb_model.proofs.heaps.TextCells.{exactly-longer, zeros}
 use Rattle.wb_objects.specs.Objects.{field_in, with_field}
 
 -- two words, one after the other

@@ -22,10 +22,10 @@ use Rattle.wb_model.specs.meaning.Bodies.{class_at}
 use Rattle.wb_model.specs.cells.Spelling.{fields_in}
 use Rattle.wb_model.specs.cells.ObjectCells.{pointer_words, object_words, IsObject, IsObjectAt}
 use Rattle.wb_model.specs.heap.Debug.{Debug, IsSoundDebug, made_by, answer_in, number_of_next, alloc_made, debug_changed, with_row}
-use Rattle.wb_model.proofs.TextCells.{zeros}
-use Rattle.wb_model.proofs.ObjectCells.{object-read}
-use Rattle.wb_model.proofs.Reallocations.{at-own, cell_at-inserted, changed-inserted}
-use Rattle.wb_model.proofs.TextCellsHeap.{found-changed}
+use Rattle.wb_model.proofs.heaps.TextCells.{zeros}
+use Rattle.wb_model.proofs.heaps.ObjectCells.{object-read}
+use Rattle.wb_model.proofs.heaps.Reallocations.{at-own, cell_at-inserted, changed-inserted}
+use Rattle.wb_model.proofs.heaps.TextCellsHeap.{found-changed}
 use Rattle.wb_objects.specs.Objects.{new_words, object_made, IsNewObject}
 use Rattle.wb_objects.proofs.Fields.{object-filled}
 

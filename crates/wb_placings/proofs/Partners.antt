@@ -15,7 +15,7 @@ use Rattle.wb_model.specs.meaning.State.{Content, words, fields, units, none, Va
 use Rattle.wb_model.specs.meaning.Statements.{Todo, all, turns, destroy_items, destroy_object, is_null}
 use Rattle.wb_model.specs.declared.script.StatementAt.{StatementAt}
 use Rattle.wb_model.specs.runs.SameButNumbers.{AllBeside}
-use Rattle.wb_model.proofs.SameNumbers.{all-weaker}
+use Rattle.wb_model.proofs.renaming.SameNumbers.{all-weaker}
 
 -- pointers, each with its partner
 abbrev pub PointerPairs : Type 0

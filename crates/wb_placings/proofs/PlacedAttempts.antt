@@ -21,7 +21,7 @@ use Rattle.wb_model.specs.meaning.Operands.{held_by, units_of, within}
 use Rattle.wb_model.specs.meaning.Attempts.{attempt, allocate, resized, reallocate, reallocate_longer, after_growth, grow_if, push}
 use Rattle.wb_model.specs.meaning.Statements.{given_to, is_null, is_raw, fresh_words, alloc_raw, realloc_raw, realloc_of}
 use Rattle.wb_model.specs.runs.SameButNumbers.{none_beside, one_beside}
-use Rattle.wb_model.proofs.SameNumbers.{ap_two, length-beside, append-beside, BothSome, neither, both_some}
+use Rattle.wb_model.proofs.renaming.SameNumbers.{ap_two, length-beside, append-beside, BothSome, neither, both_some}
 use Rattle.wb_placings.proofs.Partners.{Stands, Partners, after_answer, answer-extends, answer-partners, Extends, IsSameContent, same_words, IsSameItem, same_plain, same_leave}
 use Rattle.wb_placings.proofs.RowLemmas.{lacking-none, lacks-next}
 use Rattle.wb_placings.proofs.SameRows.{not-both}

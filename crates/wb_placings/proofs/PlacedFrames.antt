@@ -16,7 +16,7 @@ use Rattle.wb_model.specs.meaning.Operands.{number_of}
 use Rattle.wb_model.specs.meaning.State.{Frame, Value, number, initial, State, Way, leaves, Process, ends}
 use Rattle.wb_model.specs.meaning.Statements.{Todo, destroy_items, Context, Meaning, in_frame, plain, with_arguments, destroyed_object, destroyed_item, trapped, with_condition, leave_if}
 use Rattle.wb_model.specs.runs.SameButNumbers.{AllBeside, none_beside, one_beside}
-use Rattle.wb_model.proofs.SameNumbers.{ap_two, length-beside, append-beside}
+use Rattle.wb_model.proofs.renaming.SameNumbers.{ap_two, length-beside, append-beside}
 use Rattle.wb_placings.proofs.Partners.{PointerPairs, Stands, Partners, ArePartners, IsSameItem, same_free, same_delete, same_call, same_nothing, IsSameValue, same_pointer, same_number, same_buffer, same_view, IsSameFrame, IsSameWay, same_plain, same_return, same_leave, IsSameTodo, same_statements, same_items, same_object, frame-later}
 use Rattle.wb_placings.proofs.PlacedProcesses.{IsBeside, GoesAlike, both_end, number-same, set_local-beside, GoesOn, and_then-alike, then_do-alike, require-alike, given-same, with_pointer-alike}
 use Rattle.wb_placings.proofs.PlacedTexts.{release-alike}

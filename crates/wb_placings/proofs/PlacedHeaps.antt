@@ -14,10 +14,10 @@ use Rattle.wb_model.specs.heap.Placement.{first_fit, after_placing, has_stayed, 
 use Rattle.wb_model.specs.heap.Row.{Cell, headers, pointer_to, is_at, cell_at, inserted, without, IsFree, IsLeastPlace, Misses, place_of, cell_length}
 use Rattle.wb_model.specs.heap.Rules.{after_attempt}
 use Rattle.wb_model.specs.meaning.State.{Content}
-use Rattle.wb_model.proofs.Places.{place_of-least}
-use Rattle.wb_model.proofs.Rows.{headers-without, spaced-inserted}
-use Rattle.wb_model.proofs.Reallocations.{at-number, pointer-at, found-from, found-all, found-head, found-missed, fits-words, fits-free, fits-shorter, free-filter, cell_at-inserted_other}
-use Rattle.wb_model.proofs.SameNumbers.{BothSome, neither, both_some}
+use Rattle.wb_model.proofs.heaps.Places.{place_of-least}
+use Rattle.wb_model.proofs.heaps.Rows.{headers-without, spaced-inserted}
+use Rattle.wb_model.proofs.heaps.Reallocations.{at-number, pointer-at, found-from, found-all, found-head, found-missed, fits-words, fits-free, fits-shorter, free-filter, cell_at-inserted_other}
+use Rattle.wb_model.proofs.renaming.SameNumbers.{BothSome, neither, both_some}
 use Rattle.wb_placings.proofs.Partners.{Stands, newest-stands, Partners, ArePartners, after_answer, answer-extends, answer-partners, IsSameContent, IsSameCell, content-later}
 use Rattle.wb_placings.proofs.RowLemmas.{IsNumbered, Lacks, lacking-none, found-without_other, without-lacks, lacks-next}
 use Rattle.wb_placings.proofs.SameRows.{AreSameRows, not-both, rows-without, rows-inserted, rows-lowered, rows-later}

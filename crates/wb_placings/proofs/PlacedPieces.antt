@@ -11,7 +11,7 @@ use Rattle.wb_model.specs.meaning.State.{State, Way, Process, null}
 use Rattle.wb_model.specs.meaning.Statements.{Todo, is_null, destroy_items, Context, Meaning}
 use Rattle.wb_model.specs.runs.Run.{start, main_trapped, in_main, started, process}
 use Rattle.wb_model.specs.runs.SameButNumbers.{none_beside}
-use Rattle.wb_model.proofs.SameNumbers.{length-beside, BothSome, neither, both_some}
+use Rattle.wb_model.proofs.renaming.SameNumbers.{length-beside, BothSome, neither, both_some}
 use Rattle.wb_placings.proofs.Partners.{Stands, newest-stands, Partners, ArePartners, IsListed, IsSameItem, same_none, IsSameWay, same_plain, same_return, same_leave, IsSameTodo, same_statements, same_turns, same_items, same_object, pointer-later}
 use Rattle.wb_placings.proofs.SameRows.{AreSameRows}
 use Rattle.wb_placings.proofs.PlacedProcesses.{IsBeside, GoesAlike, both_end, both_lack, cut_first, if_found, and_then-alike, then_do-alike, require-alike, with_some-alike, given-same}

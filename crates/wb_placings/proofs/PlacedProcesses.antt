@@ -21,7 +21,7 @@ use Rattle.wb_model.specs.meaning.State.{Content, Value, number, State, Way, pan
 use Rattle.wb_model.specs.meaning.Operands.{number_of, held_by, fields_of, raw_words_of, units_of, with_cell, with_fields, with_pointer, set_field, set_pointer, set_row}
 use Rattle.wb_model.specs.meaning.Attempts.{resized}
 use Rattle.wb_model.specs.runs.SameButNumbers.{AllBeside}
-use Rattle.wb_model.proofs.SameNumbers.{set-beside, BothSome, neither, both_some, get-beside, unwrap-beside}
+use Rattle.wb_model.proofs.renaming.SameNumbers.{set-beside, BothSome, neither, both_some, get-beside, unwrap-beside}
 use Rattle.wb_placings.proofs.Partners.{PointerPairs, Stands, Partners, ArePartners, after_answer, answer-extends, Extends, IsSameContent, same_words, same_fields, same_units, same_none, IsSameCell, IsSameItem, IsSameValue, same_pointer, same_number, same_buffer, same_view, IsSameFrame, IsSameWay, same_plain, same_return, same_leave, items-later, frame-later}
 use Rattle.wb_placings.proofs.RowLemmas.{found-pointer}
 use Rattle.wb_placings.proofs.SameRows.{rows-changed}

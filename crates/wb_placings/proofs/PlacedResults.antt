@@ -27,8 +27,8 @@ use Rattle.wb_model.specs.runs.Rises.{rises_with}
 use Rattle.wb_model.specs.runs.SameButNumbers.{AllBeside, none_beside, one_beside}
 use Rattle.wb_model.specs.runs.Sets.{AreAllSetsFine, IsSet, set_run}
 use Rattle.wb_model.specs.runs.Sweeps.{is_cut_outcome, is_fine}
-use Rattle.wb_model.proofs.AccountLemmas.{recorded-trace}
-use Rattle.wb_model.proofs.SameNumbers.{ap_two, append-beside}
+use Rattle.wb_model.proofs.runs.AccountLemmas.{recorded-trace}
+use Rattle.wb_model.proofs.renaming.SameNumbers.{ap_two, append-beside}
 use Rattle.wb_placings.specs.PlacedRuns.{answer_under, settled_under, no_space, placed_run, IsSameAttempt, IsSameButPlaces}
 use Rattle.wb_placings.proofs.Partners.{PointerPairs, Partners, after_answer, IsSameWay, same_plain, same_return, same_leave}
 use Rattle.wb_placings.proofs.PlacedHeaps.{all_levels-counted}

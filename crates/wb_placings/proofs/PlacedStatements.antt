@@ -15,7 +15,7 @@ use Rattle.wb_model.specs.meaning.Operands.{number_of, within, not_negative}
 use Rattle.wb_model.specs.meaning.State.{words, number, State, leaves, Process, and_then, null, with_some}
 use Rattle.wb_model.specs.meaning.Statements.{all, done, drop_newest, newest, item_pointer, index_in, in_range, at_least_one, plain, set_setting, new_object, realloc_text, Context, Meaning, Layer, trapped, statement}
 use Rattle.wb_model.specs.runs.SameButNumbers.{AllBeside, none_beside, one_beside}
-use Rattle.wb_model.proofs.SameNumbers.{ap_two, length-beside, take-beside, BothSome, get-beside}
+use Rattle.wb_model.proofs.renaming.SameNumbers.{ap_two, length-beside, take-beside, BothSome, get-beside}
 use Rattle.wb_placings.proofs.Partners.{PointerPairs, Stands, Partners, ArePartners, IsSameContent, same_words, same_fields, same_units, IsSameItem, same_free, same_delete, same_call, IsSameValue, same_pointer, same_number, IsSameWay, same_plain, same_return, same_leave, same_statements, same_turns, same_items}
 use Rattle.wb_placings.proofs.PlacedHeaps.{IsSameHeap, mark-same, mark_end-same, all_levels-passed, level-passed, mark_end-passed}
 use Rattle.wb_placings.proofs.PlacedProcesses.{IsBeside, GoesAlike, both_end, both_note, if_found, is_object, AreFound, cell_at-found, units-same, number-same, set_heap-beside, set_local-beside, changed_cell-beside, set_pointer-beside, GoesOn, and_then-alike, require-alike, with_some-alike, given-same, with_same-alike, unless-alike, with_cell-alike, with_pointer-alike}

@@ -17,7 +17,7 @@ use Rattle.wb_model.specs.meaning.Reading.{Source, whole, part, base_of, positio
 use Rattle.wb_model.specs.meaning.State.{Content, Value, State, goes_on, Process, ends, local_of}
 use Rattle.wb_model.specs.meaning.Statements.{class_of, is_null, of_script, release, released, with_class, with_words}
 use Rattle.wb_model.specs.meaning.Texts.{Edited, Part, exactly}
-use Rattle.wb_model.proofs.SameNumbers.{ap_two}
+use Rattle.wb_model.proofs.renaming.SameNumbers.{ap_two}
 use Rattle.wb_placings.proofs.Partners.{PointerPairs, Stands, Partners, IsSameContent, same_words, same_fields, same_units, same_none, IsSameBase, same_nothing, same_literal, same_local, same_cell, IsSameView, IsSameValue, same_pointer, same_number, same_buffer, same_view, same_plain}
 use Rattle.wb_placings.proofs.SameRows.{rows-without}
 use Rattle.wb_placings.proofs.PlacedHeaps.{with_rows}

@@ -10,9 +10,9 @@ use Rattle.wb_model.specs.declared.heap.Ptr.{Ptr}
 use Rattle.wb_model.specs.heap.Heap.{is_cleanup, lowered}
 use Rattle.wb_model.specs.heap.Row.{Cell, headers, pointer_to, is_at, cell_at, inserted, without, changed, end_of, IsSpacedFrom}
 use Rattle.wb_model.specs.meaning.State.{Content}
-use Rattle.wb_model.proofs.Rows.{headers-without, headers-changed, spaced-filter}
-use Rattle.wb_model.proofs.Reallocations.{at-number, at-own, pointer-at, cell_at-inserted, cell_at-inserted_other}
-use Rattle.wb_model.proofs.SameNumbers.{ap_two, cond-beside}
+use Rattle.wb_model.proofs.heaps.Rows.{headers-without, headers-changed, spaced-filter}
+use Rattle.wb_model.proofs.heaps.Reallocations.{at-number, at-own, pointer-at, cell_at-inserted, cell_at-inserted_other}
+use Rattle.wb_model.proofs.renaming.SameNumbers.{ap_two, cond-beside}
 use Rattle.wb_placings.proofs.Partners.{PointerPairs, IsListed, Stands, Partners, ArePartners, after_answer, IsSameHeader, IsSameContent, IsSameCell, cell-later}
 use Rattle.wb_placings.proofs.RowLemmas.{IsNumbered, Lacks, found-at, found-pointer, lacking-none, found-without_other, found-without_own, with_content, found-changed_own, found-changed_other, with_lower, found-lowered, lost-lowered, count, one_if, count-inserted, count-without, count-changed, before_lower, count-lowered, numbered-later, lacks-next, numbered-without, numbered-changed, numbered-with, numbered-lowered}
 

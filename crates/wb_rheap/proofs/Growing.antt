@@ -8,9 +8,9 @@ use Rattle.wb_model.specs.cells.CellRow.{FitsInPlace, payload_of, resized_words,
 use Rattle.wb_model.specs.heap.Placement.{fits_in_place}
 use Rattle.wb_model.specs.heap.LimitedHeap.{LimitedHeap, IsSoundHeap, IsCellLength, place_in, place_to_grow, committed_grown, grown_cell, heap_grown, heap_shortened, heap_reallocated, reallocated_pointer, grown_pointer, IsFilled}
 use Rattle.wb_model.specs.heap.Row.{Cell, IsRow, IsLeastPlace, headers, cell_at, end_of, inserted, without, pointer_to, usable_of}
-use Rattle.wb_model.proofs.LimitedHeaps.{place_in-least}
-use Rattle.wb_model.proofs.Reallocations.{IsFoundFrom, found-from, found-head, pointer-at, found-all, fits-room, fits-words, fits-shorter, words-fit, has_room, with_length-inserted}
-use Rattle.wb_model.proofs.ReallocatedHeaps.{place_to_grow-is}
+use Rattle.wb_model.proofs.heaps.LimitedHeaps.{place_in-least}
+use Rattle.wb_model.proofs.heaps.Reallocations.{IsFoundFrom, found-from, found-head, pointer-at, found-all, fits-room, fits-words, fits-shorter, words-fit, has_room, with_length-inserted}
+use Rattle.wb_model.proofs.heaps.ReallocatedHeaps.{place_to_grow-is}
 use Rattle.wb_rheap.proofs.Finding.{place_in-gap, payload-filled}
 
 -- the header of a live cell, and the cell

@@ -4,8 +4,8 @@ use Rattle.wb_model.specs.declared.heap.Header.{Header}
 use Rattle.wb_model.specs.cells.CellRow.{CellRow, with_length, resized_cell}
 use Rattle.wb_model.specs.heap.LimitedHeap.{LimitedHeap, IsCellLength, IsSoundHeap, heap_grown, heap_shortened, grown_cell, committed_grown, place_to_grow}
 use Rattle.wb_model.specs.heap.Row.{Cell, headers, cell_at, inserted, without, pointer_to, total_length}
-use Rattle.wb_model.proofs.Reallocations.{with_length-inserted}
-use Rattle.wb_model.proofs.ReallocatedHeaps.{IsSoundHeap-heap_grown, IsSoundHeap-heap_shortened}
+use Rattle.wb_model.proofs.heaps.Reallocations.{with_length-inserted}
+use Rattle.wb_model.proofs.heaps.ReallocatedHeaps.{IsSoundHeap-heap_grown, IsSoundHeap-heap_shortened}
 use Rattle.wb_rheap.specs.declared.heap.Heap.TheInside.{Inside}
 use Rattle.wb_rheap.specs.Heap.{heap_of, IsKept}
 use Rattle.wb_rheap.proofs.Counters.{AreLess, without-less, inserted-more}

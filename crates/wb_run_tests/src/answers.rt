@@ -166,6 +166,7 @@ fn command_in(of_lengths: bool, json: bool) -> Command
         json,
         picture: None,
         follow: None,
+        around: None,
     }
 }
 

@@ -100,6 +100,7 @@ fn command_of(wanted: &Wanted) -> Command
         json: wanted.json,
         picture: None,
         follow: None,
+        around: None,
     }
 }
 

@@ -11,8 +11,8 @@ use Rattle.wb_model.specs.declared.script.Script.{Script}
 use Rattle.wb_model.specs.runs.Run.{run, rises_result_of, required, rises, first_rise_above, refused_at}
 use Rattle.wb_model.specs.runs.Rises.{top_of_rises}
 use Rattle.wb_model.specs.runs.Sizes.{refused_first, IsTable}
-use Rattle.wb_model.proofs.AccountLemmas.{top-highest}
-use Rattle.wb_model.proofs.SizeLemmas.{limit_refuses_first, refused_at-none, limits_have_table}
+use Rattle.wb_model.proofs.runs.AccountLemmas.{top-highest}
+use Rattle.wb_model.proofs.runs.SizeLemmas.{limit_refuses_first, refused_at-none, limits_have_table}
 use Rattle.wb_size.specs.declared.sizing.Sizing.{Sizing}
 use Rattle.wb_size.specs.Sizing.{refusal_in, IsSizing}
 

@@ -8,7 +8,8 @@ use Rattle.wb_model.specs.declared.heap.Shape.{Shape}
 use Rattle.wb_model.specs.declared.script.Script.{Script}
 use Rattle.wb_model.specs.runs.Run.{run}
 use Rattle.wb_states.specs.Ground.{run_of, turns_of, Ground}
-use Rattle.wb_states.specs.States.{AreWithin, IsAboutTo, IsRunUnder, IsUnderWay}
+use Rattle.wb_states.specs.Met.{AreWithin}
+use Rattle.wb_states.specs.States.{IsAboutTo, IsRunUnder, IsUnderWay}
 
 module _ (g : Ground) (numbers : List ℕ) (m new : Seen) (about : IsAboutTo g numbers m) (same : IsSameRun m new) where
   pub run-under : new.failed ≡ false → IsRunUnder g numbers new

@@ -4,18 +4,20 @@ use Rattle.std.proofs.lemmas.List.{length-append}
 use Rattle.std.proofs.lemmas.Option.{slice_get_within}
 use Rattle.std.specs.Prelude.{slice_get, IfSome}
 use Rattle.wb_machine.specs.Seen.{seen_at_start, Seen}
+use Rattle.wb_machine.proofs.asking.Made.{asked_at_start}
 use Rattle.wb_model.specs.declared.heap.Rule.{Rule}
 use Rattle.wb_model.specs.declared.heap.Rule.TheVariants.{Set}
 use Rattle.wb_model.specs.runs.Rest.{SameSoFar}
 use Rattle.wb_model.specs.runs.Sets.{AscendsPast, IsSet}
-use Rattle.wb_model.proofs.SetLemmas.{ascends-first}
+use Rattle.wb_model.proofs.runs.SetLemmas.{ascends-first}
 use Rattle.wb_states.specs.declared.runs.Runs.{Runs}
 use Rattle.wb_states.specs.declared.search.Search.{Search}
 use Rattle.wb_states.specs.declared.state.Edge.{Edge}
 use Rattle.wb_states.specs.declared.state.Edge.TheVariants.{Untried}
 use Rattle.wb_states.specs.declared.state.State.{State}
 use Rattle.wb_states.specs.Ground.{past, run_of, turns_of, Ground, IsTriedSet}
-use Rattle.wb_states.specs.States.{failing_next, ground_of, next_attempt, turns_at, AreOfOr, AreRunsOf, AreStates, AreWithin, BeginsAtTheStart, GoesOn, HasGrown, IsAboutTo, IsKept, IsRunOf, IsShown, IsSound, IsState}
+use Rattle.wb_states.specs.Met.{AreWithin}
+use Rattle.wb_states.specs.States.{failing_next, ground_of, next_attempt, turns_at, AreOfOr, AreRunsOf, AreStates, BeginsAtTheStart, GoesOn, HasGrown, IsAboutTo, IsKept, IsRunOf, IsShown, IsSound, IsState}
 use Rattle.wb_states.proofs.MeetingLemmas.{same-before}
 use Rattle.wb_states.proofs.StateLemmas.{failed-next, granted-next}
 
@@ -143,6 +145,7 @@ same-sound s t same runs is = subst IsSound (sym same) (record {
   fewer_granted = is.fewer_granted;
   fewer_failed = is.fewer_failed;
   states = is.states;
+  met = is.met;
   runs = runs;
   first = is.first;
   granted = is.granted;
@@ -175,6 +178,7 @@ sound-granted s state edge is at goes = record {
   fewer_granted = one-longer s.granted s.states state edge at;
   fewer_failed = is.fewer_failed;
   states = is.states;
+  met = is.met;
   runs = is.runs;
   first = is.first;
   granted = granted-next (ground_of s) s.states s.granted state edge at is.granted goes;
@@ -193,6 +197,7 @@ sound-failed s state edge is at goes = record {
   fewer_granted = is.fewer_granted;
   fewer_failed = one-longer s.failed s.states state edge at;
   states = is.states;
+  met = is.met;
   runs = is.runs;
   first = is.first;
   granted = is.granted;
@@ -245,7 +250,12 @@ start-runs g = record {
 }
 
 only-start : (g : Ground) → AreStates g (start ∷ [])
-only-start g zero state e = let same : start ≡ state = cc in subst (IsState g) same (record { set = tt; made = tt; tried = inl refl })
+only-start g zero state e = let same : start ≡ state = cc in subst (IsState g) same (record {
+  set = tt;
+  made = tt;
+  tried = inl refl;
+  asks = asked_at_start g.script (Set []) g.budget g.shape;
+})
 only-start g (suc i) state e = cc
 
 only-run : (g : Ground) (runs : Runs) (m : Seen) → m ≡ start-run g → ((i : ℕ) (one : Seen) → IsKept runs i one → (i ≡ 0) × (one ≡ m)) → AreRunsOf g (start ∷ []) runs
@@ -260,8 +270,8 @@ on-ok (Ok x) P none is = is
 on-ok (Err e) P none is = cc
 
 pub sound-first : (s : Search) (none : Runs) (m : Seen) → s.states ≡ start ∷ [] → ((i : ℕ) (one : Seen) → IsKept none i one → ⊥) → AreOfOr none 0 m s.runs →
-    m ≡ start-run (ground_of s) → s.granted ≡ [] → s.failed ≡ [] → s.shown ≡ None → s.last ≡ length (run_of (ground_of s) []).trace → IsSound s
-sound-first s none m listed empty added begins none_granted none_failed none_shown last = record {
+    m ≡ start-run (ground_of s) → s.granted ≡ [] → s.failed ≡ [] → s.shown ≡ None → s.last ≡ length (run_of (ground_of s) []).trace → s.met ≡ 1 → IsSound s
+sound-first s none m listed empty added begins none_granted none_failed none_shown last met = record {
   whole = refl;
   part = refl;
   last = refl;
@@ -269,6 +279,7 @@ sound-first s none m listed empty added begins none_granted none_failed none_sho
   fewer_granted = omega (arith, ap length none_granted);
   fewer_failed = omega (arith, ap length none_failed);
   states = subst (AreStates (ground_of s)) (sym listed) (only-start (ground_of s));
+  met = omega (arith, met, ap (λ (xs : List State). length xs) listed);
   runs = subst (λ xs. AreRunsOf (ground_of s) xs s.runs) (sym listed) (only-run (ground_of s) s.runs m begins only);
   first = subst BeginsAtTheStart (sym listed) (refl, refl);
   granted = λ i state edge at is. absurd (omega (arith, slice_get_within s.granted i edge is, ap length none_granted));

@@ -4,14 +4,21 @@ use Rattle.std.specs.Prelude.{slice_get}
 use Rattle.std.proofs.lemmas.List.{length-append}
 use Rattle.std.proofs.lemmas.Option.{slice_get_within}
 use Rattle.wb_machine.specs.Seen.{Seen}
+use Rattle.wb_machine.specs.Turns.{MakesMore, MakesMoreThan}
+use Rattle.wb_model.specs.declared.heap.Rule.{Rule}
+use Rattle.wb_model.specs.declared.heap.Rule.TheVariants.{Set}
+use Rattle.wb_model.specs.declared.heap.Shape.{Shape}
+use Rattle.wb_model.specs.declared.script.Script.{Script}
+use Rattle.wb_model.specs.runs.Run.{run}
 use Rattle.wb_model.specs.runs.Sets.{AscendsPast, IsSet}
 use Rattle.wb_model.specs.runs.Parts.{IsNumberOf}
 use Rattle.wb_model.specs.runs.SetParts.{least_number}
 use Rattle.wb_states.specs.declared.runs.Runs.{Runs}
 use Rattle.wb_states.specs.declared.search.Search.{Search}
 use Rattle.wb_states.specs.declared.state.State.{State}
-use Rattle.wb_states.specs.Ground.{past, Ground, IsNoLater, IsTriedSet, Meets}
-use Rattle.wb_states.specs.States.{ground_of, AreFailed, AreGranted, AreOfOr, AreRunsOf, AreStates, AreWithin, BeginsAtTheStart, Continues, HasGrown, IsJoined, IsNoneOrTried, IsRunOf, IsSound, IsState, IsUnderWay}
+use Rattle.wb_states.specs.Ground.{past, run_of, Ground, IsNoLater, IsTriedSet, Meets}
+use Rattle.wb_states.specs.Met.{AreWithin, AsksAfter}
+use Rattle.wb_states.specs.States.{ground_of, AreFailed, AreGranted, AreOfOr, AreRunsOf, AreStates, BeginsAtTheStart, Continues, HasGrown, IsJoined, IsNoneOrTried, IsRunOf, IsSound, IsState, IsUnderWay}
 use Rattle.wb_states.proofs.Lists.{get-appended, get-either, get-last}
 use Rattle.wb_states.proofs.PastNumbers.{past-ascends}
 use Rattle.wb_states.proofs.StateLemmas.{failed-more, granted-more, states-more}
@@ -63,9 +70,26 @@ joins-found g states numbers m at steps turns (state, is_at, goes) counted later
 
 -- ---- a state that is kept
 
+-- a run under a set asks for its next attempt
+asks-after : (g : Ground) (numbers : List ℕ) (m : Seen) → IsUnderWay g numbers m → MakesMore m → (attempts : ℕ) → m.attempts ≡ attempts →
+    AsksAfter g.script g.budget g.shape numbers attempts
+asks-after g numbers m is more attempts same = subst (λ n. MakesMoreThan n (run_of g numbers)) same (subst (MakesMoreThan m.attempts) own more)
+  where
+    own : run m.script m.rule m.budget m.shape ≡ run_of g numbers
+    own =
+        ap (λ (s : Script). run s m.rule m.budget m.shape) is.script
+        ∙ ap (λ (r : Rule). run g.script r m.budget m.shape) is.rule
+        ∙ ap (λ (b : ℕ). run g.script (Set numbers) b m.shape) is.budget
+        ∙ ap (λ (s : Shape). run g.script (Set numbers) g.budget s) is.shape
+
 pub is-state : (g : Ground) (state : State) (m : Seen) → IsUnderWay g state.numbers m → m.attempts ≡ state.attempts → IsNoneOrTried g state.numbers →
-    IsState g state
-is-state g state m run attempts tried = record { set = run.set; made = subst (λ n. AreWithin n state.numbers) attempts run.made; tried = tried }
+    MakesMore m → IsState g state
+is-state g state m is attempts tried more = record {
+  set = is.set;
+  made = subst (λ n. AreWithin n state.numbers) attempts is.made;
+  tried = tried;
+  asks = asks-after g state.numbers m is more state.attempts attempts;
+}
 
 pub is-run : (g : Ground) (state : State) (m : Seen) → IsUnderWay g state.numbers m → m.attempts ≡ state.attempts → m.steps ≡ state.steps → m.begun ≡ true →
     m.over ≡ false → m.asks ≡ true → IsRunOf g state m
@@ -121,8 +145,8 @@ module _ (before after : Search) (state : State) (m : Seen) (same : after.states
   }
 
   pub kept-sound : IsSound before → IsState (ground_of before) state → IsRunOf (ground_of before) state m →
-      AreOfOr before.runs (length before.states) m after.runs → IsSound after
-  kept-sound is new run added =
+      AreOfOr before.runs (length before.states) m after.runs → after.met ≤ before.met + 1 → IsSound after
+  kept-sound is new run added met =
       let g = ground_of before in
       let longer = ap (λ (xs : List State). length xs) same ∙ length-append before.states (state ∷ []) in
       subst IsSound (sym rest) (record {
@@ -133,6 +157,7 @@ module _ (before after : Search) (state : State) (m : Seen) (same : after.states
         fewer_granted = omega (arith, longer, is.fewer_granted);
         fewer_failed = omega (arith, longer, is.fewer_failed);
         states = subst (AreStates g) (sym same) (states-more g before.states state is.states new);
+        met = omega (arith, longer, is.met, met);
         runs = subst (λ xs. AreRunsOf g xs after.runs) (sym same) (runs-more g before.states before.runs after.runs state m is.runs run added);
         first = subst BeginsAtTheStart (sym same) (begins-still before.states (state ∷ []) is.first);
         granted = subst (λ xs. AreGranted g xs before.granted) (sym same) (granted-more g before.states state before.granted is.fewer_granted is.granted);

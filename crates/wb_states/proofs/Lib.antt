@@ -5,6 +5,7 @@ mod EndLemmas
 mod FollowLemmas
 mod JoinLemmas
 mod Lists
+mod ManyLemmas
 mod MeetingLemmas
 pub mod NoLater
 pub mod PastNumbers

@@ -1,5 +1,5 @@
 -- Elements of a list with one more at its end.
-use Rattle.std.proofs.Common.{◌≡◌, ℕ, zero, suc, ◌<◌, arith, List, [], ◌∷◌, ◌++◌, length, Some, refl, ap, ◌⊎◌, inl, inr}
+use Rattle.std.proofs.Common.{◌≡◌, ℕ, zero, suc, ◌<◌, arith, List, [], ◌∷◌, ◌++◌, length, map, Some, refl, ap, ◌⊎◌, inl, inr}
 use Rattle.std.specs.Prelude.{slice_get}
 use Rattle.std.proofs.lemmas.Option.{slice_get_cases}
 
@@ -30,3 +30,9 @@ get-some xs i lt = elim (slice_get_cases xs i).1 [
   | inl is ↦ (is.0, is.2)
   | inr past ↦ absurd (omega (arith, lt, past.0))
 ]
+
+-- an element of a list that is made of another is that of an element there
+pub get-mapped : {A B : Type 0} (f : A → B) (xs : List A) (i : ℕ) (y : B) → slice_get (map f xs) i ≡ Some y → (x : A) × (slice_get xs i ≡ Some x) × (y ≡ f x)
+get-mapped f [] i y e = cc
+get-mapped f (x ∷ xs) zero y e = (x, refl, cc)
+get-mapped f (x ∷ xs) (suc i) y e = get-mapped f xs i y e

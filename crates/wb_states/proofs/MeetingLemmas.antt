@@ -17,12 +17,13 @@ use Rattle.wb_model.specs.runs.Rest.{Fits, SameSoFar}
 use Rattle.wb_model.specs.runs.Run.{run, whole_run, WholeRun}
 use Rattle.wb_model.specs.runs.Sets.{AscendsPast, IsSet}
 use Rattle.wb_model.specs.runs.Sweeps.{is_cut_outcome, is_fine}
-use Rattle.wb_model.proofs.PartAnswers.{fine_is_uncut}
-use Rattle.wb_model.proofs.SameTurned.{judged-same}
-use Rattle.wb_model.proofs.SetLemmas.{ascends-weaker, is_in, not-before}
+use Rattle.wb_model.proofs.runs.PartAnswers.{fine_is_uncut}
+use Rattle.wb_model.proofs.renaming.SameTurned.{judged-same}
+use Rattle.wb_model.proofs.runs.SetLemmas.{ascends-weaker, is_in, not-before}
 use Rattle.wb_states.specs.declared.state.State.{State}
 use Rattle.wb_states.specs.Ground.{past, run_of, Ground, Meets}
-use Rattle.wb_states.specs.States.{AreWithin, IsRunOf, IsUnderWay}
+use Rattle.wb_states.specs.Met.{AreWithin}
+use Rattle.wb_states.specs.States.{IsRunOf, IsUnderWay}
 
 -- ---- which attempts are in a set
 

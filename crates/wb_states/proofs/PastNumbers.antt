@@ -3,7 +3,7 @@ use Rattle.std.proofs.Common.{◌≡◌, ℕ, ◌+◌, ◌-◌, ◌<◌, ◌≤�
 use Rattle.std.proofs.lemmas.Bool.{cases_lt}
 use Rattle.std.specs.Prelude.{slice_index_or}
 use Rattle.wb_model.specs.runs.Sets.{AscendsPast, IsSet}
-use Rattle.wb_model.proofs.SetLemmas.{ascends-last, ascends-weaker}
+use Rattle.wb_model.proofs.runs.SetLemmas.{ascends-last, ascends-weaker}
 use Rattle.wb_states.specs.Ground.{past}
 
 pub past-zero : (numbers : List ℕ) → past 0 numbers ≡ numbers

@@ -6,7 +6,7 @@ use Rattle.wb_model.specs.declared.run.RunResult.{RunResult}
 use Rattle.wb_model.specs.declared.script.Script.{Script}
 use Rattle.wb_model.specs.runs.Parts.{IsNumberOf}
 use Rattle.wb_model.specs.runs.SetParts.{least_number}
-use Rattle.wb_model.specs.runs.Sets.{has_lesser_number, set_run, IsSet}
+use Rattle.wb_model.specs.runs.Sets.{has_lesser_number, set_comes_before, set_run, IsSet}
 use Rattle.wb_model.specs.runs.Sweeps.{is_fine}
 
 pub record Ground : Type 0 where
@@ -18,6 +18,8 @@ pub record Ground : Type 0 where
   -- else those whose least number this part has, and is no greater than the last attempt of the run without failure
   pub part : Part
   pub last : ℕ
+  -- how many states may be met
+  pub allowed : ℕ
 
 -- the run under a set
 abbrev pub run_of : Ground → List ℕ → RunResult
@@ -36,6 +38,10 @@ abbrev pub IsNoLater : List ℕ → ℕ → List ℕ → ℕ → Type 0
 IsNoLater set attempts other later =
     (length set < length other)
     ⊎ ((length set ≡ length other) × ((has_lesser_number set other ≡ true) ⊎ ((set ≡ other) × (attempts ≤ later))))
+
+-- and they come earlier
+abbrev pub IsEarlier : List ℕ → ℕ → List ℕ → ℕ → Type 0
+IsEarlier set attempts other later = (set_comes_before set other ≡ true) ⊎ ((set ≡ other) × (attempts < later))
 
 -- Two runs have come to the same but for numbers: one under a set, after so many attempts and steps, and another. If the same further attempts fail in
 -- both, counted from there, and the other is neither bad nor cut, so is the first, in as many steps from there on, if its budget allows them.

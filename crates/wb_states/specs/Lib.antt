@@ -1,4 +1,6 @@
 pub mod Answers
 pub mod Closed
 pub mod Ground
+pub mod Many
+pub mod Met
 pub mod States

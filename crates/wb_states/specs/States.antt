@@ -6,17 +6,13 @@ use Rattle.wb_model.specs.declared.heap.Rule.TheVariants.{Set}
 use Rattle.wb_model.specs.runs.Sets.{IsSet}
 use Rattle.wb_model.specs.runs.Sweeps.{is_fine}
 use Rattle.wb_states.specs.Ground.{run_of, turns_of, past, Ground, IsNoLater, IsTriedSet, Meets}
+use Rattle.wb_states.specs.Met.{AreWithin, AsksAfter}
 use Rattle.wb_states.specs.declared.runs.Runs.{Runs}
 use Rattle.wb_states.specs.declared.search.Search.{Search}
 use Rattle.wb_states.specs.declared.state.Edge.{Edge}
 use Rattle.wb_states.specs.declared.state.Edge.TheVariants.{Joins, Ends, Shows, Untried, Unknown}
 use Rattle.wb_states.specs.declared.state.Shown.{Shown}
 use Rattle.wb_states.specs.declared.state.State.{State}
-
--- none of these numbers is past an attempt
-abbrev pub AreWithin : ℕ → List ℕ → Type 0
-AreWithin attempts [] = Unit {0}
-AreWithin attempts (n ∷ ns) = (n ≤ attempts) × AreWithin attempts ns
 
 -- a run under a set, before an attempt past all of its numbers
 pub record IsUnderWay (g : Ground) (numbers : List ℕ) (m : Seen) : Type 0 where
@@ -38,6 +34,8 @@ pub record IsState (g : Ground) (state : State) : Type 0 where
   pub set : IsSet state.numbers
   pub made : AreWithin state.attempts state.numbers
   pub tried : IsNoneOrTried g state.numbers
+  -- its run asks for its next attempt
+  pub asks : AsksAfter g.script g.budget g.shape state.numbers state.attempts
 
 -- a run has come to a state, and is about to make its next attempt
 pub record IsRunOf (g : Ground) (state : State) (m : Seen) : Type 0 where
@@ -145,6 +143,7 @@ pub record IsSearch (g : Ground) (search : Search) : Type 0 where
   pub fewer_granted : length search.granted ≤ length search.states
   pub fewer_failed : length search.failed ≤ length search.states
   pub states : AreStates g search.states
+  pub met : search.met ≤ length search.states
   pub runs : AreRunsOf g search.states search.runs
   pub first : BeginsAtTheStart search.states
   pub granted : AreGranted g search.states search.granted
@@ -160,7 +159,7 @@ pub record Continues (g : Ground) (set : List ℕ) (m : Seen) (state : State) : 
 
 -- what it goes over
 abbrev pub ground_of : Search → Ground
-ground_of s = record { script = s.script.now; budget = s.budget; shape = s.shape; whole = s.whole; part = s.part; last = s.last }
+ground_of s = record { script = s.script.now; budget = s.budget; shape = s.shape; whole = s.whole; part = s.part; last = s.last; allowed = s.allowed }
 
 abbrev pub IsSound : Search → Type 0
 IsSound s = IsSearch (ground_of s) s

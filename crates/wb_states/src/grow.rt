@@ -1,6 +1,6 @@
 //! How a search grows: which runs it follows next. What an answer is, is not decided here.
 
-ghost use Rattle.std.specs.Prelude.{◌≡◌, ◌+◌, ◌≤◌, ◌++◌, ◌∷◌, [], false, true, length, slice_get, Some, Err, IfOk, OnOk, IsTrue};
+ghost use Rattle.std.specs.Prelude.{◌≡◌, ◌+◌, ◌<◌, ◌≤◌, ◌++◌, ◌∷◌, [], false, true, length, slice_get, Some, Ok, Err, IfOk, OnOk, IsTrue};
 ghost use Rattle.wb_machine.specs.declared.fault.RunFault.TheVariants as RunFault;
 ghost use Rattle.wb_model.specs.language.Sound.{is_script};
 ghost use Rattle.wb_model.specs.heap.Space.{is_shape};
@@ -13,7 +13,7 @@ ghost use Rattle.wb_states.specs.declared.state.State.{State};
 use crate::runs::Runs;
 use crate::search::Search;
 use crate::state::{Edge, State};
-use std::alloc::Global;
+use std::alloc::{AllocError, Global};
 use std::collections::HashMap;
 use wb_machine::{Machine, RunFault};
 use wb_model::heap::{Numbers, Rule, Shape};
@@ -33,6 +33,8 @@ pub(crate) struct Plan {
     pub part: Part,
     /// How many attempts the run without failure makes.
     pub last: u32,
+    /// How many states may be met.
+    pub allowed: u32,
     /// Whether a run joins only states that were met with at least as many steps.
     pub exact: bool,
 }
@@ -58,6 +60,7 @@ impl<'a> Search<'a> {
           whole = plan.whole;
           part = plan.part;
           last = plan.last;
+          allowed = plan.allowed;
         }) }
         ensures shape { result ≡ Err RunFault.BadShape → is_shape shape ≡ false }
     {
@@ -87,6 +90,7 @@ impl<'a> Search<'a> {
             whole: plan.whole,
             part: plan.part,
             last: plan.last,
+            allowed: plan.allowed,
             exact: plan.exact,
             met: 1,
             latest: HashMap::new(alloc),
@@ -219,25 +223,22 @@ impl<'a> Search<'a> {
         self.follow_failed(failures, progress)
     }
 
-    /// Follows all runs of sets of at most so many attempts; `false` where more states are met than so many.
-    pub fn grow<P: Progress>(
-        &mut self,
-        failures: u32,
-        most: u32,
-        progress: &mut P,
-    ) -> Result<bool, NoMemory>
+    /// Follows all runs of sets of at most so many attempts; `false` where more states are met than are allowed.
+    pub fn grow<P: Progress>(&mut self, failures: u32, progress: &mut P) -> Result<bool, NoMemory>
         requires sound { IsSound self.old }
         ensures sound { OnOk result (IsSound self.new) }
         ensures ground { OnOk result (ground_of self.new ≡ ground_of self.old) }
+        ensures many { result ≡ Ok false → self.old.allowed < length self.new.states }
     {
         for _ in 0..u64::MAX {
-            if self.met > most {
+            if self.met > self.allowed {
                 return Ok(false);
             }
             if !self.follow_next(failures, progress)? {
                 return Ok(true);
             }
         }
-        Ok(false)
+        // no search takes 2^64 turns
+        Err(NoMemory::from(AllocError))
     }
 }

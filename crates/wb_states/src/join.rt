@@ -2,6 +2,7 @@
 //! here.
 
 ghost use Rattle.std.specs.Prelude.{◌≡◌, ℕ, ◌+◌, ◌<◌, ◌≤◌, [], ◌∷◌, ◌++◌, false, true, length, List, slice_get, Some, IfOk, IfSome, OnOk};
+ghost use Rattle.wb_machine.specs.Turns.{MakesMore};
 ghost use Rattle.wb_model.specs.runs.Sets.{IsSet};
 ghost use Rattle.wb_states.specs.Ground.{past, IsNoLater, IsTriedSet, Meets};
 ghost use Rattle.wb_states.specs.States.{ground_of, AreOfOr, Continues, GoesOn, HasGrown};
@@ -12,6 +13,7 @@ use crate::meeting::is_met;
 use crate::order::is_no_later;
 use crate::search::Search;
 use crate::state::{Edge, State};
+use std::alloc::AllocError;
 use wb_machine::Machine;
 use wb_model::heap::Numbers;
 use wb_model::memory::NoMemory;
@@ -149,6 +151,7 @@ impl<'a> Search<'a> {
           latest = self.new.latest;
           earlier = self.new.earlier;
         }) }
+        ensures met { OnOk result (self.new.met ≤ self.old.met + 1) }
     {
         let at = self.states.len();
         let earlier = match self.latest.get(&print) {
@@ -156,7 +159,7 @@ impl<'a> Search<'a> {
             None => at,
         };
         if self.latest.insert(print, at).is_err() {
-            return Err(NoMemory);
+            return Err(NoMemory::from(AllocError));
         }
         self.earlier.push(earlier)?;
         self.states.push(state)?;
@@ -194,6 +197,7 @@ impl<'a> Search<'a> {
         requires made { 1 ≤ fork.attempts }
         requires going { fork.over ≡ false }
         requires asks { fork.asks ≡ true }
+        requires more { MakesMore fork }
         ensures grown { OnOk result (HasGrown self.old self.new) }
         ensures sound { OnOk result (IsSound self.new) }
         ensures goes { IfOk result (λ edge. (turns : ℕ) → turns < fork.entry.steps + 1 →

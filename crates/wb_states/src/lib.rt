@@ -8,6 +8,7 @@ mod follow;
 mod grow;
 mod join;
 mod labels;
+mod many;
 mod meeting;
 mod order;
 mod runs;

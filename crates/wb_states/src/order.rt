@@ -3,7 +3,7 @@
 
 ghost use Rattle.std.specs.Prelude.{◌≡◌, true};
 ghost use Rattle.wb_model.specs.runs.Sets.{has_lesser_number, set_comes_before};
-ghost use Rattle.wb_states.specs.Ground.{IsNoLater};
+ghost use Rattle.wb_states.specs.Ground.{IsEarlier, IsNoLater};
 
 use wb_model::heap::Numbers;
 
@@ -46,4 +46,11 @@ pub(crate) fn is_no_later(set: &Numbers, attempts: u32, other: &Numbers, later: 
     ensures { result ≡ true → IsNoLater set.now attempts other.now later }
 {
     comes_before(set, other) || (attempts <= later && are_same(set.as_slice(), other.as_slice()))
+}
+
+/// Whether a set and an attempt come earlier than another set and attempt.
+pub(crate) fn is_earlier(set: &Numbers, attempts: u32, other: &Numbers, later: u32) -> bool
+    ensures { result ≡ true → IsEarlier set.now attempts other.now later }
+{
+    comes_before(set, other) || (attempts < later && are_same(set.as_slice(), other.as_slice()))
 }

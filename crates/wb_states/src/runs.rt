@@ -5,7 +5,7 @@ ghost use Rattle.std.specs.Prelude.{ℕ, IfSome, OnOk};
 ghost use Rattle.wb_machine.specs.Seen.{Seen};
 ghost use Rattle.wb_states.specs.States.{AreOf, AreOfOr, IsKept};
 
-use std::alloc::Global;
+use std::alloc::{AllocError, Global};
 use std::collections::HashMap;
 use wb_machine::{Heap, Machine};
 use wb_model::memory::NoMemory;
@@ -131,7 +131,7 @@ impl<'a> Runs<'a> {
         ensures { OnOk result (AreOfOr self.old at machine.entry self.new) }
     {
         if self.machines.insert(at, machine).is_err() {
-            return Err(NoMemory);
+            return Err(NoMemory::from(AllocError));
         }
         Ok(())
     }

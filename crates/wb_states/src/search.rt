@@ -29,6 +29,8 @@ pub(crate) struct Search<'a> {
     pub part: Part,
     /// How many attempts the run without failure makes.
     pub last: u32,
+    /// How many states may be met.
+    pub allowed: u32,
     /// Whether a run joins only states that were met with at least as many steps.
     pub exact: bool,
     /// How many states were met that are the same as no other, whatever their steps.
@@ -55,6 +57,7 @@ impl Drop for Search<'_> {
             whole: _,
             part: _,
             last: _,
+            allowed: _,
             exact: _,
             met: _,
             latest: _,

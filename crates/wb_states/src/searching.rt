@@ -13,6 +13,7 @@ ghost use Rattle.wb_states.specs.Answers.{at_least_one, IsAnswer, IsLeastShownIn
 ghost use Rattle.wb_states.specs.Answers.{IsWholeIf};
 ghost use Rattle.wb_states.specs.Closed.{IsWithin};
 ghost use Rattle.wb_states.specs.Ground.{run_of, IsTriedSet};
+ghost use Rattle.wb_states.specs.Met.{AreManyStatesIn};
 ghost use Rattle.wb_states.specs.States.{ground_of, IsSound};
 ghost use Rattle.wb_states.specs.declared.searching.Searched.TheVariants as found;
 ghost use Rattle.wb_states.specs.declared.state.Shown.{Shown};
@@ -40,6 +41,8 @@ pub enum Searched {
     Fine,
     /// No set of at most so many attempts that is tried has a run that is bad or cut. Nothing is known of larger sets.
     FineTo(u32),
+    /// The same, since more states were met than were allowed.
+    ManyStates(u32),
 }
 
 /// What is known after further runs were followed.
@@ -76,6 +79,27 @@ impl<'a> Search<'a> {
         Ok(none.then_some(Searched::FineTo(most)))
     }
 
+    /// The answer that more states were met than are allowed, once the runs of all sets of at most `fewer` attempts were followed; `None` if
+    /// the runs that were followed don't tell. An exact search with `fewer` 0 may give up before it has followed the run without failure to its
+    /// end; that this run shows nothing is known before.
+    fn answer_of_many(&self, alloc: Global, fewer: u32) -> Result<Option<Searched>, NoMemory>
+        requires sound { IsSound self.now }
+        requires few { fewer + 1 < 2 ^ 32 }
+        requires many { self.now.allowed < length self.now.states }
+        ensures { IfOk result (λ answer. IfSome answer (IsAnswer (ground_of self.now))) }
+    {
+        if !self.are_different(fewer + 1) {
+            return Ok(None);
+        }
+        if self.exact && fewer == 0 {
+            return Ok(Some(Searched::ManyStates(fewer)));
+        }
+        if !self.shows_none_within(alloc, &Bound::AtMost(fewer))? {
+            return Ok(None);
+        }
+        Ok(Some(Searched::ManyStates(fewer)))
+    }
+
     /// The answer that no set has a run that is bad or cut; `None` if the runs that were followed don't tell.
     fn answer_of_all(&self, alloc: Global) -> Result<Option<Searched>, NoMemory>
         requires sound { IsSound self.now }
@@ -105,7 +129,6 @@ impl<'a> Search<'a> {
         &mut self,
         alloc: Global,
         fewer: u32,
-        states: u32,
         progress: &mut P,
     ) -> Result<Looked, NoMemory>
         requires sound { IsSound self.old }
@@ -117,8 +140,8 @@ impl<'a> Search<'a> {
         if fewer > 0 {
             progress.begin_sets(fewer + 1);
         }
-        if !self.grow(fewer + 1, states, progress)? {
-            return Ok(Looked::Known(self.answer_to(alloc, fewer)?));
+        if !self.grow(fewer + 1, progress)? {
+            return Ok(Looked::Known(self.answer_of_many(alloc, fewer)?));
         }
         if self.shown.is_some() {
             return Ok(Looked::Known(self.answer_of_shown(alloc)?));
@@ -129,19 +152,18 @@ impl<'a> Search<'a> {
         Ok(Looked::GoesOn)
     }
 
-    /// What sets of at most `most` attempts show, if no more than so many states are met; `None` where what was followed doesn't say it.
+    /// What sets of at most `most` attempts show, if no more states are met than are allowed; `None` where what was followed doesn't say it.
     fn look<P: Progress>(
         &mut self,
         alloc: Global,
         most: u32,
-        states: u32,
         progress: &mut P,
     ) -> Result<Option<Searched>, NoMemory>
         requires sound { IsSound self.old }
         ensures { IfOk result (λ answer. IfSome answer (IsAnswer (ground_of self.old))) }
     {
         for fewer in 0..most {
-            if let Looked::Known(answer) = self.look_further(alloc, fewer, states, progress)? {
+            if let Looked::Known(answer) = self.look_further(alloc, fewer, progress)? {
                 return Ok(answer);
             }
         }
@@ -162,7 +184,6 @@ fn search_by<P: Progress>(
     script: &Script,
     plan: Plan,
     most: u32,
-    states: u32,
     budget: u32,
     shape: Shape,
     progress: &mut P,
@@ -178,19 +199,21 @@ fn search_by<P: Progress>(
       whole = plan.whole;
       part = plan.part;
       last = plan.last;
+      allowed = plan.allowed;
     }))) }
     ensures shape { result ≡ Err RunFault.BadShape → is_shape shape ≡ false }
 {
     let mut search = Search::new(alloc, script, budget, shape, plan)?;
-    Ok(search.look(alloc, most, states, progress)?)
+    Ok(search.look(alloc, most, progress)?)
 }
 
-/// The least set of at most `most` attempts that makes the run bad or cuts it if they fail together, of those that are tried of a part; that no set does, however many
-/// attempts it has; or that none of at most so many does. The run without failure makes `last` attempts, and no single failure shows anything.
+/// The least set of at most `most` attempts that makes the run bad or cuts it if they fail together, of those that are tried of a part; that
+/// no set does, however many attempts it has; or that none of at most so many does. The run without failure makes `last` attempts, and no
+/// single failure shows anything.
 ///
-/// States before an attempt that are the same but for allocation numbers are followed once. No more than `states` of them are: then what is known is told of sets of fewer
-/// attempts. Where the budget may cut a run that joined a state with more steps, states are followed once more for each that is met with more steps than
-/// before.
+/// States before an attempt that are the same but for allocation numbers are followed once, and at most `states` of them: if there are more,
+/// the answer is about sets of fewer attempts. Where the budget may cut a run that joined a state with more steps, states are followed once
+/// more for each that is met with more steps than before.
 pub fn search_states<P: Progress>(
     alloc: Global,
     script: &Script,
@@ -212,6 +235,9 @@ pub fn search_states<P: Progress>(
     ensures fine { result ≡ Ok found.Fine → AreAllSetsFineIn part script.now budget shape }
     ensures fine_to { (fine : ℕ) → result ≡ Ok (found.FineTo fine) →
         (1 ≤ fine) × AreSetsFineIn part fine script.now budget shape }
+    ensures many { (fine : ℕ) → result ≡ Ok (found.ManyStates fine) →
+        (1 ≤ fine) × AreSetsFineIn part fine script.now budget shape
+        × AreManyStatesIn part (fine + 1) states script.now budget shape }
     ensures shape { result ≡ Err RunFault.BadShape → is_shape shape ≡ false }
 {
     let quick = Plan {
@@ -219,15 +245,16 @@ pub fn search_states<P: Progress>(
         part,
         last,
         exact: false,
+        allowed: states,
     };
-    if let Some(answer) = search_by(alloc, script, quick, most, states, budget, shape, progress)? {
+    if let Some(answer) = search_by(alloc, script, quick, most, budget, shape, progress)? {
         return Ok(at_least_one(answer));
     }
     let exact = Plan {
         exact: true,
         ..quick
     };
-    match search_by(alloc, script, exact, most, states, budget, shape, progress)? {
+    match search_by(alloc, script, exact, most, budget, shape, progress)? {
         Some(answer) => Ok(at_least_one(answer)),
         None => Ok(Searched::FineTo(1)),
     }
@@ -239,6 +266,7 @@ fn at_least_one(answer: Searched) -> Searched
 {
     match answer {
         Searched::FineTo(fine) => Searched::FineTo(fine.max(1)),
+        Searched::ManyStates(fine) => Searched::ManyStates(fine.max(1)),
         known => known,
     }
 }

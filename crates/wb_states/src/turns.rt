@@ -1,7 +1,7 @@
 //! A run between its attempts.
 
 ghost use Rattle.std.specs.Prelude.{◌≡◌, ℕ, ◌+◌, ◌≤◌, false, true, length, None, Some, OnOk};
-ghost use Rattle.wb_machine.specs.Turns.{IsSameRun};
+ghost use Rattle.wb_machine.specs.Turns.{IsSameRun, MakesMore};
 ghost use Rattle.wb_model.specs.runs.Run.{run};
 
 use wb_machine::{Machine, Turn};
@@ -19,6 +19,7 @@ fn go_to_attempt(machine: &mut Machine) -> Result<Option<u32>, NoMemory>
     ensures attempts { OnOk result (machine.new.attempts ≡ machine.old.attempts) }
     ensures steps { OnOk result (machine.old.steps ≤ machine.new.steps) }
     ensures asks { result ≡ Ok None → machine.new.asks ≡ true }
+    ensures more { result ≡ Ok None → MakesMore machine.new }
     ensures going { result ≡ Ok None → machine.new.over ≡ false }
     ensures over { (made : ℕ) → result ≡ Ok (Some made) → machine.new.over ≡ true }
     ensures made { (made : ℕ) → result ≡ Ok (Some made) → machine.new.attempts
@@ -50,6 +51,7 @@ pub(crate) fn go_past_attempt(machine: &mut Machine) -> Result<Option<u32>, NoMe
     ensures later { result ≡ Ok None → machine.old.begun ≡ true →
         machine.old.steps + 1 ≤ machine.new.steps }
     ensures asks { result ≡ Ok None → machine.new.asks ≡ true }
+    ensures more { result ≡ Ok None → MakesMore machine.new }
     ensures going { result ≡ Ok None → machine.new.over ≡ false }
     ensures over { (made : ℕ) → result ≡ Ok (Some made) → machine.new.over ≡ true }
     ensures made { (made : ℕ) → result ≡ Ok (Some made) → machine.new.attempts

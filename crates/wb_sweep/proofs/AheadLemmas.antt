@@ -6,7 +6,7 @@ use Rattle.wb_model.specs.declared.heap.Shape.{Shape}
 use Rattle.wb_model.specs.declared.run.RunResult.{RunResult}
 use Rattle.wb_model.specs.declared.script.Script.{Script}
 use Rattle.wb_model.specs.runs.Sweeps.{is_fine, runs_of}
-use Rattle.wb_model.proofs.PartAnswers.{fine_is_uncut}
+use Rattle.wb_model.proofs.runs.PartAnswers.{fine_is_uncut}
 use Rattle.wb_sweep.specs.declared.followed.Forked.{Forked}
 use Rattle.wb_sweep.specs.declared.followed.Forked.TheVariants.{Met, Ran}
 use Rattle.wb_sweep.specs.declared.scout.Scout.{Scout}

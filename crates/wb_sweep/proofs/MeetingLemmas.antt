@@ -15,8 +15,8 @@ use Rattle.wb_model.specs.runs.Follows.{ComesToTheSame, Reached, RefusesAlike, R
 use Rattle.wb_model.specs.runs.Run.{run, whole_run, WholeRun}
 use Rattle.wb_model.specs.runs.RunEnds.{end_of}
 use Rattle.wb_model.specs.runs.Sweeps.{is_cut_outcome, is_fine, rule_of}
-use Rattle.wb_model.proofs.FollowEither.{numbers-alike}
-use Rattle.wb_model.proofs.SameTurned.{end-same, judged-same}
+use Rattle.wb_model.proofs.renaming.FollowEither.{numbers-alike}
+use Rattle.wb_model.proofs.renaming.SameTurned.{end-same, judged-same}
 use Rattle.wb_sweep.specs.declared.scout.Scout.{Scout}
 use Rattle.wb_sweep.specs.Beside.{runs_beside}
 use Rattle.wb_sweep.specs.Meetings.{EndsAlike, HasMet, IsAhead, last_failing}

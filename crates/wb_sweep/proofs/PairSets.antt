@@ -13,7 +13,7 @@ use Rattle.wb_model.specs.runs.Parts.{last_attempt, IsCutIn, IsFoundIn, IsLeastC
 use Rattle.wb_model.specs.runs.SetAnswers.{set_of, IsSetOfCut, IsSetOfFound}
 use Rattle.wb_model.specs.runs.SetParts.{IsLeastCutSetIn, IsSetFoundIn}
 use Rattle.wb_model.specs.runs.Sweeps.{is_cut_outcome}
-use Rattle.wb_model.proofs.FewSets.{paired-cut, paired-found}
+use Rattle.wb_model.proofs.runs.FewSets.{paired-cut, paired-found}
 use Rattle.wb_sweep.specs.declared.fault.SweepFault.TheVariants.{Cut}
 use Rattle.wb_sweep.specs.declared.set_answer.SetFault.{SetFault}
 use Rattle.wb_sweep.specs.declared.set_answer.SetFault.TheVariants as of_sets

@@ -15,7 +15,7 @@ use Rattle.wb_model.specs.declared.script.Script.{Script}
 use Rattle.wb_model.specs.runs.Parts.{last_attempt, run_at, IsFoundIn, IsLeastCutIn, IsNoneIn, IsNumberOf, IsTried, IsUncut}
 use Rattle.wb_model.specs.runs.Sweeps.{failing_at, is_fine, runs_of}
 use Rattle.wb_model.specs.runs.Run.{is_bad}
-use Rattle.wb_model.proofs.PartAnswers.{bad_is_uncut, before-number, tried-at}
+use Rattle.wb_model.proofs.runs.PartAnswers.{bad_is_uncut, before-number, tried-at}
 use Rattle.wb_sweep.specs.Stretches.{AreFineFrom, AreNumbersFine, IsCutFrom, IsFoundFrom}
 
 -- a number of a part is no greater than the last that is tried

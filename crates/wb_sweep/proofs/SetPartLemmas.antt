@@ -15,7 +15,7 @@ use Rattle.wb_model.specs.runs.Sweeps.{is_fine}
 use Rattle.wb_sweep.specs.declared.set_answer.FoundSet.{FoundSet}
 use Rattle.wb_sweep.specs.SetSearch.{AreFewerFineWith, IsCutWith, IsFoundWith, IsRest}
 use Rattle.wb_sweep.proofs.PartFound.{number-within, within-number}
-use Rattle.wb_model.proofs.SetOrder.{before-by}
+use Rattle.wb_model.proofs.runs.SetOrder.{before-by}
 use Rattle.wb_sweep.proofs.SetSearchLemmas.{AreFineUpTo, lesser-fine}
 
 -- a run that has made fewer attempts than all isn't over

@@ -16,11 +16,11 @@ use Rattle.wb_model.specs.runs.Rest.{SameSoFar}
 use Rattle.wb_model.specs.runs.Run.{is_bad}
 use Rattle.wb_model.specs.runs.Sets.{AscendsPast, has_lesser_number, set_run}
 use Rattle.wb_model.specs.runs.Sweeps.{is_fine}
-use Rattle.wb_model.proofs.SetLemmas.{past-last}
-use Rattle.wb_model.proofs.SweepLemmas.{fine_uncut}
+use Rattle.wb_model.proofs.runs.SetLemmas.{past-last}
+use Rattle.wb_model.proofs.runs.SweepLemmas.{fine_uncut}
 use Rattle.wb_sweep.specs.declared.set_answer.FoundSet.{FoundSet}
 use Rattle.wb_sweep.specs.SetSearch.{AreFewerFine, AreFewerFineWith, AreFine, AreFineWith, IsBadSet, IsCutAfter, IsCutWith, IsFoundAfter, IsFoundWith, IsRest, IsRestWith}
-use Rattle.wb_model.proofs.SetOrder.{lesser-first, none-is-lesser}
+use Rattle.wb_model.proofs.runs.SetOrder.{lesser-first, none-is-lesser}
 
 or_false : (b : Bool) → (b || false) ≡ b
 or_false true = refl

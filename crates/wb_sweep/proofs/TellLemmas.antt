@@ -17,8 +17,8 @@ use Rattle.wb_model.specs.runs.AllNumbers.{count_in, first_bad, number_end, unfi
 use Rattle.wb_model.specs.runs.Run.{is_bad}
 use Rattle.wb_model.specs.runs.RunEnds.{end_of, is_bad_end}
 use Rattle.wb_model.specs.runs.Sweeps.{failing_at, is_cut_outcome, is_fine, runs_of}
-use Rattle.wb_model.proofs.FirstBad.{first-least, first-none}
-use Rattle.wb_model.proofs.LengthTables.{bad-end}
+use Rattle.wb_model.proofs.runs.FirstBad.{first-least, first-none}
+use Rattle.wb_model.proofs.runs.LengthTables.{bad-end}
 use Rattle.wb_sweep.specs.declared.found.Found.{Found}
 use Rattle.wb_sweep.specs.declared.found.Listing.{Listing}
 use Rattle.wb_sweep.specs.declared.found.Listing.TheVariants.{Unfine, Every}

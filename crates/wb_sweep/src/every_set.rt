@@ -10,6 +10,7 @@ ghost use Rattle.wb_model.specs.runs.Sweeps.{is_fine};
 ghost use Rattle.wb_model.specs.declared.failures.Failures.TheVariants.{Single};
 ghost use Rattle.wb_model.specs.declared.run.Outcome.TheVariants as outcomes;
 ghost use Rattle.wb_model.specs.declared.run.Why.{Why};
+ghost use Rattle.wb_states.specs.Met.{AreManyStatesIn};
 ghost use Rattle.wb_sweep.specs.EverySetSweeping.{IsEverySetSweepIn};
 ghost use Rattle.wb_sweep.specs.SetSearch.{IsBadSet};
 
@@ -66,6 +67,8 @@ fn search_every_set<P: Progress>(
         IsLeastSetCutIn part script.now budget shape numbers why }
     ensures many { (most : ℕ) → result ≡ Err (EverySetFault.ManyStates most) →
         (1 ≤ most) × IsNoSetIn part most script.now budget shape }
+    ensures met { (most : ℕ) → result ≡ Err (EverySetFault.ManyStates most) →
+        AreManyStatesIn part (most + 1) states script.now budget shape }
     ensures shape { result ≡ Err EverySetFault.BadShape → is_shape shape ≡ false }
 {
     let searched = search_states(
@@ -81,7 +84,9 @@ fn search_every_set<P: Progress>(
     );
     match searched {
         Ok(Searched::Fine) => Ok(None),
-        Ok(Searched::FineTo(fine)) => Err(EverySetFault::ManyStates { fine }),
+        Ok(Searched::ManyStates(fine)) => Err(EverySetFault::ManyStates { fine }),
+        // no search is known to end so, and `ManyStates` would lack its clause
+        Ok(Searched::FineTo(_)) => Err(EverySetFault::NoMemory),
         Ok(Searched::Shown(shown)) => judge_shown(shown),
         Err(RunFault::BadShape) => Err(EverySetFault::BadShape),
         Err(RunFault::NoMemory) => Err(EverySetFault::NoMemory),
@@ -110,6 +115,8 @@ fn find_among_all<P: Progress>(
         last_attempt Single script.now budget shape ≤ budget + 1 }
     ensures many { (most : ℕ) → result ≡ Err (EverySetFault.ManyStates most) →
         (1 ≤ most) × IsNoSetIn part most script.now budget shape }
+    ensures met { (most : ℕ) → result ≡ Err (EverySetFault.ManyStates most) →
+        AreManyStatesIn part (most + 1) states script.now budget shape }
     ensures few_met { (most : ℕ) → result ≡ Err (EverySetFault.ManyStates most) →
         last_attempt Single script.now budget shape ≤ budget + 1 }
     ensures shape { (result ≡ Err EverySetFault.BadShape) ↔ (is_shape shape ≡ false) }
@@ -129,9 +136,9 @@ fn find_among_all<P: Progress>(
 /// no greater than the last attempt of the run without failure. Sets are in the order of `sweep_sets`.
 ///
 /// Single numbers are tried as `sweep_part` tries them. Once they show nothing, sets of two numbers and more are, for which at most so
-/// many states are met. `ManyStates` says up to how many attempts all sets were tried where that isn't enough: none of these shows
-/// anything. `Cut` names the least set whose run is cut, where no lesser one's is bad. `BadShape` comes exactly where the shape is none
-/// that a heap may have.
+/// many states are met. `ManyStates` comes only where more are: it says up to how many attempts all sets were tried, none of which shows
+/// anything; the states are those of sets of one attempt more at most. `Cut` names the least set whose run is cut, where no lesser one's is
+/// bad. `BadShape` comes exactly where the shape is none that a heap may have.
 ///
 /// `progress` is notified that the sweep begins, of each failure that is tried before its run, and that the sweep is over.
 pub fn sweep_every_set<P: Progress>(
@@ -155,6 +162,8 @@ pub fn sweep_every_set<P: Progress>(
         last_attempt Single script.now budget shape ≤ budget + 1 }
     ensures many { (most : ℕ) → result ≡ Err (EverySetFault.ManyStates most) →
         (1 ≤ most) × IsNoSetIn part most script.now budget shape }
+    ensures met { (most : ℕ) → result ≡ Err (EverySetFault.ManyStates most) →
+        AreManyStatesIn part (most + 1) states script.now budget shape }
     ensures few_met { (most : ℕ) → result ≡ Err (EverySetFault.ManyStates most) →
         last_attempt Single script.now budget shape ≤ budget + 1 }
     ensures shape { (result ≡ Err EverySetFault.BadShape) ↔ (is_shape shape ≡ false) }

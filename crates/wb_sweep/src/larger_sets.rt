@@ -85,5 +85,10 @@ pub(crate) fn find_larger<P: Progress>(
                 alloc, script, part, fine, most, budget, shape, last, progress,
             )
         }
+        Searched::ManyStates(fine) => {
+            walk_sets(
+                alloc, script, part, fine, most, budget, shape, last, progress,
+            )
+        }
     }
 }

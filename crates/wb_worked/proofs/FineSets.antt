@@ -12,9 +12,9 @@ use Rattle.wb_model.specs.declared.script.Script.{Script}
 use Rattle.wb_model.specs.runs.SetParts.{IsSetOf}
 use Rattle.wb_model.specs.runs.Sets.{has_lesser_number, set_comes_before, set_run, AreSetsFine, AreSetsFineBefore, AscendsPast}
 use Rattle.wb_model.specs.runs.Sweeps.{is_fine}
-use Rattle.wb_model.proofs.SetLemmas.{past-last}
-use Rattle.wb_model.proofs.SetOrder.{before-by, fewer-before}
-use Rattle.wb_model.proofs.SweepLemmas.{fine_uncut}
+use Rattle.wb_model.proofs.runs.SetLemmas.{past-last}
+use Rattle.wb_model.proofs.runs.SetOrder.{before-by, fewer-before}
+use Rattle.wb_model.proofs.runs.SweepLemmas.{fine_uncut}
 
 -- of each of so many numbers past one
 abbrev pub each_past : (ℕ → Bool) → ℕ → ℕ → Bool

@@ -2,3 +2,4 @@ pub mod FineSets
 pub mod WorkedRuns
 pub mod WorkedOrder
 pub mod WorkedSweeps
+pub mod WorkedFaults

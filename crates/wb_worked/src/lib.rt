@@ -1,5 +1,6 @@
-//! Worked theorems of sets of failures: what the definitions say of two small scripts, each proved by computing. They show that
+//! Worked theorems of sets of failures and of faults: what the definitions say of small scripts, each proved by computing. They show that
 //! the definitions mean what the pages say of them.
 #![tactic(auto)]
 
+pub mod fault_theorems;
 pub mod set_theorems;

@@ -81,12 +81,12 @@ sets_status_le part most script budget shape text values status (inl r) = omega 
 sets_status_le part most script budget shape text values status (inr (inl r)) = omega (arith, r.1)
 sets_status_le part most script budget shape text values status (inr (inr r)) = omega (arith, r.1)
 
-every_set_status_le : (part : Part) (script : Script) (budget : ℕ) (shape : Shape) (text : List ℕ) (values : ReportValues) (status : ℕ)
-    → IsEverySetReport part script budget shape text values status → status ≤ 3
-every_set_status_le part script budget shape text values status (inl r) = omega (arith, r.1)
-every_set_status_le part script budget shape text values status (inr (inl r)) = omega (arith, r.1)
-every_set_status_le part script budget shape text values status (inr (inr (inl r))) = omega (arith, r.1)
-every_set_status_le part script budget shape text values status (inr (inr (inr r))) = omega (arith, r.1)
+every_set_status_le : (part : Part) (states : ℕ) (script : Script) (budget : ℕ) (shape : Shape) (text : List ℕ) (values : ReportValues) (status : ℕ)
+    → IsEverySetReport part states script budget shape text values status → status ≤ 3
+every_set_status_le part states script budget shape text values status (inl r) = omega (arith, r.1)
+every_set_status_le part states script budget shape text values status (inr (inl r)) = omega (arith, r.1)
+every_set_status_le part states script budget shape text values status (inr (inr (inl r))) = omega (arith, r.1)
+every_set_status_le part states script budget shape text values status (inr (inr (inr r))) = omega (arith, r.1)
 
 lengths_status_le : (script : Script) (budget : ℕ) (shape : Shape) (text : List ℕ) (values : ReportValues) (status : ℕ) → IsLengthsReport script budget shape text values status → status ≤ 3
 lengths_status_le script budget shape text values status (inl r) = omega (arith, r.1)
@@ -107,7 +107,7 @@ search_status_le (S.Ends failures) part script budget shape text values status r
 search_status_le (S.Sets most) part script budget shape text values status r =
     sets_status_le part most script budget shape text values status r
 search_status_le (S.EverySet states) part script budget shape text values status r =
-    every_set_status_le part script budget shape text values status r
+    every_set_status_le part states script budget shape text values status r
 
 task_status_le : (task : Task) (script : Script) (budget : ℕ) (shape : Shape) (text : List ℕ) (values : ReportValues) (status : ℕ) → IsTaskReport task script budget shape text values status → status ≤ 3
 task_status_le (T.Run rule) script budget shape text values status r = subst (λ n. n ≤ 3) (sym r.status_is) (outcome_status_le (run script rule budget shape).outcome)

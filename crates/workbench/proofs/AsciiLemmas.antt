@@ -30,7 +30,7 @@ use Rattle.wb_model.specs.declared.run_end.RunEnd.TheVariants as ends
 use Rattle.wb_model.specs.declared.size.Rise.{Rise}
 use Rattle.wb_model.specs.meaning.Printable.{IsPrintable, ArePrintable}
 use Rattle.wb_model.specs.runs.AllNumbers.{bad_count}
-use Rattle.wb_model.proofs.PrintableLemmas.{is_printable, printable_by_test, decimal-printable, hexadecimal-printable, signed_decimal-printable}
+use Rattle.wb_model.proofs.meaning.PrintableLemmas.{is_printable, printable_by_test, decimal-printable, hexadecimal-printable, signed_decimal-printable}
 use Rattle.workbench.specs.Ascii.{IsPrintableText, IsTextByte}
 use Rattle.workbench.specs.Report.{fault_line, no_memory, read_fault, refused, refused_at}
 use Rattle.workbench.specs.EndWords.{cut_words, eight_digits, end_words, panic_words}

@@ -11,8 +11,8 @@ use Rattle.wb_model.specs.declared.script.Script.{Script}
 use Rattle.wb_model.specs.meaning.Printable.{ArePrintable}
 use Rattle.wb_model.specs.runs.Run.{run}
 use Rattle.wb_model.specs.runs.Sweeps.{failing_at, rule_for}
-use Rattle.wb_model.proofs.OnceFound.{found-run}
-use Rattle.wb_model.proofs.ThroughoutLemmas.{run-prints}
+use Rattle.wb_model.proofs.runs.OnceFound.{found-run}
+use Rattle.wb_model.proofs.runs.ThroughoutLemmas.{run-prints}
 use Rattle.wb_command_line.specs.declared.command.Command.{Command}
 use Rattle.wb_command_line.specs.declared.command.Search.{Search}
 use Rattle.wb_command_line.specs.declared.command.Search.TheVariants as S
@@ -102,18 +102,18 @@ module _ (script : Script) (budget : ℕ) (shape : Shape) where
       subst IsPrintableText (sym is.0.text_is) (both (attempts_line _) (no_set_line most) (of_attempts _) (of_no_set most))
   of_sets_report part most text values status (inr (inr is)) = subst IsPrintableText (sym is.0.text_is) (of_cut_set is.0.numbers is.0.why)
 
-  of_every_set_report : (part : Part) (text : List ℕ) (values : ReportValues) (status : ℕ)
-      → IsEverySetReport part script budget shape text values status → IsPrintableText text
-  of_every_set_report part text values status (inl is) =
+  of_every_set_report : (part : Part) (states : ℕ) (text : List ℕ) (values : ReportValues) (status : ℕ)
+      → IsEverySetReport part states script budget shape text values status → IsPrintableText text
+  of_every_set_report part states text values status (inl is) =
       let ran = least-run-over script budget shape part (is_whole part) is.0.numbers is.0.result is.0.found in
       let lines : All ArePrintable is.0.result.lines =
       subst (λ (r : RunResult). All ArePrintable r.lines) (sym ran) (run_lines (Set is.0.numbers)) in
       subst IsPrintableText (sym is.0.text_is)
       (both (attempts_line _) (found_set_text is.0.numbers is.0.result) (of_attempts _) (of_found_set is.0.numbers is.0.result lines))
-  of_every_set_report part text values status (inr (inl is)) =
+  of_every_set_report part states text values status (inr (inl is)) =
       subst IsPrintableText (sym is.0.text_is) (both (attempts_line _) no_set_at_all_line (of_attempts _) of_no_set_at_all)
-  of_every_set_report part text values status (inr (inr (inl is))) = subst IsPrintableText (sym is.0.text_is) (of_cut_set is.0.numbers is.0.why)
-  of_every_set_report part text values status (inr (inr (inr is))) = subst IsPrintableText (sym is.0.text_is) (of_many_states _ is.0.fine)
+  of_every_set_report part states text values status (inr (inr (inl is))) = subst IsPrintableText (sym is.0.text_is) (of_cut_set is.0.numbers is.0.why)
+  of_every_set_report part states text values status (inr (inr (inr is))) = subst IsPrintableText (sym is.0.text_is) (of_many_states _ is.0.fine)
 
   of_lengths_report : (text : List ℕ) (values : ReportValues) (status : ℕ) → IsLengthsReport script budget shape text values status → IsPrintableText text
   of_lengths_report text values status (inl is) =
@@ -131,7 +131,7 @@ module _ (script : Script) (budget : ℕ) (shape : Shape) where
   of_search (S.All failures) part text values status is = of_list_report Unfine failures part text values status is
   of_search (S.Ends failures) part text values status is = of_list_report Every failures part text values status is
   of_search (S.Sets most) part text values status is = of_sets_report part most text values status is
-  of_search (S.EverySet states) part text values status is = of_every_set_report part text values status is
+  of_search (S.EverySet states) part text values status is = of_every_set_report part states text values status is
 
   of_task : (task : Task) (text : List ℕ) (values : ReportValues) (status : ℕ) → IsTaskReport task script budget shape text values status → IsPrintableText text
   of_task (T.Run rule) text values status is = subst IsPrintableText (sym is.text_is) (of_run (run script rule budget shape) (run_lines rule))

@@ -11,6 +11,7 @@ use Rattle.wb_model.specs.declared.script.Script.{Script}
 use Rattle.wb_model.specs.runs.EverySet.{IsLeastSetCutIn}
 use Rattle.wb_model.specs.runs.Parts.{last_attempt}
 use Rattle.wb_model.specs.runs.SetParts.{IsNoSetIn}
+use Rattle.wb_states.specs.Met.{AreManyStatesIn}
 use Rattle.wb_sweep.specs.declared.set_answer.FoundSet.{FoundSet}
 use Rattle.wb_sweep.specs.declared.set_answer.SetSweep.{SetSweep}
 use Rattle.wb_sweep.specs.EverySetSweeping.{IsEverySetSweepIn}
@@ -24,16 +25,16 @@ use Rattle.workbench.specs.SetsReport.{cut_set_line, found_set_text, swept_statu
 use Rattle.workbench.specs.TwoNumbers.{attempts_line, attempts_of}
 use Rattle.workbench.proofs.SetsOver.{least-cut-over, least-found-over, none-of-any-size-over, none-over}
 
-module _ (part : Part) (script : Script) (budget : ℕ) (shape : Shape) (allowed : budget ≤ LARGEST_BUDGET) where
+module _ (part : Part) (states : ℕ) (script : Script) (budget : ℕ) (shape : Shape) (allowed : budget ≤ LARGEST_BUDGET) where
   -- what the sweep finds is what the report says
   found_is : (sweep : SetSweep) (text : List ℕ) (values : ReportValues) (status : ℕ) → IsEverySetSweepIn part script budget shape sweep
-      → text ≡ every_set_text sweep → values ≡ swept_values sweep → status ≡ swept_status sweep → IsEverySetReport part script budget shape text values status
+      → text ≡ every_set_text sweep → values ≡ swept_values sweep → status ≡ swept_status sweep → IsEverySetReport part states script budget shape text values status
   found_is sweep text values status is text_is values_are status_is = go sweep.found refl
     where
       few : last_attempt Single script budget shape ≤ budget + 1
       few = subst (λ n. n ≤ budget + 1) is.attempts is.few
 
-      go : (found : Option FoundSet) → sweep.found ≡ found → IsEverySetReport part script budget shape text values status
+      go : (found : Option FoundSet) → sweep.found ≡ found → IsEverySetReport part states script budget shape text values status
       go None e = inr (inl (
         record {
           none = none-of-any-size-over part script budget shape allowed few (is_whole part) refl (is.none e);
@@ -55,7 +56,7 @@ module _ (part : Part) (script : Script) (budget : ℕ) (shape : Shape) (allowed
 
   pub if_found : (made : Result Report NoMemory) (sweep : SetSweep) → IsEverySetSweepIn part script budget shape sweep
       → IfOk made (λ r. r.text.items ≡ every_set_text sweep) → IfOk made (λ r. r.values ≡ swept_values sweep) → IfOk made (λ r. r.status ≡ swept_status sweep)
-      → IfOk made (λ r. IsEverySetReport part script budget shape r.text.items r.values r.status)
+      → IfOk made (λ r. IsEverySetReport part states script budget shape r.text.items r.values r.status)
   if_found (Ok r) sweep is text_is values_are status_is = found_is sweep r.text.items r.values r.status is text_is values_are status_is
   if_found (Err fault) sweep is text_is values_are status_is = tt
 
@@ -63,7 +64,7 @@ module _ (part : Part) (script : Script) (budget : ℕ) (shape : Shape) (allowed
   pub if_cut : (made : Result Report NoMemory) (numbers : List ℕ) (why : Why) → last_attempt Single script budget shape ≤ budget + 1
       → IsLeastSetCutIn part script budget shape numbers why
       → IfOk made (λ r. r.text.items ≡ cut_set_line numbers why) → IfOk made (λ r. r.values ≡ cut_set_values numbers) → IfOk made (λ r. r.status ≡ 3)
-      → IfOk made (λ r. IsEverySetReport part script budget shape r.text.items r.values r.status)
+      → IfOk made (λ r. IsEverySetReport part states script budget shape r.text.items r.values r.status)
   if_cut (Ok r) numbers why few cut text_is values_are status_is =
       let told = least-cut-over part script budget shape allowed few (is_whole part) refl numbers why cut in
       inr (inr (inl (record { numbers = numbers; why = why; cut = told; text_is = text_is; values_are = values_are }, status_is)))
@@ -71,11 +72,11 @@ module _ (part : Part) (script : Script) (budget : ℕ) (shape : Shape) (allowed
 
   -- and so is a search that met too many states
   pub if_many : (made : Result Report NoMemory) (fine : ℕ) → last_attempt Single script budget shape ≤ budget + 1
-      → (1 ≤ fine) × IsNoSetIn part fine script budget shape
+      → (1 ≤ fine) × IsNoSetIn part fine script budget shape → AreManyStatesIn part (fine + 1) states script budget shape
       → IfOk made (λ r. r.text.items ≡ many_states_text (attempts_of Single script budget shape) fine)
       → IfOk made (λ r. r.values ≡ many_states_values fine) → IfOk made (λ r. r.status ≡ 3)
-      → IfOk made (λ r. IsEverySetReport part script budget shape r.text.items r.values r.status)
-  if_many (Ok r) fine few is text_is values_are status_is =
+      → IfOk made (λ r. IsEverySetReport part states script budget shape r.text.items r.values r.status)
+  if_many (Ok r) fine few is met text_is values_are status_is =
       let none = none-over part script budget shape allowed few fine (is_whole part) refl is.1 in
-      inr (inr (inr (record { fine = fine; some = is.0; none = none; text_is = text_is; values_are = values_are }, status_is)))
-  if_many (Err fault) fine few is text_is values_are status_is = tt
+      inr (inr (inr (record { fine = fine; some = is.0; none = none; many = met; text_is = text_is; values_are = values_are }, status_is)))
+  if_many (Err fault) fine few is met text_is values_are status_is = tt

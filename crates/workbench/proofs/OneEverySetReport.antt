@@ -6,7 +6,7 @@ use Rattle.wb_model.specs.declared.part.Part.{Part}
 use Rattle.wb_model.specs.declared.script.Script.{Script}
 use Rattle.wb_model.specs.runs.EverySet.{IsEverySetAnswerIn}
 use Rattle.wb_model.specs.runs.SetAnswers.{SetAnswer, found, cut, none}
-use Rattle.wb_model.proofs.EverySetAnswers.{once-of-every-set}
+use Rattle.wb_model.proofs.runs.EverySetAnswers.{once-of-every-set}
 use Rattle.wb_command_line.specs.Spelled.{whole}
 use Rattle.wb_command_line.specs.declared.command.Command.{Command}
 use Rattle.wb_command_line.specs.declared.command.Search.{Search}
@@ -62,25 +62,26 @@ module _ (part : Part) (script : Script) (budget : ℕ) (shape : Shape) where
     status_is : status ≡ told_status answer
 
   -- a report tells of an answer, but that of a search with too many states
-  as_told : (text : List ℕ) (values : ReportValues) (status : ℕ) → values.fine ≡ None → IsEverySetReport part script budget shape text values status
+  as_told : (states : ℕ) (text : List ℕ) (values : ReportValues) (status : ℕ) → values.fine ≡ None
+      → IsEverySetReport part states script budget shape text values status
       → IsTold text values status
-  as_told text values status ends (inl (s, e)) =
+  as_told states text values status ends (inl (s, e)) =
       let here = least-found-in script budget shape part is_all s.numbers s.result s.found in
       record { answer = found s.numbers s.result; is = here; text_is = s.text_is; values_are = s.values_are; status_is = e }
-  as_told text values status ends (inr (inl (s, e))) =
+  as_told states text values status ends (inr (inl (s, e))) =
       let here = none-of-any-size-in script budget shape part is_all s.none in
       record { answer = none; is = here; text_is = s.text_is; values_are = s.values_are; status_is = e }
-  as_told text values status ends (inr (inr (inl (s, e)))) =
+  as_told states text values status ends (inr (inr (inl (s, e)))) =
       let here = least-cut-in script budget shape part is_all s.numbers s.why s.cut in
       record { answer = cut s.numbers s.why; is = here; text_is = s.text_is; values_are = s.values_are; status_is = e }
-  as_told text values status ends (inr (inr (inr (s, e)))) = let known : values.fine ≡ Some s.fine = ap (λ (v : ReportValues). v.fine) s.values_are in cc
+  as_told states text values status ends (inr (inr (inr (s, e)))) = let known : values.fine ≡ Some s.fine = ap (λ (v : ReportValues). v.fine) s.values_are in cc
 
-  one_every_set : (text text' : List ℕ) (values figures' : ReportValues) (status status' : ℕ) → values.fine ≡ None → figures'.fine ≡ None
-      → IsEverySetReport part script budget shape text values status → IsEverySetReport part script budget shape text' figures' status'
+  one_every_set : (states : ℕ) (text text' : List ℕ) (values figures' : ReportValues) (status status' : ℕ) → values.fine ≡ None → figures'.fine ≡ None
+      → IsEverySetReport part states script budget shape text values status → IsEverySetReport part states script budget shape text' figures' status'
       → Alike text values text' figures' × (status ≡ status')
-  one_every_set text text' values figures' status status' ends ends' is is' =
-      let s = as_told text values status ends is in
-      let t = as_told text' figures' status' ends' is' in
+  one_every_set states text text' values figures' status status' ends ends' is is' =
+      let s = as_told states text values status ends is in
+      let t = as_told states text' figures' status' ends' is' in
       let same = once-of-every-set tried script budget shape s.answer t.answer s.is t.is in (
         (s.text_is ∙ ap told_text same ∙ sym t.text_is, s.values_are ∙ ap told_values same ∙ sym t.values_are),
         s.status_is ∙ ap told_status same ∙ sym t.status_is,
@@ -97,7 +98,7 @@ module _ (search : Search) (script : Script) (budget : ℕ) (shape : Shape) wher
     where
       by : (search : Search) → IsSearchReport search part script budget shape text values status → IsSearchReport search part script budget shape text' figures' status'
           → Alike text values text' figures' × (status ≡ status')
-      by (S.EverySet states) s t = one_every_set part script budget shape text text' values figures' status status' ends ends' s t
+      by (S.EverySet states) s t = one_every_set part script budget shape states text text' values figures' status status' ends ends' s t
       by (S.Least failures) s t = one_search (S.Least failures) script budget shape part refl text text' values figures' status status' s t
       by (S.All failures) s t = one_search (S.All failures) script budget shape part refl text text' values figures' status status' s t
       by (S.Ends failures) s t = one_search (S.Ends failures) script budget shape part refl text text' values figures' status status' s t

@@ -19,10 +19,10 @@ use Rattle.wb_model.specs.runs.Sweeps.{failing_at}
 use Rattle.wb_model.specs.declared.lengths.LengthRange.{LengthRange}
 use Rattle.wb_model.specs.declared.limits.TheConstants.{CEILING}
 use Rattle.wb_model.specs.runs.Lengths.{end_in, IsLengthTable}
-use Rattle.wb_model.proofs.LengthAnswers.{bad-length-some, once-bad-length}
-use Rattle.wb_model.proofs.LengthTables.{one-table}
-use Rattle.wb_model.proofs.OnceFound.{cut-some, found-some, found-uncut, once-cut, once-found}
-use Rattle.wb_model.proofs.OnceInPart.{cut_or_uncut, cut-some-in, found-some-in, found-uncut-in, least-bad-some, once-cut-in, once-found-in, once-least-bad}
+use Rattle.wb_model.proofs.runs.LengthAnswers.{bad-length-some, once-bad-length}
+use Rattle.wb_model.proofs.runs.LengthTables.{one-table}
+use Rattle.wb_model.proofs.runs.OnceFound.{cut-some, found-some, found-uncut, once-cut, once-found}
+use Rattle.wb_model.proofs.runs.OnceInPart.{cut_or_uncut, cut-some-in, found-some-in, found-uncut-in, least-bad-some, once-cut-in, once-found-in, once-least-bad}
 use Rattle.wb_command_line.specs.declared.command.Command.{Command}
 use Rattle.wb_command_line.specs.declared.command.Search.{Search}
 use Rattle.wb_command_line.specs.declared.command.Search.TheVariants as S

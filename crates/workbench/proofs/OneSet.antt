@@ -15,8 +15,8 @@ use Rattle.wb_model.specs.runs.Run.{is_bad_outcome}
 use Rattle.wb_model.specs.runs.SetParts.{AreSetsFineInBefore, IsLeastCutSetIn, IsNoSetIn, IsSetCutIn, IsSetFoundIn, IsSetOf}
 use Rattle.wb_model.specs.runs.Sets.{has_lesser_number, set_comes_before, set_run}
 use Rattle.wb_model.specs.runs.Sweeps.{is_cut_outcome, is_fine}
-use Rattle.wb_model.proofs.OnceFound.{bad-unfine, cut-unfine}
-use Rattle.wb_model.proofs.SetLemmas.{none-fails}
+use Rattle.wb_model.proofs.runs.OnceFound.{bad-unfine, cut-unfine}
+use Rattle.wb_model.proofs.runs.SetLemmas.{none-fails}
 
 -- ---- of two sets one comes first, or they are the same
 

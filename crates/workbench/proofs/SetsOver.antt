@@ -13,8 +13,8 @@ use Rattle.wb_model.specs.runs.EverySet.{IsLeastSetCutIn, IsLeastSetFoundIn, IsN
 use Rattle.wb_model.specs.runs.Parts.{last_attempt}
 use Rattle.wb_model.specs.runs.SetParts.{IsNoSetIn, IsSetCutIn, IsSetFoundIn}
 use Rattle.wb_model.specs.runs.Sets.{set_run}
-use Rattle.wb_model.proofs.EverySetAnswers.{whole-every-cut, whole-every-found, whole-every-none}
-use Rattle.wb_model.proofs.SetPartAnswers.{whole-set-cut, whole-set-found, whole-set-none}
+use Rattle.wb_model.proofs.runs.EverySetAnswers.{whole-every-cut, whole-every-found, whole-every-none}
+use Rattle.wb_model.proofs.runs.SetPartAnswers.{whole-set-cut, whole-set-found, whole-set-none}
 use Rattle.workbench.specs.EverySetReport.{IsLeastSetCutOver, IsLeastSetFoundOver, IsNoSetOfAnySizeOver}
 use Rattle.workbench.specs.PartReport.{is_whole}
 use Rattle.workbench.specs.SetsReport.{IsNoSetOver, IsSetCutOver, IsSetFoundOver}

@@ -1,7 +1,7 @@
 -- What `--sets` says, as lines and as values, and what that means of runs: the least set of attempts, however many, whose simulated failure
 -- in one run leaks or panics, of all sets (`wb_model`, `specs/runs/Sets.antt`) or of those of a part (`EverySet.antt`). A set is spoken of as
 -- `--failures` does. Where more states were met than were allowed, it is said of which sets the runs are known.
-use Rattle.std.specs.Prelude.{◌≡◌, ◌⊎◌, ◌≤◌, ℕ, List, ◌++◌, Bool, false, true, codes}
+use Rattle.std.specs.Prelude.{◌≡◌, ◌⊎◌, ◌+◌, ◌≤◌, ℕ, List, ◌++◌, Bool, false, true, codes}
 use Rattle.std.specs.Option.{option_map_or}
 use Rattle.wb_model.specs.declared.failures.Failures.TheVariants.{Single}
 use Rattle.wb_model.specs.declared.heap.Shape.{Shape}
@@ -11,6 +11,7 @@ use Rattle.wb_model.specs.declared.run.Why.{Why}
 use Rattle.wb_model.specs.declared.script.Script.{Script}
 use Rattle.wb_model.specs.runs.EverySet.{IsLeastSetCutIn, IsLeastSetFoundIn, IsNoSetOfAnySizeIn}
 use Rattle.wb_model.specs.runs.Sets.{AreAllSetsFine, IsLeastBadSet, IsLeastCutSet}
+use Rattle.wb_states.specs.Met.{AreManyStatesIn}
 use Rattle.wb_sweep.specs.declared.set_answer.SetSweep.{SetSweep}
 use Rattle.wb_command_line.specs.declared.command.Search.{Search}
 use Rattle.wb_command_line.specs.declared.command.Search.TheVariants.{EverySet}
@@ -86,22 +87,23 @@ pub record IsUnsweptEverySet (part : Part) (script : Script) (budget : ℕ) (sha
   pub text_is : text ≡ cut_set_line numbers why
   pub values_are : values ≡ cut_set_values numbers
 
--- There is none: more states were met than were allowed. The run leaks, panics or is cut under no set of at most so many attempts, which is
--- at least one. How states are counted isn't said, and so not which number this is.
-pub record IsCutByStates (part : Part) (script : Script) (budget : ℕ) (shape : Shape) (text : List ℕ) (values : ReportValues) : Type 0 where
+-- There is none: more states were met than were allowed (`wb_states`, `Met.antt`). The run leaks, panics or is cut under no set of at most
+-- so many attempts, which is at least one; the states are those under sets of one attempt more. It isn't said that this number is the greatest.
+pub record IsCutByStates (part : Part) (states : ℕ) (script : Script) (budget : ℕ) (shape : Shape) (text : List ℕ) (values : ReportValues) : Type 0 where
   pub fine : ℕ
   pub some : 1 ≤ fine
   pub none : IsNoSetOver (is_whole part) part fine script budget shape
+  pub many : AreManyStatesIn part (fine + 1) states script budget shape
   pub text_is : text ≡ many_states_text (attempts_of Single script budget shape) fine
   pub values_are : values ≡ many_states_values fine
 
--- the report of `sweep --sets`
-abbrev pub IsEverySetReport : Part → Script → ℕ → Shape → List ℕ → ReportValues → ℕ → Type 0
-IsEverySetReport part script budget shape text values status =
+-- the report of `sweep --sets`, in which so many states may be met
+abbrev pub IsEverySetReport : Part → ℕ → Script → ℕ → Shape → List ℕ → ReportValues → ℕ → Type 0
+IsEverySetReport part states script budget shape text values status =
     (IsLeastFailingSet part script budget shape text values × (status ≡ 1))
     ⊎ ((IsNoFailingSetAtAll part script budget shape text values × (status ≡ 0))
     ⊎ ((IsUnsweptEverySet part script budget shape text values × (status ≡ 3))
-    ⊎ (IsCutByStates part script budget shape text values × (status ≡ 3))))
+    ⊎ (IsCutByStates part states script budget shape text values × (status ≡ 3))))
 
 -- the search is among all sets, so that its report may be that of one with too many states
 abbrev pub is_of_every_set : Search → Bool

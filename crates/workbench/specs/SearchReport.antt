@@ -26,7 +26,7 @@ IsSearchReport (Ends failures) part script budget shape text values status =
 IsSearchReport (Sets most) part script budget shape text values status =
     IsSetsReport part most script budget shape text values status
 IsSearchReport (EverySet states) part script budget shape text values status =
-    IsEverySetReport part script budget shape text values status
+    IsEverySetReport part states script budget shape text values status
 
 -- the length, and then what the search among all failures comes to
 pub record IsSizedAndSearched (search : Search) (script : Script) (budget : ℕ) (shape : Shape)

@@ -2,6 +2,7 @@
 
 ghost use Rattle.std.specs.Prelude.{IsOk, OnOk};
 
+use std::alloc::AllocError;
 use std::io;
 use wb_model::memory::NoMemory;
 
@@ -11,6 +12,6 @@ pub fn or_no_memory(put: io::Result<()>) -> Result<(), NoMemory>
 {
     match put {
         Ok(()) => Ok(()),
-        Err(_) => Err(NoMemory),
+        Err(_) => Err(NoMemory::from(AllocError)),
     }
 }

@@ -14,7 +14,7 @@ use crate::exit_status::CUT;
 use crate::report::Report;
 use crate::report_values::ReportValues;
 use crate::sets::{cut_set_report, report_with};
-use std::alloc::Global;
+use std::alloc::{AllocError, Global};
 use wb_machine::RunFault;
 use wb_model::heap::{Rule, Shape};
 use wb_model::limits::LARGEST_BUDGET;
@@ -40,7 +40,7 @@ pub fn every_set_report<P: Progress>(
     requires greatest { budget ≤ LARGEST_BUDGET }
     requires shape { IsTrue (is_shape shape) }
     requires states { 1 ≤ states }
-    ensures { IfOk result (λ r. IsEverySetReport part script.now budget shape
+    ensures { IfOk result (λ r. IsEverySetReport part states script.now budget shape
         r.text.items r.values r.status) }
 {
     match sweep_every_set(alloc, script, part, states, budget, shape, progress) {
@@ -51,7 +51,7 @@ pub fn every_set_report<P: Progress>(
         }
         // The command's shape is one that a heap may have.
         Err(EverySetFault::BadShape) => unreachable!(),
-        Err(EverySetFault::NoMemory) => Err(NoMemory),
+        Err(EverySetFault::NoMemory) => Err(NoMemory::from(AllocError)),
     }
 }
 
@@ -105,6 +105,6 @@ fn attempts_made(alloc: Global, script: &Script, budget: u32, shape: Shape) -> R
         Ok(run) => Ok(run.trace.len() as u64),
         // The command's shape is one that a heap may have.
         Err(RunFault::BadShape) => unreachable!(),
-        Err(RunFault::NoMemory) => Err(NoMemory),
+        Err(RunFault::NoMemory) => Err(NoMemory::from(AllocError)),
     }
 }

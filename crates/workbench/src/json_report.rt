@@ -395,6 +395,6 @@ fn words_pair(alloc: Global, number: u32, end: RunEnd) -> Result<Value, AllocErr
             let pair = vec![in alloc; Value::from(number), words]?;
             Ok(Value::Array(pair))
         }
-        Err(NoMemory) => Err(AllocError),
+        Err(error) => Err(AllocError::from(error)),
     }
 }

@@ -13,7 +13,7 @@ use crate::numbers_text::{put_cut_at, put_sweep};
 use crate::report::Report;
 use crate::report_values::{FailingNumber, ReportValues};
 use crate::tasks::{cut_report, sweep_report};
-use std::alloc::Global;
+use std::alloc::{AllocError, Global};
 use wb_model::failures::Failures;
 use wb_model::heap::Shape;
 use wb_model::limits::{CEILING, LARGEST_BUDGET};
@@ -92,7 +92,7 @@ fn part_report<P: Progress>(
         }
         // The command's shape is one that a heap may have.
         Err(SweepFault::BadShape) => unreachable!(),
-        Err(SweepFault::NoMemory) => Err(NoMemory),
+        Err(SweepFault::NoMemory) => Err(NoMemory::from(AllocError)),
     }
 }
 
@@ -126,7 +126,7 @@ pub fn list_report<P: Progress>(
         }
         // The command's shape is one that a heap may have.
         Err(SweepFault::BadShape) => unreachable!(),
-        Err(SweepFault::NoMemory) => Err(NoMemory),
+        Err(SweepFault::NoMemory) => Err(NoMemory::from(AllocError)),
     }
 }
 

@@ -10,7 +10,7 @@ use crate::appending::or_no_memory;
 use crate::exit_status::REJECTED;
 use crate::report_values::ReportValues;
 use crate::tasks::carry_out;
-use std::alloc::Global;
+use std::alloc::{AllocError, Global};
 use std::io::Write;
 use wb_command_line::command::Command;
 use wb_model::fault::ScriptFault;
@@ -38,7 +38,7 @@ pub fn report_on<P: Progress>(
 {
     match wb_script::read(alloc, bytes) {
         Ok(script) => carry_out(alloc, command, &script, progress),
-        Err(ScriptFault::NoMemory) => Err(NoMemory),
+        Err(ScriptFault::NoMemory) => Err(NoMemory::from(AllocError)),
         Err(fault) => refusal(alloc, fault),
     }
 }

@@ -10,7 +10,7 @@ use crate::exit_status::{CUT, FOUND, NOTHING_FOUND};
 use crate::report::Report;
 use crate::report_values::{FailingNumber, ReportValues};
 use crate::sets_text::{put_cut_set, put_sets};
-use std::alloc::Global;
+use std::alloc::{AllocError, Global};
 use wb_model::heap::{Numbers, Shape};
 use wb_model::limits::LARGEST_BUDGET;
 use wb_model::memory::NoMemory;
@@ -44,7 +44,7 @@ pub fn sets_report<P: Progress>(
         Err(SetFault::Cut { numbers, why }) => cut_set_report(alloc, numbers, why),
         // The command's shape is one that a heap may have.
         Err(SetFault::BadShape) => unreachable!(),
-        Err(SetFault::NoMemory) => Err(NoMemory),
+        Err(SetFault::NoMemory) => Err(NoMemory::from(AllocError)),
     }
 }
 

@@ -23,7 +23,7 @@ use crate::report::Report;
 use crate::report_values::{FailingNumber, ReportValues};
 use crate::run_text::put_run;
 use crate::searches::{check_report, search_report};
-use std::alloc::Global;
+use std::alloc::{AllocError, Global};
 use wb_command_line::command::{Command, Task};
 use wb_lengths::lengths;
 use wb_machine::RunFault;
@@ -89,7 +89,7 @@ fn run_report(
         }
         // The command's shape is one that a heap may have.
         Err(RunFault::BadShape) => unreachable!(),
-        Err(RunFault::NoMemory) => Err(NoMemory),
+        Err(RunFault::NoMemory) => Err(NoMemory::from(AllocError)),
     }
 }
 
@@ -153,7 +153,7 @@ pub fn report_of_size_fault(alloc: Global, fault: SizeFault) -> Result<Report, N
             Ok(cut_report(text, Failing::Number(number)))
         }
         SizeFault::BadShape => unreachable!(),
-        SizeFault::NoMemory => Err(NoMemory),
+        SizeFault::NoMemory => Err(NoMemory::from(AllocError)),
     }
 }
 
@@ -188,7 +188,7 @@ fn lengths_report<P: Progress>(
         }
         // The command's shape is one that a heap may have.
         Err(RunFault::BadShape) => unreachable!(),
-        Err(RunFault::NoMemory) => Err(NoMemory),
+        Err(RunFault::NoMemory) => Err(NoMemory::from(AllocError)),
     }
 }
 
@@ -253,7 +253,7 @@ pub fn report_of_sweep(
             Ok(cut_report(text, at))
         }
         Err(SweepFault::BadShape) => unreachable!(),
-        Err(SweepFault::NoMemory) => Err(NoMemory),
+        Err(SweepFault::NoMemory) => Err(NoMemory::from(AllocError)),
     }
 }
 

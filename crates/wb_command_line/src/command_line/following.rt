@@ -1,22 +1,27 @@
-//! The options of `run` that ask for the run's steps, `--follow` and `--follow-steps`, and what they spell.
+//! The options of `run` that ask for the run's steps, `--follow`, `--follow-steps` and `--follow-around`, and what they spell.
 
 ghost use Rattle.std.specs.Prelude.{◌≡◌, ◌≤◌, IfOk, IfSome, codes, false};
 ghost use Rattle.clap.specs.Words.{app_of, found_of, rows_of, rule_of};
 ghost use Rattle.clap.specs.declared.builder.command.Command.TheViews.{out-Command as fields_of};
 ghost use Rattle.wb_command_line.specs.CommandLine.{follow_flag, following_options, joined_level, with_rules};
 ghost use Rattle.wb_command_line.specs.Passed.{RowsPass};
-ghost use Rattle.wb_command_line.specs.Spelled.{flag_of, follow_of, followed_of};
+ghost use Rattle.wb_command_line.specs.Spelled.{around_of, flag_of, follow_of, followed_of};
 
 use crate::command_line::number_help::NumberHelp;
 use crate::command_line::parser::{NumberOption, with_argument, with_numbers};
 use clap::{Arg, ArgAction, ArgMatches};
 use std::alloc::{AllocError, Global};
+use wb_model::limits::CEILING;
 
-/// The default of `--follow-steps`: how many of the first steps are followed, and how many of the last.
+/// The default of `--follow-steps`: how many of the first steps are followed, and how many of the last; or how many before an attempt, and
+/// how many after it.
 pub const DEFAULT_FOLLOWED: u32 = 1000;
 
 /// The greatest value of `--follow-steps`.
 pub const MOST_FOLLOWED: u32 = 1_000_000;
+
+/// The number of the first attempt.
+const FIRST_ATTEMPT: u32 = 1;
 
 /// The subcommand with the options that ask for the steps of its run.
 pub(super) fn with_following<'a>(
@@ -33,13 +38,22 @@ pub(super) fn with_following<'a>(
     with_numbers(
         alloc,
         line,
-        &[NumberOption {
-            name: "follow-steps",
-            value: "N",
-            least: 1,
-            most: MOST_FOLLOWED,
-            help: help.follow_steps.as_str(),
-        }],
+        &[
+            NumberOption {
+                name: "follow-steps",
+                value: "N",
+                least: 1,
+                most: MOST_FOLLOWED,
+                help: help.follow_steps.as_str(),
+            },
+            NumberOption {
+                name: "follow-around",
+                value: "N",
+                least: FIRST_ATTEMPT,
+                most: CEILING,
+                help: help.follow_around.as_str(),
+            },
+        ],
     )
 }
 
@@ -54,19 +68,29 @@ fn follow<'a>(alloc: Global) -> Arg<'a>
         .help("Writes each step of the run to standard error, with what it does")
 }
 
-/// How many of the run's first steps the options ask for, which is also how many of its last; `None` without `--follow`, even if
-/// `--follow-steps` is given.
+/// How many of the run's first steps the options ask for, which is also how many of its last; with `--follow-around`, how many before the
+/// attempt, which is also how many after it. `None` without these two flags, even if `--follow-steps` is given.
 pub(super) fn follow_in(options: &ArgMatches) -> Option<u32>
     requires { RowsPass joined_level.rules (rows_of (found_of options.now)) }
     ensures is { result ≡ follow_of (rows_of (found_of options.now)) }
     ensures range { IfSome result (λ steps. (1 ≤ steps) × (steps ≤ MOST_FOLLOWED)) }
 {
     let steps = followed_in(options);
-    if follows_in(options) {
+    let around = around_in(options);
+    if follows_in(options) || around.is_some() {
         Some(steps)
     } else {
         None
     }
+}
+
+/// The number of the attempt about which the options ask for steps; `None` if they name none.
+pub(super) fn around_in(options: &ArgMatches) -> Option<u32>
+    requires { RowsPass joined_level.rules (rows_of (found_of options.now)) }
+    ensures is { result ≡ around_of (rows_of (found_of options.now)) }
+    ensures range { IfSome result (λ number. (1 ≤ number) × (number ≤ CEILING)) }
+{
+    options.get_one("follow-around")
 }
 
 /// Whether the options ask for the steps of the run.

@@ -26,6 +26,7 @@ pub(crate) struct NumberHelp {
     pub fail_from: String,
     pub set: String,
     pub follow_steps: String,
+    pub follow_around: String,
     pub failures: String,
     pub states: String,
     pub from: String,
@@ -57,8 +58,11 @@ impl NumberHelp {
                 "Makes the attempts of LIST fail: 1 to {MOST_NUMBERS} ascending numbers from 1 to {CEILING}, as in 2,3,5"
             )?,
             follow_steps: format!(in alloc;
-                "With --follow: writes the first N steps and the last N, N from 1 to {MOST_FOLLOWED} \
-                 [default: {DEFAULT_FOLLOWED}]"
+                "With --follow: writes the first N steps and the last N; with --follow-around: N before the attempt \
+                 and N after it; N from 1 to {MOST_FOLLOWED} [default: {DEFAULT_FOLLOWED}]"
+            )?,
+            follow_around: format!(in alloc;
+                "As --follow, but for the steps around attempt N, from 1 to {CEILING}"
             )?,
             failures: format!(in alloc;
                 "If no single failure leaks or panics, makes two attempts fail, then three, up to K, from 1 to \

@@ -1,14 +1,13 @@
 //! What is said of attempts that a run's rule makes fail: which of them failed, and what came of it.
 
-use crate::runs::failures::put_failed;
 use crate::runs::rates::{put_first, put_rate};
 use crate::runs::script_page::{ScriptPage, Written};
-use crate::runs::sets::put_set;
+use crate::runs::sets::{put_by_rule, put_set};
 use wb_history::WatchedRun;
 use wb_model::heap::Rule;
 
-/// Says which line made the attempt that failed first because of the rule, if the rule may make any fail, and where the run went on, unless
-/// that is the line of its panic. If the rule names several attempts, says so of each.
+/// Says which lines made the attempts that failed because of the rule, if the rule may make any fail, and where the run went on after each,
+/// unless that is the line of its panic.
 pub fn put_refused(page: &mut ScriptPage<'_>, rule: &Rule, run: &WatchedRun<'_>) -> Written {
     match rule {
         Rule::Unlimited | Rule::Number(0) | Rule::Every(0) | Rule::From(0) => Ok(()),
@@ -21,27 +20,21 @@ pub fn put_refused(page: &mut ScriptPage<'_>, rule: &Rule, run: &WatchedRun<'_>)
     }
 }
 
-/// Says how many attempts failed under a rate. The first of them has the rate as its number.
+/// Says how many attempts failed under a rate, and shows them.
 fn put_every(page: &mut ScriptPage<'_>, rate: u32, run: &WatchedRun<'_>) -> Written {
     put_rate(page, rate, &run.history.attempts);
-    match run.history.attempts.find(rate) {
-        Some(made) => put_failed(page, made, run),
-        None => Ok(()),
-    }
+    put_by_rule(page, run)
 }
 
-/// Says how many attempts failed where attempt `first` and each later one fails.
+/// Says how many attempts failed where attempt `first` and each later one fails, and shows them.
 fn put_from(page: &mut ScriptPage<'_>, first: u32, run: &WatchedRun<'_>) -> Written {
     put_first(page, first, &run.history.attempts);
-    match run.history.attempts.find(first) {
-        Some(made) => put_failed(page, made, run),
-        None => Ok(()),
-    }
+    put_by_rule(page, run)
 }
 
 fn put_limit(page: &mut ScriptPage<'_>, limit: u32, run: &WatchedRun<'_>) -> Written {
-    if let Some(made) = run.history.attempts.first_refused() {
-        return put_failed(page, made, run);
+    if run.history.attempts.first_refused().is_some() {
+        return put_by_rule(page, run);
     }
     page.page.write_file_message(format_args!(
         "a heap of {limit} bytes refuses nothing in this run"

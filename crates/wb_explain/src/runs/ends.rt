@@ -6,18 +6,19 @@ use crate::runs::cuts::put_cut;
 use crate::runs::destroyed::{OF_OBJECT, of_item};
 use crate::runs::end_words::PanicName;
 use crate::runs::heap_checks::{meaning_of_check, put_counted, put_counts};
+use crate::runs::item_gone::{cure_of_gone, put_item_gone, put_user};
 use crate::runs::items_left::{
-    OF_MAIN, POP_FIRST, cure_of_another, items_below, put_another, put_items, put_items_left,
+    OF_MAIN, POP_FIRST, cure_of_another, cure_of_below, put_another, put_items, put_items_left,
     put_too_many,
 };
 use crate::runs::leaks::put_leaks;
 use crate::runs::panics::{Meaning, meaning_of, symbian_of};
 use crate::runs::paths::{put_path, put_traps};
-use crate::runs::pointers::{cure_of, put_fault};
+use crate::runs::pointers::{cure_of, is_out_of_order, put_fault};
 use crate::runs::script_page::{ScriptPage, Written};
 use crate::runs::sentences::put_values;
 use crate::runs::told::put_life;
-use wb_history::{End, Life, Meant, PointerState, Values, WatchedRun};
+use wb_history::{Ended, Life, Meant, PointerState, Values, WatchedRun};
 use wb_machine::{Raised, Raiser};
 use wb_model::heap::{Panic, Rule};
 use wb_model::run::Outcome;
@@ -146,10 +147,27 @@ fn put_way(page: &mut ScriptPage<'_>, line: u32, raised: Raised, run: &WatchedRu
     if let Some(life) = life_of(raised, run) {
         put_life(page, &run.history, life)?;
     }
+    put_item_meant(page, line, raised, run)?;
     put_items(page, raised, run)?;
     match &run.end.counted {
         Some(counted) => put_counted(page, counted, run),
         None => Ok(()),
+    }
+}
+
+/// Tells of the item whose destruction raised a panic, or used a cell that was destroyed before.
+fn put_item_meant(
+    page: &mut ScriptPage<'_>,
+    line: u32,
+    raised: Raised,
+    run: &WatchedRun<'_>,
+) -> Written {
+    match (run.end.pointer, ended_of(raised, run)) {
+        (None, ended) if raised.raiser == Raiser::Item => put_item_gone(page, run, ended),
+        (Some(fault), Some(ended)) if is_out_of_order(run, line, fault, ended) => {
+            put_user(page, run)
+        }
+        _ => Ok(()),
     }
 }
 
@@ -169,34 +187,42 @@ fn life_of(raised: Raised, run: &WatchedRun<'_>) -> Option<Life> {
 fn help_of(line: u32, raised: Raised, run: &WatchedRun<'_>) -> &'static str {
     match run.end.pointer {
         Some(fault) => cure_of(run, line, fault),
-        None if raised.panic == Panic::POP_BELOW_TRAP && items_below(run) == 0 => {
-            "each item that is popped was pushed before: pop as many as there are"
-        }
+        None if raised.panic == Panic::POP_BELOW_TRAP => cure_of_below(run),
         None if raised.panic == Panic::ANOTHER_ITEM_ON_TOP => cure_of_another(run),
         None => meaning(raised, run).1,
     }
 }
 
-/// How the life ended of the cell whose item raised a panic; `None` if that isn't known.
-fn end_of_item(raised: Raised, run: &WatchedRun<'_>) -> Option<End> {
-    let ended = life_of(raised, run)?.ended?;
-    Some(ended.end)
+/// How the life ended of the cell that a panic is about; `None` if that isn't known.
+fn ended_of(raised: Raised, run: &WatchedRun<'_>) -> Option<Ended> {
+    life_of(raised, run)?.ended
 }
 
 /// What a panic means and what to look for, by what raised it.
 fn meaning(raised: Raised, run: &WatchedRun<'_>) -> Meaning {
     if let Some(counted) = &run.end.counted {
-        return meaning_of_check(counted);
+        return meaning_of_check(counted, run);
     }
     match (raised.raiser, run.end.statement) {
         (Raiser::TrapEnd, _) => ("", POP_FIRST),
         (Raiser::MainEnd, _) => OF_MAIN,
-        (Raiser::Item, _) => of_item(raised.panic, end_of_item(raised, run)),
+        (Raiser::Item, _) => meaning_of_item(raised, run),
         (Raiser::Release, _) => OF_OBJECT,
         (Raiser::Statement | Raiser::Holder, Some(statement)) => {
             meaning_of(raised.panic, statement)
         }
         (Raiser::Statement | Raiser::Holder, None) => ("", ""),
+    }
+}
+
+/// What a panic means that an item raised, and what to look for.
+fn meaning_of_item(raised: Raised, run: &WatchedRun<'_>) -> Meaning {
+    match ended_of(raised, run) {
+        Some(ended) => {
+            let (said, help) = of_item(raised.panic, Some(ended.end));
+            (said, cure_of_gone(run, ended).unwrap_or(help))
+        }
+        None => of_item(raised.panic, None),
     }
 }
 

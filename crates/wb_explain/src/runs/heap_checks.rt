@@ -6,25 +6,23 @@ use crate::runs::panics::Meaning;
 use crate::runs::script_page::{ScriptPage, Written};
 use std::fmt;
 use std::fmt::{Display, Formatter, Write};
-use wb_history::{Counted, WatchedRun};
+use wb_history::{Counted, OpenMark, WatchedRun};
 use wb_model::heap::Answer;
+use wb_model::script::Statement;
 
 /// The most cells and attempts that are told of.
 const MOST_ROWS: usize = 20;
 
 /// What it means that a heap check found another number of cells than it expected, and what to look for.
-pub fn meaning_of_check(counted: &Counted) -> Meaning {
-    if i64::from(counted.found) > i64::from(counted.expected) {
-        (
-            "",
-            "free each cell that isn't meant to stay before the check",
-        )
+pub fn meaning_of_check(counted: &Counted, run: &WatchedRun<'_>) -> Meaning {
+    let help = if mark_left(counted, run).is_some() {
+        "a leave closes no mark: put `mark` and `markend` around the TRAP, where no leave comes between them"
+    } else if i64::from(counted.found) > i64::from(counted.expected) {
+        "free each cell that isn't meant to stay before the check"
     } else {
-        (
-            "",
-            "look for a cell that was refused, freed too early, or made before the mark",
-        )
-    }
+        "look for a cell that was refused, freed too early, or made before the mark"
+    };
+    ("", help)
 }
 
 /// Says how many cells a check expected, and how many it found.
@@ -81,7 +79,46 @@ pub fn put_counted(page: &mut ScriptPage<'_>, counted: &Counted, run: &WatchedRu
         page.page
             .write_file_message(format_args!("and {more} more"));
     }
+    put_mark(page, counted, run)?;
     put_failed_by_script(page, run)
+}
+
+/// The mark that a leave left open, and the line that closed it before the check that failed; 0 if it is the mark from which this check
+/// counts. `None` if there is no such mark, if the check counts all cells, or if it found too many: a mark that was left open hides cells.
+fn mark_left(counted: &Counted, run: &WatchedRun<'_>) -> Option<(OpenMark, u32)> {
+    let is_of_all = matches!(run.end.statement, Some(Statement::CheckAll(_)));
+    if is_of_all || i64::from(counted.found) > i64::from(counted.expected) {
+        return None;
+    }
+    match run.history.marks.newest() {
+        Some(mark) if mark.skipped_by != 0 => Some((mark, 0)),
+        _ => run.history.marks.closed_late,
+    }
+}
+
+/// Tells of the mark that a leave left open, so that another `markend` closed it, or is to close it.
+fn put_mark(page: &mut ScriptPage<'_>, counted: &Counted, run: &WatchedRun<'_>) -> Written {
+    let Some((mark, closed)) = mark_left(counted, run) else {
+        return Ok(());
+    };
+    if closed == 0 {
+        page.mark_new(
+            mark.line,
+            0,
+            "cells are counted from this mark on, which is still open",
+        )?;
+    } else {
+        page.mark_new(
+            mark.line,
+            0,
+            format_args!("line {closed} closed this mark in place of its own"),
+        )?;
+    }
+    page.mark_new(
+        mark.skipped_by,
+        0,
+        "the leave of this line had left that mark open",
+    )
 }
 
 /// Tells which attempts failed by the script's own setting, unless some failed by the run's rule.

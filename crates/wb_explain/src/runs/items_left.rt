@@ -71,8 +71,36 @@ pub fn put_items(page: &mut ScriptPage<'_>, raised: Raised, run: &WatchedRun<'_>
     match raised.panic {
         Panic::ITEMS_LEFT => put_each(page, items_left(raised, run), run),
         Panic::ANOTHER_ITEM_ON_TOP => put_top(page, run),
-        Panic::POP_BELOW_TRAP => put_newest(page, run),
+        Panic::POP_BELOW_TRAP => {
+            put_newest(page, run)?;
+            put_of_caller(page, run)
+        }
         _ => Ok(()),
+    }
+}
+
+/// Tells which line popped an item that a calling body had pushed, if one did.
+fn put_of_caller(page: &mut ScriptPage<'_>, run: &WatchedRun<'_>) -> Written {
+    match run.history.items.of_caller {
+        Some(popped) => page.mark_new(
+            popped.line.number(),
+            0,
+            format_args!(
+                "this popped the item that line {} had pushed, in a calling body",
+                popped.pushed.number()
+            ),
+        ),
+        None => Ok(()),
+    }
+}
+
+/// What to do about more items to be popped than the innermost TRAP has.
+pub fn cure_of_below(run: &WatchedRun<'_>) -> &'static str {
+    match (items_below(run), run.history.items.of_caller) {
+        (_, Some(_)) =>
+            "a body pops the items that it pushed itself: `popcheck` makes sure that no other item comes off",
+        (0, None) => "each item that is popped was pushed before: pop as many as there are",
+        _ => "items of an outer TRAP are popped outside the inner one",
     }
 }
 
@@ -105,12 +133,37 @@ fn put_each(page: &mut ScriptPage<'_>, items: &[ItemOnStack], run: &WatchedRun<'
             page.mark_new(line, 1, "this item was pushed here and not popped")?;
         }
         for at in run.end.path.len()..path.len() {
-            if let Some(call) = at.checked_sub(1).and_then(|at| path.get(at)) {
+            if let Some(before) = at.checked_sub(1)
+                && let Some(call) = path.get(before)
+            {
                 page.mark_new(*call, 0, "it was called here")?;
+                put_caller(page, *call, at, *item, run)?;
             }
         }
     }
     Ok(())
+}
+
+/// Tells after which line a body ended that had made a call, without a pop of the item that the call had left; nothing of the body in which
+/// the run ended.
+fn put_caller(
+    page: &mut ScriptPage<'_>,
+    call: u32,
+    depth: usize,
+    item: ItemOnStack,
+    run: &WatchedRun<'_>,
+) -> Written {
+    let depth = u32::try_from(depth).unwrap_or(0);
+    let last = run.history.calls.last_line_of(depth, item.pushed.step);
+    if depth as usize <= run.end.path.len() || last == 0 {
+        return Ok(());
+    }
+    let name = body_name(page, call, run);
+    page.mark_new(
+        last,
+        0,
+        format_args!("`{name}` ended after this line, without a pop"),
+    )
 }
 
 /// The name of a line's body.

@@ -28,21 +28,16 @@ enum Loss {
     StillNamed,
 }
 
-/// Says of each leak, up to the most that are listed, which line made the cell. How the cell was lost is said only of the first of
-/// successive leaks that the same line made.
+/// Says of each leak, up to the most that are listed, which line made the cell. How the cell was lost is said only of the first cell that
+/// the same line made, wherever it is.
 pub fn put_leaks(page: &mut ScriptPage<'_>, leaks: &[Leak], run: &WatchedRun<'_>) -> Written {
-    let mut last = ShortLine::NONE;
-    for leak in leaks.iter().take(MOST_LEAKS) {
-        let pointer = Ptr {
-            place: leak.place,
-            number: leak.number,
-        };
-        if let Some(life) = run.history.lives.find(pointer) {
+    let (listed, _) = leaks.split_at_checked(MOST_LEAKS).unwrap_or((leaks, &[]));
+    for leak in listed {
+        if let Some(life) = life_of(*leak, run) {
             put_leak(page, *leak, life)?;
-            if life.made != last {
+            if is_first(*leak, life.made, listed, run) {
                 put_loss(page, life, run)?;
             }
-            last = life.made;
         }
     }
     match leaks.len().saturating_sub(MOST_LEAKS) {
@@ -53,6 +48,27 @@ pub fn put_leaks(page: &mut ScriptPage<'_>, leaks: &[Leak], run: &WatchedRun<'_>
             .write_file_message(format_args!("{more} more cells leak")),
     }
     Ok(())
+}
+
+/// The life of a cell that leaks.
+fn life_of(leak: Leak, run: &WatchedRun<'_>) -> Option<Life> {
+    run.history.lives.find(Ptr {
+        place: leak.place,
+        number: leak.number,
+    })
+}
+
+/// Whether no other of these leaks was made by the same line before.
+fn is_first(leak: Leak, made: ShortLine, leaks: &[Leak], run: &WatchedRun<'_>) -> bool {
+    for other in leaks {
+        if other.number < leak.number
+            && let Some(life) = life_of(*other, run)
+            && life.made == made
+        {
+            return false;
+        }
+    }
+    true
 }
 
 /// Says which line made a cell that leaks, and shows it with carets under the pointer that got the cell.
@@ -84,7 +100,7 @@ fn put_loss(page: &mut ScriptPage<'_>, life: Life, run: &WatchedRun<'_>) -> Writ
         let name = page.word(line, 1);
         page.mark_new(line, 1, format_args!("`{name}` got it last, here"))?;
     }
-    page.mark_new(life.popped.number(), 0, "its item was popped here")?;
+    put_popped(page, life, run)?;
     if life.popped.is_none() {
         let pushed = life.pushed.number();
         page.mark_new(
@@ -111,6 +127,26 @@ fn put_loss(page: &mut ScriptPage<'_>, life: Life, run: &WatchedRun<'_>) -> Writ
     Ok(())
 }
 
+/// Tells which line popped the item of a cell, if one did; and which line had pushed it, if that is in another body.
+fn put_popped(page: &mut ScriptPage<'_>, life: Life, run: &WatchedRun<'_>) -> Written {
+    let (popped, pushed) = (life.popped.number(), life.pushed.number());
+    if is_popped_elsewhere(life, run) {
+        return page.mark_new(
+            popped,
+            0,
+            format_args!("its item, which line {pushed} had pushed, was popped here"),
+        );
+    }
+    page.mark_new(popped, 0, "its item was popped here")
+}
+
+/// Whether the item of a cell was popped in another body than the one that pushed it.
+fn is_popped_elsewhere(life: Life, run: &WatchedRun<'_>) -> bool {
+    let bodies = &run.history.bodies;
+    let (popped, pushed) = (life.popped.number(), life.pushed.number());
+    popped != 0 && bodies.body_of(popped) != bodies.body_of(pushed)
+}
+
 /// Says what to do about a cell that was lost.
 fn put_cure(page: &mut ScriptPage<'_>, loss: Loss, life: Life, run: &WatchedRun<'_>) {
     let name = match life.held {
@@ -119,12 +155,12 @@ fn put_cure(page: &mut ScriptPage<'_>, loss: Loss, life: Life, run: &WatchedRun<
     };
     match loss {
         Loss::Overwritten(line) => put_overwritten(page, line, name, run),
-        Loss::OwnerGone(_, ended) if ended.end != End::Deleted => page.page.write_help(
-            format_args!(
-                "line {} freed the object that owned it as a plain cell, so its destructor didn't run: push an object with `pushobj`",
-                ended.at.number()
-            ),
-        ),
+        Loss::OwnerGone(_, ended) if ended.end != End::Deleted => {
+            let (line, cure) = (ended.at.number(), instead_of_plain(ended.by));
+            page.page.write_help(format_args!(
+                "line {line} freed the object that owned it as a plain cell, so its destructor didn't run: {cure}"
+            ));
+        }
         Loss::OwnerGone(owner, ended) => {
             let (line, class) = (ended.at.number(), class_name(page, owner));
             page.page.write_help(format_args!(
@@ -133,16 +169,27 @@ fn put_cure(page: &mut ScriptPage<'_>, loss: Loss, life: Life, run: &WatchedRun<
         }
         Loss::OwnerLeaks(owner) => {
             let (line, class) = (owner.made.number(), class_name(page, owner));
-            page.page.write_help(format_args!(
-                "the object that line {line} made owns it and leaks too: delete that, and let the `destroy` of `{class}` free the field"
+            let field = name.split('.').nth(1).unwrap_or(name);
+            page.page.write_text("note: ");
+            page.page.write(format_args!(
+                "it was lost with the object that line {line} made, whose field `{field}` named it: when that is deleted, the `destroy` of `{class}` is to free it"
             ));
+            page.page.end_line();
         }
-        Loss::Left(leave) => put_left_cure(page, leave, life),
+        Loss::Left(leave) => put_left_cure(page, leave, life, run),
         Loss::OutOfScope(held) => put_out_of_scope(page, held, name, run),
         Loss::StillNamed => page.page.write_help_text(match life.kind {
             Kind::Object(_) => "delete the object before the end, or let what owns it delete it",
             _ => "free the cell before the end, or let what owns it free it",
         }),
+    }
+}
+
+/// What to do in place of freeing an object as a plain cell.
+fn instead_of_plain(by: By) -> &'static str {
+    match by {
+        By::Line => "release an object with `delete`",
+        By::PopDestroy | By::Leave => "push an object with `pushobj`",
     }
 }
 
@@ -196,7 +243,7 @@ fn returns(run: &WatchedRun<'_>, held: Held) -> bool {
 }
 
 /// Says which line left, and what to do before that line.
-fn put_left_cure(page: &mut ScriptPage<'_>, leave: Leave, life: Life) {
+fn put_left_cure(page: &mut ScriptPage<'_>, leave: Leave, life: Life, run: &WatchedRun<'_>) {
     page.page.begin_help();
     page.page.write(format_args!("line {} left", leave.at.line));
     if let Some(trap) = leave.caught {
@@ -205,6 +252,8 @@ fn put_left_cure(page: &mut ScriptPage<'_>, leave: Leave, life: Life) {
     }
     page.page
         .write_text(match (life.popped.is_some(), life.pushed.is_some()) {
+            (true, _) if is_popped_elsewhere(life, run) =>
+                " when its item was off the cleanup stack: pop that only when the cell has another owner; `popcheck` makes sure that no other item comes off",
             (true, _) =>
                 " when its item was off the cleanup stack: pop that only when the cell has another owner",
             (false, true) => " and ran the operation of its item: let that free the cell",

@@ -4,32 +4,32 @@ use crate::runs::script_page::ScriptPage;
 use wb_history::Attempts;
 use wb_model::size::Rise;
 
-/// The most rows that are shown.
-const MOST_ROWS: usize = 20;
+/// How many rows of a table are shown at its beginning and at its end, if it is too long to be shown whole.
+const FIRST_ROWS: usize = 10;
+
+const LAST_ROWS: usize = 5;
 
 /// Returns the number of the last attempt that `put_lengths` names; 0 if it names none.
 pub fn last_named(rises: &[Rise]) -> u32 {
-    rises
-        .iter()
-        .take(MOST_ROWS)
-        .last()
-        .map_or(0, |rise| rise.number)
+    rises.last().map_or(0, |rise| rise.number)
 }
 
 /// Says of each row of the table which line makes its attempt, by the attempts of the run without a limit.
 pub fn put_lengths(page: &mut ScriptPage<'_>, attempts: &Attempts<'_>, rises: &[Rise]) {
     page.page.write_file_text("what shorter heaps refuse first");
     let mut from = 0;
-    for rise in rises.iter().take(MOST_ROWS) {
-        if let Some(made) = attempts.find(rise.number) {
+    let more = rises.len().saturating_sub(FIRST_ROWS + LAST_ROWS);
+    for (index, rise) in rises.iter().enumerate() {
+        if index == FIRST_ROWS && more > 0 {
+            let s = if more == 1 { "" } else { "s" };
+            page.page
+                .write_row(format_args!("{more} more row{s}, and then"));
+        }
+        let is_shown = index < FIRST_ROWS || index >= FIRST_ROWS.saturating_add(more);
+        if is_shown && let Some(made) = attempts.find(rise.number) {
             put_row(page, from, rise.number, made.maker.line);
         }
         from = rise.top;
-    }
-    let more = rises.len().saturating_sub(MOST_ROWS);
-    if more > 0 {
-        let s = if more == 1 { "" } else { "s" };
-        page.page.write_row(format_args!("and {more} more row{s}"));
     }
 }
 

@@ -26,7 +26,7 @@ pub fn meaning_of(panic: Panic, statement: &Statement) -> Meaning {
         Panic::WRONG_KIND => wrong_kind(statement),
         Panic::POP_BELOW_TRAP => (
             "the cleanup stack has fewer items from the innermost TRAP than were to be popped",
-            "items of an outer TRAP are popped outside the inner one",
+            "",
         ),
         Panic::NO_OPEN_MARK => ("no heap mark is open", "each `markend` closes one `mark`"),
         Panic::TOO_MANY_FRAMES => (
@@ -45,6 +45,14 @@ pub fn meaning_of(panic: Panic, statement: &Statement) -> Meaning {
 /// What to look for where a pointer is null.
 pub const CHECK_FIRST: &str =
     "check with `if some` first; lines that leave, such as `allocl`, never give null";
+
+/// What to look for where a destructor finds a null pointer.
+pub const CHECK_IN_DESTRUCTOR: &str =
+    "check with `if some` first: a destructor also runs on an object of which only a part was made";
+
+/// What to do where a leave went past the lines that were to give a pointer a cell.
+pub const LOOK_AT_CODE: &str =
+    "the lines that were to make it were left, and the run went on: look at the code that the TRAP gave, for example with `leaveiferror`";
 
 /// Where Symbian raises a panic of this category and number, or which panic a developer would meet there instead; empty for a panic that
 /// only this project has. `counted` are the cells that a failed check counted.
@@ -137,9 +145,21 @@ fn out_of_range(statement: &Statement) -> Meaning {
             "the number is below 0",
             "numbers of items and cells are 0 or more",
         ),
+        Statement::Repeat(..) => (
+            "the number of turns is out of range",
+            "a `repeat` takes from 0 to 1048576 turns",
+        ),
+        Statement::NewText(..) | Statement::ReallocText(..) => (
+            "the number of units is out of range",
+            "a text in a cell has room for 0 to 524286 units",
+        ),
+        Statement::FailNext(_) | Statement::FailEvery(_) => (
+            "the number of the attempt is out of range",
+            "attempts that are to fail are counted from 1 up",
+        ),
         _ => (
-            "a number is out of range",
-            "bytes are from 0 to 1048576, units from 0 to 524286, turns from 0 to 1048576, and failures from 1 up",
+            "the number of bytes is out of range",
+            "a cell has room for 0 to 1048576 bytes",
         ),
     }
 }

@@ -1,11 +1,11 @@
 //! What is said of the pointer that a panic is about: that it is null, or what became of its cell, and what to do.
 
 use crate::runs::destroyed::of_item_without_cell;
-use crate::runs::panics::CHECK_FIRST;
+use crate::runs::panics::{CHECK_FIRST, CHECK_IN_DESTRUCTOR, LOOK_AT_CODE};
 use crate::runs::script_page::ScriptPage;
 use wb_history::{
     AttemptMade, BodyKind, By, End, Ended, Life, PointerFault, PointerState, WatchedRun,
-    is_same_pointer, target_of,
+    is_same_field, is_same_pointer, target_of,
 };
 use wb_model::script::Statement;
 
@@ -69,18 +69,54 @@ fn put_ender(page: &mut ScriptPage<'_>, line: u32, ended: Ended) {
 /// Returns what to do about a pointer that names no cell.
 pub fn cure_of(run: &WatchedRun<'_>, line: u32, fault: PointerFault) -> &'static str {
     match fault.state {
-        PointerState::Null => match failed_for(run, line, fault) {
-            Some(made) => cure_of_null(made),
-            None => CHECK_FIRST,
+        PointerState::Null => match run.history.bodies.body_of(line).kind {
+            BodyKind::Destructor => CHECK_IN_DESTRUCTOR,
+            BodyKind::Operation => CHECK_FIRST,
+            _ => cure_outside(run, line, fault),
         },
         PointerState::Gone(_) if fault.pointer.is_none() =>
             "a view shows its text only while the text's cell is there and keeps its place",
         PointerState::Gone(life) => match life.and_then(|life| life.ended) {
             Some(ended) if is_in_item(run, line, life) => of_item_without_cell(Some(ended.end)).1,
-            Some(ended) => cure_of_ended(run, fault, ended),
+            Some(ended) if is_out_of_order(run, line, fault, ended) => {
+                "the cleanup stack destroys its newest item first: push what a destructor uses before the object whose destructor uses it"
+            }
+            Some(ended) => cure_of_ended(run, line, fault, ended),
             None => "set the pointer to null when its cell is freed",
         },
     }
+}
+
+/// What to do about a pointer that is null outside of destructors.
+fn cure_outside(run: &WatchedRun<'_>, line: u32, fault: PointerFault) -> &'static str {
+    match failed_for(run, line, fault) {
+        Some(made) => cure_of_null(made),
+        None if has_left_last(run) => LOOK_AT_CODE,
+        None => CHECK_FIRST,
+    }
+}
+
+/// Whether an attempt failed, and a TRAP caught a leave at the last one that did, or later.
+fn has_left_last(run: &WatchedRun<'_>) -> bool {
+    let mut failed = None;
+    for made in run.history.attempts.kept_attempts() {
+        if !made.is_granted() {
+            failed = Some(made.step);
+        }
+    }
+    match (failed, run.history.traps.last_leave()) {
+        (Some(step), Some(leave)) => step <= leave.at.step && leave.caught.is_some(),
+        _ => false,
+    }
+}
+
+/// Returns whether a body that undoes uses a cell, and doesn't free it, that the cleanup stack destroyed for the same line.
+pub fn is_out_of_order(run: &WatchedRun<'_>, line: u32, fault: PointerFault, ended: Ended) -> bool {
+    ended.end != End::Moved
+        && ended.by != By::Line
+        && run.history.bodies.undoes(line)
+        && ended.at.number() == run.history.last_line_outside()
+        && !frees(run, fault)
 }
 
 /// Whether a line is in an operation, and the item destroyed last is that of this cell.
@@ -94,7 +130,7 @@ fn is_in_item(run: &WatchedRun<'_>, line: u32, life: Option<Life>) -> bool {
     }
 }
 
-/// The last attempt that was to give this pointer a cell, in the same body, if that attempt failed.
+/// The last attempt that was to give this pointer a cell, in the same body or as the same field of a class, if that attempt failed.
 fn failed_for<'a>(run: &WatchedRun<'a>, line: u32, fault: PointerFault) -> Option<AttemptMade<'a>> {
     let pointer = fault.pointer?;
     let body = run.history.bodies.body_of(line);
@@ -102,8 +138,9 @@ fn failed_for<'a>(run: &WatchedRun<'a>, line: u32, fault: PointerFault) -> Optio
     for made in run.history.attempts.kept_attempts() {
         if let Some(statement) = made.maker.statement
             && let Some(target) = target_of(statement)
-            && is_same_pointer(target, pointer)
-            && run.history.bodies.body_of(made.maker.line) == body
+            && (is_same_field(target, pointer)
+                || is_same_pointer(target, pointer)
+                    && run.history.bodies.body_of(made.maker.line) == body)
         {
             last = if made.is_granted() { None } else { Some(*made) };
         }
@@ -162,9 +199,14 @@ fn frees(run: &WatchedRun<'_>, fault: PointerFault) -> bool {
 }
 
 /// What to do about a pointer whose cell is gone, by how the cell's life ended.
-fn cure_of_ended(run: &WatchedRun<'_>, fault: PointerFault, ended: Ended) -> &'static str {
-    let is_in_destructor = run.history.bodies.body_of(ended.at.number()).kind
-        == BodyKind::Destructor;
+fn cure_of_ended(
+    run: &WatchedRun<'_>,
+    line: u32,
+    fault: PointerFault,
+    ended: Ended,
+) -> &'static str {
+    let body = run.history.bodies.body_of(ended.at.number());
+    let is_in_destructor = body.kind == BodyKind::Destructor;
     match (ended.end, ended.by) {
         (End::Moved, _) => {
             "a cell that grew may have moved, and then only the result of that line names it"
@@ -180,6 +222,12 @@ fn cure_of_ended(run: &WatchedRun<'_>, fault: PointerFault, ended: Ended) -> &'s
         }
         (End::Freed, By::Line) if !frees(run, fault) => {
             "free the cell after its last use: this line still uses it"
+        }
+        (_, By::Line) if is_in_destructor && ended.at.number() == line => {
+            "two objects name it: let only one of them own it"
+        }
+        (_, By::Line) if is_in_destructor && run.history.bodies.body_of(line) == body => {
+            "the destructor does it twice: a cell has one owner, so let one of the two lines go, or give each field a cell of its own"
         }
         (_, By::Line) if is_in_destructor => {
             "the destructor has done this already: leave it to one of the two"

@@ -13,7 +13,7 @@ const MOST_SHOWN: usize = 8;
 pub fn put_set(page: &mut ScriptPage<'_>, numbers: &[u32], run: &WatchedRun<'_>) -> Written {
     let count = made_among(numbers, run).min(numbers.len());
     let made = &numbers[..count];
-    put_made(page, made, run)?;
+    put_made(page, made, count, run)?;
     if count < numbers.len() {
         put_not_made(page, &numbers[count..], count > 0, run);
     }
@@ -32,8 +32,31 @@ fn made_among(numbers: &[u32], run: &WatchedRun<'_>) -> usize {
     count
 }
 
-/// Shows failed attempts with their lines, and says how many more there are.
-fn put_made(page: &mut ScriptPage<'_>, numbers: &[u32], run: &WatchedRun<'_>) -> Written {
+/// Says which lines made the attempts that failed because of the run's rule, and where the run went on after each.
+pub fn put_by_rule(page: &mut ScriptPage<'_>, run: &WatchedRun<'_>) -> Written {
+    let attempts = &run.history.attempts;
+    let mut numbers = [0; MOST_SHOWN];
+    let mut count = 0;
+    for made in attempts.kept_attempts() {
+        if attempts.is_by_rule(made.attempt)
+            && let Some(place) = numbers.get_mut(count)
+        {
+            *place = made.attempt.number;
+            count = count.saturating_add(1);
+        }
+    }
+    let (first, _) = numbers.split_at_checked(count).unwrap_or((&[], &[]));
+    let all = attempts.failed_counts().by_rule as usize;
+    put_made(page, first, all.max(count), run)
+}
+
+/// Shows the first of `count` failed attempts with their lines, and says how many more there are.
+fn put_made(
+    page: &mut ScriptPage<'_>,
+    numbers: &[u32],
+    count: usize,
+    run: &WatchedRun<'_>,
+) -> Written {
     let attempts = &run.history.attempts;
     let shown = &numbers[..numbers.len().min(MOST_SHOWN)];
     for (index, number) in shown.iter().enumerate() {
@@ -45,7 +68,7 @@ fn put_made(page: &mut ScriptPage<'_>, numbers: &[u32], run: &WatchedRun<'_>) ->
             put_one(page, made, later, index > 0, run)?;
         }
     }
-    match numbers.len() - shown.len() {
+    match count.saturating_sub(shown.len()) {
         0 => {}
         1 => page.page.write_file_text("1 more attempt failed as well"),
         more => {

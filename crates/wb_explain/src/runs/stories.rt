@@ -43,24 +43,24 @@ fn line_of(refused: Option<Refused>) -> Option<u32> {
 #[derive(Drop)]
 pub struct Stories {
     pub told: Vec<Story>,
-    /// How many ranges, or parts of ranges, have a story that isn't told.
+    /// How many ranges have a story that isn't told.
     pub more: usize,
 }
 
 impl Stories {
-    fn add(&mut self, story: Story) -> Written {
+    /// Adds a story, and returns whether it is told.
+    fn add(&mut self, story: Story) -> Result<bool, AllocError> {
         for told in self.told.as_mut_slice() {
             if told.is_told_as(&story) {
                 told.take_in(&story);
-                return Ok(());
+                return Ok(true);
             }
         }
-        if self.told.len() < MOST_STORIES {
-            self.told.push(story)?;
-        } else {
-            self.more = self.more.saturating_add(1);
+        if self.told.len() >= MOST_STORIES {
+            return Ok(false);
         }
-        Ok(())
+        self.told.push(story)?;
+        Ok(true)
     }
 }
 
@@ -92,19 +92,24 @@ fn add_range(
     end: RunEnd,
 ) -> Written {
     let mut from = spread.least;
+    let mut is_told = true;
     for _ in 0..spread.count {
         if from > spread.greatest {
             break;
         }
         refusals.go_past(from);
         let until = refusals.until.min(spread.greatest.saturating_add(1));
-        stories.add(Story {
+        let story = Story {
             spread: Spread::of(from, until),
             end,
             refused: refusals.first,
             refuses_one: true,
-        })?;
+        };
+        is_told = stories.add(story)? && is_told;
         from = until;
+    }
+    if !is_told {
+        stories.more = stories.more.saturating_add(1);
     }
     Ok(())
 }

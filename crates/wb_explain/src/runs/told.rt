@@ -14,16 +14,25 @@ pub fn put_life(page: &mut ScriptPage<'_>, history: &History<'_>, life: Life) ->
         if ended.by != By::Line || life.popped.is_none() {
             page.mark_new(life.pushed.number(), 1, "it was pushed here")?;
         }
-        put_other_holder(page, ended, life)?;
+        put_other_holder(page, history, ended, life)?;
     }
     page.mark_new(life.made.number(), 1, "it was made here")
 }
 
 /// If a cell moved, tells which pointer got the cell last, unless that was at the line that made the cell: the pointer still names the old
-/// place.
-fn put_other_holder(page: &mut ScriptPage<'_>, ended: Ended, life: Life) -> Written {
+/// place. If a destructor released the cell, tells which field got it last.
+fn put_other_holder(
+    page: &mut ScriptPage<'_>,
+    history: &History<'_>,
+    ended: Ended,
+    life: Life,
+) -> Written {
+    let is_moved = ended.end == End::Moved;
+    let body = history.bodies.body_of(ended.at.number());
     match life.held {
-        Some(held) if ended.end == End::Moved && held.line != life.made => {
+        Some(held)
+            if held.line != life.made
+                && (is_moved || held.is_field() && body.kind == BodyKind::Destructor) => {
             let line = held.line.number();
             let name = page.word(line, 1);
             page.mark_new(line, 1, format_args!("`{name}` got it last, here"))

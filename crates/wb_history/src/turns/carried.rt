@@ -93,7 +93,7 @@ impl<'a> History<'a> {
         {
             self.lives.push(ahead.source, self.last);
             let now = self.now(machine)?;
-            self.items.push(item, now)?;
+            self.items.push(item, now, machine.depth())?;
         }
         if ahead.leaves(attempt) {
             return self.see_leave(machine);
@@ -118,6 +118,11 @@ impl<'a> History<'a> {
                 Ok(())
             }
             Statement::Trap(..) => self.see_trap(machine),
+            Statement::Mark => self.marks.begin(self.last, self.steps),
+            Statement::MarkEnd(_) => {
+                self.marks.end(self.last);
+                Ok(())
+            }
             Statement::Repeat(..) | Statement::PopDestroy(_) => {
                 self.blocks
                     .begin_rest(machine.depth(), self.last, ahead.rest)
@@ -150,6 +155,9 @@ impl<'a> History<'a> {
     fn see_leave(&mut self, machine: &Machine<'a>) -> Result<(), AllocError> {
         let now = self.now(machine)?;
         let items = self.traps.leave(now, machine.depth())?;
+        if let Some(trap) = self.traps.open_traps().last() {
+            self.marks.leave(trap.since, self.last);
+        }
         let above = (machine.cleanup_depth() as usize).saturating_sub(items);
         self.blocks.leave(u32::try_from(above).unwrap_or(0))
     }
@@ -157,7 +165,7 @@ impl<'a> History<'a> {
     /// Sees the items that a statement popped.
     fn see_popped(&mut self, machine: &Machine<'a>) {
         for _ in machine.cleanup_depth() as usize..self.items.count() {
-            if let Some(popped) = self.items.pop() {
+            if let Some(popped) = self.items.pop_by(self.last, machine.depth()) {
                 self.lives.pop(popped.pointer(), self.last);
             }
         }

@@ -11,10 +11,10 @@ use Rattle.wb_model.specs.meaning.State.{State, goes_on, Process, and_then}
 use Rattle.wb_model.specs.meaning.Statements.{all, turns, destroy_items, destroy_object, Meaning, statement}
 use Rattle.wb_model.specs.meaning.Meaning.{begun, begun_if, meaning_of}
 use Rattle.wb_model.specs.runs.Rest.{Pending, doing, resume}
-use Rattle.wb_model.proofs.EachStatement.{statement-alike}
-use Rattle.wb_model.proofs.AlikePieces.{between}
-use Rattle.wb_model.proofs.MeaningLemmas.{anything}
-use Rattle.wb_model.proofs.ResumeLemmas.{resume-all, resume-turns}
+use Rattle.wb_model.proofs.meaning.EachStatement.{statement-alike}
+use Rattle.wb_model.proofs.meaning.AlikePieces.{between}
+use Rattle.wb_model.proofs.meaning.MeaningLemmas.{anything}
+use Rattle.wb_model.proofs.meaning.ResumeLemmas.{resume-all, resume-turns}
 use Rattle.wb_machine.specs.declared.pieces.Ending.{Ending}
 use Rattle.wb_machine.specs.declared.pieces.Ending.TheVariants.{GoesOn, Returns, Leaves, Panics, Cut, NoCleanup}
 use Rattle.wb_machine.specs.declared.pieces.PendingPiece.{PendingPiece}

@@ -12,11 +12,11 @@ use Rattle.wb_model.specs.meaning.Statements.{Todo, all, turns, destroy_items, d
 use Rattle.wb_model.specs.meaning.Meaning.{begun, begun_if, piece, meaning_of}
 use Rattle.wb_model.specs.runs.Run.{main_trapped}
 use Rattle.wb_model.specs.runs.Rest.{Pending, doing, catching, caught, calling, main_catching, main_caught, Afterwards, nothing_more, gives_to, releases, after_frame, resumed, resume}
-use Rattle.wb_model.proofs.AlikeLemmas.{Fine, Keeps, Alike, AlikeAll, and_then-alike, then_do-alike, with_some-alike, with_class-alike, release-alike}
-use Rattle.wb_model.proofs.AlikeFrames.{plain-alike, in_frame-alike, destroyed_item-alike}
-use Rattle.wb_model.proofs.EachStatement.{statement-alike}
-use Rattle.wb_model.proofs.AlikePieces.{between, shows_weaker, meaning_within-alike}
-use Rattle.wb_model.proofs.MeaningLemmas.{anything, meaning_of-unfolds}
+use Rattle.wb_model.proofs.meaning.AlikeLemmas.{Fine, Keeps, Alike, AlikeAll, and_then-alike, then_do-alike, with_some-alike, with_class-alike, release-alike}
+use Rattle.wb_model.proofs.meaning.AlikeFrames.{plain-alike, in_frame-alike, destroyed_item-alike}
+use Rattle.wb_model.proofs.meaning.EachStatement.{statement-alike}
+use Rattle.wb_model.proofs.meaning.AlikePieces.{between, shows_weaker, meaning_within-alike}
+use Rattle.wb_model.proofs.meaning.MeaningLemmas.{anything, meaning_of-unfolds}
 use Rattle.wb_machine.specs.Asks.{asks_at}
 
 -- a process asks for nothing before more than a number of steps were counted

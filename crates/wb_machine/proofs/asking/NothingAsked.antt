@@ -27,10 +27,10 @@ use Rattle.wb_model.specs.meaning.Operands.{with_cell, with_fields, with_pointer
 use Rattle.wb_model.specs.meaning.Reading.{Source, whole, part, with_writable, with_readable, with_base, with_units, with_room, with_text_cell, write, write_view}
 use Rattle.wb_model.specs.meaning.Statements.{with_words, all, Context, Layer, done, of_script, released, release, is_null, in_frame, plain, with_arguments, with_condition, leave_if, trapped, destroy_items, destroy_object, newest, drop_newest, with_class, destroyed_item, destroyed_object, statement}
 use Rattle.wb_model.specs.meaning.Bodies.{procedure_at, operation_at}
-use Rattle.wb_model.proofs.AlikeLemmas.{Fine, then_do-alike, with_some-alike, with_class-alike, release-alike}
-use Rattle.wb_model.proofs.AlikeFrames.{plain-alike, in_frame-alike, destroyed_item-alike}
-use Rattle.wb_model.proofs.AlikePieces.{between}
-use Rattle.wb_model.proofs.MeaningLemmas.{anything}
+use Rattle.wb_model.proofs.meaning.AlikeLemmas.{Fine, then_do-alike, with_some-alike, with_class-alike, release-alike}
+use Rattle.wb_model.proofs.meaning.AlikeFrames.{plain-alike, in_frame-alike, destroyed_item-alike}
+use Rattle.wb_model.proofs.meaning.AlikePieces.{between}
+use Rattle.wb_model.proofs.meaning.MeaningLemmas.{anything}
 use Rattle.wb_machine.proofs.turns.Destructions.{object_destroyed}
 use Rattle.wb_machine.proofs.asking.Later.{IsLater, Onward, onward_all, later_higher, later_then, meaning_later, meant, destroyed_onward}
 

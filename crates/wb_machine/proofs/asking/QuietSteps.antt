@@ -13,7 +13,7 @@ use Rattle.wb_model.specs.meaning.Statements.{all, statement}
 use Rattle.wb_model.specs.meaning.Meaning.{begun, begun_if, meaning_of}
 use Rattle.wb_model.specs.runs.Rest.{doing, resume}
 use Rattle.wb_model.specs.runs.Run.{WholeRun, whole_of}
-use Rattle.wb_model.proofs.ResumeLemmas.{resume-all}
+use Rattle.wb_model.proofs.meaning.ResumeLemmas.{resume-all}
 use Rattle.wb_machine.specs.declared.pieces.Context.{Context}
 use Rattle.wb_machine.specs.declared.pieces.Ending.{Ending}
 use Rattle.wb_machine.specs.declared.pieces.Ending.TheVariants.{GoesOn}

@@ -28,7 +28,7 @@ use Rattle.wb_model.specs.meaning.Reading.{is_same_pointer}
 use Rattle.wb_model.specs.meaning.Statements.{done, drop_newest, has_above, item_pointer, newest, statement}
 use Rattle.wb_model.specs.heap.Debug.{Debug, Made, answer_in, debug_changed, gave_of, longer_made, made_by, number_of_next, shorter_made}
 use Rattle.wb_model.specs.runs.Rest.{Fits}
-use Rattle.wb_model.proofs.TextCellsHeap.{found-changed}
+use Rattle.wb_model.proofs.heaps.TextCellsHeap.{found-changed}
 use Rattle.wb_cleanup.specs.Pushes.{remade}
 use Rattle.wb_cleanup.specs.Stacks.{refusal_of_top}
 use Rattle.wb_machine.specs.RunState.{RunState, read_cell, read_row, state_of, with_debug}

@@ -9,7 +9,7 @@ use Rattle.wb_model.specs.heap.Rules.{Request}
 use Rattle.wb_model.specs.heap.Heap.{alloc_request, after_alloc, new_cell}
 use Rattle.wb_model.specs.meaning.Statements.{payload_of_object}
 use Rattle.wb_model.specs.heap.Debug.{Debug, IsSoundDebug, answer_in, made_by, number_of_next}
-use Rattle.wb_model.proofs.Reallocations.{cell_at-inserted_other, not_at-number}
+use Rattle.wb_model.proofs.heaps.Reallocations.{cell_at-inserted_other, not_at-number}
 use Rattle.wb_cleanup.specs.declared.cleanup.Cleanup.{Cleanup}
 use Rattle.wb_cleanup.specs.Stacks.{IsStack, cell_of}
 use Rattle.wb_cleanup.proofs.HeapBesideStack.{old-number}

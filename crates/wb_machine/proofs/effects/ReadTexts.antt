@@ -25,7 +25,7 @@ use Rattle.wb_model.specs.meaning.Reading.{Source, whole, part, base_of, positio
 use Rattle.wb_machine.specs.RunState.{RunState, field_count, read_cell, state_of, value_in}
 use Rattle.wb_machine.specs.LocalValues.{window_in}
 use Rattle.wb_machine.specs.TextOperands.{base_named, is_text, text_refusal, base_refusal, base_text, base_max, is_writable_base, window_units, whole_of, window_read}
-use Rattle.wb_model.proofs.TextCells.{length-exactly}
+use Rattle.wb_model.proofs.heaps.TextCells.{length-exactly}
 use Rattle.wb_machine.proofs.kept.Rows.{read_cell_at}
 use Rattle.wb_machine.specs.PointerOperands.{first_refusal, of_writable, of_readable}
 pub use Rattle.wb_machine.proofs.effects.PointerOperands.{through}

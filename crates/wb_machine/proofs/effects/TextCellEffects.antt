@@ -24,7 +24,7 @@ use Rattle.wb_model.specs.meaning.Attempts.{allocate, reallocate}
 use Rattle.wb_model.specs.meaning.Statements.{statement, given_to, realloc_text}
 use Rattle.wb_model.specs.heap.Debug.{Made, answer_in, alloc_made, realloc_made}
 use Rattle.wb_model.specs.cells.TextCells.{IsText, text_in}
-use Rattle.wb_model.proofs.TextCells.{text-read, zeros-text, resized-text}
+use Rattle.wb_model.proofs.heaps.TextCells.{text-read, zeros-text, resized-text}
 use Rattle.wb_model.specs.runs.Rest.{Fits}
 use Rattle.wb_machine.specs.RunState.{RunState, field_count, read_cell, state_of, with_debug}
 use Rattle.wb_machine.specs.Flow.{flow}

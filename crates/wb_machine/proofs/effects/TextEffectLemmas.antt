@@ -35,7 +35,7 @@ use Rattle.wb_machine.specs.TextOperands.{base_named, base_refusal, base_text, b
 use Rattle.wb_machine.specs.TextEffects.{HasPanicked, IsWritten, UnlessRefused, WithNumber, IsEditedBy, IsInsertedBy, IsDeletedBy, IsLengthSet}
 use Rattle.wb_machine.proofs.effects.StatementEffects.{number_is, fine_left, fine_right}
 use Rattle.wb_machine.proofs.effects.ReadTexts.{through, source_named, readable_is, writable_is, named_writable, room_is, shown}
-use Rattle.wb_model.proofs.TextCellsHeap.{found-changed}
+use Rattle.wb_model.proofs.heaps.TextCellsHeap.{found-changed}
 use Rattle.wb_machine.proofs.kept.TextInvariant.{found_text}
 
 -- the state after a statement comes to what is left of it

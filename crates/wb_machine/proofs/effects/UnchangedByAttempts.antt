@@ -10,7 +10,7 @@ use Rattle.wb_model.specs.heap.Rules.{Request}
 use Rattle.wb_model.specs.heap.Heap.{AfterAnswer, alloc_request, after_alloc, realloc_request, after_realloc}
 use Rattle.wb_model.specs.heap.LimitedHeap.{zero_words}
 use Rattle.wb_model.specs.runs.Account.{trace_line}
-use Rattle.wb_model.proofs.AccountLemmas.{rises-stay}
+use Rattle.wb_model.proofs.runs.AccountLemmas.{rises-stay}
 use Rattle.wb_model.specs.heap.Debug.{Debug, number_of_next, made_by, answer_in, alloc_made, longer_made, shorter_made, realloc_made}
 use Rattle.wb_machine.specs.RunState.{RunState, with_debug}
 use Rattle.wb_machine.specs.Owed.{Stays, KeepsCount}

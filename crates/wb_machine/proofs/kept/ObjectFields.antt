@@ -13,7 +13,7 @@ use Rattle.wb_model.specs.meaning.State.{fields, null}
 use Rattle.wb_model.specs.meaning.Operands.{set_field}
 use Rattle.wb_model.specs.cells.Spelling.{pointers, fields_in, read_as}
 use Rattle.wb_model.specs.heap.Debug.{Debug, with_row, debug_changed}
-use Rattle.wb_model.proofs.TextCellsHeap.{changed-same}
+use Rattle.wb_model.proofs.heaps.TextCellsHeap.{changed-same}
 use Rattle.wb_objects.specs.Objects.{class_of_cell, is_of_class, words_of_cell, words_found, with_field, field_changed}
 use Rattle.wb_objects.proofs.Fields.{fields-written}
 use Rattle.wb_machine.specs.PointerOperands.{field_among, is_object, words_with_field, row_with_field}

@@ -12,9 +12,9 @@ use Rattle.wb_model.specs.declared.script.Script.{Script}
 use Rattle.wb_model.specs.meaning.State.{State, Value, ends, stops, is_cut, Process, and_then}
 use Rattle.wb_model.specs.meaning.Statements.{Layer, Meaning, Context, statement}
 use Rattle.wb_model.specs.heap.Space.{space_of}
-use Rattle.wb_model.proofs.EachStatement.{statement-free}
-use Rattle.wb_model.proofs.FreeSlots.{KeepsFree, KeepsAll, and_then-free}
-use Rattle.wb_model.proofs.FreeSlotLemmas.{ShownFree, settled-free}
+use Rattle.wb_model.proofs.meaning.EachStatement.{statement-free}
+use Rattle.wb_model.proofs.meaning.FreeSlots.{KeepsFree, KeepsAll, and_then-free}
+use Rattle.wb_model.proofs.meaning.FreeSlotLemmas.{ShownFree, settled-free}
 use Rattle.wb_machine.specs.declared.pieces.Ending.{Ending}
 use Rattle.wb_machine.specs.declared.pieces.Ending.TheVariants.{GoesOn, Returns, Leaves, Panics, Cut, NoCleanup}
 use Rattle.wb_machine.specs.declared.pieces.PendingPiece.{PendingPiece}

@@ -17,8 +17,8 @@ use Rattle.wb_model.specs.heap.Rules.{Request}
 use Rattle.wb_model.specs.heap.Heap.{after_mark_end, after_realloc, is_cleanup, lower, lowered, moved, realloc_request}
 use Rattle.wb_model.specs.meaning.Statements.{is_raw}
 use Rattle.wb_model.specs.heap.Debug.{Debug, IsSoundDebug, alloc_made, answer_in, debug_changed, debug_without, longer_made, made_by, number_of_next, realloc_made, shorter_made, with_row}
-use Rattle.wb_model.proofs.Reallocations.{cell_at-inserted_other, at-own, not_at-number, pointer-at}
-use Rattle.wb_model.proofs.TextCellsHeap.{found-other}
+use Rattle.wb_model.proofs.heaps.Reallocations.{cell_at-inserted_other, at-own, not_at-number, pointer-at}
+use Rattle.wb_model.proofs.heaps.TextCellsHeap.{found-other}
 use Rattle.wb_cleanup.specs.declared.cleanup.Cleanup.{Cleanup}
 use Rattle.wb_cleanup.specs.Stacks.{IsStack, cell_of}
 use Rattle.wb_cleanup.proofs.HeapBesideStack.{alloc-beside, old-number}

@@ -8,8 +8,8 @@ use Rattle.wb_model.specs.declared.heap.Kind.TheVariants.{Text, Cleanup as Clean
 use Rattle.wb_model.specs.heap.Row.{Cell, cell_at, headers}
 use Rattle.wb_model.specs.cells.CellRow.{payload_of}
 use Rattle.wb_model.specs.heap.Debug.{Debug, keeps_rises, IsSoundDebug, debug_changed}
-use Rattle.wb_model.proofs.Reallocations.{at-number, found-from, found-head}
-use Rattle.wb_model.proofs.TextCellsHeap.{found-changed}
+use Rattle.wb_model.proofs.heaps.Reallocations.{at-number, found-from, found-head}
+use Rattle.wb_model.proofs.heaps.TextCellsHeap.{found-changed}
 use Rattle.wb_cleanup.specs.declared.cleanup.Cleanup.{Cleanup}
 use Rattle.wb_cleanup.specs.declared.cleanup.Pushed.{Pushed}
 use Rattle.wb_cleanup.specs.declared.cleanup.Pushed.TheVariants.{Ceiling}

@@ -21,8 +21,8 @@ use Rattle.wb_model.specs.heap.Space.{limit_under}
 use Rattle.wb_model.specs.meaning.Reading.{max_units, is_same_base, is_same_pointer}
 use Rattle.wb_model.specs.heap.Debug.{Debug, number_of_next, made_by, answer_in, alloc_made, longer_made, shorter_made, realloc_made, debug_without, with_row}
 use Rattle.wb_model.specs.cells.TextCells.{IsText, text_words, text_in, text_at, IsTextAt, debug_edited, room_in, max_at, usable_or_none}
-use Rattle.wb_model.proofs.TextCells.{text-read, zeros-text, resized-text}
-use Rattle.wb_model.proofs.LimitedHeaps.{limit_under-ceiling}
+use Rattle.wb_model.proofs.heaps.TextCells.{text-read, zeros-text, resized-text}
+use Rattle.wb_model.proofs.heaps.LimitedHeaps.{limit_under-ceiling}
 use Rattle.wb_machine.specs.TextInvariant.{IsTextCell, AreTexts}
 use Rattle.wb_model.specs.declared.text.Base.{Base}
 use Rattle.wb_model.specs.declared.text.Base.TheVariants as B

@@ -23,11 +23,11 @@ use Rattle.wb_model.specs.meaning.State.{State, stops, ends, is_cut, Process, an
 use Rattle.wb_model.specs.meaning.Statements.{Layer, Meaning, Context, is_null, statement}
 use Rattle.wb_model.specs.heap.Space.{space_of}
 use Rattle.wb_model.specs.heap.Debug.{Debug, keeps_rises, made_by, answer_in, number_of_next, alloc_made, with_row}
-use Rattle.wb_model.proofs.AlikeLemmas.{Keeps, AlikeAll, and_then-alike}
-use Rattle.wb_model.proofs.EachStatement.{statement-alike}
-use Rattle.wb_model.proofs.KeptCells.{AreOfKind, found-cell, kinds}
-use Rattle.wb_model.proofs.Rows.{All-placed}
-use Rattle.wb_model.proofs.ThroughoutLemmas.{settled-shows}
+use Rattle.wb_model.proofs.meaning.AlikeLemmas.{Keeps, AlikeAll, and_then-alike}
+use Rattle.wb_model.proofs.meaning.EachStatement.{statement-alike}
+use Rattle.wb_model.proofs.meaning.KeptCells.{AreOfKind, found-cell, kinds}
+use Rattle.wb_model.proofs.heaps.Rows.{All-placed}
+use Rattle.wb_model.proofs.runs.ThroughoutLemmas.{settled-shows}
 use Rattle.wb_objects.specs.Objects.{is_of_class, words_of_cell, HasField}
 use Rattle.wb_machine.specs.declared.pieces.Ending.{Ending}
 use Rattle.wb_machine.specs.declared.pieces.Ending.TheVariants.{GoesOn, Returns, Leaves, Panics, Cut, NoCleanup}

@@ -13,7 +13,7 @@ use Rattle.wb_model.specs.heap.LimitedHeap.{next_live_of}
 use Rattle.wb_model.specs.heap.Row.{Cell, headers, end_of, is_at, cell_at, pointer_to, IsSpacedFrom}
 use Rattle.wb_model.specs.runs.SameButNumbers as numbers
 use Rattle.wb_model.specs.runs.SameButNumbers.{Names, AllBeside, none_beside, one_beside, IsSamePointer, IsSameHeader, IsSameContent, IsSameCell}
-use Rattle.wb_model.proofs.SameNumbers.{Extends, ap_two, take-beside, pointer-later, cell-later}
+use Rattle.wb_model.proofs.renaming.SameNumbers.{Extends, ap_two, take-beside, pointer-later, cell-later}
 use Rattle.wb_machine.specs.Alike.{ArePairsAlike, AreWordsAlike}
 use Rattle.wb_machine.specs.RunState.{field_count, read_cell, read_row}
 use Rattle.wb_machine.proofs.likeness.GrownMaps.{LeadsTo}

@@ -5,7 +5,7 @@ use Rattle.std.proofs.lemmas.Bool.{leb-true, leb-false}
 use Rattle.wb_model.specs.declared.heap.Item.{Item}
 use Rattle.wb_model.specs.meaning.Statements.{newest}
 use Rattle.wb_model.specs.runs.SameButNumbers.{Names, AllBeside, none_beside, one_beside, IsSameItem}
-use Rattle.wb_model.proofs.SameNumbers.{Extends, append-beside, item-later}
+use Rattle.wb_model.proofs.renaming.SameNumbers.{Extends, append-beside, item-later}
 use Rattle.wb_cleanup.specs.Stacks.{newest_above, all_but}
 use Rattle.wb_machine.proofs.likeness.GrownMaps.{LeadsTo}
 

@@ -6,7 +6,7 @@ use Rattle.wb_model.specs.declared.script.StatementAt.{StatementAt}
 use Rattle.wb_model.specs.runs.Rest.{doing}
 use Rattle.wb_model.specs.runs.SameButNumbers as numbers
 use Rattle.wb_model.specs.runs.SameButNumbers.{Names, AllBeside, none_beside, one_beside, IsSameValue, IsSamePending, IsSameAfterwards}
-use Rattle.wb_model.proofs.SameNumbers.{Extends, take-beside, pointer-later}
+use Rattle.wb_model.proofs.renaming.SameNumbers.{Extends, take-beside, pointer-later}
 use Rattle.wb_machine.specs.declared.pieces.After.{After}
 use Rattle.wb_machine.specs.declared.pieces.PendingPiece.{PendingPiece}
 use Rattle.wb_machine.specs.declared.pieces.PendingPiece.TheVariants.{Code, Turns, Items, Object, Trap, Caught, MainTrap, MainCaught, Call}

@@ -8,7 +8,7 @@ use Rattle.wb_model.specs.runs.Run.{WholeRun}
 use Rattle.wb_model.specs.runs.Follows.{steps_of, reached, RefusesAlike, RestsAgree}
 use Rattle.wb_model.specs.runs.SameButNumbers as numbers
 use Rattle.wb_model.specs.runs.SameButNumbers.{Renaming, IsRenaming, AllBeside, IsSamePointer, IsSameState, IsSameValue, IsSameProgress}
-use Rattle.wb_model.proofs.FollowEither.{rests-together}
+use Rattle.wb_model.proofs.renaming.FollowEither.{rests-together}
 use Rattle.wb_machine.specs.declared.machine.Machine.TheInside.{Inside}
 use Rattle.wb_machine.specs.declared.pieces.Ending.TheVariants.{GoesOn}
 use Rattle.wb_machine.specs.Alike.{reached_by, whole_run_under, GoesOnLike}

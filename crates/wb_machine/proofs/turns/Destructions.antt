@@ -15,8 +15,8 @@ use Rattle.wb_model.specs.meaning.Statements.{destroy_items, destroy_object, Con
 use Rattle.wb_model.specs.meaning.Bodies.{class_at, no_body}
 use Rattle.wb_model.specs.meaning.Meaning.{begun, piece, meaning_of}
 use Rattle.wb_model.specs.runs.Rest.{Pending, doing, resumed, resume}
-use Rattle.wb_model.proofs.MeaningLemmas.{meaning_of-unfolds}
-use Rattle.wb_model.proofs.ResumeLemmas.{and_then-assoc, begun-and_then}
+use Rattle.wb_model.proofs.meaning.MeaningLemmas.{meaning_of-unfolds}
+use Rattle.wb_model.proofs.meaning.ResumeLemmas.{and_then-assoc, begun-and_then}
 use Rattle.wb_objects.specs.Objects.{class_of_cell}
 use Rattle.wb_machine.specs.Bodies.{class_read}
 use Rattle.wb_machine.specs.RunState.{RunState, read_cell, state_of}

@@ -24,7 +24,7 @@ use Rattle.wb_model.specs.meaning.Bodies.{procedure_at, operation_at, class_at, 
 use Rattle.wb_model.specs.meaning.Meaning.{piece, meaning_within, meaning_of}
 use Rattle.wb_model.specs.runs.Run.{whole_of}
 use Rattle.wb_model.specs.runs.Rest.{Pending, Afterwards, nothing_more, gives_to, releases, doing, catching, calling, after_frame, resumed, resume}
-use Rattle.wb_model.proofs.ResumeLemmas.{and_then-assoc}
+use Rattle.wb_model.proofs.meaning.ResumeLemmas.{and_then-assoc}
 use Rattle.wb_machine.specs.declared.pieces.Ending.TheVariants.{GoesOn, Panics}
 use Rattle.wb_machine.specs.declared.pieces.PendingPiece.{PendingPiece}
 use Rattle.wb_machine.specs.RunState.{Values, RunState, state_of}

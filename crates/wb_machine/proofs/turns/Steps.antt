@@ -16,7 +16,7 @@ use Rattle.wb_model.specs.meaning.Statements.{all, turns, destroy_items, destroy
 use Rattle.wb_model.specs.meaning.Meaning.{begun, begun_if, meaning_of}
 use Rattle.wb_model.specs.runs.Run.{whole_of}
 use Rattle.wb_model.specs.runs.Rest.{Pending, doing, resume, left_to_do, rest}
-use Rattle.wb_model.proofs.ResumeLemmas.{resume-all, resume-turns}
+use Rattle.wb_model.proofs.meaning.ResumeLemmas.{resume-all, resume-turns}
 use Rattle.wb_machine.proofs.turns.Destructions.{object_destroyed, resume_items, resume_object, item_there}
 use Rattle.wb_machine.specs.declared.pieces.Ending.{Ending}
 use Rattle.wb_machine.specs.declared.pieces.Ending.TheVariants.{GoesOn, Returns, Leaves, Panics, Cut, NoCleanup}

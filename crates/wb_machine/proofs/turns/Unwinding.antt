@@ -12,8 +12,8 @@ use Rattle.wb_model.specs.meaning.Statements.{all, turns, destroy_items, destroy
 use Rattle.wb_model.specs.meaning.Meaning.{piece, meaning_of}
 use Rattle.wb_model.specs.runs.Run.{main_trapped, whole_of}
 use Rattle.wb_model.specs.runs.Rest.{doing, catching, caught, calling, main_catching, main_caught, after_frame, resumed, resume}
-use Rattle.wb_model.proofs.MeaningLemmas.{meaning_of-unfolds}
-use Rattle.wb_model.proofs.ResumeLemmas.{and_then-assoc}
+use Rattle.wb_model.proofs.meaning.MeaningLemmas.{meaning_of-unfolds}
+use Rattle.wb_model.proofs.meaning.ResumeLemmas.{and_then-assoc}
 use Rattle.wb_machine.specs.declared.pieces.After.{After}
 use Rattle.wb_machine.specs.declared.pieces.After.TheVariants.{Nothing, Gives, Releases}
 use Rattle.wb_machine.specs.declared.pieces.Ending.{Ending}

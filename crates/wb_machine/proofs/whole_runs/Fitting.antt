@@ -11,7 +11,7 @@ use Rattle.wb_machine.specs.Flow.{is_stop, is_over}
 use Rattle.wb_model.specs.runs.Rest.{Fits}
 use Rattle.wb_model.specs.heap.Rules.{unless_refused, answer_to, Request}
 use Rattle.wb_model.specs.heap.Space.{limit_under}
-use Rattle.wb_model.proofs.RuleLemmas.{same-limit}
+use Rattle.wb_model.proofs.heaps.RuleLemmas.{same-limit}
 
 -- both leave the heap the same length
 pub fits-limit : (r own : Rule) (ended : Bool) (attempts : ℕ) → Fits r own ended attempts → limit_under r ≡ limit_under own

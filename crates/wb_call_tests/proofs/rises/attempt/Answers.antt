@@ -7,7 +7,7 @@ use Rattle.wb_model.specs.heap.Debug.{Debug, keeps_rises, made_by, answer_in, nu
 use Rattle.wb_model.specs.heap.Heap.{after_alloc, alloc_request}
 use Rattle.wb_model.specs.heap.LimitedHeap.{zero_words}
 use Rattle.wb_model.specs.heap.Rules.{Request}
-use Rattle.wb_model.proofs.AccountLemmas.{rises-stay}
+use Rattle.wb_model.proofs.runs.AccountLemmas.{rises-stay}
 use Rattle.wb_call_tests.proofs.rises.attempt.Goals as goal
 
 -- an attempt changes nothing about what is kept

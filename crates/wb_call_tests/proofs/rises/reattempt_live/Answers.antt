@@ -8,7 +8,7 @@ use Rattle.wb_model.specs.heap.Debug.{Debug, keeps_rises, made_by, answer_in, nu
 use Rattle.wb_model.specs.heap.Heap.{after_realloc, realloc_request}
 use Rattle.wb_model.specs.heap.Row.{Cell, cell_at, cell_length}
 use Rattle.wb_model.specs.heap.Rules.{Request}
-use Rattle.wb_model.proofs.AccountLemmas.{rises-stay}
+use Rattle.wb_model.proofs.runs.AccountLemmas.{rises-stay}
 use Rattle.wb_call_tests.proofs.rises.reattempt_live.Goals as goal
 
 -- a reallocation changes nothing about what is kept

@@ -6,7 +6,7 @@ use Rattle.wb_model.specs.declared.heap.Rule.TheVariants.{Number, Pair}
 use Rattle.wb_model.specs.runs.Pairs.{failing_with}
 use Rattle.wb_model.specs.runs.Rest.{SameSoFar}
 use Rattle.wb_model.specs.runs.Sweeps.{rule_for}
-use Rattle.wb_model.proofs.PairLemmas.{with-fits}
+use Rattle.wb_model.proofs.runs.PairLemmas.{with-fits}
 use Rattle.wb_fork_tests.proofs.pairs.is_pair_as_run.Goals as goal
 
 is_pair : (i n : ℕ) → i < n → rule_for (failing_with i n) ≡ Pair i n

@@ -7,7 +7,7 @@ use Rattle.wb_model.specs.cells.CellRow.{payload_of}
 use Rattle.wb_model.specs.heap.Debug.{Debug, debug_changed}
 use Rattle.wb_model.specs.cells.TextCells.{text_at}
 use Rattle.wb_model.specs.meaning.Texts.{units_of_part}
-use Rattle.wb_model.proofs.TextCells.{IsUnit, zeros}
+use Rattle.wb_model.proofs.heaps.TextCells.{IsUnit, zeros}
 use Rattle.wb_hbuf.specs.Drafts.{HasUnits, IsDraft, put}
 use Rattle.wb_hbuf.proofs.Drafts.{draft-none, draft-put, draft-words, is_live, payload-small, units-zeros}
 use Rattle.wb_hbuf.proofs.Units.{part-is, part-within, put-put, length-put, run-following}

@@ -1,4 +1,4 @@
-use Rattle.wb_model.proofs.EverySetAnswers.{whole-every-cut, whole-every-found, whole-every-none}
+use Rattle.wb_model.proofs.runs.EverySetAnswers.{whole-every-cut, whole-every-found, whole-every-none}
 use Rattle.wb_model.proofs.every_set_laws.a_whole_part_has_every_set.Goals as goal
 
 pub returns : goal.returns

@@ -1,5 +1,5 @@
-use Rattle.wb_model.proofs.EverySetAnswers.{no-length, no-sweep}
-use Rattle.wb_model.proofs.RefusedSets.{fine-by-sets}
+use Rattle.wb_model.proofs.runs.EverySetAnswers.{no-length, no-sweep}
+use Rattle.wb_model.proofs.runs.RefusedSets.{fine-by-sets}
 use Rattle.wb_model.proofs.every_set_laws.nothing_shows_where_no_set_does.Goals as goal
 
 pub returns : goal.returns

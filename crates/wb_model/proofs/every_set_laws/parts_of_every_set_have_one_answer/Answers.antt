@@ -1,4 +1,4 @@
-use Rattle.wb_model.proofs.EverySetAnswers.{every-set-together, once-of-every-set}
+use Rattle.wb_model.proofs.runs.EverySetAnswers.{every-set-together, once-of-every-set}
 use Rattle.wb_model.proofs.every_set_laws.parts_of_every_set_have_one_answer.Goals as goal
 
 pub returns : goal.returns

@@ -1,4 +1,4 @@
-use Rattle.wb_model.proofs.FreeSlotLemmas.{run-has_free_slot, piece-has_free_slot}
+use Rattle.wb_model.proofs.meaning.FreeSlotLemmas.{run-has_free_slot, piece-has_free_slot}
 use Rattle.wb_model.proofs.laws.a_slot_stays_free.Goals as goal
 
 pub returns-clause-run : goal.returns-clause-run

@@ -1,4 +1,4 @@
-use Rattle.wb_model.proofs.ThroughoutLemmas.{process-throughout, run-leaks}
+use Rattle.wb_model.proofs.runs.ThroughoutLemmas.{process-throughout, run-leaks}
 use Rattle.wb_model.proofs.laws.cells_stay_a_row.Goals as goal
 
 pub returns-clause-throughout : goal.returns-clause-throughout

@@ -1,4 +1,4 @@
-use Rattle.wb_model.proofs.QuietRuns.{items_destroyed, object_destroyed}
+use Rattle.wb_model.proofs.meaning.QuietRuns.{items_destroyed, object_destroyed}
 use Rattle.wb_model.proofs.laws.destructions_never_leave.Goals as goal
 
 pub returns-clause-items : goal.returns-clause-items

@@ -1,4 +1,4 @@
-use Rattle.wb_model.proofs.FreeRuns.{free_runs-are}
+use Rattle.wb_model.proofs.heaps.FreeRuns.{free_runs-are}
 use Rattle.wb_model.proofs.laws.free_runs_are.Goals as goal
 
 pub returns : goal.returns

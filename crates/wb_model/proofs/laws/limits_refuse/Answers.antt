@@ -1,5 +1,5 @@
-use Rattle.wb_model.proofs.SizeLemmas.{limit_refuses_first, refused_at-none, limits_have_table, long_enough}
-use Rattle.wb_model.proofs.TraceLemmas.{required-within}
+use Rattle.wb_model.proofs.runs.SizeLemmas.{limit_refuses_first, refused_at-none, limits_have_table, long_enough}
+use Rattle.wb_model.proofs.runs.TraceLemmas.{required-within}
 use Rattle.wb_model.proofs.laws.limits_refuse.Goals as goal
 
 pub returns : goal.returns

@@ -1,5 +1,5 @@
-use Rattle.wb_model.proofs.ThroughoutLemmas.{process-tells}
-use Rattle.wb_model.proofs.TraceLemmas.{run-lines, run-numbered}
+use Rattle.wb_model.proofs.runs.ThroughoutLemmas.{process-tells}
+use Rattle.wb_model.proofs.runs.TraceLemmas.{run-lines, run-numbered}
 use Rattle.wb_model.proofs.laws.lines_are_answered.Goals as goal
 
 pub returns-clause-lines : goal.returns-clause-lines

@@ -1,4 +1,4 @@
-use Rattle.wb_model.proofs.Parts.{length-part, unit-part, part-part}
+use Rattle.wb_model.proofs.meaning.Parts.{length-part, unit-part, part-part}
 use Rattle.wb_model.proofs.laws.parts_are_read.Goals as goal
 
 pub returns : goal.returns

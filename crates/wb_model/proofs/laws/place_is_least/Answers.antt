@@ -1,4 +1,4 @@
-use Rattle.wb_model.proofs.Places.{place_of-least}
+use Rattle.wb_model.proofs.heaps.Places.{place_of-least}
 use Rattle.wb_model.proofs.laws.place_is_least.Goals as goal
 
 pub returns : goal.returns

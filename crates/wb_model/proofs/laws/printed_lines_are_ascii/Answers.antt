@@ -1,4 +1,4 @@
-use Rattle.wb_model.proofs.ThroughoutLemmas.{run-prints}
+use Rattle.wb_model.proofs.runs.ThroughoutLemmas.{run-prints}
 use Rattle.wb_model.proofs.laws.printed_lines_are_ascii.Goals as goal
 
 pub returns : goal.returns

@@ -1,5 +1,5 @@
 use Rattle.std.proofs.Common.{refl}
-use Rattle.wb_model.proofs.AccountLemmas.{whole-with_rises, alloc-alike, realloc-alike, top-highest}
+use Rattle.wb_model.proofs.runs.AccountLemmas.{whole-with_rises, alloc-alike, realloc-alike, top-highest}
 use Rattle.wb_model.proofs.laws.rises_are_kept.Goals as goal
 
 pub returns : goal.returns

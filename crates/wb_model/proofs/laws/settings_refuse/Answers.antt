@@ -1,4 +1,4 @@
-use Rattle.wb_model.proofs.Settings.{next_due, each_due}
+use Rattle.wb_model.proofs.heaps.Settings.{next_due, each_due}
 use Rattle.wb_model.proofs.laws.settings_refuse.Goals as goal
 
 pub returns-clause-next : goal.returns-clause-next

@@ -1,4 +1,4 @@
-use Rattle.wb_model.proofs.SweepLemmas.{least-some, least-none}
+use Rattle.wb_model.proofs.runs.SweepLemmas.{least-some, least-none}
 use Rattle.wb_model.proofs.laws.sweeps_end.Goals as goal
 
 pub returns : goal.returns

@@ -1,4 +1,4 @@
-use Rattle.wb_model.proofs.Measures.{first_refused-some, first_refused-none, highest_end-greatest}
+use Rattle.wb_model.proofs.runs.Measures.{first_refused-some, first_refused-none, highest_end-greatest}
 use Rattle.wb_model.proofs.laws.traces_are_measured.Goals as goal
 
 pub returns : goal.returns

@@ -1,4 +1,4 @@
-use Rattle.wb_model.proofs.SameRuns.{same_run, past_the_last}
+use Rattle.wb_model.proofs.runs.SameRuns.{same_run, past_the_last}
 use Rattle.wb_model.proofs.laws.unasked_rules_agree.Goals as goal
 
 pub returns : goal.returns

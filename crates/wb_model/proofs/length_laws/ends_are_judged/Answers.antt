@@ -1,4 +1,4 @@
-use Rattle.wb_model.proofs.LengthTables.{bad-end, cut-end}
+use Rattle.wb_model.proofs.runs.LengthTables.{bad-end, cut-end}
 use Rattle.wb_model.proofs.length_laws.ends_are_judged.Goals as goal
 
 pub returns : goal.returns

@@ -1,4 +1,4 @@
-use Rattle.wb_model.proofs.LengthLemmas.{heap-uncut, heap-within, heaps-same}
+use Rattle.wb_model.proofs.runs.LengthLemmas.{heap-uncut, heap-within, heaps-same}
 use Rattle.wb_model.proofs.length_laws.heaps_agree.Goals as goal
 
 pub returns : goal.returns

@@ -1,4 +1,4 @@
-use Rattle.wb_model.proofs.LengthAnswers.{bad-length-some, once-bad-length}
+use Rattle.wb_model.proofs.runs.LengthAnswers.{bad-length-some, once-bad-length}
 use Rattle.wb_model.proofs.length_laws.lengths_answer_once.Goals as goal
 
 pub returns : goal.returns

@@ -1,4 +1,4 @@
-use Rattle.wb_model.proofs.LengthTables.{last-range, one-table}
+use Rattle.wb_model.proofs.runs.LengthTables.{last-range, one-table}
 use Rattle.wb_model.proofs.length_laws.tables_are_one.Goals as goal
 
 pub returns : goal.returns

@@ -1,4 +1,4 @@
-use Rattle.wb_model.proofs.WritingLemmas.{reads_literals}
+use Rattle.wb_model.proofs.language.WritingLemmas.{reads_literals}
 use Rattle.wb_model.proofs.line_laws.literals_are_read.Goals as goal
 
 pub returns : goal.returns

@@ -1,4 +1,4 @@
-use Rattle.wb_model.proofs.WritingLemmas.{reads_words}
+use Rattle.wb_model.proofs.language.WritingLemmas.{reads_words}
 use Rattle.wb_model.proofs.line_laws.words_are_read.Goals as goal
 
 pub returns : goal.returns

@@ -1,4 +1,4 @@
-use Rattle.wb_model.proofs.OneAnswer.{once-of-part}
+use Rattle.wb_model.proofs.runs.OneAnswer.{once-of-part}
 use Rattle.wb_model.proofs.part_laws.a_part_has_one_answer.Goals as goal
 
 pub returns : goal.returns

@@ -1,4 +1,4 @@
-use Rattle.wb_model.proofs.PartAnswers.{whole-cut, whole-found, whole-none}
+use Rattle.wb_model.proofs.runs.PartAnswers.{whole-cut, whole-found, whole-none}
 use Rattle.wb_model.proofs.part_laws.a_whole_part_is_all.Goals as goal
 
 pub returns : goal.returns

@@ -1,4 +1,4 @@
-use Rattle.wb_model.proofs.PartLines.{bad-more, lines-in-a-row}
+use Rattle.wb_model.proofs.runs.PartLines.{bad-more, lines-in-a-row}
 use Rattle.wb_model.proofs.part_laws.lines_of_parts_add_up.Goals as goal
 
 pub returns : goal.returns

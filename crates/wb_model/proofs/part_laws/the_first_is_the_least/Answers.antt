@@ -1,4 +1,4 @@
-use Rattle.wb_model.proofs.FirstBad.{first-least, first-none}
+use Rattle.wb_model.proofs.runs.FirstBad.{first-least, first-none}
 use Rattle.wb_model.proofs.part_laws.the_first_is_the_least.Goals as goal
 
 pub returns : goal.returns

@@ -1,4 +1,4 @@
-use Rattle.wb_model.proofs.PartsTogether.{least-together, row-together}
+use Rattle.wb_model.proofs.runs.PartsTogether.{least-together, row-together}
 use Rattle.wb_model.proofs.part_laws.the_least_is_of_both.Goals as goal
 
 pub returns : goal.returns

@@ -1,4 +1,4 @@
-use Rattle.wb_model.proofs.HeldNumbers.{progress-made, statement-made}
+use Rattle.wb_model.proofs.renaming.HeldNumbers.{progress-made, statement-made}
 use Rattle.wb_model.proofs.renaming_laws.held_numbers_were_made.Goals as goal
 
 pub returns : goal.returns

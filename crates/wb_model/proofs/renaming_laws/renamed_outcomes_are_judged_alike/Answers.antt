@@ -1,4 +1,4 @@
-use Rattle.wb_model.proofs.SameTurned.{end-same, judged-same}
+use Rattle.wb_model.proofs.renaming.SameTurned.{end-same, judged-same}
 use Rattle.wb_model.proofs.renaming_laws.renamed_outcomes_are_judged_alike.Goals as goal
 
 pub returns : goal.returns

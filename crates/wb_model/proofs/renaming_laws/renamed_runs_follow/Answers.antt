@@ -1,5 +1,5 @@
-use Rattle.wb_model.proofs.FollowPieces.{left_to_do-follows}
-use Rattle.wb_model.proofs.SameTurned.{progress-turned, renaming-turned}
+use Rattle.wb_model.proofs.renaming.FollowPieces.{left_to_do-follows}
+use Rattle.wb_model.proofs.renaming.SameTurned.{progress-turned, renaming-turned}
 use Rattle.wb_model.proofs.renaming_laws.renamed_runs_follow.Goals as goal
 
 pub returns : goal.returns

@@ -1,5 +1,5 @@
 use Rattle.std.proofs.Common.{refl}
-use Rattle.wb_model.proofs.RiseLemmas.{no_rise, one_rise}
+use Rattle.wb_model.proofs.runs.RiseLemmas.{no_rise, one_rise}
 use Rattle.wb_model.proofs.rise_laws.rises_end_above_all_before.Goals as goal
 
 pub returns : goal.returns

@@ -1,4 +1,4 @@
-use Rattle.wb_model.proofs.RefusedSets.{fine-by-sets, refused-ascending, refused-same}
+use Rattle.wb_model.proofs.runs.RefusedSets.{fine-by-sets, refused-ascending, refused-same}
 use Rattle.wb_model.proofs.set_laws.refused_attempts_are_a_set.Goals as goal
 
 pub returns : goal.returns

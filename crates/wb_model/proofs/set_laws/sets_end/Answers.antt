@@ -1,4 +1,4 @@
-use Rattle.wb_model.proofs.SetLemmas.{least-made, past-last, sets-fine}
+use Rattle.wb_model.proofs.runs.SetLemmas.{least-made, past-last, sets-fine}
 use Rattle.wb_model.proofs.set_laws.sets_end.Goals as goal
 
 pub returns : goal.returns

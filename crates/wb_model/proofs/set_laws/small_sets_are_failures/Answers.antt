@@ -1,4 +1,4 @@
-use Rattle.wb_model.proofs.SetLemmas.{none-fails, one-fails, two-fail}
+use Rattle.wb_model.proofs.runs.SetLemmas.{none-fails, one-fails, two-fail}
 use Rattle.wb_model.proofs.set_laws.small_sets_are_failures.Goals as goal
 
 pub returns : goal.returns

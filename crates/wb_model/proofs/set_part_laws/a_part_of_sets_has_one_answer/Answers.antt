@@ -1,4 +1,4 @@
-use Rattle.wb_model.proofs.OneSetAnswer.{once-of-sets}
+use Rattle.wb_model.proofs.runs.OneSetAnswer.{once-of-sets}
 use Rattle.wb_model.proofs.set_part_laws.a_part_of_sets_has_one_answer.Goals as goal
 
 pub returns : goal.returns

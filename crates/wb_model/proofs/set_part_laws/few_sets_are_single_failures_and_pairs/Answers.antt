@@ -1,4 +1,4 @@
-use Rattle.wb_model.proofs.FewSets.{paired-cut, paired-found, paired-none, single-cut, single-found, single-none}
+use Rattle.wb_model.proofs.runs.FewSets.{paired-cut, paired-found, paired-none, single-cut, single-found, single-none}
 use Rattle.wb_model.proofs.set_part_laws.few_sets_are_single_failures_and_pairs.Goals as goal
 
 pub returns : goal.returns

@@ -1,6 +1,6 @@
 use Rattle.std.proofs.Common.{sym, ◌∙◌, ap}
 use Rattle.wb_model.specs.runs.Rises.{top_of_rises}
-use Rattle.wb_model.proofs.AccountLemmas.{top-last}
+use Rattle.wb_model.proofs.runs.AccountLemmas.{top-last}
 use Rattle.wb_model.proofs.size.top_of_rises.Goals as goal
 
 pub returns-in-Some : goal.returns-in-Some

@@ -1,5 +1,5 @@
-use Rattle.wb_model.proofs.PairLemmas.{all-made-fine, first-past, second-past}
-use Rattle.wb_model.proofs.PairSearch.{least-pair-none, least-pair-some}
+use Rattle.wb_model.proofs.runs.PairLemmas.{all-made-fine, first-past, second-past}
+use Rattle.wb_model.proofs.runs.PairSearch.{least-pair-none, least-pair-some}
 use Rattle.wb_model.proofs.sweep_laws.pairs_end.Goals as goal
 
 pub returns : goal.returns

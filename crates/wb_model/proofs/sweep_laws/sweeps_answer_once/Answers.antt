@@ -1,4 +1,4 @@
-use Rattle.wb_model.proofs.OnceFound.{cut-some, found-run, found-some, found-uncut, once-cut, once-found}
+use Rattle.wb_model.proofs.runs.OnceFound.{cut-some, found-run, found-some, found-uncut, once-cut, once-found}
 use Rattle.wb_model.proofs.sweep_laws.sweeps_answer_once.Goals as goal
 
 pub returns : goal.returns

@@ -8,8 +8,8 @@ use Rattle.wb_model.specs.heap.Heap.{alloc_request, after_alloc, new_cell}
 use Rattle.wb_model.specs.heap.LimitedHeap.{zero_words}
 use Rattle.wb_model.specs.heap.Debug.{Debug, IsLiveIn, IsSoundDebug, alloc_made, answer_in, made_by, number_of_next}
 use Rattle.wb_model.specs.cells.TextCells.{IsTextAt}
-use Rattle.wb_model.proofs.Reallocations.{at-number, found-all, found-from, found-head}
-use Rattle.wb_model.proofs.TextCellsHeap.{text-beside}
+use Rattle.wb_model.proofs.heaps.Reallocations.{at-number, found-all, found-from, found-head}
+use Rattle.wb_model.proofs.heaps.TextCellsHeap.{text-beside}
 use Rattle.wb_object_tests.proofs.texts.grant_text_beside.Goals as goal
 
 -- a text's pointer has the number of an attempt that was made

@@ -8,8 +8,8 @@ use Rattle.wb_model.specs.declared.run.Why.TheVariants.{Ceiling}
 use Rattle.wb_model.specs.runs.Run.{run}
 use Rattle.wb_model.specs.runs.RunEnds.{end_of}
 use Rattle.wb_model.specs.runs.Sweeps.{is_cut_outcome, rule_for, rule_of, runs_of}
-use Rattle.wb_model.proofs.SameRuns.{past_the_last}
-use Rattle.wb_model.proofs.TraceLemmas.{run-numbered}
+use Rattle.wb_model.proofs.runs.SameRuns.{past_the_last}
+use Rattle.wb_model.proofs.runs.TraceLemmas.{run-numbered}
 use Rattle.wb_sweep.specs.declared.fault.SweepFault.TheVariants.{Cut}
 use Rattle.wb_sweep.specs.AllOfAPart.{line_of}
 use Rattle.wb_sweep.specs.Sweeping.{IsNumbered}

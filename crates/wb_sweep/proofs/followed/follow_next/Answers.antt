@@ -3,7 +3,7 @@ use Rattle.std.proofs.Common.{◌+◌, ap, ◌∙◌, sym, subst}
 use Rattle.wb_model.specs.declared.heap.Rule.{Rule}
 use Rattle.wb_model.specs.runs.Rest.{SameSoFar}
 use Rattle.wb_model.specs.runs.Sweeps.{failing_at, rule_for, rule_of}
-use Rattle.wb_model.proofs.RuleLemmas.{failures-fit}
+use Rattle.wb_model.proofs.heaps.RuleLemmas.{failures-fit}
 use Rattle.wb_sweep.proofs.followed.follow_next.Goals as goal
 
 pub fork_under-requires-clause-same : goal.fork_under-requires-clause-same

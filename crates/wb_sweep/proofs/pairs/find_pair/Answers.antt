@@ -5,7 +5,7 @@ use Rattle.wb_model.specs.declared.failures.Failures.TheVariants.{Pairs}
 use Rattle.wb_model.specs.declared.run.RunResult.{RunResult}
 use Rattle.wb_model.specs.runs.Parts.{IsFoundIn, IsLeastCutIn}
 use Rattle.wb_model.specs.runs.SetParts.{IsSetFoundIn}
-use Rattle.wb_model.proofs.FewSets.{paired-none, single-none}
+use Rattle.wb_model.proofs.runs.FewSets.{paired-none, single-none}
 use Rattle.wb_sweep.specs.declared.fault.SweepFault.TheVariants.{Cut}
 use Rattle.wb_sweep.specs.PairSets.{failure_of}
 use Rattle.wb_sweep.proofs.PairSets.{cut-is-cut, pair-cut, pair-found}

@@ -3,7 +3,7 @@ use Rattle.std.proofs.Common.{rules, ◌≡◌, ◌+◌, ◌≤◌, Err, None, a
 use Rattle.wb_model.specs.declared.failures.Failures.TheVariants.{Single}
 use Rattle.wb_model.specs.declared.run.RunResult.{RunResult}
 use Rattle.wb_model.specs.runs.Parts.{IsFoundIn}
-use Rattle.wb_model.proofs.FewSets.{single-cut, single-found, single-none}
+use Rattle.wb_model.proofs.runs.FewSets.{single-cut, single-found, single-none}
 use Rattle.wb_sweep.specs.declared.set_answer.SetFault.TheVariants.{Cut}
 use Rattle.wb_sweep.proofs.SetPartLemmas.{any-cut-weaker, found-weaker}
 use Rattle.wb_sweep.proofs.set_sweep.find_least_set.Goals as goal

@@ -9,7 +9,7 @@ use Rattle.wb_model.specs.declared.script.Script.{Script}
 use Rattle.wb_model.specs.runs.Parts.{last_attempt, IsNumberOf}
 use Rattle.wb_model.specs.runs.Run.{run}
 use Rattle.wb_model.specs.runs.Sets.{set_run}
-use Rattle.wb_model.proofs.SetLemmas.{none-fails}
+use Rattle.wb_model.proofs.runs.SetLemmas.{none-fails}
 use Rattle.wb_sweep.specs.declared.set_answer.SetFault.TheVariants.{Cut}
 use Rattle.wb_sweep.specs.SetSearch.{AreFewerFineWith, AreFineWith, IsCutWith, IsFoundWith}
 use Rattle.wb_sweep.proofs.AnswerLemmas.{map_some, nothing}

@@ -9,7 +9,7 @@ use Rattle.wb_model.specs.declared.script.Script.{Script}
 use Rattle.wb_model.specs.runs.Parts.{last_attempt, IsFoundIn}
 use Rattle.wb_model.specs.runs.Run.{run, is_bad}
 use Rattle.wb_model.specs.runs.Sweeps.{failing_at, rule_for, rule_of, runs_of}
-use Rattle.wb_model.proofs.TraceLemmas.{run-numbered}
+use Rattle.wb_model.proofs.runs.TraceLemmas.{run-numbered}
 use Rattle.wb_sweep.specs.declared.fault.SweepFault.{SweepFault}
 use Rattle.wb_sweep.specs.declared.fault.SweepFault.TheVariants.{Cut}
 use Rattle.wb_sweep.specs.declared.found.Found.{Found}

@@ -2,7 +2,7 @@
 use Rattle.std.proofs.Common.{◌≤◌, ◌+◌, arith, refl}
 use Rattle.wb_model.specs.declared.part.Part.{Part}
 use Rattle.wb_model.specs.runs.Parts.{last_attempt}
-use Rattle.wb_model.proofs.PartAnswers.{whole-cut, whole-found, whole-none}
+use Rattle.wb_model.proofs.runs.PartAnswers.{whole-cut, whole-found, whole-none}
 use Rattle.wb_sweep.specs.Sweeping.{IsSweepIn}
 use Rattle.wb_sweep.proofs.AnswerLemmas.{both_ok, map_ok, map_some}
 use Rattle.wb_sweep.proofs.sweeping.sweep.Goals as goal

@@ -11,10 +11,10 @@ use Rattle.wb_model.specs.runs.Agreement.{RefusesNoGrant}
 use Rattle.wb_model.specs.runs.Run.{run}
 use Rattle.wb_model.specs.runs.Sweeps.{rule_of, runs_of}
 use Rattle.wb_model.specs.runs.Traces.{end_of_attempt}
-use Rattle.wb_model.proofs.RuleLemmas.{failures-no_limit, zero-refuses_none}
-use Rattle.wb_model.proofs.SameRuns.{same_run}
-use Rattle.wb_model.proofs.SizeLemmas.{unlimited_least}
-use Rattle.wb_model.proofs.TraceLemmas.{run-numbered}
+use Rattle.wb_model.proofs.heaps.RuleLemmas.{failures-no_limit, zero-refuses_none}
+use Rattle.wb_model.proofs.runs.SameRuns.{same_run}
+use Rattle.wb_model.proofs.runs.SizeLemmas.{unlimited_least}
+use Rattle.wb_model.proofs.runs.TraceLemmas.{run-numbered}
 use Rattle.workbench.specs.TwoNumbers.{IsSized}
 use Rattle.workbench.proofs.searches.check_least.Goals as goal
 

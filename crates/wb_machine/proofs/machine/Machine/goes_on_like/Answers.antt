@@ -1,6 +1,6 @@
 use Rattle.std.proofs.Common.{sym, ap, ◌∙◌}
-use Rattle.wb_model.proofs.SameNumbers.{state-later, value-later}
-use Rattle.wb_model.proofs.SameNumbers as numbers
+use Rattle.wb_model.proofs.renaming.SameNumbers.{state-later, value-later}
+use Rattle.wb_model.proofs.renaming.SameNumbers as numbers
 use Rattle.wb_model.specs.runs.SameButNumbers.{Renaming}
 use Rattle.wb_machine.specs.Alike.{GoesOnLike}
 use Rattle.wb_machine.specs.Seen.{Seen}

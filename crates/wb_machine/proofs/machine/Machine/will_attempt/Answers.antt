@@ -1,4 +1,4 @@
-use Rattle.std.proofs.Common.{◌≡◌, Bool, true, false, refl, ap, ◌∙◌, sym, arith}
+use Rattle.std.proofs.Common.{◌≡◌, Bool, true, false, refl, ap, ◌∙◌, sym, subst, arith}
 use Rattle.std.specs.Prelude.{not, ◌&&◌}
 use Rattle.std.proofs.lemmas.Bool.{le-ltb}
 use Rattle.wb_machine.specs.declared.machine.Machine.TheInside.{Inside}
@@ -6,6 +6,8 @@ use Rattle.wb_machine.specs.RunState.{state_of}
 use Rattle.wb_machine.specs.Flow.{is_over, pending_in, progress_by, progress_of}
 use Rattle.wb_machine.specs.Asks.{asks_next}
 use Rattle.wb_machine.specs.Seen.{Seen}
+use Rattle.wb_machine.specs.Whole.{progress_in}
+use Rattle.wb_machine.proofs.asking.NextMade.{asked_next}
 use Rattle.wb_machine.proofs.asking.AskedPieces.{over_asks, settled_cut}
 use Rattle.wb_machine.proofs.machine.Machine.will_attempt.Goals as goal
 
@@ -39,3 +41,22 @@ returns-then-steps-self-clause-going c will =
         asks_next m.script.now m.budget (progress_by m.control.ending (pending_in m.state.callers m.control.pieces.items) (state_of m.script.now m.state)) ≡ true → b ≡ false
     by false e asks = refl
     by true e asks = let never = over_asks m.script.now m.budget m.control.ending m.control.pieces.items m.state e in cc
+
+-- the first turn asks for attempt 1
+pub returns-then-not-self-clause-made : goal.returns-then-not-self-clause-made
+returns-then-not-self-clause-made c will =
+    let m = c.self.inside in
+    let asks : asks_next m.script.now m.budget (progress_in m) ≡ true =
+    subst (λ b. asks_next m.script.now m.budget (progress_of b m.control.ending (pending_in m.state.callers m.control.pieces.items) (state_of m.script.now m.state)) ≡ true)
+    (sym c.if-not-self.true) refl in
+    asked_next m c.args.self.now c.self.view_is c.self.invariant c.if-self.false asks
+
+pub returns-then-steps-self-clause-made : goal.returns-then-steps-self-clause-made
+returns-then-steps-self-clause-made c will =
+    let m = c.self.inside in
+    let sound = c.self.invariant.sound c.if-self.false in
+    let later = sym (c.asks.ensures m.budget sound.between.pieces_are (omega (arith, c.if-steps-self.true, c.steps.ensures))) ∙ will in
+    let asks : asks_next m.script.now m.budget (progress_in m) ≡ true =
+    subst (λ b. asks_next m.script.now m.budget (progress_of b m.control.ending (pending_in m.state.callers m.control.pieces.items) (state_of m.script.now m.state)) ≡ true)
+    (sym c.if-not-self.false) later in
+    asked_next m c.args.self.now c.self.view_is c.self.invariant c.if-self.false asks

@@ -43,6 +43,7 @@ returns-then-is_none-clause-sound c =
       fewer_granted = sound.fewer_granted;
       fewer_failed = sound.fewer_failed;
       states = sound.states;
+      met = sound.met;
       runs = sound.runs;
       first = sound.first;
       granted = sound.granted;

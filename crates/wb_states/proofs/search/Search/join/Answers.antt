@@ -22,8 +22,8 @@ returns-clause-sound g c =
     let r = c.requires in
     let attempts = sym c.attempts-attempts.ensures.so_far in
     kept-sound c.args.self.now c.keep.new.self state c.args.fork c.in_ok-keep.ensures.states c.in_ok-keep.ensures.same r.sound
-    (is-state (ground_of c.args.self.now) state c.args.fork r.run attempts r.tried)
-    (is-run (ground_of c.args.self.now) state c.args.fork r.run attempts (sym c.steps-steps.ensures) r.begun r.going r.asks) c.in_ok-keep.ensures.runs
+    (is-state (ground_of c.args.self.now) state c.args.fork r.run attempts r.tried r.more)
+    (is-run (ground_of c.args.self.now) state c.args.fork r.run attempts (sym c.steps-steps.ensures) r.begun r.going r.asks) c.in_ok-keep.ensures.runs c.in_ok-keep.ensures.met
 
 pub returns-clause-goes : goal.returns-clause-goes
 returns-clause-goes g c turns later =

@@ -15,4 +15,4 @@ returns-clause-sound c =
     (pushed ∙ ap (λ xs. xs ++ first ∷ []) c.new-states.ensures ∙ ap (λ (ns : List ℕ). record { numbers = ns; attempts = 0; steps = 0; before = 0 } ∷ []) c.new-3.ensures)
     c.new-runs.ensures c.in_ok-push.ensures
     (begins ∙ ap (λ ns. seen_at_start false c.args.script.now (Set ns) c.args.budget c.args.shape) c.new.ensures) c.new-4.ensures c.new-5.ensures refl
-    c.requires.last
+    c.requires.last refl

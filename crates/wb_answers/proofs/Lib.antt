@@ -1,0 +1,9 @@
+pub mod LeastNumber
+pub mod Judged
+pub mod MostAttempts
+pub mod LeastSets
+pub mod SetsTried
+pub mod SetsAnswered
+pub mod SweepsAnswered
+pub mod SameEnds
+pub mod LengthsAnswered

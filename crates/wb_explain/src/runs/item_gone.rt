@@ -1,0 +1,75 @@
+//! What is said of an item whose cell was gone when the cleanup stack destroyed the item, or that used such a cell: where it was pushed,
+//! and which item was popped in its place.
+
+use crate::runs::script_page::{ScriptPage, Written};
+use wb_history::{By, End, Ended, Popped, WatchedRun};
+
+/// Returns what to do about an item whose cell is gone because another item was popped in its place, or because the cell has two; `None` if
+/// it is gone for another reason.
+pub fn cure_of_gone(run: &WatchedRun<'_>, ended: Ended) -> Option<&'static str> {
+    if ended.by != By::Line {
+        return Some("it has two items: push it once, or pop one of the two");
+    }
+    match popped_instead(run, Some(ended)) {
+        Some(_) => Some(
+            "pop an item before its cell is freed elsewhere: `popcheck` makes sure that it is the one that comes off",
+        ),
+        None => None,
+    }
+}
+
+/// The pop that took off the item above the item destroyed last, by a line of the body in which the cell was freed; `None` if there
+/// is none.
+fn popped_instead(run: &WatchedRun<'_>, ended: Option<Ended>) -> Option<Popped> {
+    let (ended, above) = (ended?, run.history.last_item?.above?);
+    let bodies = &run.history.bodies;
+    let (line, freed) = (above.line.number(), ended.at.number());
+    let is_freed = ended.by == By::Line && ended.end != End::Moved;
+    if is_freed && line < freed && bodies.body_of(line) == bodies.body_of(freed) {
+        Some(above)
+    } else {
+        None
+    }
+}
+
+/// Tells where the item destroyed last was pushed, and which item was popped in its place.
+pub fn put_item_gone(
+    page: &mut ScriptPage<'_>,
+    run: &WatchedRun<'_>,
+    ended: Option<Ended>,
+) -> Written {
+    if let Some(item) = run.history.last_item {
+        page.mark_new(item.pushed.line, 1, said_of_push(ended))?;
+    }
+    match popped_instead(run, ended) {
+        Some(above) => page.mark_new(
+            above.line.number(),
+            0,
+            format_args!(
+                "this popped the item that line {} pushed, not that one",
+                above.pushed.number()
+            ),
+        ),
+        None => Ok(()),
+    }
+}
+
+/// What is said where an item was pushed that raised a panic when it was destroyed. `ended` is how the life of its cell ended.
+fn said_of_push(ended: Option<Ended>) -> &'static str {
+    match ended {
+        Some(ended) if ended.by != By::Line => "another item of it was pushed here",
+        _ => "its item was pushed here",
+    }
+}
+
+/// Tells where the item destroyed last was pushed, whose destruction used a cell that was gone.
+pub fn put_user(page: &mut ScriptPage<'_>, run: &WatchedRun<'_>) -> Written {
+    match run.history.last_item {
+        Some(item) => page.mark_new(
+            item.pushed.line,
+            1,
+            "the item whose destruction uses it was pushed here",
+        ),
+        None => Ok(()),
+    }
+}

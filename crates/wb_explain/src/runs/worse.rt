@@ -1,0 +1,69 @@
+//! What is said of a table of lengths in which a longer heap does worse than a shorter one, though it doesn't leak or panic: in which heaps,
+//! and which attempt takes the room.
+
+use crate::runs::script_page::{ScriptPage, Written};
+use crate::runs::spread::{Spread, lengths_of};
+use wb_history::Attempts;
+use wb_model::heap::Answer;
+use wb_model::lengths::LengthRange;
+use wb_model::run_end::RunEnd;
+
+/// Returns the greatest length of heap in which the run does better than in one that is longer by a byte; `None` if there is none. Of
+/// several it is the least.
+pub fn longest_better(ranges: &[LengthRange]) -> Option<u32> {
+    let (shorter, _, _) = first_worse(ranges)?;
+    Some(shorter.greatest)
+}
+
+/// The lengths of the first range in whose heaps the run comes to its end, though it leaves in those of the next range; the lengths of that
+/// next range, and the code of the leave.
+fn first_worse(ranges: &[LengthRange]) -> Option<(Spread, Spread, i32)> {
+    for index in 0..ranges.len() {
+        let next = index.saturating_add(1);
+        if let (Some(range), Some(worse)) = (ranges.get(index), ranges.get(next))
+            && range.end == RunEnd::Plain
+            && let RunEnd::Left(code) = worse.end
+            && let (Some(shorter), Some(longer)) = (
+                lengths_of(ranges, index),
+                lengths_of(ranges, next),
+            )
+        {
+            return Some((shorter, longer, code));
+        }
+    }
+    None
+}
+
+/// Says in which heaps the run does worse than in shorter ones, if it does in any, and which attempt takes the room. `attempts` are those of
+/// the run in the longest heap that does better.
+pub fn put_worse(
+    page: &mut ScriptPage<'_>,
+    ranges: &[LengthRange],
+    attempts: &Attempts<'_>,
+) -> Written {
+    let Some((shorter, longer, code)) = first_worse(ranges) else {
+        return Ok(());
+    };
+    page.page.write_text("note: ");
+    page.page.write(format_args!(
+        "a longer heap does worse: in one of {shorter} this script comes to its end, in one of {longer} it leaves with {code}"
+    ));
+    page.page.end_line();
+    put_taker(page, shorter.greatest, attempts)
+}
+
+/// Shows the first attempt that ends just past this length: a heap of that length refuses it, and a longer one grants it.
+fn put_taker(page: &mut ScriptPage<'_>, length: u32, attempts: &Attempts<'_>) -> Written {
+    for made in attempts.kept_attempts() {
+        if made.attempt.answer == Answer::Refused && made.top() == length.saturating_add(1) {
+            let number = made.attempt.number;
+            return page.mark(
+                made.maker.line,
+                format_args!(
+                    "attempt {number}, made here, takes room in the longer heap that the shorter one refuses"
+                ),
+            );
+        }
+    }
+    Ok(())
+}

@@ -1,0 +1,118 @@
+//! Which steps of a run are shown: the first and the last, or those around an attempt.
+
+ghost use Rattle.std.specs.Prelude.{◌≤◌, IsTrue};
+ghost use Rattle.wb_model.specs.language.Sound.{is_script};
+
+use std::alloc::Global;
+use wb_history::{RunParameters, machine_of};
+use wb_machine::Turn;
+use wb_model::limits::LARGEST_BUDGET;
+use wb_model::memory::NoMemory;
+use wb_model::script::Script;
+
+/// Which steps are asked for.
+#[derive(Clone, Copy)]
+pub struct Asked {
+    /// How many of the first steps and of the last; or how many before the attempt's, and how many after it.
+    pub steps: u32,
+    /// The number of an attempt; `None` if the first steps and the last are asked for.
+    pub around: Option<u32>,
+}
+
+/// The steps that are shown: those up to a number, and those from another one on; or those between two numbers, both included, of a run of
+/// so many steps.
+#[derive(Clone, Copy)]
+pub(crate) enum Window {
+    Ends { first: u32, last: u32 },
+    Between { first: u32, last: u32, steps: u32 },
+}
+
+impl Window {
+    /// The first steps and the last of a run, so many of each.
+    fn of_ends(most: u32, steps: u32) -> Window {
+        Window::Ends {
+            first: most,
+            last: steps.saturating_sub(most).saturating_add(1),
+        }
+    }
+
+    /// So many steps before a step, that step, and as many after it. The first row alone isn't left out.
+    fn about(step: u32, most: u32, steps: u32) -> Window {
+        let first = step.saturating_sub(most);
+        Window::Between {
+            first: if first > 1 { first } else { 0 },
+            last: step.saturating_add(most),
+            steps,
+        }
+    }
+
+    /// Whether a step is shown.
+    pub(crate) fn shows(self, step: u32) -> bool {
+        match self {
+            Window::Ends { first, last } => step <= first || step >= last,
+            Window::Between { first, last, .. } => step >= first && step <= last,
+        }
+    }
+
+    /// How many steps are left out from this step on; 0 if it is shown, or if others before it are left out too.
+    pub(crate) fn left_out(self, step: u32) -> u32 {
+        match self {
+            Window::Ends { first, last } if step == first.saturating_add(1) => {
+                last.saturating_sub(step)
+            }
+            Window::Between { first, .. } if step == 0 => first.saturating_sub(1),
+            Window::Between { last, steps, .. } if step == last.saturating_add(1) => {
+                steps.saturating_sub(last)
+            }
+            _ => 0,
+        }
+    }
+}
+
+/// Returns which steps of a run of `steps` steps are shown; `None` if the attempt that is asked for isn't made. The only error is that memory
+/// ran out.
+pub(crate) fn window_of(
+    alloc: Global,
+    script: &Script,
+    parameters: &RunParameters,
+    asked: Asked,
+    steps: u32,
+) -> Result<Option<Window>, NoMemory>
+    requires script { IsTrue (is_script script.now) }
+    requires least { 1 ≤ parameters.now.budget }
+    requires greatest { parameters.now.budget ≤ LARGEST_BUDGET }
+{
+    let Some(number) = asked.around else {
+        return Ok(Some(Window::of_ends(asked.steps, steps)));
+    };
+    match step_of_attempt(alloc, script, parameters, number)? {
+        Some(step) => Ok(Some(Window::about(step, asked.steps, steps))),
+        None => Ok(None),
+    }
+}
+
+/// Returns the step that makes an attempt, 0 for the first attempt; `None` if the run doesn't make it. The only error is that memory ran out.
+fn step_of_attempt(
+    alloc: Global,
+    script: &Script,
+    parameters: &RunParameters,
+    number: u32,
+) -> Result<Option<u32>, NoMemory>
+    requires script { IsTrue (is_script script.now) }
+    requires least { 1 ≤ parameters.now.budget }
+    requires greatest { parameters.now.budget ≤ LARGEST_BUDGET }
+{
+    let Some(mut machine) = machine_of(alloc, script, parameters)? else {
+        return Ok(None);
+    };
+    for _ in 0..=parameters.budget.saturating_add(1) {
+        let turn = machine.step()?;
+        if machine.attempts() >= number {
+            return Ok(Some(machine.steps()));
+        }
+        if turn == Turn::Ended {
+            return Ok(None);
+        }
+    }
+    Ok(None)
+}

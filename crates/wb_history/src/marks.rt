@@ -1,0 +1,64 @@
+//! The heap marks that are open, and which of them a leave went past.
+
+use std::alloc::{AllocError, Global};
+
+/// A heap mark that is open, or was.
+#[derive(Clone, Copy, Debug, PartialEq, Eq)]
+pub struct OpenMark {
+    pub line: u32,
+    /// The step in which it was opened.
+    since: u32,
+    /// The line of the leave that ended the code after it, which would have closed it; 0 if none did.
+    pub skipped_by: u32,
+}
+
+/// The heap marks that are open.
+#[derive(Drop)]
+pub struct Marks {
+    open: Vec<OpenMark>,
+    /// The mark that was closed last of those that a leave went past, and the line that closed it.
+    pub closed_late: Option<(OpenMark, u32)>,
+}
+
+impl Marks {
+    /// No mark is open yet.
+    pub fn new(alloc: Global) -> Marks {
+        Marks {
+            open: Vec::new(alloc),
+            closed_late: None,
+        }
+    }
+
+    /// Returns the mark that is to be closed next; `None` if none is open.
+    pub fn newest(&self) -> Option<OpenMark> {
+        self.open.last().copied()
+    }
+
+    /// A line opens a mark.
+    pub fn begin(&mut self, line: u32, since: u32) -> Result<(), AllocError> {
+        self.open.push(OpenMark {
+            line,
+            since,
+            skipped_by: 0,
+        })?;
+        Ok(())
+    }
+
+    /// A line closes the newest mark.
+    pub fn end(&mut self, line: u32) {
+        if let Some(mark) = self.open.pop()
+            && mark.skipped_by != 0
+        {
+            self.closed_late = Some((mark, line));
+        }
+    }
+
+    /// A line leaves, to a TRAP that began in the step `since`: the leave goes past the ends of the marks that were opened inside that TRAP.
+    pub fn leave(&mut self, since: u32, line: u32) {
+        for mark in self.open.as_mut_slice() {
+            if mark.since >= since && mark.skipped_by == 0 {
+                mark.skipped_by = line;
+            }
+        }
+    }
+}

@@ -1,0 +1,30 @@
+//! What is said of the name of a picture's file where another file seems to be meant. Nothing depends on it.
+
+use crate::asked::shown_name;
+use std::io::Write;
+use workbench::{Command, FileName};
+
+/// Says on standard error that the word after `--picture` wasn't taken for the script's name, if it looks like one and no script is named.
+pub fn say_if_script(rt: &HostRuntime, command: &Command) {
+    if let (Some(picture), None) = (&command.picture, &command.file)
+        && picture.as_str().ends_with(".oom")
+    {
+        let name = shown_name(picture);
+        let _ = writeln!(
+            rt.stderr(),
+            "note: '--picture {name}' names the file for the picture, so the script was read from standard input\n\
+             help: name both: '--picture FILE.svg {name}'"
+        );
+    }
+}
+
+/// Says on standard error that a picture is put into a file whose name is not that of a picture.
+pub fn say_if_no_picture(rt: &HostRuntime, picture: &FileName) {
+    if !picture.as_str().ends_with(".svg") {
+        let name = shown_name(picture);
+        let _ = writeln!(
+            rt.stderr(),
+            "note: the picture is an SVG file, and programs may not open it under a name that doesn't end in '.svg': '{name}'"
+        );
+    }
+}

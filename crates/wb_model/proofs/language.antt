@@ -1,0 +1,4 @@
+-- Laws of words, lines and forms.
+pub mod LineExamples
+pub mod WordLemmas
+pub mod WritingLemmas

@@ -1,0 +1,2 @@
+pub mod SearchesReported
+pub mod TasksReported

@@ -1,0 +1,19 @@
+//! Bytes with a fault of each kind. Each theorem is stated in `specs`, with a line that says what it shows. The function does nothing: its
+//! contract gathers the theorems, so that the gate proves them.
+
+ghost use Rattle.wb_worked.specs.WorkedFaults.{DeclaredTwice, EndAlone, ForeignByte, LeavesInOperation};
+ghost use Rattle.wb_worked.specs.WorkedFaults.{NumberIsFreed, TextTooLarge, TooManyBytes};
+ghost use Rattle.wb_worked.specs.WorkedFaults.{Undeclared, WithoutMain};
+
+/// Each kind of fault is met: any bytes of more than 65,536 are too many, and a small text has each of the others.
+pub fn each_fault_is_met()
+    ensures too_long { TooManyBytes }
+    ensures not_ascii { ForeignByte }
+    ensures grammar { EndAlone }
+    ensures unknown_name { Undeclared }
+    ensures double_name { DeclaredTwice }
+    ensures wrong_kind { NumberIsFreed }
+    ensures may_leave { LeavesInOperation }
+    ensures no_main { WithoutMain }
+    ensures too_many { TextTooLarge }
+{}

@@ -1,0 +1,1 @@
+"""What sweeps, sets, lengths, forks and steps tell, beside single runs."""

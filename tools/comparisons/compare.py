@@ -1,0 +1,207 @@
+"""Compares what the program answers of many scripts in one way with what it answers in another, by kinds.
+
+`./tools/dev compare` compares all kinds, or those that are named. This is done for the examples and for scripts that are made. Each
+answer that differs is printed with its script, which is kept in a folder where one is given. So that a program which finds nothing can't
+pass, each outcome that a kind wants must come often enough among the scripts that are made.
+"""
+
+import argparse
+import zlib
+from collections import Counter
+from collections.abc import Callable
+from concurrent.futures import ThreadPoolExecutor
+from dataclasses import dataclass
+from fnmatch import fnmatchcase
+from functools import partial
+from pathlib import Path
+
+from tools.comparisons.answers import Difference, Numbers, Script
+from tools.comparisons.made_scripts import SCRIPTS, SEED, SORTS, scripts
+from tools.comparisons.single_runs import compare_lengths, compare_lists, compare_moving, compare_steps
+from tools.comparisons.sweeps import BY_NUMBER, FAILURES, LISTINGS, PAIRS, SETS, SINGLE, Sweep, Swept
+from tools.crates import RUN_MEMORY, processors
+from tools.paths import PROGRAM, ROOT, examples, programs
+from tools.program import CUT, NoAnswer, parser_of, program_at
+from tools.tally import Tally
+from tools.worked_cases import case_called
+
+# the program that compares forks of a run, which `rt run` in its crate builds
+FORKS = ROOT / "crates/wb_fork_tests/out/wb_fork_tests"
+# the cases whose scripts it is given, beside the examples
+FORKED = """
+sweep/eighth-push-grows-the-cleanup-cell.check sweep/unpushed-object-leaks-when-construction-fails.check
+first-path/freed-neighbours-merge.run
+""".split()
+
+# what ends the comparison of a script: an answer that differs, is late, or is no report at all
+FAULTS = (Difference, NoAnswer, ValueError, LookupError)
+
+
+@dataclass(frozen=True)
+class Kind:
+    """A kind of comparison."""
+
+    # compares the answers for a script, and gives what comes of it: one outcome or several
+    compare: Callable[[Script], list[str]]
+    # how many of a hundred made scripts must at least have each outcome, with the pattern of its words
+    wanted: str = ""
+    # the sorts of parts that scripts are made of
+    sorts: str = SORTS
+    # whether one of two scripts has few steps, so that some of its runs are cut
+    has_budgets: bool = False
+    # the files of the scripts beside those that are made, and the cases
+    files: Callable[[], list[Path]] = examples
+    cases: tuple[str, ...] = ()
+    program: Path = PROGRAM
+
+    def scripts(self, count: int, seed: int) -> list[tuple[str, bytes]]:
+        """The scripts that are compared, with their names, those that are made last."""
+        named = [(it.name, it.read_bytes()) for it in self.files()] + [(it, case_called(it).script) for it in self.cases]
+        return named + [(f"made {at}", it.encode("ascii")) for at, it in enumerate(scripts(count, seed, self.sorts))]
+
+
+def compare_sweep(script: Script, sweep: Sweep) -> list[str]:
+    """Compares all that is answered of a sweep."""
+    swept = Swept(sweep, script)
+    found = swept.compare()
+    outcomes = [outcome_of(swept, found), *map(swept.compare_listing, LISTINGS if sweep.lists else ())]
+    if sweep.runs_all:
+        outcomes += swept.compare_states(found)
+        if found is None or len(found) > 1:
+            outcomes.append("each set run" if swept.compare_each(found) else "too many sets to run")
+    return outcomes
+
+
+def outcome_of(swept: Swept, found: Numbers | None) -> str:
+    """What a sweep finds, in the words of `wanted`: alone is a number where no single failure shows anything, and late are numbers of which
+    the run without failure doesn't make the last."""
+    if found is None:
+        return "none"
+    many = f"{len(found)} numbers" if len(found) > 1 else "number"
+    if swept.told.status == CUT:
+        return f"cut {many} at the {swept.told.lines[0].split(' ')[-1]}"
+    if len(found) > 1:
+        return f"{many} late" if found[-1] > swept.attempts else many
+    if swept.sweep.one != SINGLE.one and swept.script.answer("sweep").lines[1:2] == [SINGLE.none]:
+        return "number alone"
+    number = (found or (0,))[0]
+    return f"number {number}" if number < 3 else "number above 2"
+
+
+def compare_parts(script: Script) -> list[str]:
+    """Compares the sweeps that are cut into parts most, of a script of which some runs may be cut."""
+    return [compare_sweep(script, sweep) for sweep in (SINGLE, *BY_NUMBER.values(), PAIRS)][0]
+
+
+def compare_forks(script: Script) -> list[str]:
+    """Whether the program that compares forks of a run with whole runs finds none that differs."""
+    told = script.ask()
+    script.must(told.status == 0, told.output.decode("utf-8", "replace").strip())
+    return []
+
+
+# how often the outcomes of a sweep over numbers of an option come, which aren't those of single attempts: under a failure that persists
+# a script asks for little more
+OF_NUMBERS = {
+    "every": "20 none; 2 number 0; 10 number 2; 10 number above 2; 5 number alone; 2 cut number at the budget; "
+    "1 cut number at the ceiling",
+    "persistent": "20 none; 1 number 0; 5 number above 2; 3 number alone; 5 cut number at the budget",
+}
+# the kinds of comparison, those that take longest first
+KINDS = {
+    "sets": Kind(
+        partial(compare_sweep, sweep=SETS),
+        "15 none; 3 number*; 1 cut number*; 8 2 numbers*; 3 3 numbers*; 5 [4-9]* numbers*; 2 cut [2-9]* numbers*; "
+        "20 cut states; 2 cut states past one failure; 30 each set run",
+        "one two three four four remembered remembered remembered",
+        files=lambda: [*examples(), *programs()],
+    ),
+    "steps": Kind(compare_steps, "10 a panic; 2 a cell that moves; 20 a leave that a TRAP catches"),
+    "failures": Kind(
+        partial(compare_sweep, sweep=FAILURES),
+        "15 none; 8 number*; 2 cut number*; 8 2 numbers*; 12 3 numbers*; 2 cut 2 numbers*; 2 cut 3 numbers*",
+        "one two three three",
+    ),
+    "lengths": Kind(
+        compare_lengths,
+        "20 no bad length; 8 a cut and no bad length; 8 a bad length alone; 10 a bad length below good ones; "
+        "2 bad lengths up to the ceiling",
+    ),
+    "lists": Kind(compare_lists, "20 runs that find nothing; 30 a run that leaks or panics; 3 a run that is cut"),
+    "moving": Kind(
+        compare_moving,
+        "20 the same run, whose cells don't move; 20 the same run in other places; 5 a run that is bad where cells move",
+        "one two moving",
+    ),
+    "parts": Kind(
+        compare_parts,
+        "15 --all: nothing; 10 --all: one number; 10 --all: more numbers; 1 --all: a cut beside others; "
+        "1 --all: a cut run without failure",
+        has_budgets=True,
+    ),
+    "pairs": Kind(
+        partial(compare_sweep, sweep=PAIRS),
+        "15 none; 20 number*; 3 cut number*; 10 2 numbers; 5 2 numbers late; 2 cut 2 numbers at the budget; "
+        "1 cut 2 numbers at the ceiling",
+    ),
+    **{name: Kind(partial(compare_sweep, sweep=sweep), OF_NUMBERS[name]) for name, sweep in BY_NUMBER.items()},
+    "forks": Kind(compare_forks, cases=tuple(FORKED), program=FORKS),
+}
+
+
+def compared(kind: Kind, program: Path, name: str, text: bytes) -> tuple[list[str], int, str]:
+    """What comes of a script, how much of it was compared, and what is wrong."""
+    # which scripts have few steps, and how few, depends on the script alone
+    few = zlib.crc32(text) if kind.has_budgets else 0
+    script = Script(program, text, [] if few % 2 == 0 else ["--budget", str(16 + few % 64)])
+    try:
+        return kind.compare(script), script.compared, ""
+    except FAULTS as fault:
+        return [], script.compared, f"{name}: {fault}"
+
+
+def too_few(wanted: str, outcomes: Counter[str], count: int) -> list[str]:
+    """Which outcomes the made scripts don't show often enough, of so many."""
+    rows = [it.split(" ", 1) for it in wanted.split("; ") if it]
+    found = {it: sum(often for outcome, often in outcomes.items() if fnmatchcase(outcome, it)) for _, it in rows}
+    least = {it: int(often) * count // 100 for often, it in rows}
+    return [f"{it}: {found[it]} of {count}, and {least[it]} are wanted" for it in found if found[it] < least[it]]
+
+
+def compare_scripts(name: str, given: argparse.Namespace, tally: Tally) -> None:
+    """Compares the answers of a kind for all scripts, counts what agrees, and prints what comes how often."""
+    kind = KINDS[name]
+    named = kind.scripts(given.scripts, given.seed)
+    # the program that is given is not that of another kind beside it
+    is_given = given.program and (kind.program == PROGRAM or given.kinds == [name])
+    program = given.program if is_given else kind.program
+    with ThreadPoolExecutor(processors(RUN_MEMORY)) as pool:
+        told = list(pool.map(lambda it: compared(kind, program, *it), named))
+    for (title, text), (_, _, fault) in zip(named, told):
+        tally.check(not fault, f"{name}: {fault}")
+        if given.keep and fault:
+            given.keep.mkdir(parents=True, exist_ok=True)
+            (given.keep / f"{name}-{title.replace(' ', '-').removesuffix('.oom')}.oom").write_bytes(text)
+    outcomes = Counter(outcome for found, _, _ in told[len(told) - given.scripts :] for outcome in found)
+    for rare in too_few(kind.wanted, outcomes, given.scripts):
+        tally.check(False, f"{name}: too few scripts with {rare}")
+    listed = ", ".join(f"{often} with {it}" for it, often in sorted(outcomes.items()))
+    comparisons = sum(count for _, count, _ in told)
+    print(f"{name}: {comparisons} comparisons of {len(named)} scripts; of those that are made {listed or 'all agree'}")
+
+
+def main(words: list[str]) -> int:
+    """Compares the kinds that are named, or all, and prints the totals."""
+    parser = parser_of(__doc__)
+    parser.add_argument("kinds", nargs="*", metavar="KIND", help=f"one of {', '.join(KINDS)} [default: all]")
+    parser.add_argument("--program", type=program_at, metavar="PATH", help="the program, if not that of ./build")
+    parser.add_argument("--scripts", type=int, default=SCRIPTS, metavar="N", help=f"how many scripts are made [default: {SCRIPTS}]")
+    parser.add_argument("--seed", type=int, default=SEED, metavar="N", help=f"which scripts [default: {SEED}]")
+    parser.add_argument("--keep", type=Path, metavar="FOLDER", help="where scripts go that differ")
+    given, tally = parser.parse_args(words), Tally()
+    for it in given.kinds:
+        if it not in KINDS:
+            parser.error(f"there is no kind {it}")
+    for it in given.kinds or KINDS:
+        compare_scripts(it, given, tally)
+    return tally.end()

@@ -1,0 +1,139 @@
+"""Makes scripts with attempts of many sorts, most of which some failure makes leak, panic or be cut.
+
+Each script is a `main` that calls some parts, each within a TRAP: cells, cells that grow, texts, objects, the cleanup stack, loops,
+requests with a fallback. They are those of made-parts.txt. Most scripts have one part with a mistake, which some failure or other shows: of
+a single attempt, or only of two or more. Around the parts there may be `failnext`, `failevery`, `failnone` and heap marks. The same numbers
+give the same scripts. `compare` tries the program on them.
+"""
+
+import random
+import re
+from collections.abc import Iterator
+from typing import NamedTuple
+
+from tools.language import words_of_roles
+from tools.paths import TOOLS
+
+SCRIPTS, SEED = 300, 1
+
+# how many bytes a request asks for
+ROOM = (4, 16, 17, 40, 100, 240, 1000, 5000)
+# what the parts share: an object that owns a text, and an operation
+SHARED = """\
+class Note 4
+    field text
+    construct
+        hnewl self.text 12
+        copy self.text "milk"
+    end
+    destroy
+        free self.text
+    end
+end
+op giveup cell
+    free cell
+end
+"""
+# two requests, with what is done where each is refused, and what they need
+REQUEST = ("alloc cell {room}; if null cell", "free cell; null cell")
+REFUSED = {"first": "else; repeat 8; end; end", "later": "end"}
+NEEDED = "ptr cell; ptr kept; int seen"
+
+
+class Part(NamedTuple):
+    """A part of a script: its name, and its lines, each of some statements."""
+
+    name: str
+    lines: tuple[str, ...]
+
+    def body(self, chance: random.Random, is_wrong: bool) -> list[str]:
+        """The lines of its body; a mistake is in it where that is asked for."""
+        known: dict[str, int] = {}
+        written: list[str] = statements(NEEDED, is_wrong) if any(it.startswith("later ") for it in self.lines) else []
+        for line in self.lines:
+            word, _, rest = line.partition(" ")
+            if word == "let":
+                for name, _, value in (it.partition(" = ") for it in rest.split("; ")):
+                    each = [f"{name[5:]}{at}" for at in range(known["helpers"])] if name.startswith("each ") else [name]
+                    known |= {it: value_of(value, known, chance) for it in each}
+                continue
+            if word in REFUSED:
+                line = "; ".join((REQUEST[0], rest, REFUSED[word], REQUEST[1]))
+            for at in range(known["helpers"] if word == "each" else 1):
+                known["at"] = at
+                for it in statements(rest if word == "each" else line, is_wrong):
+                    written.append(re.sub(r"\{(.*?)\}", lambda it: str(value_of(it[1], known, chance)), it))
+        return written
+
+
+def statements(line: str, is_wrong: bool) -> list[str]:
+    """The statements of a line, in a wrong part or in a right one."""
+    marked = [it.strip() for it in line.split(";")]
+    return [it.removeprefix("- ").removeprefix("+ ") for it in marked if not it.startswith("+ " if is_wrong else "- ")]
+
+
+def value_of(text: str, known: dict[str, int], chance: random.Random) -> int:
+    """A number as a part names it: a sum of numbers that are known or chosen."""
+    total = 0
+    for it in text.split("+"):
+        first, _, last = it.partition("..")
+        if it == "room":
+            total += chance.choice(ROOM)
+        elif last:
+            total += chance.randint(int(first), int(last))
+        elif "|" in it:
+            total += chance.choice([int(number) for number in it.split("|")])
+        else:
+            total += int(it) if it.isdigit() else known[it if it in known else f"{it}{known['at']}"]
+    return total
+
+
+def parts_in(text: str) -> Iterator[tuple[str, list[Part]]]:
+    """The sorts of parts of a text, by their names; those that come twice stand once more at the end."""
+    for heading, *rest in (it.split("\n== ") for it in text.split("\n=== ")[1:]):
+        blocks = [it.splitlines() for it in rest]
+        parts = [Part(name.removesuffix(", twice"), tuple(it.strip() for it in lines if it.startswith("    "))) for name, *lines in blocks]
+        yield re.split(r"\W", heading)[0], parts + [part for part, (name, *_) in zip(parts, blocks) if name.endswith(", twice")]
+
+
+# parts by their sorts: how many failures show their mistakes, mostly
+PARTS = dict(parts_in((TOOLS / "comparisons/made-parts.txt").read_text(encoding="ascii")))
+# the sorts that scripts are made of, if nothing else is said
+SORTS = "one two"
+
+
+def setting(chance: random.Random) -> str:
+    """A setting of the script's own."""
+    return chance.choice((f"failnext {chance.randint(1, 9)}", f"failevery {chance.randint(2, 7)}", "failnone"))
+
+
+def indented(body: list[str]) -> list[str]:
+    """The lines of a body, each as deep as its block."""
+    written, depth, opening = [], 1, words_of_roles("If", "Loop")
+    for line in body:
+        depth -= line == "end"
+        written.append("    " * depth + line)
+        depth += line.split()[0] in opening
+    return written
+
+
+def script(number: int, seed: int = SEED, sorts: str = SORTS) -> str:
+    """The script with this number, of parts of these sorts."""
+    chance = random.Random(f"{seed} {number}")
+    parts = [chance.choice(PARTS[chance.choice(sorts.split())]) for _ in range(chance.choice((1, 2, 3, 3, 4, 5, 6)))]
+    wrong = chance.randrange(len(parts)) if chance.random() < 0.75 else None
+    is_marked, is_set = chance.random() < 0.3, chance.random() < 0.3
+    written: list[str] = []
+    main = ["int code"]
+    for at, part in enumerate(parts):
+        written += [f"proc part{at}", *indented(part.body(chance, at == wrong)), "end"]
+        main += [setting(chance)] if is_set else []
+        main += ["mark"] if is_marked else []
+        main += ["trap code", f"call part{at}", "end", "print code"]
+        main += ["markend 0"] if is_marked else []
+    return SHARED + "\n".join([*written, "proc main", *indented(main), "end"]) + "\n"
+
+
+def scripts(count: int = SCRIPTS, seed: int = SEED, sorts: str = SORTS) -> list[str]:
+    """The first so many scripts, of parts of these sorts."""
+    return [script(number, seed, sorts) for number in range(count)]

@@ -1,0 +1,1 @@
+"""Pages, pictures, the man page, completions and files for editors, beside what they speak of."""

@@ -1,0 +1,207 @@
+"""Compares the man page and the completions with the program's own help.
+
+They are kept by hand: docs/workbench.1, and the files of bash, zsh and fish in completions/. From the help follow all lines with commands
+and options that a shell's file must have, in their order, and what each section of the man page must say, of which only words are compared.
+The exit statuses must be as REPORTS.md has them, and the pages and examples that the man page names must be there. The lines of the help
+must have at most as many columns as the variable COLUMNS says, or 80, unless they are a single word.
+"""
+
+import re
+from collections.abc import Callable, Iterator
+from difflib import unified_diff
+from pathlib import Path
+from typing import NamedTuple
+
+from tools.paths import DOCS, ROOT
+from tools.program import COLUMNS, ENVIRONMENT, answer_of, program_parser
+from tools.tally import Tally
+
+# more columns than any line of the help has, those where nothing says how many, and some that are said, or aren't
+WIDE, USUAL = "10000", "80"
+SAID, NOT_SAID = ("1", "40", "80", "100"), ("", "0", "-5", "wide")
+
+NAME = "workbench"
+MAN_PAGE, COMPLETIONS = DOCS / f"{NAME}.1", ROOT / "completions"
+BASH, ZSH, FISH = COMPLETIONS / f"{NAME}.bash", COMPLETIONS / f"_{NAME}", COMPLETIONS / f"{NAME}.fish"
+
+COMMAND = re.compile(r"^  (\w+) +(\S.*)$", re.MULTILINE)
+OPTION = re.compile(r"^ +(?:-(\w), )?--([\w-]+)(?: <(\w+)>)?\n +(\S.*)$", re.MULTILINE)
+EXAMPLE = "Example: "
+# the lines of a shell's file that follow from the help
+COMPARED = {
+    BASH: re.compile(r"""\w+\)|(?:options=|values=|_workbench_words )'.*|\[\[ " --.*"""),
+    ZSH: re.compile(r"\w+\)|'(?:[a-z]+:|--|\(- ).*"),
+    FISH: re.compile(r"complete .*"),
+}
+# what a man page has between its words: how lines are laid out, and in which type words are
+LAID_OUT = re.compile(r"^\.(?:B |\w+.*$)|\\f[BIR]|[\\'`]", re.MULTILINE)
+STATUS = re.compile(r"^\| (\d+) \| (.*) \|$", re.MULTILINE)
+NAMED = re.compile(r"(?:docs|examples)/[\w-]+\.\w+")
+
+
+class Option(NamedTuple):
+    """An option: its letter, if it has one, its name, what its value is called, if it takes one, and what it does."""
+
+    letter: str
+    name: str
+    value: str
+    about: str
+
+
+class Help(NamedTuple):
+    """What the program says of a command, or under no name of itself: what it does, its further paragraphs, its examples and options."""
+
+    about: str
+    texts: list[str]
+    examples: list[str]
+    options: list[Option]
+
+
+Told = dict[str, Help]
+
+
+def words_of_help(program: Path, command: str, columns: str | None) -> str:
+    """The help on a command, or on the program itself, where the variable says so many columns."""
+    said = ENVIRONMENT if columns is None else ENVIRONMENT | {COLUMNS: columns}
+    return answer_of(program, "help", *([command] if command else []), env=said).messages.decode("ascii")
+
+
+def width_faults(program: Path, commands: list[str]) -> Iterator[str]:
+    """Which lines of the help have more columns than they may, and what is another text then."""
+    for command in commands:
+        wide, usual = words_of_help(program, command, WIDE), words_of_help(program, command, USUAL)
+        for columns in SAID:
+            told = words_of_help(program, command, columns)
+            long = [it for it in told.splitlines() if len(it) > int(columns) and " " in it.strip()]
+            yield from (f"{COLUMNS}={columns}: too long: {it}" for it in long)
+            if told.split() != wide.split():
+                yield f"{COLUMNS}={columns}: the help on '{command}' has other words"
+        yield from (f"{COLUMNS}={it}: not as 80" for it in (None, *NOT_SAID) if words_of_help(program, command, it) != usual)
+
+
+def help_of(ask: Callable[..., str]) -> Told:
+    """What the program's help says; it is asked with the name of a command, or none."""
+    whole = ask()
+    commands = {command: help_in(about, ask(command) if command != "help" else "") for command, about in COMMAND.findall(whole)}
+    return {"": help_in(whole.partition("\n")[0], whole), **commands}
+
+
+def help_in(about: str, text: str) -> Help:
+    """What a help says of what does this."""
+    paragraphs = text.partition("\nUsage: ")[0].strip().split("\n\n")
+    texts = [it for it in paragraphs if it not in ("", about) and not it.startswith((EXAMPLE, "Exit status: "))]
+    examples = [it.removeprefix(EXAMPLE) for it in text.splitlines() if it.startswith(EXAMPLE)]
+    return Help(about, texts, examples, [Option(*it) for it in OPTION.findall(text)])
+
+
+def of_bash(told: Told) -> Iterator[str]:
+    """The lines for bash, which says nothing of what an option does."""
+    names = " ".join(filter(None, told))
+    yield f"_workbench_words '{names} --help --version' \"$word\""
+    for command, it in told.items():
+        if command:
+            yield f"{command})"
+        if command and it.options:
+            yield f"options='{' '.join(f'--{option.name}' for option in it.options)}'"
+            yield f"values='{' '.join(f'--{option.name}' for option in it.options if option.value)}'"
+    yield f"_workbench_words '{names}' \"$word\""
+    yield """[[ " --picture " == *" ${COMP_WORDS[at - 1]} "* ]] && _workbench_files '*.svg' "$word\""""
+
+
+def of_zsh(told: Told) -> Iterator[str]:
+    """The lines for zsh."""
+    yield from (f"'{command}:{it.about}'" for command, it in told.items() if command)
+    for command, it in told.items():
+        yield from [f"{command})"] if command else []
+        for option in it.options:
+            about = re.sub(r"[:\[\]]", r"\\\g<0>", option.about).replace("'", "'\\''")
+            value = f":{option.value}:" + ('_files -g "*.svg"' if option.value == "FILE" else " ") if option.value else ""
+            name = f"(- *)'{{-{option.letter},--{option.name}}}'" if option.letter else f"--{option.name}{'=' if value else ''}"
+            yield f"'{name}[{about}]{value}' \\"
+        yield from [] if command else ["command)", "argument)"]
+
+
+def of_fish(told: Told) -> Iterator[str]:
+    """All lines for fish, which has no names of values."""
+    begin, at_first = f"complete -c {NAME}", f"complete -c {NAME} -n '__fish_use_subcommand'"
+    names = " ".join(it for it in told if it not in ("", "help"))
+    yield f"{begin} -f"
+    for command, it in told.items():
+        where = f"{begin} -n '__fish_seen_subcommand_from {command}'" if command else at_first
+        for option in it.options:
+            letter, about = f" -s {option.letter}" if option.letter else "", option.about.replace("'", "\\'")
+            value = " -r -k -a '(__fish_complete_suffix .svg)'" if option.value == "FILE" else " -x" if option.value else ""
+            yield f"{where}{letter} -l {option.name}{value} -d '{about}'"
+        if not command:
+            yield from (f"{at_first} -a {name} -d '{its.about}'" for name, its in told.items() if name)
+            yield f"{begin} -n '__fish_seen_subcommand_from help' -a '{names}'"
+            yield f"{begin} -n '__fish_seen_subcommand_from {names}' -k -a '(__fish_complete_suffix .oom)'"
+
+
+def plain(text: str) -> str:
+    """The words of a text, without what a man page has between them."""
+    return " ".join(re.findall(r"[\w-]+", LAID_OUT.sub("", text)))
+
+
+def sections_of(page: str) -> dict[str, list[str]]:
+    """The paragraphs of each section of a man page, by their words."""
+    _, *rest = re.split(r"^\.SH (.*)\n", page, flags=re.MULTILINE)
+    paragraphs = {name: map(plain, re.split(r"^\.[TPI]P\n", text, flags=re.MULTILINE)) for name, text in zip(rest[::2], rest[1::2])}
+    return {name: [it for it in texts if it] for name, texts in paragraphs.items()}
+
+
+def synopsis_of(told: Help) -> str:
+    """The options that a command may be given, but for that of help."""
+    return " ".join(f"--{it.name} {it.value}" for it in told.options if not it.letter)
+
+
+def wanted_sections(told: Told, reports: str) -> dict[str, list[str]]:
+    """What the man page must say, beside a page with the exit statuses."""
+    commands = {command: it for command, it in told.items() if it.options and command}
+    owners: dict[Option, list[str]] = {}
+    for command, it in commands.items():
+        for option in it.options:
+            owners.setdefault(option, []).append(command)
+    of_some = {option: "" if len(names) == len(commands) else f"Of {' and '.join(names)}" for option, names in owners.items()}
+    options = [f"{it.letter and f'-{it.letter}'} --{it.name} {it.value} {of} {it.about}" for it, of in of_some.items()]
+    statuses = STATUS.findall(reports.partition("\n## Status\n")[2])
+    about = told[""].about
+    wanted = {
+        "NAME": [f"{NAME} - {about[:1].lower()}{about[1:]}"],
+        "SYNOPSIS": [*(f"{NAME} {name} {synopsis_of(it)} FILE" for name, it in commands.items()), f"{NAME} help COMMAND"],
+        "DESCRIPTION": told[""].texts,
+        "COMMANDS": [text for command, it in told.items() if command for text in (f"{command} {it.about}", *it.texts)],
+        "OPTIONS": [*sorted(options, key=lambda it: " Of " not in it), "FILE Script file [default: standard input]"],
+        "EXIT STATUS": [f"{status} {does[:1].upper()}{does[1:]}" for status, does in statuses],
+        "EXAMPLES": ["\n".join(example for it in told.values() for example in it.examples)],
+    }
+    return {name: [plain(it) for it in texts] for name, texts in wanted.items()}
+
+
+def compared(told: Told, texts: dict[Path, str], reports: str) -> Iterator[tuple[str, list[str], list[str]]]:
+    """What is compared: its name, the lines that it must have, and those that it has."""
+    for file, lines in ((BASH, of_bash(told)), (ZSH, of_zsh(told)), (FISH, of_fish(told))):
+        yield file.name, list(lines), [it for it in map(str.strip, texts[file].splitlines()) if COMPARED[file].fullmatch(it)]
+    found = sections_of(texts[MAN_PAGE])
+    for name, wanted in wanted_sections(told, reports).items():
+        yield f"man page, {name}", wanted, found.get(name, [])
+    named = sorted(set(NAMED.findall(texts[MAN_PAGE].replace("\\", ""))))
+    yield "what the man page names", [it for it in named if (ROOT / it).is_file()], named
+
+
+def read() -> dict[Path, str]:
+    """The files as they are."""
+    return {it: it.read_text(encoding="utf-8") for it in (MAN_PAGE, BASH, ZSH, FISH)}
+
+
+def main(words: list[str]) -> int:
+    """Compares the files, and prints the totals."""
+    program, tally = program_parser(__doc__).parse_args(words).program, Tally()
+    told = help_of(lambda command="": words_of_help(program, command, WIDE))
+    for name, wanted, found in compared(told, read(), (DOCS / "REPORTS.md").read_text(encoding="utf-8")):
+        difference = list(unified_diff(wanted, found, "wanted", name, n=0, lineterm=""))
+        tally.add(len(wanted) if not difference else 0, 0)
+        tally.check(bool(wanted) and not difference, "\n".join(difference) or f"{name}: nothing to compare")
+    for fault in width_faults(program, [it for it in told if it != "help"]):
+        tally.check(False, fault)
+    return tally.end()

@@ -1,0 +1,1 @@
+"""Wrong bodies, how they are tried, and verdicts on sources."""

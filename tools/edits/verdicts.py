@@ -1,0 +1,204 @@
+"""Which wrong bodies were disproved, by a committed file that has a line for each source of a crate that has some.
+
+What the prover says of a wrong body follows from what a check of its function reads: the toolchain, the wrong body, the source that it is
+in, and what that source leads to, in its own crate and in those below. Of other sources of the crate that is what the source calls of
+them, without bodies. A line holds the checksum of these, so it is valid only while all of them are the same. Of the toolchain its logic
+counts: kits of one logic prove the same statements, so a line is valid in each of them. Of the wrong bodies their names and texts count,
+and not which file each is in: so one can be moved.
+
+A source is open if it has no such line, or an edit that is none. The README says how many wrong bodies are open, by the toolchain that it
+names."""
+
+import hashlib
+import re
+from collections.abc import Iterable
+from datetime import date
+from functools import cache
+from pathlib import Path
+from typing import NamedTuple
+
+from tools.crates import FUNCTION_HEAD, Crates
+from tools.edits.reached import Reached, Source
+from tools.edits.wrong_body_edits import WRONG_BODIES, WrittenEdit, read_edits, written_edits
+from tools.kit import kit_of_readme, version
+from tools.paths import ROOT
+
+FILE = "wrong-bodies.txt"
+HEAD = """\
+# Written by `./tools/dev wrong-bodies`: the sources whose wrong bodies were all disproved, each after its crate, how many there are, when
+# that was, and the checksum of what it followed from. A line whose checksum is another's is no verdict any more.
+"""
+LINE = re.compile(r"(\w+/[\w/]*) (\d+) (\d{4}-\d\d-\d\d) ([0-9a-f]{64})")
+# how a function begins, with its name
+FUNCTION_NAME = re.compile(rf"(?m)^{FUNCTION_HEAD}(\w+)")
+# how a function is compiled
+COMPILED = re.compile(r"\s*#\[(?:inline(?:\(\w+\))?|cold)\]")
+# a line that names a module
+NAMES_MODULE = re.compile(r"\s*(?:pub(?:\(crate\))? )?mod \w+;?")
+# what `rt version` says of the logic
+LOGIC = re.compile(r"\blogic [0-9a-f]+")
+# how many wrong bodies the README calls open
+SAID = re.compile(r"At present (?:no wrong body is|1 wrong body is|[1-9]\d* wrong bodies are) open")
+
+
+def logic_of_toolchain() -> str:
+    """The logic by which the toolchain proves."""
+    return logic_in(version())
+
+
+def logic_in(said: str) -> str:
+    """The logic that is named in what `rt version` prints, or all of that where it names none."""
+    named = LOGIC.search(said)
+    return named[0] if named else said
+
+
+class Verdict(NamedTuple):
+    """That so many wrong bodies were disproved on a day, by what has this checksum."""
+
+    count: int
+    day: str
+    checksum: str
+
+
+class OpenSource(NamedTuple):
+    """A source whose wrong bodies are open. The oldest sorts first: one that never had a line, and then by the day of the last one."""
+
+    # the day of its last verdict; none if it never had one
+    day: str
+    crate: str
+    source: str
+    # how many wrong bodies it has
+    count: int
+
+
+class Verdicts:
+    """The file of verdicts of a repository. What is read of the crates is read once: what is changed later, another one of these sees."""
+
+    def __init__(self, root: Path, logic: str) -> None:
+        self.crates = Crates(root)
+        self.reached = Reached(self.crates)
+        self.logic = logic
+        self.file = root / FILE
+
+    def read(self) -> dict[str, Verdict]:
+        """The verdicts that the file holds, by crate and source; a line in another form counts for nothing."""
+        lines = self.file.read_text(encoding="utf-8").splitlines() if self.file.is_file() else []
+        found = (LINE.fullmatch(it) for it in lines)
+        return {it[1]: Verdict(int(it[2]), it[3], it[4]) for it in found if it}
+
+    @cache
+    def sources(self, crate: str) -> dict[str, list[WrittenEdit]]:
+        """The wrong bodies of a crate, by the source that each changes first; those without a change by none."""
+        found: dict[str, list[WrittenEdit]] = {}
+        for it in written_edits(self.crates.folder(crate), [WRONG_BODIES]):
+            source = it.changes[0][0].removeprefix("src/").removesuffix(".rt") if it.changes else ""
+            found.setdefault(source, []).append(it)
+        return dict(sorted(found.items()))
+
+    def stands(self, crate: str, source: str) -> bool:
+        """Whether the file holds a verdict on the source's wrong bodies as they are now."""
+        verdict = self.read().get(f"{crate}/{source}")
+        return verdict is not None and verdict.checksum == self.checksum(crate, source)
+
+    def open_sources(self, crate: str) -> list[str]:
+        """The sources of a crate whose wrong bodies have to be tried: those without such a verdict, and those with an edit that is none."""
+        bad = read_edits(self.crates.folder(crate), [WRONG_BODIES])[1]
+        return [
+            source
+            for source, edits in self.sources(crate).items()
+            if not self.stands(crate, source) or any(f"{crate}/{it.name}" in bad for it in edits)
+        ]
+
+    def open_in(self, crates: Iterable[str]) -> "list[OpenSource]":
+        """The open sources of these crates, the oldest first."""
+        days = {name: it.day for name, it in self.read().items()}
+        found = ((crate, it, len(self.sources(crate)[it])) for crate in crates for it in self.open_sources(crate))
+        return sorted(OpenSource(days.get(f"{crate}/{source}", ""), crate, source, count) for crate, source, count in found)
+
+    def write(self, crate: str, checksums: dict[str, str]) -> None:
+        """Adds that all wrong bodies of these sources are disproved by what has these checksums, in the place of older verdicts."""
+        count = {f"{crate}/{source}": len(edits) for crate in self.crates.lines for source, edits in self.sources(crate).items()}
+        verdicts = {name: it for name, it in self.read().items() if name in count}
+        for name, checksum in ((f"{crate}/{source}", checksum) for source, checksum in checksums.items()):
+            verdicts[name] = Verdict(count[name], date.today().isoformat(), checksum)
+        lines = (f"{name} {it.count} {it.day} {it.checksum}\n" for name, it in sorted(verdicts.items()))
+        self.file.write_text(HEAD + "".join(lines), encoding="utf-8")
+
+    @cache
+    def checksum(self, crate: str, source: str) -> str:
+        """The checksum of all that a check of the source's wrong bodies reads."""
+        edits = self.sources(crate).get(source, [])
+        own = self.own_sources(crate, edits)
+        seen = self.reached.seen(crate, own.keys())
+        whole = hashlib.sha256(f"{self.logic}\n{self.crates.lines[crate]}\n".encode())
+        parts: list[object] = [(self.name(it), text_of(own[it])) for it in sorted(own)]
+        parts += [(it.name, it.functions, it.changes, it.fault) for it in edits]
+        parts += [(self.name(it), text) for it in sorted(seen) if (text := without_modules(seen[it]))]
+        for part in parts:
+            whole.update(repr(part).encode())
+        return whole.hexdigest()
+
+    def name(self, file: Path) -> str:
+        """The name of a file in the repository."""
+        return file.relative_to(self.crates.root).as_posix()
+
+    def own_sources(self, crate: str, edits: list[WrittenEdit]) -> dict[Path, Source]:
+        """The files of a crate that count whole for wrong bodies: those that they change, those that have a function of a name that must be
+        disproved, where no changed file has it, and the proofs of functions of all these."""
+        sources = {it.file: it for it in self.reached.parts(crate).sources.values()}
+        functions = self.functions(crate)
+        own = {file for it in edits for name, _, _ in it.changes if (file := self.crates.folder(crate) / name) in functions}
+        named = {path.rpartition("::")[2] for it in edits for path in it.functions.split(", ")}
+        elsewhere = named - set().union(*(functions[it] for it in own))
+        own |= {file for file, names in functions.items() if not names.isdisjoint(elsewhere)}
+        proved = set().union(*(functions[it] for it in own))
+        proofs = self.crates.folder(crate) / "proofs"
+        return {file: it for file, it in sources.items() if file in own or file.parent.name in proved and proofs in file.parents}
+
+    @cache
+    def functions(self, crate: str) -> dict[Path, set[str]]:
+        """The names of the functions of a crate's files with code."""
+        code = (it for it in self.reached.parts(crate).sources.values() if it.is_code)
+        return {it.file: {name for _, name in FUNCTION_NAME.findall(it.whole)} for it in code}
+
+
+def text_of(source: Source) -> str:
+    """What a check reads of a file; where a line of code ends is layout."""
+    lines = source.text.splitlines()
+    return " ".join(it.strip() for it in lines if not COMPILED.fullmatch(it)) if source.is_code else source.text
+
+
+def without_modules(seen: str) -> str:
+    """What is seen of a file from above, but for lines that only name a module, since those that count are read themselves."""
+    return "\n".join(it for it in seen.splitlines() if not NAMES_MODULE.fullmatch(it))
+
+
+def list_of(found: list[OpenSource]) -> str:
+    """How many wrong bodies are open, and of which sources, one in a line."""
+    if not found:
+        return "open: no wrong body"
+    said = ((it, f"last disproved on {it.day}" if it.day else "never disproved") for it in found)
+    head = f"open: {number_of(found)} of {len(found)} source{'s' if len(found) > 1 else ''}"
+    return "\n".join([head, *(f"  {it.crate}/{it.source}: {it.count}, {when}" for it, when in said)])
+
+
+def number_of(found: list[OpenSource]) -> str:
+    """How many wrong bodies are open, in words."""
+    count = sum(it.count for it in found)
+    return f"{count or 'no'} wrong {'bodies' if count > 1 else 'body'}"
+
+
+def fault_of_number(readme: str, found: list[OpenSource]) -> str:
+    """What is wrong with the number of open wrong bodies in the README, if something is."""
+    number, said = number_of(found), SAID.findall(" ".join(readme.split()))
+    wanted = f"At present {number} {'are' if number.endswith('bodies') else 'is'} open"
+    if said == [wanted]:
+        return ""
+    return f"README.md says {' and '.join(f'`{it}`' for it in said) or 'nothing of open wrong bodies'}: `{wanted}` belongs there once"
+
+
+def fault_of_readme() -> str:
+    """The same of the repository's own README, by the toolchain that it names, whichever is here."""
+    readme = (ROOT / "README.md").read_text(encoding="utf-8")
+    verdicts = Verdicts(ROOT, logic_in(kit_of_readme(readme)))
+    return fault_of_number(readme, verdicts.open_in(verdicts.crates.lines))

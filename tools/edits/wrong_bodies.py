@@ -1,0 +1,244 @@
+"""Tries the crates' wrong bodies in batches: the prover must disprove each for its own sake.
+
+A file `crates/NAME/wrong-bodies/SOURCE.edits` has the wrong bodies of `src/SOURCE.rt`. Each has a line `[NAME]`, a name of its
+own in the crate; a line `function: PATH`, the function that must be disproved, as a check names it, or `function: PATH, PATH`
+where each of several must, or `function: every clause of PATH`; and pairs of lines `old: TEXT`, `new: TEXT`, where the old
+text stands once in the file. Below a line `file: src/..` the texts are of that file.
+
+A function's proof reads the contracts of what it calls, and not the bodies; so one check of a copy of
+the crate judges one wrong body each of many functions, and says of each function whether its own proof stands or only
+waits for another's. A function with several wrong bodies is given a twin for each further one. An edit that changes more than
+a function's body has a check of its own.
+
+A source is open if its line in wrong-bodies.txt is missing or no longer stands. Without a crate's name, the wrong bodies of all open
+sources are tried, and besides ten each of two crates whose lines stand, picked by the commit. `--all` tries all.
+Where a source's wrong bodies are all disproved, its line is written. `--only` tries the edits of that name alone, and writes no line.
+
+`--minutes N` tries for so long by the clock, a few edits of one source at a time, the oldest source first and by turns some of those that
+are picked. A check that is running then is ended, and its edits count neither as passed nor as failed. What stays open is listed.
+`--open` lists what is open, the oldest first, and tries nothing; it fails where the README has another number.
+
+It prints a line for each edit. The repository's other files stay as they are. `--must-fail` tries the edits of
+`crates/NAME/must-fail/` as well, and `--logs` keeps what the checks printed. `--after-ci` takes the libraries that
+an `rt ci` of the same sources has just left in `out/`; else those that are missing are built.
+"""
+
+import argparse
+import math
+import random
+import shutil
+import signal
+import subprocess
+import sys
+import tempfile
+from functools import partial
+from itertools import zip_longest
+from pathlib import Path
+from types import FrameType
+
+from tools.build import Unproved, build_below
+from tools.crates import Crates, Step, processors, run_steps
+from tools.edits.verdicts import OpenSource, Verdicts, fault_of_number, list_of, logic_in, logic_of_toolchain
+from tools.edits.wrong_body_checks import LIBRARY, Checks
+from tools.edits.wrong_body_edits import MUST_FAIL, WRONG_BODIES, Edit, read_edits, written_edits
+from tools.edits.wrong_body_trial import Batch, Trial
+from tools.kit import kit_of_readme
+from tools.paths import ROOT
+from tools.program import parser_of
+from tools.tally import Tally
+
+# of how many crates some are tried whose line stands, and how many edits of each at most: the largest crates take an hour as a whole
+PICKED, PICKED_EDITS = 2, 10
+
+# how many edits are tried together where the time is bounded: a check of a large crate loads for a minute, and then takes one for each
+AT_ONCE = 4
+
+
+class Choice:
+    """What is tried: all wrong bodies of some sources, and some of other sources of crates that are picked, so that a line that isn't true
+    comes to light."""
+
+    def __init__(self, verdicts: Verdicts, sources: dict[str, list[str]], picked: list[str], seed: str) -> None:
+        self.verdicts, self.sources, self.picked, self.seed = verdicts, sources, picked, seed
+        # the edits of each crate that are tried, and those of its other sources of which some are; and why others are none, by their labels
+        self.edits: dict[str, list[Edit]] = {}
+        self.sample: dict[str, list[Edit]] = {}
+        self.bad: dict[str, str] = {}
+
+    def read(self, kinds: list[str], only: list[str]) -> None:
+        """Reads the edits of the folders of these kinds, and those of some names alone, if there are names."""
+        for crate in dict.fromkeys([*self.sources, *self.picked]):
+            good, bad = read_edits(self.verdicts.crates.folder(crate), kinds)
+            standing = {
+                it for source in self.verdicts.sources(crate).keys() - self.sources.get(crate, []) for it in self.labels(crate, source)
+            }
+            wanted = {it for it in (*bad, *(it.label for it in good)) if it not in standing and (not only or it.partition("/")[2] in only)}
+            self.edits[crate] = [it for it in good if it.label in wanted]
+            self.bad |= {label: why for label, why in bad.items() if label in wanted}
+            others = [it for it in good if it.label in standing]
+            count = min(PICKED_EDITS, len(others)) if crate in self.picked else 0
+            # for the same commit the same
+            self.sample[crate] = random.Random(f"{self.seed} {crate}").sample(others, count)
+
+    def labels(self, crate: str, source: str) -> list[str]:
+        """The labels of a source's wrong bodies."""
+        return [f"{crate}/{it.name}" for it in self.verdicts.sources(crate)[source]]
+
+    def whole_batches(self) -> list[Batch]:
+        """One batch for each crate."""
+        return [Batch(crate, [*edits, *self.sample[crate]]) for crate, edits in self.edits.items()]
+
+    def small_batches(self, opened: list[OpenSource]) -> list[Batch]:
+        """Batches of a few edits of one source: what is open, the oldest first, and by turns the sample, so that neither waits for the
+        other."""
+        edits = {it.label: it for its in self.edits.values() for it in its}
+        of_open = [(it.crate, [edits[label] for label in self.labels(it.crate, it.source) if label in edits]) for it in opened]
+        turns = zip_longest(*map(small, (of_open, list(self.sample.items()))))
+        return [batch for turn in turns for batch in turn if batch]
+
+
+def small(whole: list[tuple[str, list[Edit]]]) -> list[Batch]:
+    """Batches of these edits of crates in their order, a few at once."""
+    return [Batch(crate, edits[at : at + AT_ONCE]) for crate, edits in whole for at in range(0, len(edits), AT_ONCE)]
+
+
+def choose(verdicts: Verdicts, crates: list[str], opened: list[OpenSource]) -> Choice:
+    """The open sources of these crates, and two crates besides of which others stand, picked by the commit. Says what stands."""
+    sources = {it: [one.source for one in opened if one.crate == it] for it in crates}
+    standing = {it: rest for it in crates if (rest := verdicts.sources(it).keys() - sources[it])}
+    ran = subprocess.run(["git", "rev-parse", "HEAD"], cwd=verdicts.crates.root, capture_output=True, text=True)
+    known = verdicts.read()
+    seed = ran.stdout.strip() or "".join(it.checksum for it in known.values())
+    picked = random.Random(seed).sample(list(standing), min(PICKED, len(standing)))
+    for crate, rest in standing.items():
+        settled = [known[f"{crate}/{it}"] for it in rest]
+        count = sum(it.count for it in settled)
+        again = f", of which {min(PICKED_EDITS, count)} are picked to be tried again" if crate in picked else ""
+        print(f"{crate}: {count} wrong bodies were disproved by {max(it.day for it in settled)}{again}", flush=True)
+    return Choice(verdicts, {crate: it for crate, it in sources.items() if it}, picked, seed)
+
+
+def words_parser() -> argparse.ArgumentParser:
+    """The words of the command line."""
+    parser = parser_of(__doc__)
+    parser.add_argument("--jobs", type=int, default=processors(), metavar="N", help="how many processors to use")
+    parser.add_argument("--must-fail", action="store_true", help="try the edits of must-fail/ as well")
+    parser.add_argument("--after-ci", action="store_true", help="`rt ci` has just built the libraries")
+    parser.add_argument("--logs", type=Path, metavar="FOLDER", help="where to copy what the checks print")
+    parser.add_argument("--all", action="store_true", help="try all crates, and not only those whose line doesn't stand")
+    parser.add_argument("--only", action="append", default=[], metavar="NAME", help="try the edits of that name alone, of one crate")
+    parser.add_argument("--minutes", type=float, metavar="N", help="try what is open for so long at most")
+    parser.add_argument("--open", action="store_true", help="list what is open, and try nothing")
+    parser.add_argument("crates", nargs="*", metavar="CRATE")
+    return parser
+
+
+def fault_of(given: argparse.Namespace, crates: Crates, kinds: list[str]) -> str:
+    """What can't be tried as the command line asks, if so."""
+    for it in given.crates:
+        if it not in crates.lines:
+            return f"crates.txt lists no crate {it}"
+    if given.only and len(given.crates) != 1:
+        return "--only goes with the name of one crate"
+    if (given.minutes is not None or given.open) and (given.crates or given.all or given.must_fail):
+        return "--minutes and --open are about all that is open, and go with no crate, --all or --must-fail"
+    names = {it.name for crate in given.crates for it in written_edits(crates.folder(crate), kinds)}
+    return next((f"{given.crates[0]} has no edit {it}" for it in given.only if it not in names), "")
+
+
+def is_number_of_readme(verdicts: Verdicts, found: list[OpenSource]) -> bool:
+    """Whether the README has the number of what is open, as far as it names the toolchain here. Says what is wrong."""
+    readme = (verdicts.crates.root / "README.md").read_text(encoding="utf-8")
+    if logic_in(kit_of_readme(readme)) != verdicts.logic:
+        print("README.md names another toolchain, by which another number may be open")
+        return True
+    fault = fault_of_number(readme, found)
+    print(fault, end="\n" if fault else "")
+    return not fault
+
+
+def build_libraries(crates: Crates, names: list[str], given: argparse.Namespace) -> None:
+    """Builds what these crates stand on, or looks whether `rt ci` did; raises `Unproved` where it isn't built."""
+    if not given.after_ci:
+        build_below(crates, names, given.jobs)
+    for crate in names:
+        for it in crates.below(crate):
+            if not (crates.folder(it) / LIBRARY).is_dir():
+                raise Unproved(f"{it}, below {crate}, is not built")
+
+
+def run_trial(given: argparse.Namespace, choice: Choice, opened: list[OpenSource], folder: Path) -> Tally:
+    """Tries what is chosen on copies below a folder, builds what they need, and lists what stays open where the time is bounded."""
+    verdicts, crates = choice.verdicts, choice.verdicts.crates
+    try:
+        build_libraries(crates, list(choice.edits), given)
+    except Unproved as why:
+        print(f"not tried: {why}")
+        return Tally(0, 1)
+    # the time counts from here on
+    checks = Checks(math.inf if given.minutes is None else 60 * given.minutes)
+    trial = Trial(verdicts, folder, checks, {} if given.only else choice.sources)
+    trial.say({label: f"BAD EDIT: {why}" for label, why in choice.bad.items()})
+    if given.minutes is None:
+        size = {it: sum(file.stat().st_size for file in crates.files(it)) for it in choice.edits}
+        # the largest begin first
+        steps = [Step(it.crate, partial(trial.judge, it), size[it.crate] * len(it.edits)) for it in choice.whole_batches()]
+    else:
+        steps = [Step(it.crate, partial(trial.judge, it), -at, most=1) for at, it in enumerate(choice.small_batches(opened))]
+    run_until_stopped(steps, given.jobs, checks)
+    if given.minutes is not None:
+        still = [it for it in opened if it.source in trial.unsettled[it.crate]]
+        print(list_of(still))
+        if len(still) < len(opened):
+            # the lines that were written are to be committed with it
+            is_number_of_readme(verdicts, still)
+    return trial.tally
+
+
+def run_until_stopped(steps: list[Step], lanes: int, checks: Checks) -> None:
+    """Runs steps. Where a signal comes, or a step fails, the checks that are running are ended, as no other process would do; with the
+    number of the signal this process ends then."""
+    stopped: list[int] = []
+
+    def stop(number: int, _: FrameType | None) -> None:
+        stopped.append(number)
+        checks.stop()
+
+    before = {it: signal.signal(it, stop) for it in (signal.SIGINT, signal.SIGTERM, signal.SIGHUP)}
+    try:
+        run_steps(steps, lanes)
+    finally:
+        checks.stop()
+        for it, handler in before.items():
+            signal.signal(it, handler)
+    if stopped:
+        sys.exit(128 + stopped[0])
+
+
+def main(words: list[str]) -> int:
+    """Tries the wrong bodies of the crates named, or of those that have to be tried."""
+    parser, crates = words_parser(), Crates(ROOT)
+    given = parser.parse_args(words)
+    # with --only an edit's name says enough
+    kinds = [WRONG_BODIES, MUST_FAIL] if given.must_fail or given.only else [WRONG_BODIES]
+    if fault := fault_of(given, crates, kinds):
+        parser.error(fault)
+    verdicts = Verdicts(ROOT, logic_of_toolchain())
+    if given.open:
+        found = verdicts.open_in(verdicts.crates.lines)
+        print(list_of(found))
+        return int(not is_number_of_readme(verdicts, found))
+    names = [it for it in given.crates or crates.lines if any((crates.folder(it) / kind).is_dir() for kind in kinds)]
+    if given.crates or given.all:
+        opened: list[OpenSource] = []
+        choice = Choice(verdicts, {it: list(verdicts.sources(it)) for it in names}, [], "")
+    else:
+        opened = verdicts.open_in(names)
+        choice = choose(verdicts, names, opened)
+    choice.read(kinds, given.only)
+    with tempfile.TemporaryDirectory(prefix="wrong-bodies-", ignore_cleanup_errors=True) as folder:
+        tally = run_trial(given, choice, opened, Path(folder))
+        for log in Path(folder).glob("*.log") if given.logs else []:
+            given.logs.mkdir(parents=True, exist_ok=True)
+            shutil.copy2(log, given.logs)
+    return tally.end(may_be_none=True)

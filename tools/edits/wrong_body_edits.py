@@ -1,0 +1,209 @@
+"""Reads a crate's wrong bodies, as `wrong_bodies` says how they are written, and applies them to its files as they are. A file of
+`must-fail/`, which `rt ci` tries by itself, is one edit in the same form; it has its name from the file, and says of which file its texts
+are."""
+
+import re
+from collections import Counter
+from collections.abc import Iterator
+from dataclasses import dataclass, replace
+from itertools import pairwise
+from pathlib import Path
+from typing import NamedTuple
+
+from tools.crates import FUNCTION_HEAD
+
+# the folders of edits, and how their files end
+WRONG_BODIES, MUST_FAIL = "wrong-bodies", "must-fail"
+ENDINGS = {WRONG_BODIES: ".edits", MUST_FAIL: ".edit"}
+
+NAME = re.compile(r"\[([a-z0-9]+(?:-[a-z0-9]+)*)\]")
+FUNCTIONS = "function: "
+EVERY_CLAUSE = "every clause of "
+
+
+class BadEdit(Exception):
+    """Why an edit says nothing of its function."""
+
+
+@dataclass(frozen=True)
+class WrittenEdit:
+    """An edit as it is written."""
+
+    name: str
+    # the functions that must be disproved, as its line names them
+    functions: str
+    # the file, the old text and the new text of each change, in the order in which they apply
+    changes: tuple[tuple[str, str, str], ...] = ()
+    # why it is none, if so
+    fault: str = ""
+
+
+class WrongBody(NamedTuple):
+    """Where a function stands with what is right above it, by its lines counted from 0, and its text with the wrong body."""
+
+    file: str
+    place: range
+    text: str
+
+
+@dataclass(frozen=True)
+class Edit:
+    """A wrong body: the function that the prover must disprove, and what to change."""
+
+    label: str
+    function: str
+    # further ones that it must disprove as well, of a change that reaches beyond bodies
+    others: tuple[str, ...]
+    # the clauses of its contract each of which must be disproved, where the edit asks for all of them
+    clauses: frozenset[str]
+    # what it makes of each file that it changes
+    files: dict[str, str]
+    # where it changes no more than the function's body
+    body: WrongBody | None
+    # the function that `function` is a twin of, if it is one
+    twin_of: str = ""
+
+
+def written_edits(crate: Path, folders: list[str]) -> list[WrittenEdit]:
+    """The edits in these folders of a crate, by their names. Each has a name of its own in the crate."""
+    found = [(folder, it) for folder in ENDINGS for it in edits_in(crate / folder)]
+    count = Counter(it.name for _, it in found)
+    twice = "another edit of the crate has its name"
+    marked = ((folder, it if count[it.name] == 1 else replace(it, fault=twice)) for folder, it in found)
+    return sorted((it for folder, it in marked if folder in folders), key=lambda it: (it.name, it.functions, it.changes))
+
+
+def edits_in(folder: Path) -> Iterator[WrittenEdit]:
+    """The edits of a folder; a file that holds none has a fault by its own name."""
+    for path in sorted(it for it in folder.rglob("*") if not it.is_dir()):
+        place, ending = path.relative_to(folder), ENDINGS[folder.name]
+        lines = path.read_text(encoding="utf-8", errors="replace").splitlines()
+        if path.suffix != ending:
+            yield WrittenEdit(place.as_posix(), "", fault=f"its name doesn't end in {ending}")
+        elif folder.name == MUST_FAIL:
+            yield written_edit(path.stem, lines, "")
+        else:
+            starts = [at for at, line in enumerate(lines) if NAME.fullmatch(line)]
+            if not starts or any(it.strip() for it in lines[: starts[0]]):
+                yield WrittenEdit(place.as_posix(), "", fault="it doesn't begin with a name in brackets")
+            source = f"src/{place.with_suffix('.rt').as_posix()}"
+            yield from (written_edit(lines[at][1:-1], lines[at + 1 : end], source) for at, end in pairwise([*starts, len(lines)]))
+
+
+def written_edit(name: str, lines: list[str], source: str) -> WrittenEdit:
+    """The edit of that name which these lines say, of that source file where they name no other."""
+    functions = lines[0] if lines else ""
+    try:
+        if not functions.startswith(FUNCTIONS):
+            raise BadEdit("its first line isn't 'function: PATH', or several paths with commas between them")
+        return WrittenEdit(name, functions.removeprefix(FUNCTIONS), tuple(changes_of(lines[1:], source)))
+    except BadEdit as why:
+        return WrittenEdit(name, functions, fault=str(why))
+
+
+def changes_of(lines: list[str], file: str) -> Iterator[tuple[str, str, str]]:
+    """The file, the old text and the new text of each pair."""
+    old = ""
+    for line in lines:
+        word, _, text = line.partition(":")
+        text = text.removeprefix(" ")
+        if word == "file" and not old:
+            file = text.strip()
+        elif word == "old" and not old:
+            old = text
+        elif word == "new" and file and old:
+            yield file, old, text
+            old = ""
+        elif line.strip():
+            raise BadEdit(f"it has a line that isn't understood where it stands: {line}")
+    if old:
+        raise BadEdit("an 'old:' text has no new one")
+
+
+def read_edits(crate: Path, folders: list[str]) -> tuple[list[Edit], dict[str, str]]:
+    """The edits in these folders of a crate, and why others there are none, by their labels."""
+    good, bad = [], {}
+    for it in written_edits(crate, folders):
+        label = f"{crate.name}/{it.name}"
+        try:
+            good.append(applied(it, label, crate))
+        except BadEdit as why:
+            bad[label] = str(why)
+    return good, bad
+
+
+def applied(edit: WrittenEdit, label: str, crate: Path) -> Edit:
+    """An edit, applied to the crate's files as they are."""
+    if edit.fault:
+        raise BadEdit(edit.fault)
+    function, *others = edit.functions.removeprefix(EVERY_CLAUSE).split(", ")
+    if not all((function, *others)):
+        raise BadEdit("its first line names no function, or a further one without a name")
+    clauses = clauses_of(function, crate) if edit.functions.startswith(EVERY_CLAUSE) else frozenset()
+    before: dict[str, str] = {}
+    after: dict[str, str] = {}
+    for file, old, new in edit.changes:
+        if file not in before:
+            source = crate / file
+            if ".." in Path(file).parts or not file.startswith("src/") or not source.is_file():
+                raise BadEdit(f"there is no file {file} below src/")
+            before[file] = after[file] = source.read_text(encoding="utf-8")
+        found = after[file].count(old)
+        if found != 1:
+            raise BadEdit(f"an 'old:' text is in {file} {found} times, and not once")
+        after[file] = after[file].replace(old, new)
+    changed = [it for it in before if before[it] != after[it]]
+    if not changed:
+        raise BadEdit("it changes nothing")
+    is_narrow = len(changed) == 1 and not others and not clauses
+    body = wrong_body(function.rpartition("::")[2], changed[0], before[changed[0]], after[changed[0]]) if is_narrow else None
+    return Edit(label, function, tuple(others), clauses, {it: after[it] for it in changed}, body)
+
+
+def clauses_of(function: str, crate: Path) -> frozenset[str]:
+    """The names of the clauses that a function of the crate ensures."""
+    head = re.compile(rf"^ *pub fn {re.escape(function.rpartition('::')[2])}\(.*?^ *\{{", re.MULTILINE | re.DOTALL)
+    found = [it[0] for file in sorted((crate / "src").rglob("*.rt")) for it in head.finditer(file.read_text(encoding="utf-8"))]
+    clauses = frozenset(re.findall(r"^ *ensures (\w+) \{", found[0], re.MULTILINE)) if len(found) == 1 else frozenset()
+    if not clauses:
+        raise BadEdit(f"there is no one public function {function} with names for its clauses")
+    return clauses
+
+
+def wrong_body(name: str, file: str, before: str, after: str) -> WrongBody | None:
+    """The function of that name with its wrong body, if nothing but that body was changed."""
+    lines = before.splitlines(keepends=True)
+    for whole, body in functions_of(name, lines):
+        head, end = "".join(lines[: body.start]), "".join(lines[body.stop :])
+        if after.startswith(head) and after.endswith(end) and len(after) >= len(head) + len(end):
+            stop = len(after) - len("".join(lines[whole.stop :]))
+            return WrongBody(file, whole, after[len("".join(lines[: whole.start])) : stop])
+    return None
+
+
+def functions_of(name: str, lines: list[str]) -> Iterator[tuple[range, range]]:
+    """The lines of each function of that name with what stands right above it, by the layout that `rt fmt` gives, and of its body."""
+    for at, line in enumerate(lines):
+        head = re.match(rf"{FUNCTION_HEAD}{re.escape(name)}\b", line)
+        if not head:
+            continue
+        open_at = next((to for to in range(at, len(lines)) if re.match(rf"{head[1]}\S.*\{{$|{head[1]}\{{$", lines[to].rstrip())), None)
+        end = next((to for to in range(at, len(lines)) if lines[to].rstrip() == f"{head[1]}}}"), None)
+        if open_at is not None and end is not None and open_at < end:
+            above = next((to for to in range(at, 0, -1) if not lines[to - 1].strip() or lines[to - 1].rstrip()[-1] in "{}"), 0)
+            yield range(above, end + 1), range(open_at + 1, end)
+
+
+def edited_files(edits: list[Edit], crate: Path) -> dict[str, str]:
+    """What edits of bodies make of the crate's files together: a twin is added below its function."""
+    bodies = [(it.body, bool(it.twin_of)) for it in edits if it.body]
+    texts = {}
+    for file in sorted({body.file for body, _ in bodies}):
+        lines = (crate / file).read_text(encoding="utf-8").splitlines(keepends=True)
+        # from the end of the file, and below a function first, so that what is still to be changed keeps its place
+        here = (it for it in bodies if it[0].file == file)
+        for body, is_twin in sorted(here, key=lambda it: (-it[0].place.start, not it[1])):
+            start = body.place.stop if is_twin else body.place.start
+            lines[start : body.place.stop] = ["\n" + body.text if is_twin else body.text]
+        texts[file] = "".join(lines)
+    return texts

@@ -1,0 +1,161 @@
+"""What the gate runs: tools of the repository side by side, with how long each took; and what each crate waited for in a run of `rt ci`.
+
+What a tool prints is shown as a whole once it has ended, below its name. Some tools spread their runs of the program over processors
+themselves. Such a tool gets several where no other one waits for them, or where it takes long; RT_JOBS tells it how many.
+
+`rt ci` prints a line as each crate ends, and one as its tests do, but none as they begin. Both may begin once the crates below have
+ended. So what is known from outside is when that was; what lies between that and a crate's own end is its proof, and its wait for a
+processor. A crate that is kept from an earlier run counts as no time: what stands on it waits for what is proved below it."""
+
+import os
+import re
+import resource
+import subprocess
+import sys
+import time
+from collections.abc import Iterator, Sequence
+from functools import partial
+from pathlib import Path
+from threading import Lock
+from typing import NamedTuple
+
+from tools.crates import Crates, Step, run_steps
+from tools.paths import ROOT, TOOLS
+from tools.tally import Tally, tally_of
+
+# the line by which a crate ends, or its tests; where a library of it failed, more stands behind it, and nothing was proved
+ENDED = re.compile(r"rt: (\w+)(: its tests are)? (?:proved|NOT PROVED)\n?")
+
+
+class ToolRun(NamedTuple):
+    """A tool that is to run."""
+
+    # its command and further words
+    words: tuple[str, ...]
+    # whether it spreads its runs over processors itself, and whether it takes so long that it begins with half of all
+    is_spread: bool = False
+    is_long: bool = False
+    # whether it passes or fails as a whole, whatever it counts
+    is_one: bool = False
+
+    def name(self) -> str:
+        """What it is called."""
+        return " ".join(self.words)
+
+
+class Outcome(NamedTuple):
+    """What came of a tool."""
+
+    name: str
+    tally: Tally
+    # how long it took by the clock, and how long the processors worked for it and for what it ran
+    seconds: float
+    processor_seconds: float
+
+
+def tool(command: str, *words: str | Path) -> list[str | Path]:
+    """The words that run a tool by its command."""
+    return [sys.executable, "-I", TOOLS / "dev", command, *words]
+
+
+def processor_seconds(used: resource.struct_rusage) -> float:
+    """How long the processors worked, by what the system counted."""
+    return used.ru_utime + used.ru_stime
+
+
+class ToolRuns:
+    """Runs of tools, and what came of them."""
+
+    def __init__(self) -> None:
+        self.outcomes: list[Outcome] = []
+        self.printing = Lock()
+
+    def run(self, it: ToolRun, jobs: int) -> None:
+        """Runs a tool with so many processors, and shows what it printed."""
+        begun = time.monotonic()
+        with subprocess.Popen(
+            tool(*it.words),
+            cwd=ROOT,
+            env={**os.environ, "RT_JOBS": str(jobs)},
+            stdin=subprocess.DEVNULL,
+            stdout=subprocess.PIPE,
+            stderr=subprocess.STDOUT,
+            text=True,
+            errors="replace",
+        ) as running:
+            said = running.stdout.read() if running.stdout else ""
+            _, status, used = os.wait4(running.pid, 0)
+            running.returncode = os.waitstatus_to_exitcode(status)
+        told = tally_of(said, running.returncode)
+        if it.is_one:
+            told = Tally(int(not told.failed), int(told.failed > 0))
+        with self.printing:
+            print(f"== {it.name()}\n{said}", end="", flush=True)
+            self.outcomes.append(Outcome(it.name(), told, time.monotonic() - begun, processor_seconds(used)))
+
+    def run_all(self, tools: Sequence[ToolRun], lanes: int) -> None:
+        """Runs tools side by side on so many processors. They begin in this order."""
+        steps = []
+        for at, it in enumerate(tools):
+            most = lanes if it.is_spread else 1
+            steps.append(Step(it.name(), partial(self.run, it), -at, most=most, least=min(most, lanes // 2) if it.is_long else 1))
+        run_steps(steps, lanes)
+
+    def times(self) -> Iterator[str]:
+        """How long each tool took, those first for which the processors worked longest."""
+        width = max(len(it.name) for it in self.outcomes)
+        for it in sorted(self.outcomes, key=lambda it: -it.processor_seconds):
+            yield f"    {it.name:{width}} {it.seconds:6.1f} s, and {it.processor_seconds:6.1f} s of processor time"
+
+
+class Proof(NamedTuple):
+    """A crate that was proved in a run, or its tests."""
+
+    name: str
+    # nothing where it is tests, for which nothing waits
+    crate: str
+    # the proof of the crate below that ended last, if one was proved in this run
+    awaited: "Proof | None"
+    # the seconds since which it waited for no crate, and in which it ended
+    free: float
+    ended: float
+
+
+class ProofChain:
+    """The proofs of a run of `rt ci`, as they end."""
+
+    def __init__(self, crates: Crates) -> None:
+        self.crates = crates
+        self.proofs: list[Proof] = []
+
+    def hear(self, line: str, second: float) -> None:
+        """Takes a line that came in this second of the run."""
+        told = ENDED.fullmatch(line)
+        if told and told[1] in self.crates.lines:
+            below = self.crates.below(told[1])
+            awaited = max((it for it in self.proofs if it.crate in below), key=lambda it: it.ended, default=None)
+            names = (f"{told[1]}'s tests", "") if told[2] else (told[1], told[1])
+            self.proofs.append(Proof(*names, awaited, awaited.ended if awaited else 0.0, second))
+
+    def lines(self, seconds: float) -> Iterator[str]:
+        """What is said of a run of so many seconds: what was proved, in the order in which it ended, and the longest chain."""
+        if not self.proofs:
+            yield "no proof was done in this run, so there is no chain"
+            return
+        width = max(len(it.name) for it in self.proofs)
+        yield "what was proved, with the minutes of the run at which its last library had ended and it ended itself:"
+        for it in self.proofs:
+            awaited = it.awaited.name if it.awaited else "no crate"
+            yield f"    {it.name:{width}} {minutes(it.free)} {minutes(it.ended)}  waited for {awaited}"
+        yield "the longest chain, from what ended last down, with minutes of proof and of waiting for a processor, which look alike:"
+        last = max(self.proofs, key=lambda it: it.ended)
+        link: Proof | None = last
+        while link:
+            yield f"    {link.name:{width}} {minutes(link.ended - link.free)}"
+            link = link.awaited
+        yield f"    {'in all':{width}} {minutes(last.ended)}, and {minutes(seconds - last.ended).strip()} more until the run ended"
+
+
+def minutes(seconds: float) -> str:
+    """How many minutes these are, right-aligned."""
+    return f"{seconds / 60:6.1f}"

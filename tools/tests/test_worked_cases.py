@@ -1,0 +1,361 @@
+"""Worked cases: what is read of texts and groups, what is none, what is said of cases that are run, and what is written into them."""
+
+import os
+import subprocess
+import tempfile
+import unittest
+from dataclasses import replace
+from pathlib import Path
+from unittest.mock import patch
+
+from tools import run_cases, worked_cases
+from tools.door import said_by
+from tools.program import NoAnswer
+from tools.worked_cases import Block, Case, CaseError, Group, meaning, read, spelled
+
+GROUP = """# Some cases.
+
+=== one
+proc main
+end
+$ run --limit 160
+ended
+leaks 0
+--- stderr
+note: nothing leaks
+--- status 0
+
+=== rows (table)
+answer: 0 a
+    b
+"""
+READ = Case("one.run", "some", b"proc main\nend\n", ["run", "--limit", "160"], b"ended\nleaks 0\n", None, 0, b"note: nothing leaks\n")
+
+# what is no group: a change of the one above, and a part of what is said of it
+NO_GROUPS = (
+    ("# Some cases.", "Some cases.", "is no comment"),
+    ("=== one", "== one", "no script stands above it"),
+    ("$ run --limit 160\n", "", "can't stand here"),
+    ("$ run", "$  run", "there must be `\\$ run"),
+    ("$ run", "$ 'run", "No closing quotation"),
+    ("160\n", "160  # one.run\n", "there must be"),
+    ("--- stderr", "--- oom", "there must be `--- status 0`"),
+    ("--- stderr\n", "--- stderr\n--- stderr\n", "there must be"),
+    ("leaks 0\n", "--- contains\nleaks 0\n", "what is contained"),
+    ("ended\nleaks 0\n", "--- contains\nleaks 0\n", "what is contained"),
+    ("ended\nleaks 0\n", "--- contains\n", "what is contained"),
+    ("ended\nleaks 0\n", "ended\n--- contains\nline: leaks 0\n", "what is contained"),
+    ("--- status 0\n", "", "the case above it has no status"),
+    ("--- status 0\n", "--- status 0\n--- stderr\n", "no case stands above it"),
+    ("    b\n", "    b\n\n=== two\n$ run\n", "the last case has no status"),
+    ("=== one\nproc main\nend\n", "", "no script stands above it"),
+    *(("status 0", f"status {it}", "the case above it has no status") for it in ("", "zero", "00", "-1", "0 0", " 0")),
+    ("status 0\n", "status 0\nmore\n", "there must be"),
+    ("status 0\n\n", "status 0\n", "there must be ``"),
+    ("    b\n", "    b\n\n", "there must be nothing"),
+    ("    b\n", "    b\n$ run\n--- status 0\n", "no script stands above it"),
+    ("=== rows (table)", "=== rows", "no case is below rows"),
+    ("=== rows (table)", "=== two\n$ run  # one.run\n--- status 0\n\n=== rows (table)", "two cases are called one.run"),
+    ("rows (table)", "one.run (table)", "two cases are called one.run"),
+    *(("ended", it, "there must be `") for it in ("ended ", "\\x65nded", "end\\\ned", "end\\ned", "end\\e", "\\n")),
+    ("ended", "\\qended", "is no escape"),
+    *(("ended", it, "bytes other than printable") for it in ("\r", "\x00", "\x7f", "\t", "\u00e9")),
+)
+
+# answers the script that it is given: the first byte is the status, the rest goes to standard output, and its words to standard error
+PROGRAM = """#!/bin/sh
+status=$(head -c 1)
+cat
+printf %s "$*" >&2
+exit ${status:-6}
+"""
+OUTPUT = b"ended\nleaks 1\nsteps 4\n"
+RIGHT = Case("one.run", "some", b"1" + OUTPUT, ["run", "--limit", "9"], OUTPUT, None, 1, b"run --limit 9")
+WRONG = replace(RIGHT, stdout=b"ended\nleaks 2\nsteps 4", status=0)
+DIFFERENCE = """
+--- as the case says
++++ as the program answers
+@@ -1,7 +1,7 @@
+ $ run --limit 9  # one.run
+ ended
+-leaks 2
+-steps 4\\
++leaks 1
++steps 4
+ --- stderr
+ run --limit 9\\
+---- status 0
++--- status 1
+"""
+# wrong cases, and a line of what is said of each
+WRONG_PARTS = (
+    (replace(RIGHT, stdout=b""), "+leaks 1"),
+    (replace(RIGHT, stdout=b"ended\nsteps 4\nleaks 1\n"), "-leaks 1"),
+    (replace(RIGHT, stdout=b"ended\nleaks 1\nsteps 4"), "+steps 4"),
+    (replace(RIGHT, stdout=b"ended\nleaks 1\nsteps 4\n\xff"), "-\\xff\\"),
+    (replace(RIGHT, status=3), "+--- status 1"),
+    (replace(RIGHT, stderr=b""), "+run --limit 9\\"),
+    (replace(RIGHT, stdout=None, contains=["first: leaks 1"]), "the first line isn't 'leaks 1'"),
+    (replace(RIGHT, stdout=None, contains=["line: leaks 1", "line: ended"]), "no line 'ended' after line 2"),
+    (replace(RIGHT, stdout=None, contains=["last: ended"]), "the last line isn't 'ended'"),
+    (replace(RIGHT, stdout=None, contains=["last: steps 4"], status=3), "---- status 3"),
+)
+# tables, which begin in the second line of their file, and a part of what is said of each
+TABLES = {
+    "answer: 0 a | b\n    0a\\nb\\n\nanswer: accepted\n    3x\n": "2 passed, 0 failed",
+    "answer: refused 3 line 2\n    2refused 3 line 2\\n\n": "1 passed, 0 failed",
+    "answer: 1 .. | c.. | ..\n    1a\\nb\\ncd\\n\n    1c\\ne\\n\n": "2 passed, 0 failed",
+    "rows: words\nmessages: walk on\nanswer: 6\n    walk on\n": "1 passed, 0 failed",
+    "before: 0\nbehind: \\n\n\n# between\nanswer: 0 a\n    a\n": "1 passed, 0 failed",
+    "before: 0a\nbehind: \\n\nanswer: 0 a\n    \\e\n": "1 passed, 0 failed",
+    "answer: 0 \\x\n    0\\x5cx\\n\n": "1 passed, 0 failed",
+    "answer: 0 aaab\n    0\\{3:a\\}b\\n\n": "1 passed, 0 failed",
+    "answer: 0 a\n    0b\\n\n": "0 passed, 1 failed",
+    "answer: 0 a\n    1a\\n\n": "wanted status 0",
+    "answer: 0 a | ..\n    0b\\na\\n\n": "0 passed, 1 failed",
+    "answer: 0 .. | a\n    0a\\nb\\n\n": "0 passed, 1 failed",
+    "answer: accepted\n    2refused 8\\n\n": "wanted status 0 or 1 or 3",
+    "answer: accepted\n    0refused 8\\n\n": "0 passed, 1 failed",
+    "answer: refused 3\n    2refused 3 line 2\\n\n": "0 passed, 1 failed",
+    "rows: words\nmessages: walk\nanswer: 6\n    run\n": "wanted 'walk' on standard error",
+    "script: 0a\\n\\n\nrows: cuts\nanswer: 0 a\n    3\nanswer: 0 a | \n    4..4\n": "2 passed, 0 failed",
+    "script: 00\\n\nbyte: 1\nrows: bytes\nanswer: 1 0\n    0\nanswer: 0 1\n    1\n": "2 passed, 0 failed",
+    "": "cases:2: no row follows",
+    "# a comment\n": "cases:2: no row follows",
+    "answer: 0\n": "cases:2: no row follows",
+    "answer: 0\nanswer: 1\n    1\n": "cases:2: no row follows",
+    "    0\n": "cases:2: a row without an answer",
+    "answer: 0\n     \n": "cases:3: a row of blanks",
+    "answer: 0\n    0\\q\n": "is no escape",
+    "answer: 0\n    0\\\n": "is no escape",
+    "answer: fine\n    0\n": "cases:2: neither a setting nor a row",
+    "answer: 0 \n    0\n": "cases:2: neither a setting nor a row",
+    "answer: 0\nstatus: 1\n    0\n": "cases:3: neither a setting nor a row",
+    "answer: 0\n  0\n": "cases:3: neither a setting nor a row",
+    "rows: lines\nanswer: 0\n    0\n": "cases:2: neither a setting nor a row",
+    "script: 0\nrows: cuts\nanswer: 0\n    1..2\n": "cases:5: the script has no such place",
+    "script: 0\nbyte: 1\nrows: bytes\nanswer: 0\n    1\n": "cases:6: the script has no such place",
+    "script: 00\nrows: bytes\nanswer: 0\n    1\n": "not one byte for it",
+    "script: 0\nbyte: 1\nrows: cuts\nanswer: 0\n    1\n": "not one byte for it",
+    "script: 00\nrows: cuts\nanswer: 0\n    2..1\n": "cases:5: the script has no such place",
+    "script: 00\nrows: cuts\nanswer: 0\n    all\n": "cases:5: neither a number nor a range",
+}
+
+
+class OfTexts(unittest.TestCase):
+    """Texts, and the lines in which they are written."""
+
+    def test_each_byte_and_some_texts(self) -> None:
+        texts = [bytes([it]) for it in range(256)] + [bytes([it, 10]) for it in range(256)]
+        texts += [b"", b"\n", b"\n\n#", b"a \n", b"a\\\n", b"\\{2:a\\}", b"caf\xc3\xa9\r\n", bytes(range(256)) * 2]
+        texts += [mark + rest for mark in (b"=== a", b"--- status 0", b"$ run", b"$", b"--- ", b"$run", b" $ run") for rest in (b"", b"\n")]
+        for text in texts:
+            with self.subTest(text):
+                lines = spelled(text)
+                self.assertEqual(meaning("".join(f"{it}\n" for it in lines)), text)
+                self.assertRegex("".join(lines), r"\A[ -~]*\Z")
+                self.assertFalse(any(it.endswith(" ") or it.startswith(("=== ", "--- ", "$ ")) or it == "$" for it in lines))
+
+    def test_what_is_repeated(self) -> None:
+        for line, text in (
+            (r"\{3:a\}", b"a\na\na\n"),
+            (r"b\{3:a\}", b"baaa\n"),
+            (r"\{2:a\nb\x41\\\}", b"a\nbA\\\na\nbA\\\n"),
+            (r"\{8..10:p\# \#\}", b"p8 8\np9 9\np10 10\n"),
+            (r"\{az..bb, 1..9 by 4:\#1=\#2;\}\{2:.\}", b"az=1;ba=5;bb=9;..\n"),
+            (r"\{2:\n\}\ "[:-1], b"\n\n"),
+        ):
+            with self.subTest(line):
+                self.assertEqual(meaning(line + "\n"), text)
+
+    def test_what_is_no_text(self) -> None:
+        ranges = [f"\\{{{it}:b\\}}" for it in ("a", "a..bb", "1..2, 1..3", "1..2 by 0")]
+        for line in ("a\\q", "\\x4", "\\x4G", "\\{2:a", "\\#", "\\{1..2:\\#2\\}", "\\{2:a\\{2:b\\}\\}", *ranges):
+            with self.subTest(line), self.assertRaisesRegex(CaseError, "is no|not as many"):
+                meaning(line)
+
+
+class OfCases(unittest.TestCase):
+    """A group in a folder, and a program that answers what a script says."""
+
+    def setUp(self) -> None:
+        folder = Path(self.enterContext(tempfile.TemporaryDirectory()))
+        self.program, self.cases = folder / "workbench", folder / "cases"
+        self.cases.mkdir()
+        self.file = self.cases / "some.cases"
+        self.is_program(PROGRAM)
+
+    def is_program(self, text: str) -> None:
+        """Makes this the program."""
+        self.program.write_text(text, encoding="utf-8")
+        self.program.chmod(0o755)
+
+    def reads(self, text: str) -> Group:
+        """The group that a text is."""
+        self.file.write_bytes(text.encode())
+        return read(self.file, "some")
+
+    def put(self, *cases: Case, table: str | None = None) -> None:
+        """Makes these the cases of the group, each with a script of its own, and a table."""
+        blocks = [Block(0, f"script-{at}", it.script, [it]) for at, it in enumerate(cases)]
+        tables = [Block(0, "table", table=table.splitlines())] if table is not None else []
+        Group("some", self.file, [], [*blocks, *tables]).write()
+
+    def held(self) -> list[Case]:
+        """The cases that the group has."""
+        return read(self.file, "some").cases()
+
+    def said(self, *words: str | Path, command: str = "cases") -> tuple[int, str]:
+        """How a command ends on the folder, and what it says."""
+        folder = ["--in", self.cases] if command == "cases" else []
+        status, said, messages = said_by(command, "--program", self.program, *folder, *words)
+        self.assertEqual(messages, "")
+        return status, said
+
+
+class OfGroups(OfCases):
+    """What a group is."""
+
+    def test_each_part(self) -> None:
+        group = self.reads(GROUP)
+        self.assertEqual((group.head, group.cases(), group.text()), (["# Some cases."], [READ], GROUP))
+        self.assertEqual((group.blocks[1].name, group.blocks[1].table), ("rows", ["answer: 0 a", "    b"]))
+
+    def test_cases_of_all_sorts(self) -> None:
+        cases = [
+            replace(READ, name="two.run", args=["run", "", "a b", "'", "#", "  # c", "caf\\"], stderr=None),
+            replace(READ, name="help", args=[], script=b"", stdout=b"", status=255, stderr=b""),
+            replace(READ, name="long.run", stdout=None, contains=["first: print 1", "line: --- a", "last: \xe9 "]),
+            replace(READ, name="bytes.run", script=b"\n--- stderr\n$ a\n\xff\r", stdout=b"ended", stderr=b"\n"),
+        ]
+        self.put(*cases)
+        self.assertEqual(self.held(), cases)
+
+    def test_a_script_with_several_commands(self) -> None:
+        group = self.reads(GROUP.replace("\n\n=== rows", "\n$ run  # two.run\n--- status 1\n$ sweep\n--- status 2\n\n=== rows"))
+        self.assertEqual([(it.name, it.status) for it in group.cases()], [("one.run", 0), ("two.run", 1), ("one.sweep", 2)])
+        self.assertEqual({it.script for it in group.cases()}, {READ.script})
+
+    def test_what_is_no_group(self) -> None:
+        for old, new, why in NO_GROUPS:
+            with self.subTest((old, new)), self.assertRaisesRegex(CaseError, rf"\A{self.file}:.*({why})"):
+                self.assertIn(old, GROUP)
+                self.reads(GROUP.replace(old, new, 1))
+        with self.assertRaisesRegex(CaseError, "the last line has no line feed"):
+            self.reads(GROUP.removesuffix("\n"))
+
+
+class WhatIsSaid(OfCases):
+    """Cases that pass, and cases that fail."""
+
+    def test_right_answers(self) -> None:
+        contains = ["first: ended", "line: leaks 1", "last: steps 4"]
+        others = [replace(RIGHT, stderr=None, args=[]), Case("", "", b"", [], b"", None, 6, None)]
+        others += [replace(RIGHT, script=b"1\xff\r", stdout=b"\xff\r"), replace(RIGHT, stdout=None, contains=contains)]
+        self.put(RIGHT, *(replace(it, name=f"other-{at}") for at, it in enumerate(others)), table="answer: 0 a\n    0a\\n\n    0a\\n\n")
+        self.assertEqual(self.said(), (0, "7 passed, 0 failed\n"))
+
+    def test_differences(self) -> None:
+        self.put(WRONG)
+        self.assertEqual(self.said(), (1, f"some/one.run: another answer:{DIFFERENCE}0 passed, 1 failed\n"))
+        self.assertEqual(self.held(), [WRONG])
+        self.put(replace(RIGHT, stdout=b"leak\n" * 200 + b"ended\nleaks 1\nsteps 4\n"))
+        lines = self.said()[1].splitlines()
+        self.assertEqual((lines[-2:], len(lines)), (["and 107 further lines", "0 passed, 1 failed"], 103))
+
+    def test_each_part_of_an_answer(self) -> None:
+        for wrong, line in WRONG_PARTS:
+            with self.subTest(line):
+                self.put(wrong)
+                status, said = self.said()
+                self.assertEqual((status, said.splitlines()[-1]), (1, "0 passed, 1 failed"))
+                self.assertIn(line, said.removeprefix("some/one.run: ").splitlines())
+
+    def test_rows_of_tables(self) -> None:
+        for table, part in TABLES.items():
+            with self.subTest(table):
+                self.put(table=table)
+                status, said = self.said()
+                self.assertIn(part, said)
+                self.assertEqual(status == 0, ", 0 failed" in part)
+
+    def test_what_cannot_be_read(self) -> None:
+        self.put(RIGHT)
+        for name in ("two.cases", "three.case", "notes"):
+            (self.cases / name).write_text("-- script --\n", encoding="ascii")
+        status, said = self.said()
+        self.assertEqual((status, said.splitlines()[-1], said.count(": it is no group\n")), (1, "1 passed, 3 failed", 2))
+        self.assertRegex(said, "two.cases: .* is no comment\n")
+
+    def test_a_program_that_does_not_end(self) -> None:
+        self.put(RIGHT, table="answer: 0\n    1\n    2\n")
+        with patch.object(run_cases, "answer_of", side_effect=NoAnswer("no answer within 1 s")):
+            status, said = self.said()
+        places = ["some/one.run", f"{self.file}:15", f"{self.file}:16"]
+        self.assertEqual((status, said), (1, "".join(f"{it}: no answer within 1 s\n" for it in places) + "0 passed, 3 failed\n"))
+
+    def test_names(self) -> None:
+        self.assertEqual(self.said(), (1, "0 passed, 0 failed\n"))
+        self.put(replace(WRONG, name="two.run"), RIGHT, table="answer: 0 a\n    0a\\n\n    0a\\n\n")
+        for name, passed in (("one.run", 1), ("some/one.run", 1), ("script-1", 1), ("some/script-1", 1), ("table", 2), ("some/table", 2)):
+            self.assertEqual(self.said(name), (0, f"{passed} passed, 0 failed\n"))
+        for name in ("some", "cases/some.cases", "some/", ""):
+            self.assertEqual(self.said(name)[1].splitlines()[-1], "3 passed, 1 failed")
+        self.assertEqual(self.said("one.run", "three"), (1, "no case is called three\n1 passed, 1 failed\n"))
+
+    def test_what_is_shown(self) -> None:
+        for script in (b"", b"0", b"1a\n", b"1a\nEND\nb\n", b"2\xff\\%s'\r\t\n", b"0" + bytes(range(256))):
+            with self.subTest(script):
+                self.put(replace(RIGHT, script=script, args=["run", "a b", "'", "#"]))
+                status, said = self.said("--show")
+                ran = subprocess.run(["sh", "-c", said], cwd=self.program.parent, capture_output=True)
+                self.assertEqual((status, ran.stdout, ran.stderr), (0, script[1:], b"run a b ' #"))
+                self.assertIn("# some/one.run: status 1\n", said)
+
+    def test_messages_that_are_lost(self) -> None:
+        self.put(RIGHT, replace(RIGHT, name="two.run", stderr=None))
+        with patch.object(worked_cases, "CASES", self.cases):
+            self.is_program(PROGRAM.replace("printf", "true"))
+            self.assertEqual(self.said(command="lost-messages"), (0, "1 passed, 0 failed\n"))
+            self.is_program(PROGRAM.replace("cat", "[ ! -e /dev/fd/2 ] || cat"))
+            status, said = self.said(command="lost-messages")
+        self.assertEqual((status, said.splitlines()[-1]), (1, "0 passed, 1 failed"))
+        self.assertIn("some/one.run: standard error closed: another answer:\n", said)
+
+
+class WhatIsWritten(OfCases):
+    """What --write makes of cases."""
+
+    def test_an_answer(self) -> None:
+        self.put(WRONG, replace(RIGHT, name="two.run", stderr=None))
+        other = self.held()[1]
+        self.assertEqual(self.said("--write"), (0, f"some/one.run: written: another answer:{DIFFERENCE}2 passed, 0 failed\n"))
+        self.assertEqual(self.held(), [RIGHT, other])
+        self.assertEqual(self.said(), (0, "2 passed, 0 failed\n"))
+
+    def test_answers_of_all_bytes(self) -> None:
+        script = b"1" + bytes(range(256)) * 2
+        self.put(replace(RIGHT, script=script))
+        self.assertEqual(self.said("--write", "one.run")[0], 0)
+        self.assertEqual(self.held(), [replace(RIGHT, script=script, stdout=script[1:])])
+
+    def test_a_program_that_is_older_than_its_sources(self) -> None:
+        self.put(WRONG)
+        with patch.object(run_cases, "PROGRAM", self.program):
+            os.utime(self.program, (0, 0))
+            said = said_by("cases", "--program", self.program, "--in", self.cases)
+            self.assertEqual((said.status, said.output), (1, f"some/one.run: another answer:{DIFFERENCE}0 passed, 1 failed\n"))
+            self.assertRegex(said.messages, r"^the program is older than its sources: \S+ is newer\n$")
+            status, output, messages = said_by("cases", "--program", self.program, "--in", self.cases, "--write")
+        self.assertEqual((status, output, self.held()), (1, "", [WRONG]))
+        self.assertIn(": ./build comes before --write\n", messages)
+
+    def test_what_is_never_written(self) -> None:
+        self.put(replace(RIGHT, stdout=None, contains=["last: ended"]), table="answer: 0 a\n    1a\\n\n")
+        kept = self.file.read_bytes()
+        self.assertEqual(self.said("--write")[1].splitlines()[-1], "0 passed, 2 failed")
+        self.assertEqual(self.file.read_bytes(), kept)
+        repeated = kept.replace(b"1ended\n", b"1ended\n\\{2:leak\\}\n").replace(b"1ended", b"0ended")
+        self.file.write_bytes(repeated)
+        self.said("--write")
+        self.assertEqual(self.file.read_bytes(), repeated.replace(b"status 1", b"status 0"))
