@@ -1,8 +1,8 @@
 """Writes worked cases as theorems about the definitions, or compares those that are written.
 
-`cases/README.md` says what a case is. Each accepted script becomes a tree of `wb_model/src/script.rt`, each report the value that the
+`cases/README.md` says what a case is. Each accepted script becomes a tree of `wb_tree/src/script.rt`, each report the value that the
 definitions must give for it, and each case one theorem, proved by computing. The theorems of a group, or of the groups of a folder, are in
-files of their own, in `proofs/WorkedCases` of `wb_model`; check that crate then. With `--compare` they are only compared with what would
+files of their own, in `proofs/WorkedCases` of `wb_worked`; check that crate then. With `--compare` they are only compared with what would
 be written.
 
 A theorem that fails means that the case and the definitions differ. A word that is not known, of a script, of a report or of the
@@ -39,19 +39,18 @@ MOST_RANGES = 10
 # what `proofs/PersistentExamples.antt` has
 LEFT_OUT = ("explained", "limits", "persistent-and-ends")
 
-MODEL = ROOT / "crates/wb_model"
-# the module that names the others, which are in a folder of its name, and the one that these have in common
-TOP, COMMON = "WorkedCases", "Shorthands"
+WORKED = ROOT / "crates/wb_worked"
+# the module of what all have in common, which definitions cite too, and the one that names the others, which are in a folder of its name
+COMMON = "Shorthands"
+SHARED, PROOFS = f"specs/{COMMON}.antt", "proofs/WorkedCases"
 # no line is longer, unless a single word is, and a file is begun anew before its theorems have more lines; its head comes on top of them
 WIDTH, LINES = 140, 350
 
 # the imports that a file may need, and what all theorems have in common, below a comment
 SHORTHANDS = TOOLS / "shorthands.txt"
-# the files of specs/ whose `unfoldable` definitions a run computes through, beside those that are named there
-COMPUTED_IN = (
-    *("meaning/Attempts", "meaning/Meaning", "meaning/Operands", "meaning/Reading"),
-    *("runs/Run", "meaning/State", "meaning/Statements"),
-)
+# the files of specs/ of this crate whose `unfoldable` definitions a run computes through, beside those that are named there
+MEANING = ROOT / "crates/wb_meaning"
+COMPUTED_IN = ("Attempts", "Meaning", "Operands", "Reading", "Run", "State", "Statements")
 WRITTEN = "Written by tools/cases_to_theorems.py; edit nothing here."
 
 
@@ -251,8 +250,8 @@ def shorthands(lines: list[str]) -> str:
     """What all theorems have in common; it opens each definition that a run computes through and that is `unfoldable`."""
     shut = []
     for stem in COMPUTED_IN:
-        names = re.findall(r"^unfoldable pub (\S+)", (MODEL / f"specs/{stem}.antt").read_text(encoding="utf-8"), re.MULTILINE)
-        shut += [f"    Rattle.{MODEL.name}.specs.{stem.replace('/', '.')}.{name}" for name in names]
+        names = re.findall(r"^unfoldable pub (\S+)", (MEANING / f"specs/{stem}.antt").read_text(encoding="utf-8"), re.MULTILINE)
+        shut += [f"    Rattle.{MEANING.name}.specs.{stem}.{name}" for name in names]
     at = lines.index("everything = tt")
     return without_unused([f"-- What the theorems of worked cases have in common. {WRITTEN}", *lines[:at], *shut, *lines[at:]])
 
@@ -260,7 +259,7 @@ def shorthands(lines: list[str]) -> str:
 def theorem_file(lines: list[str], subject: str, theorems: Iterable[str]) -> str:
     """A file of theorems, each line of which has at most so many characters."""
     names = ", ".join(["everything", *(it[1] for it in map(re.compile(r"abbrev pub (\S+) :").match, lines) if it)])
-    common = f"use Rattle.{MODEL.name}.proofs.{TOP}.{COMMON}.{{{names}}}"
+    common = f"use Rattle.{WORKED.name}.specs.{COMMON}.{{{names}}}"
     head = [f"-- Worked cases of `{subject}`, each by computing. {WRITTEN}", *(it for it in lines if it.startswith("use ")), common, ""]
     return "\n".join(map(wrapped, without_unused([*head, *"\n".join(theorems).split("\n")]).split("\n")))
 
@@ -315,21 +314,25 @@ def module_of(subject: str, names: list[str], is_whole: bool) -> str:
 
 
 def files_of(theorems: dict[str, dict[str, str]]) -> dict[str, str]:
-    """The text of each file by its place below the crate's folder of proofs, from theorems by what they are about and their names."""
+    """The text of each file by its place below the crate's folder, from theorems by what they are about and their names."""
     lines = SHORTHANDS.read_text(encoding="utf-8").split("\n")[2:]
-    modules = {COMMON: shorthands(lines)}
+    modules = {}
     for subject, some in sorted(theorems.items()):
         parts = parts_of(some)
         for names in parts:
             modules[module_of(subject, names, len(parts) == 1)] = theorem_file(lines, subject, (some[name] for name in names))
-    return {f"{TOP}.antt": "".join(f"pub mod {it}\n" for it in modules), **{f"{TOP}/{it}.antt": text for it, text in modules.items()}}
+    return {
+        SHARED: shorthands(lines),
+        f"{PROOFS}.antt": "".join(f"pub mod {it}\n" for it in modules),
+        **{f"{PROOFS}/{it}.antt": text for it, text in modules.items()},
+    }
 
 
 def main(words: list[str]) -> int:
     """Reads the arguments, and writes the files."""
     parser = parser_of(__doc__)
     parser.add_argument("--in", type=Path, default=CASES, metavar="FOLDER", dest="folder", help="the folder of the groups, if not cases/")
-    parser.add_argument("--out", type=Path, default=MODEL / "proofs", help="the folder to write into, if not the crate's proofs/")
+    parser.add_argument("--out", type=Path, default=WORKED, help="the folder to write into, if not the crate's")
     parser.add_argument("--compare", action="store_true", help="write nothing, and fail where the files hold something else")
     chosen = parser.parse_args(words)
     try:
@@ -338,12 +341,13 @@ def main(words: list[str]) -> int:
         sys.exit(str(error))
     theorems, left_out = theorems_of([case for it in groups for case in it.cases()])
     files = {chosen.out / place: text for place, text in files_of(theorems).items()}
-    held = {it: it.read_text() for it in [*(chosen.out / TOP).glob("*"), chosen.out / f"{TOP}.antt"] if it.is_file()}
+    places = [*(chosen.out / PROOFS).glob("*"), chosen.out / f"{PROOFS}.antt", chosen.out / SHARED]
+    held = {it: it.read_text() for it in places if it.is_file()}
     other = sorted(it for it in {*files, *held} if files.get(it) != held.get(it))
     if chosen.compare and other:
         sys.exit(f"{other[0]} is not what these cases give: write the theorems anew")
     for file in other:
-        file.parent.mkdir(exist_ok=True)
+        file.parent.mkdir(parents=True, exist_ok=True)
         file.write_text(files[file]) if file in files else file.unlink()
     count = sum(map(len, theorems.values()))
     print("; ".join([f"{count} theorems", *(f"left out {count}: {why}" for why, count in left_out.items())]))

@@ -26,7 +26,7 @@ class Line:
     word: str
     # the keyword behind the word, of a condition
     keyword: str | None
-    # the places of the operands, by their names in `wb_model`, and that of any number of further ones
+    # the places of the operands, by their names in `wb_tree`, and that of any number of further ones
     places: tuple[str, ...]
     rest: str | None
     role: str
@@ -54,7 +54,7 @@ def lines_in(source: str) -> Iterator[Line]:
 
 @cache
 def lines_by_kind(source: Path = SOURCE) -> dict[str, Line]:
-    """All kinds of lines, by their names in `wb_model`."""
+    """All kinds of lines, by their names in `wb_tree`."""
     return {it.kind: it for it in lines_in(source.read_text(encoding="utf-8"))}
 
 

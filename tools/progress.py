@@ -25,8 +25,8 @@ from tools.tally import Tally, summed
 # how long a sweep goes on before anything is said of it, the shortest time between two lines, and for how much longer a sweep
 # that is looked at goes on, in seconds
 QUIET, PAUSE, LONGER = 2.0, 0.1, 0.4
-# how long a run may take, and a budget that is enough
-LIMIT, BUDGET = 60, ("--budget", "1000000")
+# how long a run may take; how long one takes at most that shows no line, before that counts as a fault; and a budget that is enough
+LIMIT, PATIENCE, BUDGET = 60, 20.0, ("--budget", "1000000")
 
 LEFT = r"(?:, (?P<done>\d+)% done, (?P<left>\d+) (?:s|min|h) left)?"
 LINE = re.compile(rf"trying (?P<what>attempt|rate) (?P<at>\d+) of (?P<of>\d+){LEFT}")
@@ -56,6 +56,14 @@ class Kind(NamedTuple):
     def least(self) -> float:
         """How many seconds a run takes at least of which the sweep is long enough."""
         return QUIET + LONGER + self.after
+
+    def lines(self, shown: "Shown") -> list[re.Match[str]]:
+        """What was said of what was tried."""
+        return list(LINES.get(self.calls, LINE).finditer(shown.bytes().decode("ascii")))
+
+    def is_told(self, shown: "Shown") -> bool:
+        """Whether something was said of what was tried, and of how much of it was done, but for heaps."""
+        return any(self.calls == "heap" or it["done"] for it in self.lines(shown))
 
     def run(self, program: Path, script: bytes, **streams: Any) -> Answer:
         """A run with standard error no terminal."""
@@ -118,7 +126,7 @@ class Checks(Tally):
 
 def longer(size: int, seconds: float, wanted: float, power: int) -> int:
     """The size of a script that takes somewhat more than is wanted, by what a run took, which may have been too short to be timed."""
-    return int(size * min(8.0, max(1.15, (1.15 * wanted / seconds) ** (1 / power))))
+    return int(size * max(1.15, min(64.0, 1.15 * wanted / seconds) ** (1 / power)))
 
 
 def pieces_from(master: int, seconds: float, stop: Callable[[], None]) -> Iterator[bytes]:
@@ -181,10 +189,9 @@ def screen(written: bytes) -> list[str]:
 
 def look_at_lines(checks: Checks, kind: Kind, name: str, attempts: int, shown: Shown) -> None:
     """What is said while a sweep goes on."""
-    written = shown.bytes().decode("ascii")
-    lines = list(LINES.get(kind.calls, LINE).finditer(written))
+    lines = kind.lines(shown)
     numbers = [int(it["at"]) for it in lines]
-    checks.look(f"{name}: a line", len(lines) > 0, written[:200])
+    checks.look(f"{name}: a line", len(lines) > 0, shown.bytes()[:200])
     checks.look(f"{name}: none before two seconds", all(at >= QUIET - PAUSE for at, piece in shown.pieces if b"trying" in piece))
     checks.look(f"{name}: no more than ten a second", len(lines) <= 1 + (shown.seconds - QUIET + PAUSE) / PAUSE, len(lines))
     if kind.calls == "heap":
@@ -212,9 +219,9 @@ def look_at(program: Path, kind: Kind) -> Checks:
         with ThreadPoolExecutor() as beside:
             lost = beside.submit(losing_terminal, program, kind, script)
             shown, gone = show(program, kind, script), lost.result()
-        if shown.seconds >= kind.least - LONGER / 2:
+        if kind.is_told(shown) or shown.seconds >= PATIENCE:
             break
-        # the machine has become quicker meanwhile
+        # most of the time was taken by what comes before or after the sweep, or the machine has become quicker meanwhile
         attempts += attempts // 4
     checks.look(f"{name}: nothing is said without a terminal", b"trying" not in ran.messages and b"\r" not in ran.messages, ran.messages)
     told = re.search(rb'attempts"?[ :](\d+)', ran.output)

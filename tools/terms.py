@@ -1,4 +1,4 @@
-"""Scripts and reports of worked cases as terms of antt: the tree of `wb_model/src/script.rt` that each script spells, and the values that
+"""Scripts and reports of worked cases as terms of antt: the tree of `wb_tree/src/script.rt` that each script spells, and the values that
 the definitions must give for its reports.
 
 Scripts are read by the small reader here, not by the workbench's own, so that the theorems speak of the definitions alone."""

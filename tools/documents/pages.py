@@ -6,12 +6,12 @@
 
 A block begins with such a comment and ends with `<!-- end -->`; what is between them is this tool's:
 
-    <!-- quote crates/wb_model/specs/runs/Sets.antt IsSet AreSetsFine -->  definitions of a file, with all of their clauses
+    <!-- quote crates/wb_runs/specs/Sets.antt IsSet AreSetsFine -->  definitions of a file, with all of their clauses
     <!-- quote crates/wb_size/src/sizing.rt size Sizing::new.ok -->        contracts of functions, of the second one clause alone
     <!-- file examples/leak.oom -->  <!-- file examples/leak.oom 3-9 -->   a file, or some of its lines
     <!-- case guide/two-cells.run -->                                      the script of a worked case
     <!-- files \\bHasRoom\\b -->                                           the files that name something, without tests and comments
-    <!-- laws crates/wb_model/src/set_laws.rt -->                          the laws of files, with what is said of each
+    <!-- laws crates/wb_runs/src/set_laws.rt -->                          the laws of files, with what is said of each
     <!-- bodies -->  <!-- bodies wb_size/sizing wb_cells/bits -->          wrong bodies: how many each crate has; those of sources, by name
     <!-- crates -->  <!-- dependencies -->                                 a row a crate: what it is and what carries it; what is below it
     <!-- number wrong-bodies -->1<!-- end -->                              in a sentence; also functions, contracts

@@ -85,7 +85,7 @@ class OfTheorems(unittest.TestCase):
 
     def test_names_and_differences(self) -> None:
         self.assertEqual(self.said(SCRIPT, REPORT, "run"), (0, "1 theorems\n"))
-        file = self.room / "WorkedCases/Some.antt"
+        file = self.room / "proofs/WorkedCases/Some.antt"
         self.assertIn("\nplain_run : ", file.read_text())
         self.assertEqual(self.said(SCRIPT, REPORT, "run", "--compare"), (0, "1 theorems\n"))
         for other in (file.read_text().replace("plain", "plane"), None):
@@ -93,5 +93,5 @@ class OfTheorems(unittest.TestCase):
             status, said = self.said(SCRIPT, REPORT, "run", "--compare")
             self.assertEqual((status, said), (1, f"{file} is not what these cases give: write the theorems anew\n"))
         self.said(SCRIPT, REPORT, "run")
-        (self.room / "WorkedCases/Other.antt").touch()
+        (self.room / "proofs/WorkedCases/Other.antt").touch()
         self.assertEqual(self.said(SCRIPT, REPORT, "run", "--compare")[0], 1)

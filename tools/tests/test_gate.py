@@ -152,11 +152,11 @@ class WhatIsRun(Heard):
 
     def test_the_chain_of_proofs(self) -> None:
         with tempfile.TemporaryDirectory() as folder, patch.dict(os.environ, PATH=f"{folder}{os.pathsep}{os.environ['PATH']}"):
-            Path(folder, "rt").write_text("#!/bin/sh\necho 'rt: wb_model proved'\necho '3 passed, 0 failed'\n", encoding="utf-8")
+            Path(folder, "rt").write_text("#!/bin/sh\necho 'rt: wb_basics proved'\necho '3 passed, 0 failed'\n", encoding="utf-8")
             Path(folder, "rt").chmod(0o755)
             with patch.object(self.gate, "building", contextlib.nullcontext):
                 self.assertEqual(self.gate.gate(), Tally(3, 0))
-        said = "(?s)rt: wb_model proved\n3 passed, 0 failed\n.*\n    wb_model +0.0 +0.0  waited for no crate\n"
+        said = "(?s)rt: wb_basics proved\n3 passed, 0 failed\n.*\n    wb_basics +0.0 +0.0  waited for no crate\n"
         self.assertRegex(self.said.getvalue(), said)
 
     def test_what_is_tried_after_a_failure(self) -> None:

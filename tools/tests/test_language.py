@@ -28,7 +28,7 @@ class Lines(unittest.TestCase):
         self.assertEqual(words_of_roles("Loop", "Declaration"), {"repeat", "trap", "ptr", "int", "buf", "view"})
 
     def test_no_kind_is_missing(self) -> None:
-        declared = (ROOT / "crates/wb_model/src/script_lines.rt").read_text(encoding="utf-8")
+        declared = (ROOT / "crates/wb_tree/src/script_lines.rt").read_text(encoding="utf-8")
         enum = re.search(r"pub enum LineKind \{\n(.*?)^\}", declared, re.DOTALL | re.MULTILINE)
         assert enum
         self.assertEqual(set(re.findall(r"^    (\w+),$", enum[1], re.MULTILINE)), set(lines_by_kind()))

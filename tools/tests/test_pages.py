@@ -9,7 +9,7 @@ from bench.tables import measured_on, table_of, with_table
 from tools.documents.pages import MEASURED, pages, sentences
 from tools.door import Said, said_by
 
-SWEEPS, LAWS = "crates/wb_model/specs/runs/Sweeps.antt", "crates/wb_model/src/set_laws.rt"
+SWEEPS, LAWS = "crates/wb_runs/specs/Sweeps.antt", "crates/wb_runs/src/set_laws.rt"
 PROMISES = "<!-- promises -->\n| A | B |\n|---|---|\n"
 # for each block its words, a text in a right one, and what makes it stale in its place
 BLOCKS = {
@@ -18,7 +18,7 @@ BLOCKS = {
     f"file {SWEEPS} 1-2": ("-- What", "-- Where"),
     "case guide/two-cells.run": ("proc main", "proc mine"),
     f"laws {LAWS}": ("| `sets_end` |", "| `sets_stop` |"),
-    "bodies wb_model/heap": ("`usable-length-counts-the-header`", "`usable-length`"),
+    "bodies wb_heap_model/heap": ("`usable-length-counts-the-header`", "`usable-length`"),
     "bodies": ("| `wb_size` | ", "| `wb_size` | 1"),
     "dependencies": ("`wb_states` |", "`wb_size` |"),
     "crates": ("| `wb_streams` |", "| `wb_stream` |"),
@@ -31,7 +31,7 @@ FAULTS = {
     f"<!-- quote {LAWS} sets_end.none -->\n<!-- end -->": "there is no one sets_end.none",
     "<!-- file docs/NONE -->\n<!-- end -->": "there is no docs/NONE",
     "<!-- case guide/none.run -->\n<!-- end -->": "0 cases are called guide/none.run",
-    "<!-- bodies wb_model/none -->\n<!-- end -->": "there is no wrong body of wb_model/none",
+    "<!-- bodies wb_heap_model/none -->\n<!-- end -->": "there is no wrong body of wb_heap_model/none",
     "<!-- number cases --><!-- end -->": "there is no number of cases",
     "<!-- number functions -->1": "a comment that neither begins nor ends a block",
     "<!-- run: workbench check -->\nNo block.": "a comment that neither begins nor ends a block",

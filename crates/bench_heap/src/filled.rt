@@ -1,12 +1,12 @@
 //! A heap full of equal cells, and rounds of calls over all of them.
 
 ghost use Rattle.std.specs.Prelude.{◌≡◌, ◌+◌, ◌<◌, ◌≤◌, All};
-ghost use Rattle.wb_model.specs.heap.Row.{headers};
-ghost use Rattle.wb_model.specs.heap.LimitedHeap.{IsCellLength};
+ghost use Rattle.wb_heap_model.specs.Row.{headers};
+ghost use Rattle.wb_heap_model.specs.LimitedHeap.{IsCellLength};
 
 use std::alloc::{AllocError, Global};
-use wb_model::heap::{Kind, Ptr, Shape};
-use wb_model::limits::CEILING;
+use wb_basics::limits::CEILING;
+use wb_heap_model::heap::{Kind, Ptr, Shape};
 use wb_rheap::Heap;
 
 /// The length of each cell, in bytes: a header and four words.

@@ -10,7 +10,7 @@ use filled::Filled;
 use std::alloc::AllocError;
 use std::time::Instant;
 use std::{env, io};
-use wb_model::heap::Ptr;
+use wb_heap_model::heap::Ptr;
 
 /// How many cells are live, one measurement for each count.
 const COUNTS: [u32; 3] = [100, 1_000, 10_000];

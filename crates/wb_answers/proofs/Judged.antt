@@ -1,12 +1,12 @@
 -- A run is fine, or it is bad or cut, and it is cut or not.
 use Rattle.std.proofs.Common.{◌≡◌, ◌⊎◌, inl, inr, true, false, [], ◌∷◌, refl}
 use Rattle.std.specs.Prelude.{not, ◌&&◌}
-use Rattle.wb_model.specs.declared.run.Outcome.{Outcome}
-use Rattle.wb_model.specs.declared.run.Outcome.TheVariants.{Ended, Panicked, NoCleanup, Cut}
-use Rattle.wb_model.specs.declared.run.RunResult.{RunResult}
-use Rattle.wb_model.specs.declared.run.Why.{Why}
-use Rattle.wb_model.specs.runs.Run.{is_bad, is_bad_outcome}
-use Rattle.wb_model.specs.runs.Sweeps.{is_cut_outcome, is_fine}
+use Rattle.wb_meaning.specs.declared.run.Outcome.{Outcome}
+use Rattle.wb_meaning.specs.declared.run.Outcome.TheVariants.{Ended, Panicked, NoCleanup, Cut}
+use Rattle.wb_meaning.specs.declared.run.RunResult.{RunResult}
+use Rattle.wb_meaning.specs.declared.run.Why.{Why}
+use Rattle.wb_meaning.specs.Run.{is_bad, is_bad_outcome}
+use Rattle.wb_runs.specs.Sweeps.{is_cut_outcome, is_fine}
 
 abbrev pub IsCutBy : Outcome → Type 0
 IsCutBy outcome = (why : Why) × (outcome ≡ Cut why)

@@ -1,17 +1,16 @@
 -- The least set whose run isn't fine, of those of one size: the sets that begin alike are tried by their next number, up to the last attempt of the
 -- run in which those before it fail. Further numbers change nothing, since that run is fine once all smaller sets are.
-use Rattle.std.proofs.Common.{◌≡◌, ℕ, zero, suc, ◌+◌, ◌-◌, ◌<◌, ◌≤◌, ◌⊎◌, inl, inr, arith, Bool, true, false, List, [], ◌∷◌, ◌++◌, length}
-use Rattle.std.proofs.Common.{append_assoc, append-nil, refl, sym, ◌∙◌, ap, subst}
+use Rattle.std.proofs.Common.{◌≡◌, ℕ, zero, suc, ◌+◌, ◌-◌, ◌<◌, ◌≤◌, ◌⊎◌, inl, inr, arith, Bool, true, false, List, [], ◌∷◌, ◌++◌, length, append_assoc, append-nil, refl, sym, ◌∙◌, ap, subst}
 use Rattle.std.proofs.lemmas.Bool.{cases_lt}
 use Rattle.std.proofs.lemmas.List.{length-append}
-use Rattle.wb_model.specs.declared.heap.Shape.{Shape}
-use Rattle.wb_model.specs.declared.run.RunResult.{RunResult}
-use Rattle.wb_model.specs.declared.script.Script.{Script}
-use Rattle.wb_model.specs.runs.Sets.{has_lesser_number, set_run, AscendsPast}
-use Rattle.wb_model.specs.runs.Sweeps.{is_fine}
-use Rattle.wb_model.proofs.runs.SetLemmas.{past-last}
-use Rattle.wb_model.proofs.runs.SetOrder.{lesser-first, none-is-lesser}
-use Rattle.wb_model.proofs.runs.SweepLemmas.{fine_uncut}
+use Rattle.wb_heap_model.specs.declared.heap.Shape.{Shape}
+use Rattle.wb_meaning.specs.declared.run.RunResult.{RunResult}
+use Rattle.wb_tree.specs.declared.script.Script.{Script}
+use Rattle.wb_runs.specs.Sets.{has_lesser_number, set_run, AscendsPast}
+use Rattle.wb_runs.specs.Sweeps.{is_fine}
+use Rattle.wb_runs.proofs.SetLemmas.{past-last}
+use Rattle.wb_runs.proofs.SetOrder.{lesser-first, none-is-lesser}
+use Rattle.wb_runs.proofs.SweepLemmas.{fine_uncut}
 use Rattle.wb_answers.proofs.LeastNumber.{least-or-none, AllFrom, LeastFrom}
 
 no-numbers : (numbers : List ℕ) → length numbers ≡ 0 → numbers ≡ []

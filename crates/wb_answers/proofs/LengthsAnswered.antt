@@ -1,25 +1,24 @@
 -- Every script has a table of lengths, a least bad length or none, a cut one or none, and, unless it is cut, a length that it needs; and every list
 -- of numbers has a least bad one or none.
-use Rattle.std.proofs.Common.{◌≡◌, ◌≢◌, ℕ, zero, suc, ◌+◌, ◌<◌, inl, inr, arith, true, false, List, [], ◌∷◌, length, refl, sym, ◌∙◌, ap, subst}
-use Rattle.std.proofs.Common.{Option, Some, None, IsSome}
+use Rattle.std.proofs.Common.{◌≡◌, ◌≢◌, ℕ, zero, suc, ◌+◌, ◌<◌, inl, inr, arith, true, false, List, [], ◌∷◌, length, refl, sym, ◌∙◌, ap, subst, Option, Some, None, IsSome}
 use Rattle.std.proofs.lemmas.Bool.{cases_Bool, cases_lt}
-use Rattle.wb_model.specs.declared.heap.Rule.TheVariants.{Unlimited}
-use Rattle.wb_model.specs.declared.heap.Shape.{Shape}
-use Rattle.wb_model.specs.declared.lengths.LengthRange.{LengthRange}
-use Rattle.wb_model.specs.declared.limits.TheConstants.{CEILING}
-use Rattle.wb_model.specs.declared.part.Part.{Part}
-use Rattle.wb_model.specs.declared.run.Outcome.TheVariants.{Cut}
-use Rattle.wb_model.specs.declared.run.RunResult.{RunResult}
-use Rattle.wb_model.specs.declared.run.Why.TheVariants.{Ceiling}
-use Rattle.wb_model.specs.declared.run_end.RunEnd.{RunEnd}
-use Rattle.wb_model.specs.declared.script.Script.{Script}
-use Rattle.wb_model.specs.runs.AllNumbers.{first_bad, unfine_in}
-use Rattle.wb_model.specs.runs.Lengths.{end_in, run_in, IsTableFrom}
-use Rattle.wb_model.specs.runs.Run.{is_bad, required, rises, run}
-use Rattle.wb_model.specs.runs.Sizes.{refused_first, IsHeapLength}
-use Rattle.wb_model.specs.runs.Sweeps.{is_cut_outcome}
-use Rattle.wb_model.proofs.runs.FirstBad.{first-least, first-none}
-use Rattle.wb_model.proofs.runs.SizeLemmas.{limit_refuses_first, limits_have_table, refused_at-none}
+use Rattle.wb_heap_model.specs.declared.heap.Rule.TheVariants.{Unlimited}
+use Rattle.wb_heap_model.specs.declared.heap.Shape.{Shape}
+use Rattle.wb_runs.specs.declared.lengths.LengthRange.{LengthRange}
+use Rattle.wb_basics.specs.declared.limits.TheConstants.{CEILING}
+use Rattle.wb_runs.specs.declared.part.Part.{Part}
+use Rattle.wb_meaning.specs.declared.run.Outcome.TheVariants.{Cut}
+use Rattle.wb_meaning.specs.declared.run.RunResult.{RunResult}
+use Rattle.wb_meaning.specs.declared.run.Why.TheVariants.{Ceiling}
+use Rattle.wb_runs.specs.declared.run_end.RunEnd.{RunEnd}
+use Rattle.wb_tree.specs.declared.script.Script.{Script}
+use Rattle.wb_runs.specs.AllNumbers.{first_bad, unfine_in}
+use Rattle.wb_runs.specs.Lengths.{end_in, run_in, IsTableFrom}
+use Rattle.wb_meaning.specs.Run.{is_bad, required, rises, run}
+use Rattle.wb_runs.specs.Sizes.{refused_first, IsHeapLength}
+use Rattle.wb_runs.specs.Sweeps.{is_cut_outcome}
+use Rattle.wb_runs.proofs.FirstBad.{first-least, first-none}
+use Rattle.wb_runs.proofs.SizeLemmas.{limit_refuses_first, limits_have_table, refused_at-none}
 use Rattle.wb_answers.specs.Answered.{AnyCutOrNone, HasLeastBadLength, HasLeastBadOf, HasLengthTable}
 use Rattle.wb_answers.proofs.LeastNumber.{least-or-none}
 use Rattle.wb_answers.proofs.SameEnds.{same-or-not}

@@ -1,18 +1,18 @@
 -- However a script's attempts are answered, its run makes at most so many.
 use Rattle.std.proofs.Common.{ℕ, ◌+◌, ◌≤◌, arith, length, Option, Some, None}
-use Rattle.wb_model.specs.declared.heap.Answer.{Answer}
-use Rattle.wb_model.specs.declared.heap.Answer.TheVariants.{Granted, Simulated, Refused}
-use Rattle.wb_model.specs.declared.heap.Rule.{Rule}
-use Rattle.wb_model.specs.declared.heap.Shape.{Shape}
-use Rattle.wb_model.specs.declared.run.Why.TheVariants.{Ceiling}
-use Rattle.wb_model.specs.declared.script.Script.{Script}
-use Rattle.wb_model.specs.heap.Placement.{placement_of}
-use Rattle.wb_model.specs.heap.Rules.{answer_to}
-use Rattle.wb_model.specs.heap.Space.{Space, space_of}
-use Rattle.wb_model.specs.meaning.State.{is_cut, Query, heap_note, available_note, compress_note, Process, ends, stops, asks, notes}
-use Rattle.wb_model.specs.runs.Account.{next_number, noted, on_answer, recorded, settled, stopped, Account}
-use Rattle.wb_model.specs.runs.Run.{before, process, run}
-use Rattle.wb_model.proofs.runs.AccountLemmas.{before-lines, settled-keeps}
+use Rattle.wb_heap_model.specs.declared.heap.Answer.{Answer}
+use Rattle.wb_heap_model.specs.declared.heap.Answer.TheVariants.{Granted, Simulated, Refused}
+use Rattle.wb_heap_model.specs.declared.heap.Rule.{Rule}
+use Rattle.wb_heap_model.specs.declared.heap.Shape.{Shape}
+use Rattle.wb_meaning.specs.declared.run.Why.TheVariants.{Ceiling}
+use Rattle.wb_tree.specs.declared.script.Script.{Script}
+use Rattle.wb_heap_model.specs.Placement.{placement_of}
+use Rattle.wb_heap_model.specs.Rules.{answer_to}
+use Rattle.wb_heap_model.specs.Space.{Space, space_of}
+use Rattle.wb_meaning.specs.State.{is_cut, Query, heap_note, available_note, compress_note, Process, ends, stops, asks, notes}
+use Rattle.wb_meaning.specs.Account.{next_number, noted, on_answer, recorded, settled, stopped, Account}
+use Rattle.wb_meaning.specs.Run.{before, process, run}
+use Rattle.wb_meaning.proofs.AccountLemmas.{before-lines, settled-keeps}
 
 -- no more than these, once so many were made
 abbrev pub most_attempts : Process → ℕ → ℕ

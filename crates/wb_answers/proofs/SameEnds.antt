@@ -4,12 +4,12 @@ use Rattle.std.specs.Prelude.{nat_eq}
 use Rattle.std.specs.Ordering.{int_eq}
 use Rattle.std.proofs.lemmas.Bool.{eq-eqb, eqb-true, false≢true}
 use Rattle.std.proofs.lemmas.Bool.Decides.{Decides-int_eq}
-use Rattle.wb_model.specs.declared.heap.Panic.{Panic}
-use Rattle.wb_model.specs.declared.heap.Panic.TheVariants.{User, Alloc, Workbench}
-use Rattle.wb_model.specs.declared.run.Why.{Why}
-use Rattle.wb_model.specs.declared.run.Why.TheVariants.{Budget, Ceiling}
-use Rattle.wb_model.specs.declared.run_end.RunEnd.{RunEnd}
-use Rattle.wb_model.specs.declared.run_end.RunEnd.TheVariants.{NoCleanup, Panicked, Leaked, Left, Plain, Cut}
+use Rattle.wb_heap_model.specs.declared.heap.Panic.{Panic}
+use Rattle.wb_heap_model.specs.declared.heap.Panic.TheVariants.{User, Alloc, Workbench}
+use Rattle.wb_meaning.specs.declared.run.Why.{Why}
+use Rattle.wb_meaning.specs.declared.run.Why.TheVariants.{Budget, Ceiling}
+use Rattle.wb_runs.specs.declared.run_end.RunEnd.{RunEnd}
+use Rattle.wb_runs.specs.declared.run_end.RunEnd.TheVariants.{NoCleanup, Panicked, Leaked, Left, Plain, Cut}
 
 abbrev why_eq : Why → Why → Bool
 why_eq Budget Budget = true

@@ -1,18 +1,18 @@
 -- A sweep over sets has an answer, over a part and over all.
 use Rattle.std.proofs.Common.{ℕ, inl, inr, arith, [], refl, ◌∙◌, ap}
-use Rattle.wb_model.specs.declared.failures.Failures.TheVariants.{Single}
-use Rattle.wb_model.specs.declared.heap.Shape.{Shape}
-use Rattle.wb_model.specs.declared.part.Part.{Part}
-use Rattle.wb_model.specs.declared.run.RunResult.{RunResult}
-use Rattle.wb_model.specs.declared.script.Script.{Script}
-use Rattle.wb_model.specs.runs.Parts.{last_attempt, IsUncut}
-use Rattle.wb_model.specs.runs.SetAnswers.{found, cut, none}
-use Rattle.wb_model.specs.runs.SetParts.{IsCutWithoutSet}
-use Rattle.wb_model.specs.runs.Sets.{set_run}
-use Rattle.wb_model.specs.runs.Sweeps.{runs_of}
-use Rattle.wb_model.proofs.runs.EverySetAnswers.{whole-every-cut, whole-every-found, whole-every-none}
-use Rattle.wb_model.proofs.runs.SetLemmas.{none-fails}
-use Rattle.wb_model.proofs.runs.SetPartAnswers.{whole-set-cut, whole-set-found, whole-set-none}
+use Rattle.wb_runs.specs.declared.failures.Failures.TheVariants.{Single}
+use Rattle.wb_heap_model.specs.declared.heap.Shape.{Shape}
+use Rattle.wb_runs.specs.declared.part.Part.{Part}
+use Rattle.wb_meaning.specs.declared.run.RunResult.{RunResult}
+use Rattle.wb_tree.specs.declared.script.Script.{Script}
+use Rattle.wb_runs.specs.Parts.{last_attempt, IsUncut}
+use Rattle.wb_runs.specs.SetAnswers.{found, cut, none}
+use Rattle.wb_runs.specs.SetParts.{IsCutWithoutSet}
+use Rattle.wb_runs.specs.Sets.{set_run}
+use Rattle.wb_runs.specs.Sweeps.{runs_of}
+use Rattle.wb_runs.proofs.EverySetAnswers.{whole-every-cut, whole-every-found, whole-every-none}
+use Rattle.wb_runs.proofs.SetLemmas.{none-fails}
+use Rattle.wb_runs.proofs.SetPartAnswers.{whole-set-cut, whole-set-found, whole-set-none}
 use Rattle.wb_answers.specs.Answered.{HasEverySetAnswer, HasEverySetAnswerIn, HasSetAnswer, HasSetAnswerIn}
 use Rattle.wb_answers.proofs.Judged.{bad-or-cut, cut-or-not, IsCutBy}
 use Rattle.wb_answers.proofs.SetsTried.{every-tried, few-tried, HasLeastUnfine}

@@ -1,19 +1,18 @@
 -- Of the sets that are tried of a part one is the least whose run isn't fine, or all are fine: size by size, and of any size, since no set of
 -- attempts that are made has more of them than any run makes.
-use Rattle.std.proofs.Common.{◌≡◌, ℕ, zero, suc, ◌+◌, ◌-◌, ◌<◌, ◌≤◌, ◌⊎◌, inl, inr, arith, Bool, true, false}
-use Rattle.std.proofs.Common.{List, [], ◌∷◌, length, refl, sym, ◌∙◌, subst}
+use Rattle.std.proofs.Common.{◌≡◌, ℕ, zero, suc, ◌+◌, ◌-◌, ◌<◌, ◌≤◌, ◌⊎◌, inl, inr, arith, Bool, true, false, List, [], ◌∷◌, length, refl, sym, ◌∙◌, subst}
 use Rattle.std.proofs.lemmas.Bool.{cases_lt}
-use Rattle.wb_model.specs.declared.failures.Failures.TheVariants.{Single}
-use Rattle.wb_model.specs.declared.heap.Rule.TheVariants.{Number, Set}
-use Rattle.wb_model.specs.declared.heap.Shape.{Shape}
-use Rattle.wb_model.specs.declared.part.Part.{Part}
-use Rattle.wb_model.specs.declared.script.Script.{Script}
-use Rattle.wb_model.specs.runs.EverySet.{AreAllSetsFineIn}
-use Rattle.wb_model.specs.runs.Parts.{last_attempt, IsNumberOf}
-use Rattle.wb_model.specs.runs.SetParts.{AreSetsFineIn, AreSetsFineInBefore, IsSetOf}
-use Rattle.wb_model.specs.runs.Sets.{has_lesser_number, AscendsPast}
-use Rattle.wb_model.specs.runs.Sweeps.{is_fine}
-use Rattle.wb_model.proofs.runs.SetOrder.{before-by, lesser-first, none-is-lesser}
+use Rattle.wb_runs.specs.declared.failures.Failures.TheVariants.{Single}
+use Rattle.wb_heap_model.specs.declared.heap.Rule.TheVariants.{Number, Set}
+use Rattle.wb_heap_model.specs.declared.heap.Shape.{Shape}
+use Rattle.wb_runs.specs.declared.part.Part.{Part}
+use Rattle.wb_tree.specs.declared.script.Script.{Script}
+use Rattle.wb_runs.specs.EverySet.{AreAllSetsFineIn}
+use Rattle.wb_runs.specs.Parts.{last_attempt, IsNumberOf}
+use Rattle.wb_runs.specs.SetParts.{AreSetsFineIn, AreSetsFineInBefore, IsSetOf}
+use Rattle.wb_runs.specs.Sets.{has_lesser_number, AscendsPast}
+use Rattle.wb_runs.specs.Sweeps.{is_fine}
+use Rattle.wb_runs.proofs.SetOrder.{before-by, lesser-first, none-is-lesser}
 use Rattle.wb_answers.proofs.LeastNumber.{least-or-none, AllFrom, LeastFrom}
 use Rattle.wb_answers.proofs.LeastSets.{beyond, rests, runs, AreFewerFine, AreRestsFine, HasLeastRest, IsFine}
 use Rattle.wb_answers.proofs.MostAttempts.{most_of, run-within}

@@ -1,20 +1,20 @@
 -- A sweep over failures has an answer, over a part and over all. Single failures and pairs are sets of one attempt and two.
 use Rattle.std.proofs.Common.{◌≡◌, ℕ, ◌+◌, ◌-◌, ◌<◌, ◌≤◌, ◌⊎◌, inl, inr, arith, Bool, true, false, refl}
 use Rattle.std.proofs.lemmas.Bool.{cases_lt}
-use Rattle.wb_model.specs.declared.failures.Failing.{Failing}
-use Rattle.wb_model.specs.declared.failures.Failing.TheVariants.{Number, Pair}
-use Rattle.wb_model.specs.declared.failures.Failing.TheVariants as failings
-use Rattle.wb_model.specs.declared.failures.Failures.{Failures}
-use Rattle.wb_model.specs.declared.failures.Failures.TheVariants.{Single, Every, Pairs, Persistent}
-use Rattle.wb_model.specs.declared.heap.Shape.{Shape}
-use Rattle.wb_model.specs.declared.part.Part.{Part}
-use Rattle.wb_model.specs.declared.run.RunResult.{RunResult}
-use Rattle.wb_model.specs.declared.script.Script.{Script}
-use Rattle.wb_model.specs.runs.Parts.{found, cut, none, last_attempt, run_at, IsNumberOf, IsTried, IsUncut}
-use Rattle.wb_model.specs.runs.SetAnswers as sets
-use Rattle.wb_model.specs.runs.Sweeps.{failing_at, is_fine, runs_of}
-use Rattle.wb_model.proofs.runs.FewSets.{paired-cut, paired-found, paired-none, single-cut, single-found, single-none}
-use Rattle.wb_model.proofs.runs.PartAnswers.{before-number, tried-at, whole-cut, whole-found, whole-none}
+use Rattle.wb_runs.specs.declared.failures.Failing.{Failing}
+use Rattle.wb_runs.specs.declared.failures.Failing.TheVariants.{Number, Pair}
+use Rattle.wb_runs.specs.declared.failures.Failing.TheVariants as failings
+use Rattle.wb_runs.specs.declared.failures.Failures.{Failures}
+use Rattle.wb_runs.specs.declared.failures.Failures.TheVariants.{Single, Every, Pairs, Persistent}
+use Rattle.wb_heap_model.specs.declared.heap.Shape.{Shape}
+use Rattle.wb_runs.specs.declared.part.Part.{Part}
+use Rattle.wb_meaning.specs.declared.run.RunResult.{RunResult}
+use Rattle.wb_tree.specs.declared.script.Script.{Script}
+use Rattle.wb_runs.specs.Parts.{found, cut, none, last_attempt, run_at, IsNumberOf, IsTried, IsUncut}
+use Rattle.wb_runs.specs.SetAnswers as sets
+use Rattle.wb_runs.specs.Sweeps.{failing_at, is_fine, runs_of}
+use Rattle.wb_runs.proofs.FewSets.{paired-cut, paired-found, paired-none, single-cut, single-found, single-none}
+use Rattle.wb_runs.proofs.PartAnswers.{before-number, tried-at, whole-cut, whole-found, whole-none}
 use Rattle.wb_answers.specs.Answered.{HasAnswer, HasAnswerIn, HasSetAnswerIn}
 use Rattle.wb_answers.proofs.Judged.{bad-or-cut, cut-or-not}
 use Rattle.wb_answers.proofs.LeastNumber.{least-or-none, LeastFrom}

@@ -1,22 +1,22 @@
 -- That a search has an answer: of each kind of sweep, over a part and over all, and of each search among the lengths of the heap.
 use Rattle.std.specs.Prelude.{◌≡◌, ℕ, ◌≤◌, ◌⊎◌, List, length, false, true}
-use Rattle.wb_model.specs.declared.failures.Failing.{Failing}
-use Rattle.wb_model.specs.declared.failures.Failures.{Failures}
-use Rattle.wb_model.specs.declared.heap.Shape.{Shape}
-use Rattle.wb_model.specs.declared.lengths.LengthRange.{LengthRange}
-use Rattle.wb_model.specs.declared.limits.TheConstants.{CEILING}
-use Rattle.wb_model.specs.declared.part.Part.{Part}
-use Rattle.wb_model.specs.declared.run.RunResult.{RunResult}
-use Rattle.wb_model.specs.declared.run.Why.{Why}
-use Rattle.wb_model.specs.declared.script.Script.{Script}
-use Rattle.wb_model.specs.runs.AllNumbers.{IsLeastBadOf, IsNoBadOf}
-use Rattle.wb_model.specs.runs.EverySet.{IsEverySetAnswerIn}
-use Rattle.wb_model.specs.runs.Lengths.{run_in, IsLeastBadLength, IsLengthTable, IsNoBadLength}
-use Rattle.wb_model.specs.runs.Parts.{Answer, IsAnswerIn}
-use Rattle.wb_model.specs.runs.SetAnswers.{SetAnswer, IsSetAnswerIn}
-use Rattle.wb_model.specs.runs.Sets.{AreAllSetsFine, AreSetsFine, IsLeastBadSet, IsLeastCutSet}
-use Rattle.wb_model.specs.runs.SweepAnswers.{IsCutShort, IsFound, IsNoneFound}
-use Rattle.wb_model.specs.runs.Sweeps.{is_cut_outcome}
+use Rattle.wb_runs.specs.declared.failures.Failing.{Failing}
+use Rattle.wb_runs.specs.declared.failures.Failures.{Failures}
+use Rattle.wb_heap_model.specs.declared.heap.Shape.{Shape}
+use Rattle.wb_runs.specs.declared.lengths.LengthRange.{LengthRange}
+use Rattle.wb_basics.specs.declared.limits.TheConstants.{CEILING}
+use Rattle.wb_runs.specs.declared.part.Part.{Part}
+use Rattle.wb_meaning.specs.declared.run.RunResult.{RunResult}
+use Rattle.wb_meaning.specs.declared.run.Why.{Why}
+use Rattle.wb_tree.specs.declared.script.Script.{Script}
+use Rattle.wb_runs.specs.AllNumbers.{IsLeastBadOf, IsNoBadOf}
+use Rattle.wb_runs.specs.EverySet.{IsEverySetAnswerIn}
+use Rattle.wb_runs.specs.Lengths.{run_in, IsLeastBadLength, IsLengthTable, IsNoBadLength}
+use Rattle.wb_runs.specs.Parts.{Answer, IsAnswerIn}
+use Rattle.wb_runs.specs.SetAnswers.{SetAnswer, IsSetAnswerIn}
+use Rattle.wb_runs.specs.Sets.{AreAllSetsFine, AreSetsFine, IsLeastBadSet, IsLeastCutSet}
+use Rattle.wb_runs.specs.SweepAnswers.{IsCutShort, IsFound, IsNoneFound}
+use Rattle.wb_runs.specs.Sweeps.{is_cut_outcome}
 
 -- ---- sweeps over failures
 

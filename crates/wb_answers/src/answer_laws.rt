@@ -6,16 +6,16 @@ ghost use Rattle.wb_answers.specs.Answered.{AnyCutOrNone, HasAnswer, HasAnswerIn
 ghost use Rattle.wb_answers.specs.Answered.{HasEverySetAnswer, HasEverySetAnswerIn};
 ghost use Rattle.wb_answers.specs.Answered.{HasLeastBadLength, HasLeastBadOf, HasLengthTable};
 ghost use Rattle.wb_answers.specs.Answered.{HasSetAnswer, HasSetAnswerIn};
-ghost use Rattle.wb_model.specs.runs.Run.{required, rises, run};
-ghost use Rattle.wb_model.specs.runs.Sizes.{IsHeapLength};
-ghost use Rattle.wb_model.specs.declared.failures.Failures.{Failures};
-ghost use Rattle.wb_model.specs.declared.heap.Rule.TheVariants.{Unlimited};
-ghost use Rattle.wb_model.specs.declared.heap.Shape.{Shape};
-ghost use Rattle.wb_model.specs.declared.part.Part.{Part};
-ghost use Rattle.wb_model.specs.declared.run.Outcome.TheVariants.{Cut};
-ghost use Rattle.wb_model.specs.declared.run.RunResult.{RunResult};
-ghost use Rattle.wb_model.specs.declared.run.Why.TheVariants.{Ceiling};
-ghost use Rattle.wb_model.specs.declared.script.Script.{Script};
+ghost use Rattle.wb_meaning.specs.Run.{required, rises, run};
+ghost use Rattle.wb_runs.specs.Sizes.{IsHeapLength};
+ghost use Rattle.wb_runs.specs.declared.failures.Failures.{Failures};
+ghost use Rattle.wb_heap_model.specs.declared.heap.Rule.TheVariants.{Unlimited};
+ghost use Rattle.wb_heap_model.specs.declared.heap.Shape.{Shape};
+ghost use Rattle.wb_runs.specs.declared.part.Part.{Part};
+ghost use Rattle.wb_meaning.specs.declared.run.Outcome.TheVariants.{Cut};
+ghost use Rattle.wb_meaning.specs.declared.run.RunResult.{RunResult};
+ghost use Rattle.wb_meaning.specs.declared.run.Why.TheVariants.{Ceiling};
+ghost use Rattle.wb_tree.specs.declared.script.Script.{Script};
 
 /// A sweep over failures of a kind has an answer: a least failure whose run leaks or panics, a least one whose run is cut, or none of
 /// either.

@@ -1,5 +1,5 @@
 -- A cleanup stack that is kept beside its heap.
-use Rattle.wb_model.specs.heap.Debug.{Debug, IsSoundDebug}
+use Rattle.wb_heap_model.specs.Debug.{Debug, IsSoundDebug}
 use Rattle.wb_cleanup.specs.declared.cleanup.Cleanup.{Cleanup}
 use Rattle.wb_cleanup.specs.Stacks.{IsStack}
 

@@ -3,15 +3,15 @@
 //! lines than it should.
 
 ghost use Rattle.std.specs.Prelude.{◌≡◌, ◌+◌, ◌^◌, ◌<◌, ◌≤◌, IfOk, IsSome, OnErr, OnOk};
-ghost use Rattle.wb_model.specs.heap.Debug.{IsSoundDebug, alloc_made};
-ghost use Rattle.wb_model.specs.heap.Row.{cell_at};
+ghost use Rattle.wb_heap_model.specs.Debug.{IsSoundDebug, alloc_made};
+ghost use Rattle.wb_heap_model.specs.Row.{cell_at};
 
 use std::alloc::AllocError;
+use wb_basics::limits::CEILING;
+use wb_basics::memory::NoMemory;
 use wb_debug::{DebugHeap, Heap};
-use wb_model::heap::{Gave, Kind, Ptr};
-use wb_model::limits::CEILING;
-use wb_model::memory::NoMemory;
-use wb_model::run::Leaks;
+use wb_heap_model::heap::{Gave, Kind, Ptr};
+use wb_heap_model::reported::Leaks;
 
 /// An attempt to get a cell.
 pub(crate) fn alloc(heap: &mut DebugHeap, bytes: u32, kind: Kind) -> Result<Gave, NoMemory>

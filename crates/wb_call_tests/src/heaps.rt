@@ -6,11 +6,11 @@ use crate::calls;
 use crate::lines::{show, write_gave, write_heap};
 use crate::stop::Stop;
 use std::alloc::{AllocError, Global};
+use wb_basics::limits::CEILING;
+use wb_basics::memory::NoMemory;
 use wb_debug::DebugHeap;
-use wb_model::heap::{Kind, Ptr, Rule, Shape};
-use wb_model::limits::CEILING;
-use wb_model::memory::NoMemory;
-use wb_model::run::Note;
+use wb_heap_model::heap::{Kind, Ptr, Rule, Shape};
+use wb_heap_model::reported::Note;
 
 /// A cell, by its place and its allocation number.
 pub(crate) type Cell = (u32, u32);

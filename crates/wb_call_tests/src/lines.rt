@@ -3,8 +3,8 @@
 use crate::calls;
 use crate::stop::Stop;
 use wb_debug::DebugHeap;
-use wb_model::heap::{Attempt, Gave, Ptr};
-use wb_model::run::{Leak, Note};
+use wb_heap_model::heap::{Attempt, Gave, Ptr};
+use wb_heap_model::reported::{Leak, Note};
 
 /// Prints what an attempt returned (the number and the place of the cell, or why there is none), and the state of the heap.
 pub(crate) fn write_gave(

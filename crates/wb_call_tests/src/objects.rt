@@ -1,19 +1,19 @@
 //! Objects of a script's classes, made in a heap of their own.
 
 ghost use Rattle.std.specs.Prelude.{◌≡◌, ◌<◌, ◌≤◌, length, true};
-ghost use Rattle.wb_model.specs.meaning.Bodies.{class_at};
-ghost use Rattle.wb_model.specs.meaning.Statements.{payload_of_object};
+ghost use Rattle.wb_tree.specs.Bodies.{class_at};
+ghost use Rattle.wb_tree.specs.Bodies.{payload_of_object};
 
 use crate::heaps::SHAPE;
 use crate::lines::{show, write_gave};
 use crate::stop::Stop;
 use std::alloc::AllocError;
+use wb_basics::limits::CEILING;
+use wb_basics::memory::NoMemory;
 use wb_debug::DebugHeap;
-use wb_model::heap::{Gave, Rule};
-use wb_model::limits::CEILING;
-use wb_model::memory::NoMemory;
-use wb_model::script::Script;
+use wb_heap_model::heap::{Gave, Rule};
 use wb_objects::make;
+use wb_tree::script::Script;
 
 /// The classes of which objects are made, by their indexes.
 const MADE: [u16; 6] = [0, 1, 0, 1, 1, 0];

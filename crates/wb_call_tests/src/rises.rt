@@ -2,15 +2,15 @@
 //! answered at its first call, even while the workbench's allocations fail; `tools/failing_allocations.py` checks that it makes none.
 
 ghost use Rattle.std.specs.Prelude.{◌≡◌, ◌+◌, ◌^◌, ◌<◌, ◌≤◌, true, IfOk, IsSome};
-ghost use Rattle.wb_model.specs.heap.Debug.{keeps_rises};
-ghost use Rattle.wb_model.specs.heap.Row.{cell_at};
+ghost use Rattle.wb_heap_model.specs.Debug.{keeps_rises};
+ghost use Rattle.wb_heap_model.specs.Row.{cell_at};
 
 use crate::stop::Stop;
 use std::alloc::{AllocError, Global};
+use wb_basics::limits::CEILING;
+use wb_basics::memory::NoMemory;
 use wb_debug::DebugHeap;
-use wb_model::heap::{Gave, Kind, Ptr, Shape};
-use wb_model::limits::CEILING;
-use wb_model::memory::NoMemory;
+use wb_heap_model::heap::{Gave, Kind, Ptr, Shape};
 
 /// A call on a heap.
 #[derive(Clone, Copy)]

@@ -3,15 +3,15 @@
 //! which are printed last.
 
 ghost use Rattle.std.specs.Prelude.{IsTrue};
-ghost use Rattle.wb_model.specs.language.Sound.{is_script};
+ghost use Rattle.wb_tree.specs.Sound.{is_script};
 
 use crate::runs::{BUDGET, MOST_TURNS, SHAPE, copy, step};
 use crate::stop::Stop;
 use std::alloc::{AllocError, Global};
+use wb_basics::memory::NoMemory;
 use wb_machine::{Machine, Turn, run_rises};
-use wb_model::memory::NoMemory;
-use wb_model::run::RisesResult;
-use wb_model::script::Script;
+use wb_meaning::run::RisesResult;
+use wb_tree::script::Script;
 
 /// Runs a script, and then prints its rises.
 pub(crate) fn run_for_rises(rt: &HostRuntime, script: &Script) -> Result<(), Stop>

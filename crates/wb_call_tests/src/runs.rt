@@ -3,15 +3,15 @@
 //! changes another.
 
 ghost use Rattle.std.specs.Prelude.{IsTrue};
-ghost use Rattle.wb_model.specs.language.Sound.{is_script};
+ghost use Rattle.wb_tree.specs.Sound.{is_script};
 
 use crate::stop::Stop;
 use std::alloc::{AllocError, Global};
+use wb_basics::memory::NoMemory;
+use wb_heap_model::heap::{Rule, Shape};
 use wb_machine::{Finished, Heap, Machine, Turn};
-use wb_model::heap::{Rule, Shape};
-use wb_model::memory::NoMemory;
-use wb_model::run::{Outcome, RunResult};
-use wb_model::script::Script;
+use wb_meaning::run::{Outcome, RunResult};
+use wb_tree::script::Script;
 
 pub(crate) const BUDGET: u32 = 1000;
 

@@ -2,16 +2,16 @@
 //! and some that have a fault.
 
 ghost use Rattle.std.specs.Prelude.{IfOk, IsTrue};
-ghost use Rattle.wb_model.specs.language.Sound.{is_script};
+ghost use Rattle.wb_tree.specs.Sound.{is_script};
 
 use crate::objects::make_objects;
 use crate::rises_of_runs::run_for_rises;
 use crate::runs::run_script;
 use crate::stop::Stop;
 use std::alloc::Global;
-use wb_model::fault::ScriptFault;
-use wb_model::script::Script;
+use wb_language::fault::ScriptFault;
 use wb_script::read;
+use wb_tree::script::Script;
 
 /// A script with classes, an operation, calls, a TRAP, texts, settings and notes.
 static SCRIPT: &[u8] = b"class Item 4

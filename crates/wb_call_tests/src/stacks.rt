@@ -2,7 +2,7 @@
 
 ghost use Rattle.std.specs.Prelude.{◌≡◌, IfOk, IfSome};
 ghost use Rattle.wb_cleanup.specs.Stacks.{IsStack};
-ghost use Rattle.wb_model.specs.heap.Debug.{IsSoundDebug};
+ghost use Rattle.wb_heap_model.specs.Debug.{IsSoundDebug};
 
 use crate::calls;
 use crate::heaps::SHAPE;
@@ -10,10 +10,10 @@ use crate::lines::{show, write_gave, write_heap};
 use crate::stop::Stop;
 use std::alloc::{AllocError, Global};
 use std::marker::Model;
+use wb_basics::memory::NoMemory;
 use wb_cleanup::{Cleanup, Pushed};
 use wb_debug::DebugHeap;
-use wb_model::heap::{Gave, Item, Kind, Ptr, Rule};
-use wb_model::memory::NoMemory;
+use wb_heap_model::heap::{Gave, Item, Kind, Ptr, Rule};
 
 /// How many items are pushed before another cell is made behind the stack's cell.
 const FIRST: u32 = 9;
@@ -30,7 +30,7 @@ struct Stacked {
 
 impl Model for Stacked {
     ghost use Rattle.wb_call_tests.specs.Stacked.{IsStacked};
-    ghost use Rattle.wb_model.specs.heap.Debug.{Debug};
+    ghost use Rattle.wb_heap_model.specs.Debug.{Debug};
 
     ghost Value = { Debug };
 

@@ -1,7 +1,7 @@
 //! Why the calls end early.
 
 use std::io;
-use wb_model::memory::NoMemory;
+use wb_basics::memory::NoMemory;
 
 /// Why the calls end early.
 #[derive(Clone, Copy, Debug)]

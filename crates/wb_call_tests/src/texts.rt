@@ -1,18 +1,18 @@
 //! Texts that are made in cells and then get another maximum length, in place or by a move.
 
 ghost use Rattle.std.specs.Prelude.{◌≤◌, [], IfOk};
-ghost use Rattle.wb_model.specs.cells.TextCells.{IsGrantedText, IsRemadeText, IsTextAt, text_at};
+ghost use Rattle.wb_heap_model.specs.TextCells.{IsGrantedText, IsRemadeText, IsTextAt, text_at};
 
 use crate::calls;
 use crate::heaps::SHAPE;
 use crate::lines::{show, write_gave};
 use crate::stop::Stop;
 use std::alloc::AllocError;
+use wb_basics::limits::MOST_UNITS;
+use wb_basics::memory::NoMemory;
 use wb_debug::DebugHeap;
 use wb_hbuf::{length, make, max_len, remake, set_length};
-use wb_model::heap::{Gave, Kind, Ptr, Rule};
-use wb_model::limits::MOST_UNITS;
-use wb_model::memory::NoMemory;
+use wb_heap_model::heap::{Gave, Kind, Ptr, Rule};
 
 /// Makes texts, and then prints all that the heap shows.
 pub(crate) fn make_texts(rt: &HostRuntime) -> Result<(), Stop> {

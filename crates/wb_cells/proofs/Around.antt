@@ -2,10 +2,10 @@
 use Rattle.std.proofs.Common.{◌≡◌, ℕ, ◌+◌, ◌*◌, ◌/◌, ◌%◌, ◌<◌, ◌≤◌, ◌⊎◌, inl, inr, List, [], ◌∷◌, ◌++◌, length, slice_index, Bool, cond, refl, sym, ◌∙◌, ap, subst, arith, zero-add, add-zero, append_assoc}
 use Rattle.std.specs.Prelude.{nat_eq}
 use Rattle.std.proofs.lemmas.List.{append-nil, map-append}
-use Rattle.wb_model.specs.declared.heap.Header.{Header}
-use Rattle.wb_model.specs.declared.heap.Ptr.{Ptr}
-use Rattle.wb_model.specs.heap.Row.{Cell, headers, end_of, inserted, without, top_from}
-use Rattle.wb_model.specs.cells.CellRow.{resized_words, with_length}
+use Rattle.wb_heap_model.specs.declared.heap.Header.{Header}
+use Rattle.wb_heap_model.specs.declared.heap.Ptr.{Ptr}
+use Rattle.wb_heap_model.specs.Row.{Cell, headers, end_of, inserted, without, top_from}
+use Rattle.wb_heap_model.specs.CellRow.{resized_words, with_length}
 use Rattle.wb_cells.specs.FreeList.{end_at}
 use Rattle.wb_cells.specs.Holes.{touches}
 use Rattle.wb_cells.specs.Inside.{IsLaid}

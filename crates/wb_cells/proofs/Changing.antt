@@ -5,11 +5,11 @@ use Rattle.std.specs.List.{replace_range}
 use Rattle.std.proofs.Math.ListN.{set}
 use Rattle.std.proofs.lemmas.List.{get_or-append-add, set-append_right, get_or_append_left, set-append_left, map-append, length-drop, length-take-le}
 use Rattle.std.proofs.lemmas.Bool.{eq-eqb, ne_eqb, cond-true, false≢true}
-use Rattle.wb_model.specs.declared.heap.Ptr.{Ptr}
-use Rattle.wb_model.specs.declared.heap.Kind.{Kind}
-use Rattle.wb_model.specs.heap.Row.{Cell, headers, cell_at, changed}
-use Rattle.wb_model.specs.cells.CellRow.{CellRow, payload_of, content_or_nil, with_payload}
-use Rattle.wb_model.specs.cells.Spelling.{spelled}
+use Rattle.wb_heap_model.specs.declared.heap.Ptr.{Ptr}
+use Rattle.wb_heap_model.specs.declared.heap.Kind.{Kind}
+use Rattle.wb_heap_model.specs.Row.{Cell, headers, cell_at, changed}
+use Rattle.wb_heap_model.specs.CellRow.{CellRow, payload_of, content_or_nil, with_payload}
+use Rattle.wb_heap_model.specs.Spelling.{spelled}
 use Rattle.wb_cells.specs.FreeList.{NO_PLACE}
 use Rattle.wb_cells.specs.Inside.{cells_in, IsLaid}
 use Rattle.wb_cells.specs.Segments.{Segment, live, free, state_of, total, first_free, words_of, cell_from, row_from, starts_of, AreWhole, BeginsLive, AreMerged}

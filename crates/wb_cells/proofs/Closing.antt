@@ -6,10 +6,10 @@ use Rattle.std.proofs.lemmas.List.{append-nil, length-drop, replicate-append-rep
 use Rattle.std.proofs.lemmas.List.Kept.{AllPairs-filter}
 use Rattle.std.proofs.lemmas.Bool.{eq-eqb, ne_eqb, cases_eq}
 use Rattle.wb_chunk.specs.declared.TheConstants.{MOST_WORDS}
-use Rattle.wb_model.specs.declared.heap.Ptr.{Ptr}
-use Rattle.wb_model.specs.heap.Row.{Cell, headers, is_at, without}
-use Rattle.wb_model.specs.cells.Spelling.{spelled}
-use Rattle.wb_model.proofs.heaps.Rows.{headers-without}
+use Rattle.wb_heap_model.specs.declared.heap.Ptr.{Ptr}
+use Rattle.wb_heap_model.specs.Row.{Cell, headers, is_at, without}
+use Rattle.wb_heap_model.specs.Spelling.{spelled}
+use Rattle.wb_heap_model.proofs.Rows.{headers-without}
 use Rattle.wb_cells.specs.FreeList.{NO_PLACE, linked_words, linked_first}
 use Rattle.wb_cells.specs.declared.free_list.Hole.{Hole}
 use Rattle.wb_cells.specs.Holes.{closed_words, closed_ends}

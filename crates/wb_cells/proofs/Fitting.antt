@@ -2,12 +2,12 @@
 use Rattle.std.proofs.Common.{◌≡◌, ◌≢◌, ℕ, ◌+◌, ◌-◌, ◌*◌, ◌/◌, ◌%◌, ◌<◌, ◌≤◌, ◌⊎◌, inl, inr, List, [], ◌∷◌, length, slice_index, Bool, true, false, cond, Option, Some, None, find, refl, sym, ◌∙◌, ap, arith}
 use Rattle.std.specs.Prelude.{nat_eq, nat_le}
 use Rattle.std.proofs.lemmas.Bool.{eq-eqb, ne_eqb, leb-true, leb-false, cases_eq, cases_lt}
-use Rattle.wb_model.specs.declared.heap.Header.{Header}
-use Rattle.wb_model.specs.declared.heap.Ptr.{Ptr}
-use Rattle.wb_model.specs.cells.CellRow.{room_after}
-use Rattle.wb_model.specs.heap.Row.{IsSpacedFrom, end_of, is_at, place_from, top_from}
-use Rattle.wb_model.specs.heap.Space.{free_runs, longest}
-use Rattle.wb_model.proofs.heaps.Places.{top_from-above}
+use Rattle.wb_heap_model.specs.declared.heap.Header.{Header}
+use Rattle.wb_heap_model.specs.declared.heap.Ptr.{Ptr}
+use Rattle.wb_heap_model.specs.CellRow.{room_after}
+use Rattle.wb_heap_model.specs.Row.{IsSpacedFrom, end_of, is_at, place_from, top_from}
+use Rattle.wb_heap_model.specs.Space.{free_runs, longest}
+use Rattle.wb_heap_model.proofs.Places.{top_from-above}
 use Rattle.wb_cells.specs.Maxima.{IsFirstLong, IsThere}
 use Rattle.wb_cells.specs.RowGaps.{gap_from, found_or}
 use Rattle.wb_cells.proofs.RowGaps.{one_here, one_off, gap-below}

@@ -1,10 +1,10 @@
 -- First fit gives a gap of the row.
 use Rattle.std.proofs.Common.{◌≡◌, ℕ, suc, ◌+◌, ◌<◌, ◌⊎◌, inl, inr, List, [], ◌∷◌, Bool, true, false, cond, refl, arith, Any}
 use Rattle.std.specs.Prelude.{nat_le}
-use Rattle.wb_model.specs.declared.heap.Header.{Header}
-use Rattle.wb_model.specs.heap.Row.{IsSpacedFrom, end_of, place_from, place_of}
-use Rattle.wb_model.specs.cells.CellRow.{IsGap}
-use Rattle.wb_model.proofs.heaps.Places.{place_of-least}
+use Rattle.wb_heap_model.specs.declared.heap.Header.{Header}
+use Rattle.wb_heap_model.specs.Row.{IsSpacedFrom, end_of, place_from, place_of}
+use Rattle.wb_heap_model.specs.CellRow.{IsGap}
+use Rattle.wb_heap_model.proofs.Places.{place_of-least}
 
 any_later : (P : Header → Type 0) (h : Header) (hs : List Header) → Any P hs → Any P (h ∷ hs)
 any_later P h hs any = (suc any.0, any.1, omega (arith, any.2), any.3, any.4)

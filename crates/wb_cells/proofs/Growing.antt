@@ -2,7 +2,7 @@
 use Rattle.std.proofs.Common.{◌≡◌, ℕ, ◌+◌, ◌*◌, ◌%◌, ◌≤◌, List, [], ◌++◌, length, Bool, false, replicate, refl, sym, ◌∙◌, ap, subst, arith, append_assoc, length-append}
 use Rattle.std.proofs.lemmas.List.{append-nil, length-replicate, replicate-append-replicate}
 use Rattle.wb_chunk.specs.declared.TheConstants.{MOST_WORDS}
-use Rattle.wb_model.specs.cells.Spelling.{spelled}
+use Rattle.wb_heap_model.specs.Spelling.{spelled}
 use Rattle.wb_cells.specs.FreeList.{NO_PLACE}
 use Rattle.wb_cells.specs.Segments.{words_of}
 use Rattle.wb_cells.specs.Inside.{IsLaid}

@@ -2,11 +2,11 @@
 use Rattle.std.proofs.Common.{◌≡◌, ℕ, ◌+◌, ◌-◌, ◌*◌, ◌/◌, ◌%◌, ◌≤◌, List, [], ◌∷◌, ◌++◌, length, slice_set, Bool, true, false, cond, replicate, refl, sym, ◌∙◌, ap, arith, length-append}
 use Rattle.std.proofs.lemmas.List.{length-replicate}
 use Rattle.wb_chunk.specs.declared.TheConstants.{MOST_WORDS}
-use Rattle.wb_model.specs.declared.heap.Ptr.{Ptr}
-use Rattle.wb_model.specs.heap.Row.{Cell, headers, end_of, is_at}
-use Rattle.wb_model.specs.cells.CellRow.{with_level}
-use Rattle.wb_model.specs.cells.Spelling.{spelled}
-use Rattle.wb_model.proofs.heaps.Rows.{headers-changed}
+use Rattle.wb_heap_model.specs.declared.heap.Ptr.{Ptr}
+use Rattle.wb_heap_model.specs.Row.{Cell, headers, end_of, is_at}
+use Rattle.wb_heap_model.specs.CellRow.{with_level}
+use Rattle.wb_heap_model.specs.Spelling.{spelled}
+use Rattle.wb_heap_model.proofs.Rows.{headers-changed}
 use Rattle.wb_cells.specs.FreeList.{NO_PLACE}
 use Rattle.wb_cells.specs.Inside.{cells_in, IsIndexed}
 use Rattle.wb_cells.specs.RowGaps.{one_at, gap_from, AreGapsOf}

@@ -3,10 +3,10 @@ use Rattle.std.proofs.Common.{◌≡◌, ℕ, zero, suc, ◌+◌, ◌-◌, ◌*�
 use Rattle.std.specs.Prelude.{nat_lt, nat_le, nat_eq}
 use Rattle.std.proofs.lemmas.List.{length-replicate, take_at, drop_at}
 use Rattle.std.proofs.lemmas.Bool.{lt-ltb, le-leb, le-ltb, ne_eqb}
-use Rattle.wb_model.specs.declared.heap.Kind.{Kind}
-use Rattle.wb_model.specs.declared.heap.Kind.TheVariants.{Raw, Object, Text, Cleanup}
-use Rattle.wb_model.specs.heap.Row.{headers, top_from}
-use Rattle.wb_model.specs.cells.Spelling.{kind_of, cell_of, with_cell_if, spelled_from, spelled}
+use Rattle.wb_heap_model.specs.declared.heap.Kind.{Kind}
+use Rattle.wb_heap_model.specs.declared.heap.Kind.TheVariants.{Raw, Object, Text, Cleanup}
+use Rattle.wb_heap_model.specs.Row.{headers, top_from}
+use Rattle.wb_heap_model.specs.Spelling.{kind_of, cell_of, with_cell_if, spelled_from, spelled}
 use Rattle.wb_cells.specs.FreeList.{NO_PLACE}
 use Rattle.wb_cells.specs.Inside.{IsLaid}
 use Rattle.wb_cells.specs.Segments.{Segment, live, free, state_of, total, first_free, words_of, cell_from, row_from, starts_of, AreWhole, AreMerged}

@@ -4,10 +4,10 @@ use Rattle.std.specs.Prelude.{nat_eq}
 use Rattle.std.specs.List.{replace_range}
 use Rattle.std.proofs.lemmas.List.{append-nil, length-take, length-drop, length-replicate, take-append-drop, take_all, drop_all}
 use Rattle.std.proofs.lemmas.Bool.{eq-eqb, eqb-true, ne_eqb, and_parts, cases_lt}
-use Rattle.wb_model.specs.declared.heap.Ptr.{Ptr}
-use Rattle.wb_model.specs.declared.heap.Kind.{Kind}
-use Rattle.wb_model.specs.heap.Row.{Cell, headers, is_at}
-use Rattle.wb_model.specs.cells.CellRow.{FitsInPlace, Clears, resized_words, resized_cell, with_length}
+use Rattle.wb_heap_model.specs.declared.heap.Ptr.{Ptr}
+use Rattle.wb_heap_model.specs.declared.heap.Kind.{Kind}
+use Rattle.wb_heap_model.specs.Row.{Cell, headers, is_at}
+use Rattle.wb_heap_model.specs.CellRow.{FitsInPlace, Clears, resized_words, resized_cell, with_length}
 use Rattle.wb_cells.specs.Segments.{Segment, live, free, total, cell_from, row_from, BeginsLive}
 use Rattle.wb_cells.proofs.Changing.{before}
 use Rattle.wb_cells.proofs.Levels.{apart-same}

@@ -3,12 +3,12 @@ use Rattle.std.proofs.Common.{◌≡◌, ◌≢◌, ℕ, suc, ◌+◌, ◌-◌, 
 use Rattle.std.specs.Prelude.{nat_eq}
 use Rattle.std.proofs.lemmas.List.{set-append_right, get_or-map, length-map}
 use Rattle.std.proofs.lemmas.Bool.{eq-eqb, ne_eqb}
-use Rattle.wb_model.specs.declared.heap.Header.{Header}
-use Rattle.wb_model.specs.declared.heap.Ptr.{Ptr}
-use Rattle.wb_model.specs.declared.heap.Kind.{Kind}
-use Rattle.wb_model.specs.heap.Row.{Cell, headers, is_at}
-use Rattle.wb_model.specs.cells.CellRow.{CellRow, with_level}
-use Rattle.wb_model.specs.cells.Spelling.{spelled}
+use Rattle.wb_heap_model.specs.declared.heap.Header.{Header}
+use Rattle.wb_heap_model.specs.declared.heap.Ptr.{Ptr}
+use Rattle.wb_heap_model.specs.declared.heap.Kind.{Kind}
+use Rattle.wb_heap_model.specs.Row.{Cell, headers, is_at}
+use Rattle.wb_heap_model.specs.CellRow.{CellRow, with_level}
+use Rattle.wb_heap_model.specs.Spelling.{spelled}
 use Rattle.wb_cells.specs.FreeList.{NO_PLACE}
 use Rattle.wb_cells.specs.Inside.{cells_in, IsLaid}
 use Rattle.wb_cells.specs.Segments.{Segment, live, free, state_of, total, first_free, words_of, cell_from, row_from, starts_of, AreWhole, AreMerged}

@@ -3,12 +3,12 @@ use Rattle.std.proofs.Common.{◌≡◌, ◌≢◌, ℕ, ◌+◌, ◌-◌, ◌*�
 use Rattle.std.specs.Prelude.{nat_eq}
 use Rattle.std.proofs.lemmas.Bool.{eq-eqb, ne_eqb, cases_eq, cases_lt}
 use Rattle.std.proofs.lemmas.List.{length-set}
-use Rattle.wb_model.specs.declared.heap.Header.{Header}
-use Rattle.wb_model.specs.declared.heap.Ptr.{Ptr}
-use Rattle.wb_model.specs.heap.Row.{Cell, IsSpacedFrom, headers, end_of, inserted, without, place_of, top_from, top_of}
-use Rattle.wb_model.specs.cells.CellRow.{IsGap, room_after, with_length}
-use Rattle.wb_model.specs.heap.Space.{free_runs, longest}
-use Rattle.wb_model.specs.cells.Spelling.{spelled}
+use Rattle.wb_heap_model.specs.declared.heap.Header.{Header}
+use Rattle.wb_heap_model.specs.declared.heap.Ptr.{Ptr}
+use Rattle.wb_heap_model.specs.Row.{Cell, IsSpacedFrom, headers, end_of, inserted, without, place_of, top_from, top_of}
+use Rattle.wb_heap_model.specs.CellRow.{IsGap, room_after, with_length}
+use Rattle.wb_heap_model.specs.Space.{free_runs, longest}
+use Rattle.wb_heap_model.specs.Spelling.{spelled}
 use Rattle.wb_cells.specs.declared.free_list.Hole.{Hole}
 use Rattle.wb_cells.specs.FreeList.{Gap, Links, end_at}
 use Rattle.wb_cells.specs.Holes.{touches, hole_of, hole_past}

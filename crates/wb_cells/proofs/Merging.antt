@@ -4,7 +4,7 @@ use Rattle.std.specs.Prelude.{nat_eq}
 use Rattle.std.proofs.lemmas.List.{append-nil, get_or_at, get_or-append-add}
 use Rattle.std.proofs.lemmas.Bool.{eq-eqb, ne_eqb}
 use Rattle.wb_chunk.specs.declared.TheConstants.{MOST_WORDS}
-use Rattle.wb_model.specs.declared.heap.Kind.{Kind}
+use Rattle.wb_heap_model.specs.declared.heap.Kind.{Kind}
 use Rattle.wb_cells.specs.FreeList.{NO_PLACE, IsWithin, prior_place_or, end_at}
 use Rattle.wb_cells.specs.Holes.{touches}
 use Rattle.wb_cells.specs.Segments.{Segment, live, free, total, first_free, last_free, words_of, row_from, starts_of, AreWhole, BeginsLive, AreMerged}

@@ -3,11 +3,11 @@ use Rattle.std.proofs.Common.{◌≡◌, ℕ, ◌+◌, ◌*◌, ◌/◌, ◌≤�
 use Rattle.std.specs.Prelude.{nat_eq}
 use Rattle.std.proofs.lemmas.List.{get_or_at}
 use Rattle.std.proofs.lemmas.Bool.{eq-eqb, cond-true}
-use Rattle.wb_model.specs.declared.heap.Header.{Header}
-use Rattle.wb_model.specs.declared.heap.Ptr.{Ptr}
-use Rattle.wb_model.specs.heap.Row.{IsSpacedFrom, headers, end_of, is_at, cell_at}
-use Rattle.wb_model.specs.cells.Spelling.{spelled}
-use Rattle.wb_model.proofs.heaps.Rows.{head-cell_at}
+use Rattle.wb_heap_model.specs.declared.heap.Header.{Header}
+use Rattle.wb_heap_model.specs.declared.heap.Ptr.{Ptr}
+use Rattle.wb_heap_model.specs.Row.{IsSpacedFrom, headers, end_of, is_at, cell_at}
+use Rattle.wb_heap_model.specs.Spelling.{spelled}
+use Rattle.wb_heap_model.proofs.Rows.{head-cell_at}
 use Rattle.wb_cells.specs.Inside.{IsLaid}
 use Rattle.wb_cells.specs.Segments.{Segment, cell_from, row_from}
 use Rattle.wb_cells.proofs.Laying.{spelled-laid}

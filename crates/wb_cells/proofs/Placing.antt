@@ -3,10 +3,10 @@ use Rattle.std.proofs.Common.{◌≡◌, ◌≢◌, ℕ, suc, ◌+◌, ◌-◌, 
 use Rattle.std.specs.List.{replace_range}
 use Rattle.std.proofs.lemmas.List.{append-nil, length-drop, length-take-le, length-replicate, replicate-append-replicate, take-append-drop, length-set, set_at, drop_all}
 use Rattle.wb_chunk.specs.declared.TheConstants.{MOST_WORDS}
-use Rattle.wb_model.specs.declared.heap.Kind.{Kind}
-use Rattle.wb_model.specs.heap.Row.{Cell, headers, inserted}
-use Rattle.wb_model.specs.cells.Spelling.{spelled}
-use Rattle.wb_model.proofs.heaps.Rows.{numbered-inserted}
+use Rattle.wb_heap_model.specs.declared.heap.Kind.{Kind}
+use Rattle.wb_heap_model.specs.Row.{Cell, headers, inserted}
+use Rattle.wb_heap_model.specs.Spelling.{spelled}
+use Rattle.wb_heap_model.proofs.Rows.{numbered-inserted}
 use Rattle.wb_cells.specs.FreeList.{NO_PLACE}
 use Rattle.wb_cells.specs.Inside.{IsLaid}
 use Rattle.wb_cells.specs.Segments.{Segment, live, state_of, total, first_free, words_of, cell_from, row_from, starts_of, AreWhole, AreMerged}

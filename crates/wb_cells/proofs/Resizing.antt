@@ -3,10 +3,10 @@ use Rattle.std.proofs.Common.{◌≡◌, ◌≢◌, ℕ, ◌+◌, ◌-◌, ◌*�
 use Rattle.std.specs.Prelude.{nat_eq}
 use Rattle.std.specs.List.{replace_range}
 use Rattle.std.proofs.lemmas.List.{append-nil, length-drop, length-replicate, length-set, replicate-append-replicate, set_at}
-use Rattle.wb_model.specs.declared.heap.Ptr.{Ptr}
-use Rattle.wb_model.specs.heap.Row.{Cell, headers, cell_at}
-use Rattle.wb_model.specs.cells.Spelling.{spelled}
-use Rattle.wb_model.specs.cells.CellRow.{FitsInPlace, resized_words, with_length}
+use Rattle.wb_heap_model.specs.declared.heap.Ptr.{Ptr}
+use Rattle.wb_heap_model.specs.Row.{Cell, headers, cell_at}
+use Rattle.wb_heap_model.specs.Spelling.{spelled}
+use Rattle.wb_heap_model.specs.CellRow.{FitsInPlace, resized_words, with_length}
 use Rattle.wb_cells.specs.FreeList.{NO_PLACE, end_at}
 use Rattle.wb_cells.specs.Holes.{hole_past, closed_words, closed_ends}
 use Rattle.wb_cells.specs.declared.free_list.Hole.{Hole}

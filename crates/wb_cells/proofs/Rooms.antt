@@ -1,10 +1,10 @@
 -- Room for a new cell among the segments: where a gap of the row is, in a free segment or above the last.
 use Rattle.std.proofs.Common.{◌≡◌, ◌≢◌, ℕ, zero, suc, ◌+◌, ◌*◌, ◌<◌, ◌≤◌, ◌⊎◌, inl, inr, List, [], ◌∷◌, ◌++◌, length, slice_index_or, refl, sym, ◌∙◌, ap, subst, arith, zero-add, add-zero, append_assoc, Any}
 use Rattle.std.proofs.lemmas.Bool.{le-ltb, lt-ltb}
-use Rattle.wb_model.specs.declared.heap.Kind.{Kind}
-use Rattle.wb_model.specs.declared.heap.Header.{Header}
-use Rattle.wb_model.specs.heap.Row.{Cell, headers, end_of, inserted, IsFree, Misses}
-use Rattle.wb_model.specs.cells.CellRow.{IsGap}
+use Rattle.wb_heap_model.specs.declared.heap.Kind.{Kind}
+use Rattle.wb_heap_model.specs.declared.heap.Header.{Header}
+use Rattle.wb_heap_model.specs.Row.{Cell, headers, end_of, inserted, IsFree, Misses}
+use Rattle.wb_heap_model.specs.CellRow.{IsGap}
 use Rattle.wb_cells.specs.Segments.{Segment, live, free, total, cell_from, row_from, BeginsLive, AreMerged}
 use Rattle.wb_cells.proofs.Laying.{total-append}
 

@@ -3,9 +3,9 @@ use Rattle.std.proofs.Common.{◌≡◌, ◌≢◌, ℕ, ◌+◌, ◌-◌, ◌*�
 use Rattle.std.specs.Prelude.{nat_eq}
 use Rattle.std.proofs.lemmas.Bool.{eq-eqb, ne_eqb, cases_eq, cases_lt}
 use Rattle.std.proofs.lemmas.List.{get_or-set_same, get_or-set_other, get_or_past, length-set}
-use Rattle.wb_model.specs.declared.heap.Header.{Header}
-use Rattle.wb_model.specs.heap.Row.{IsSpacedFrom, end_of, top_from}
-use Rattle.wb_model.proofs.heaps.Places.{top_from-above}
+use Rattle.wb_heap_model.specs.declared.heap.Header.{Header}
+use Rattle.wb_heap_model.specs.Row.{IsSpacedFrom, end_of, top_from}
+use Rattle.wb_heap_model.proofs.Places.{top_from-above}
 use Rattle.wb_cells.specs.RowGaps.{one_at, gap_from}
 
 pub one_here : (place length k : ℕ) → 16 * k ≡ place → one_at place length k ≡ length

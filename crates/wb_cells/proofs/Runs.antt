@@ -3,7 +3,7 @@ use Rattle.std.proofs.Common.{◌≡◌, ℕ, zero, suc, ◌+◌, ◌-◌, ◌*�
 use Rattle.std.proofs.lemmas.List.{get_or-append-add, set-append_right, get_or_append_left, set-append_left}
 use Rattle.wb_chunk.specs.Halves.{half_of, halves_from, with_half, with_halves}
 use Rattle.wb_chunk.proofs.WrittenHalves.{length-with_halves}
-use Rattle.wb_model.specs.declared.heap.Ptr.{Ptr}
+use Rattle.wb_heap_model.specs.declared.heap.Ptr.{Ptr}
 use Rattle.wb_cells.specs.Segments.{Segment, state_of}
 use Rattle.wb_cells.proofs.Changing.{IsCell, before, after, length-before, word_of-payload, Holds}
 use Rattle.wb_cells.proofs.Halving.{mixed, half_of-at, with_half-at}

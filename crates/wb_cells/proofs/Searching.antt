@@ -3,9 +3,9 @@ use Rattle.std.proofs.Common.{◌≡◌, ℕ, suc, ◌+◌, ◌*◌, ◌/◌, �
 use Rattle.std.specs.Prelude.{nat_le}
 use Rattle.std.proofs.lemmas.List.{append-nil, map-append, get_or-append-add, get_or_append_left, get_or_past, length-replicate}
 use Rattle.std.proofs.lemmas.Bool.{le-leb, leb-true, cases_lt, false≢true}
-use Rattle.wb_model.specs.declared.heap.Header.{Header}
-use Rattle.wb_model.specs.heap.Row.{headers}
-use Rattle.wb_model.specs.heap.LimitedHeap.{next_live_of}
+use Rattle.wb_heap_model.specs.declared.heap.Header.{Header}
+use Rattle.wb_heap_model.specs.Row.{headers}
+use Rattle.wb_heap_model.specs.LimitedHeap.{next_live_of}
 use Rattle.wb_cells.specs.Inside.{IsLaid}
 use Rattle.wb_cells.specs.Segments.{Segment, live, free, total, cell_from, row_from, starts_of, AreWhole}
 use Rattle.wb_cells.proofs.Laying.{row_from-append, starts_of-append, length-starts_of, whole_front}

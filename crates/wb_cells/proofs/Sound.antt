@@ -1,8 +1,8 @@
 -- Segments are a row.
 use Rattle.std.proofs.Common.{◌≡◌, ℕ, ◌+◌, ◌*◌, ◌%◌, ◌≤◌, List, [], ◌∷◌, length, Bool, refl, sym, ap, subst, arith, length-append, All}
 use Rattle.std.proofs.lemmas.List.Elements.{All-nil, All-cons}
-use Rattle.wb_model.specs.heap.Row.{Cell, IsRow, IsSpacedFrom, headers, top_of, usable_of}
-use Rattle.wb_model.specs.cells.CellRow.{CellRow, IsSoundCells}
+use Rattle.wb_heap_model.specs.Row.{Cell, IsRow, IsSpacedFrom, headers, top_of, usable_of}
+use Rattle.wb_heap_model.specs.CellRow.{CellRow, IsSoundCells}
 use Rattle.wb_cells.specs.FreeList.{NO_PLACE}
 use Rattle.wb_cells.specs.Inside.{IsLaid, cells_in}
 use Rattle.wb_cells.specs.Segments.{Segment, live, free, words_of, cell_from, row_from, AreWhole}

@@ -2,11 +2,11 @@
 use Rattle.std.proofs.Common.{◌≡◌, ◌≢◌, ℕ, ◌+◌, ◌-◌, ◌*◌, ◌/◌, ◌%◌, ◌<◌, ◌≤◌, ◌⊎◌, inl, inr, List, ◌∷◌, ◌++◌, length, Bool, replicate, sym, ◌∙◌, ap, subst, arith}
 use Rattle.std.proofs.lemmas.Bool.{cases_eq}
 use Rattle.std.proofs.lemmas.List.{length-replicate}
-use Rattle.wb_model.specs.declared.heap.Header.{Header}
-use Rattle.wb_model.specs.heap.Row.{Cell, headers, inserted}
-use Rattle.wb_model.specs.cells.CellRow.{CellRow, IsGap}
-use Rattle.wb_model.specs.heap.LimitedHeap.{zero_words}
-use Rattle.wb_model.specs.cells.Spelling.{spelled}
+use Rattle.wb_heap_model.specs.declared.heap.Header.{Header}
+use Rattle.wb_heap_model.specs.Row.{Cell, headers, inserted}
+use Rattle.wb_heap_model.specs.CellRow.{CellRow, IsGap}
+use Rattle.wb_heap_model.specs.LimitedHeap.{zero_words}
+use Rattle.wb_heap_model.specs.Spelling.{spelled}
 use Rattle.wb_cells.specs.declared.free_list.Ends.{Ends}
 use Rattle.wb_cells.specs.FreeList.{Gap, Links, AreBelow, AreFrom, last_place}
 use Rattle.wb_cells.specs.Holes.{IsOpenable, IsOpened, IsRaised}

@@ -2,9 +2,9 @@
 -- are those of the free cells.
 use Rattle.std.specs.Prelude.{ℕ, ◌*◌, ◌%◌, ◌≡◌, ◌≢◌, ◌≤◌, List, ◌++◌, Bool, false, length, replicate, AllPairs}
 use Rattle.wb_chunk.specs.declared.TheConstants.{MOST_WORDS}
-use Rattle.wb_model.specs.cells.CellRow.{CellRow}
-use Rattle.wb_model.specs.heap.Row.{headers}
-use Rattle.wb_model.specs.cells.Spelling.{spelled}
+use Rattle.wb_heap_model.specs.CellRow.{CellRow}
+use Rattle.wb_heap_model.specs.Row.{headers}
+use Rattle.wb_heap_model.specs.Spelling.{spelled}
 use Rattle.wb_cells.specs.FreeList.{NO_PLACE}
 use Rattle.wb_cells.specs.RowGaps.{AreGapsOf}
 use Rattle.wb_cells.specs.Segments.{Segment, total, first_free, words_of, row_from, starts_of, AreWhole, AreMerged}

@@ -1,7 +1,7 @@
 -- The free cells of a row: the bytes between its live cells, and the list of them.
 use Rattle.std.specs.Prelude.{ℕ, ◌+◌, ◌-◌, ◌*◌, ◌/◌, ◌%◌, ◌≡◌, ◌<◌, List, [], ◌∷◌, nat_eq, slice_index, slice_set, Option, Some, None, if◌then◌else◌}
-use Rattle.wb_model.specs.declared.heap.Header.{Header}
-use Rattle.wb_model.specs.heap.Row.{Cell, headers, end_of}
+use Rattle.wb_heap_model.specs.declared.heap.Header.{Header}
+use Rattle.wb_heap_model.specs.Row.{Cell, headers, end_of}
 use Rattle.wb_cells.specs.declared.free_list.Hole.{Hole}
 use Rattle.wb_cells.specs.FreeList.{Gap, NO_PLACE}
 use Rattle.wb_cells.specs.Maxima.{IsLast}

@@ -6,7 +6,7 @@ ghost use Rattle.wb_cells.specs.Bits.{IsLastIn, IsLastOn, IsNext, IsWithBit};
 
 use std::alloc::{AllocError, Global};
 use std::marker::Model;
-use wb_model::limits::CEILING;
+use wb_basics::limits::CEILING;
 
 /// How many places of 16 bytes a chunk may have at most, and so how many bits a list may have.
 pub const MOST_PLACES: u32 = CEILING / 16;

@@ -4,11 +4,11 @@
 ghost use Rattle.std.specs.Prelude.{◌≡◌, ◌≢◌, ◌+◌, ◌*◌, ◌%◌, ◌<◌, ◌≤◌, [], ◌++◌, max, true, length, take, drop, slice_index};
 ghost use Rattle.std.specs.Prelude.{slice_set, All, IfOk, OnOk, OnErr, option_map, IsOk, IsSome};
 ghost use Rattle.wb_chunk.specs.Halves.{half_of, with_half};
-ghost use Rattle.wb_model.specs.cells.CellRow.{CellRow, FitsInPlace, IsGap, IsSoundCells, payload_of, room_after};
-ghost use Rattle.wb_model.specs.cells.CellRow.{with_length, with_level, with_payload};
-ghost use Rattle.wb_model.specs.heap.LimitedHeap.{next_live_of, zero_words};
-ghost use Rattle.wb_model.specs.heap.Space.{free_runs, longest};
-ghost use Rattle.wb_model.specs.heap.Row.{IsLeastPlace, cell_at, headers, inserted, place_of, top_of, without};
+ghost use Rattle.wb_heap_model.specs.CellRow.{CellRow, FitsInPlace, IsGap, IsSoundCells, payload_of, room_after};
+ghost use Rattle.wb_heap_model.specs.CellRow.{with_length, with_level, with_payload};
+ghost use Rattle.wb_heap_model.specs.LimitedHeap.{next_live_of, zero_words};
+ghost use Rattle.wb_heap_model.specs.Space.{free_runs, longest};
+ghost use Rattle.wb_heap_model.specs.Row.{IsLeastPlace, cell_at, headers, inserted, place_of, top_of, without};
 
 use crate::bits::Bits;
 use crate::free_list::{self, Ends};
@@ -16,10 +16,10 @@ use crate::gap_index::GapIndex;
 use crate::layout::{self, NONE};
 use std::alloc::Global;
 use std::marker::Model;
+use wb_basics::limits::CEILING;
+use wb_basics::memory::NoMemory;
 use wb_chunk::Chunk;
-use wb_model::heap::{Header, Ptr};
-use wb_model::limits::CEILING;
-use wb_model::memory::NoMemory;
+use wb_heap_model::heap::{Header, Ptr};
 
 /// Cells end to end in a chunk of words, from place 0 up to the end of the last live cell. Contracts see the row of live cells that the
 /// words spell, and how many bytes are held. Places and lengths are in bytes; a place is a multiple of 16.
@@ -49,7 +49,7 @@ impl Drop for Cells {
 }
 
 impl Model for Cells {
-    ghost use Rattle.wb_model.specs.cells.CellRow.{CellRow};
+    ghost use Rattle.wb_heap_model.specs.CellRow.{CellRow};
     ghost use Rattle.wb_cells.specs.Inside.{cells_in, IsIndexed};
 
     ghost Value = { CellRow };

@@ -10,8 +10,8 @@ ghost use Rattle.wb_cells.specs.Holes.{IsOpenable, IsOpened, IsRaised, hole_of, 
 
 use crate::gap_index::GapIndex;
 use crate::layout::{self, NONE};
+use wb_basics::limits::CEILING;
 use wb_chunk::Chunk;
-use wb_model::limits::CEILING;
 
 /// The places of the free cells on both sides of a place; each is NONE if there is no such cell.
 #[derive(Clone, Copy, Debug)]

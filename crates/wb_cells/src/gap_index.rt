@@ -13,7 +13,7 @@ use crate::maxima::{self, SPAN};
 use crate::numbers::Numbers;
 use std::alloc::{AllocError, Global};
 use std::marker::Model;
-use wb_model::limits::CEILING;
+use wb_basics::limits::CEILING;
 
 /// For each place of 16 bytes, the length in bytes of the free cell that begins there, or 0 if none does. This is a list that grows at its
 /// end; its indexes are places, counted in steps of 16 bytes.

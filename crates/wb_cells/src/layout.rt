@@ -4,13 +4,13 @@
 ghost use Rattle.std.specs.Prelude.{◌≡◌, ◌+◌, ◌*◌, ◌/◌, ◌<◌, ◌≤◌, ◌-◌, [], ◌∷◌, ◌++◌, length, drop, replicate};
 ghost use Rattle.std.specs.Prelude.{slice_index, Some, IsOk, OnOk, OnErr};
 ghost use Rattle.std.specs.List.{replace_range};
-ghost use Rattle.wb_model.specs.cells.Spelling.{header_at, kind_of};
+ghost use Rattle.wb_heap_model.specs.Spelling.{header_at, kind_of};
 ghost use Rattle.wb_cells.specs.Segments.{state_of};
 ghost use Rattle.wb_cells.specs.States.{IsState};
 
 use std::alloc::AllocError;
 use wb_chunk::{Chunk, MOST_WORDS};
-use wb_model::heap::{Header, Kind};
+use wb_heap_model::heap::{Header, Kind};
 
 /// The link of the last free cell, which says that no other follows.
 pub const NONE: u32 = 0xffff_ffff;

@@ -2,8 +2,8 @@
 #![tactic(auto)]
 
 pub use cells::Cells;
-pub use wb_model::heap::{Header, Ptr};
-pub use wb_model::memory::NoMemory;
+pub use wb_basics::memory::NoMemory;
+pub use wb_heap_model::heap::{Header, Ptr};
 
 mod bits;
 mod blocks;

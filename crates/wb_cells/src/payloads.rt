@@ -2,12 +2,12 @@
 
 ghost use Rattle.std.specs.Prelude.{◌≡◌, ◌+◌, ◌*◌, ◌≤◌, length, replicate, IsSome};
 ghost use Rattle.wb_chunk.specs.Halves.{halves_from, with_halves};
-ghost use Rattle.wb_model.specs.cells.CellRow.{IsSoundCells, payload_of, with_payload};
-ghost use Rattle.wb_model.specs.heap.Row.{cell_at};
+ghost use Rattle.wb_heap_model.specs.CellRow.{IsSoundCells, payload_of, with_payload};
+ghost use Rattle.wb_heap_model.specs.Row.{cell_at};
 
 use crate::cells::Cells;
 use crate::layout;
-use wb_model::heap::Ptr;
+use wb_heap_model::heap::Ptr;
 
 impl Cells {
     /// Zeroes the `n` halves of a payload from index `i` on, and changes nothing else.

@@ -4,26 +4,26 @@ use Rattle.std.specs.Prelude.{IfSome}
 use Rattle.std.proofs.lemmas.Bool.{lt-ltb, le-ltb}
 use Rattle.std.proofs.lemmas.List.{length-replicate, take_all, take-append-le}
 use Rattle.std.proofs.lemmas.List.Elements.{All-nil}
-use Rattle.wb_model.specs.declared.limits.TheConstants.{CEILING}
-use Rattle.wb_model.specs.declared.heap.Ptr.{Ptr}
-use Rattle.wb_model.specs.declared.heap.Kind.TheVariants.{Cleanup as CleanupKind}
-use Rattle.wb_model.specs.declared.heap.Rule.{Rule}
-use Rattle.wb_model.specs.declared.heap.Answer.{Answer}
-use Rattle.wb_model.specs.declared.heap.Answer.TheVariants.{Granted, Simulated, Refused}
-use Rattle.wb_model.specs.declared.heap.Gave.{Gave}
-use Rattle.wb_model.specs.declared.heap.Gave.TheVariants as G
-use Rattle.wb_model.specs.heap.Placement.{place_to_put}
-use Rattle.wb_model.specs.heap.Row.{Cell, headers, cell_at, cell_length, end_of, inserted, place_of, pointer_to, without}
-use Rattle.wb_model.specs.cells.CellRow.{resized_words}
-use Rattle.wb_model.specs.cells.CleanupCells.{IsItem, IsCleanup, IsCleanupAt}
-use Rattle.wb_model.specs.heap.Rules.{Request, answer_to, refusal_of, unless_refused}
-use Rattle.wb_model.specs.heap.Heap.{alloc_request, new_cell, after_alloc, realloc_request, moved, after_realloc}
-use Rattle.wb_model.specs.heap.LimitedHeap.{zero_words}
-use Rattle.wb_model.specs.heap.Space.{limit_under}
-use Rattle.wb_model.specs.heap.Debug.{Debug, IsLiveIn, Made, IsSoundDebug, made_by, answer_in, number_of_next, alloc_made, longer_made, shorter_made, realloc_made}
-use Rattle.wb_model.proofs.heaps.LimitedHeaps.{limit_under-ceiling}
-use Rattle.wb_model.proofs.heaps.NewCells.{found-inserted}
-use Rattle.wb_model.proofs.heaps.Reallocations.{found-all, found-head, length-resized}
+use Rattle.wb_basics.specs.declared.limits.TheConstants.{CEILING}
+use Rattle.wb_heap_model.specs.declared.heap.Ptr.{Ptr}
+use Rattle.wb_heap_model.specs.declared.heap.Kind.TheVariants.{Cleanup as CleanupKind}
+use Rattle.wb_heap_model.specs.declared.heap.Rule.{Rule}
+use Rattle.wb_heap_model.specs.declared.heap.Answer.{Answer}
+use Rattle.wb_heap_model.specs.declared.heap.Answer.TheVariants.{Granted, Simulated, Refused}
+use Rattle.wb_heap_model.specs.declared.heap.Gave.{Gave}
+use Rattle.wb_heap_model.specs.declared.heap.Gave.TheVariants as G
+use Rattle.wb_heap_model.specs.Placement.{place_to_put}
+use Rattle.wb_heap_model.specs.Row.{Cell, headers, cell_at, cell_length, end_of, inserted, place_of, pointer_to, without}
+use Rattle.wb_heap_model.specs.CellRow.{resized_words}
+use Rattle.wb_heap_model.specs.CleanupCells.{IsItem, IsCleanup, IsCleanupAt}
+use Rattle.wb_heap_model.specs.Rules.{Request, answer_to, refusal_of, unless_refused}
+use Rattle.wb_heap_model.specs.Heap.{alloc_request, new_cell, after_alloc, realloc_request, moved, after_realloc}
+use Rattle.wb_heap_model.specs.LimitedHeap.{zero_words}
+use Rattle.wb_heap_model.specs.Space.{limit_under}
+use Rattle.wb_heap_model.specs.Debug.{Debug, IsLiveIn, Made, IsSoundDebug, made_by, answer_in, number_of_next, alloc_made, longer_made, shorter_made, realloc_made}
+use Rattle.wb_heap_model.proofs.LimitedHeaps.{limit_under-ceiling}
+use Rattle.wb_heap_model.proofs.NewCells.{found-inserted}
+use Rattle.wb_heap_model.proofs.Reallocations.{found-all, found-head, length-resized}
 use Rattle.wb_cleanup.specs.declared.cleanup.Cleanup.{Cleanup}
 use Rattle.wb_cleanup.specs.Pushes.{cell_by, growth, remade, slots_by}
 use Rattle.wb_cleanup.specs.Stacks.{IsStack, cell_of, slots_of, count_of, items_of}

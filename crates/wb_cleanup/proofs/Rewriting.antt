@@ -1,11 +1,11 @@
 -- The words of one cell are written one after another.
 use Rattle.std.proofs.Common.{◌≡◌, ℕ, ◌+◌, ◌≤◌, List, [], ◌∷◌, length, slice_set, Option, Some, None, refl, sym, ap, ◌∙◌, arith}
 use Rattle.std.proofs.lemmas.List.{length-set}
-use Rattle.wb_model.specs.declared.heap.Ptr.{Ptr}
-use Rattle.wb_model.specs.heap.Row.{Cell, cell_at}
-use Rattle.wb_model.specs.cells.CellRow.{content_or_nil, payload_of, with_payload}
-use Rattle.wb_model.specs.heap.Debug.{Debug, debug_changed, with_row}
-use Rattle.wb_model.proofs.heaps.TextCellsHeap.{found-changed, changed-same, changed-twice}
+use Rattle.wb_heap_model.specs.declared.heap.Ptr.{Ptr}
+use Rattle.wb_heap_model.specs.Row.{Cell, cell_at}
+use Rattle.wb_heap_model.specs.CellRow.{content_or_nil, payload_of, with_payload}
+use Rattle.wb_heap_model.specs.Debug.{Debug, debug_changed, with_row}
+use Rattle.wb_heap_model.proofs.TextCellsHeap.{found-changed, changed-same, changed-twice}
 use Rattle.wb_cleanup.specs.Slots.{with_words}
 use Rattle.wb_cleanup.proofs.SlotWords.{set-four}
 

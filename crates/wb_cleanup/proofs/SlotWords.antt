@@ -3,10 +3,10 @@ use Rattle.std.proofs.Common.{◌≡◌, ℕ, zero, suc, ◌+◌, ◌*◌, ◌�
 use Rattle.std.proofs.Math.Seq.{take-append-add}
 use Rattle.std.proofs.lemmas.List.{length-take-le, length-drop, take-take, take_at, drop-drop, drop-take, drop_at}
 use Rattle.std.proofs.Math.Numerals.{unary_clauses}
-use Rattle.wb_model.specs.declared.heap.Ptr.{Ptr}
-use Rattle.wb_model.specs.declared.heap.Item.{Item}
-use Rattle.wb_model.specs.declared.heap.Item.TheVariants.{Free, Delete, Call}
-use Rattle.wb_model.specs.cells.CleanupCells.{slot_words, items_words}
+use Rattle.wb_heap_model.specs.declared.heap.Ptr.{Ptr}
+use Rattle.wb_heap_model.specs.declared.heap.Item.{Item}
+use Rattle.wb_heap_model.specs.declared.heap.Item.TheVariants.{Free, Delete, Call}
+use Rattle.wb_heap_model.specs.CleanupCells.{slot_words, items_words}
 use Rattle.wb_cleanup.specs.Slots.{with_words, words_of_slot}
 
 -- four words that are written one after another

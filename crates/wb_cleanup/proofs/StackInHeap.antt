@@ -4,15 +4,15 @@ use Rattle.std.specs.Prelude.{unwrap_or}
 use Rattle.std.proofs.lemmas.Bool.{le-leb, leb-true}
 use Rattle.std.proofs.lemmas.List.{length-take-le}
 use Rattle.std.proofs.lemmas.List.Elements.{All-append, All-cons, All-nil, All-take}
-use Rattle.wb_model.specs.declared.limits.TheConstants.{CEILING}
-use Rattle.wb_model.specs.declared.heap.Item.{Item}
-use Rattle.wb_model.specs.heap.Row.{cell_at}
-use Rattle.wb_model.specs.cells.CellRow.{content_or_nil, payload_of}
-use Rattle.wb_model.specs.cells.CleanupCells.{slot_words, IsItem, IsCleanup, IsCleanupAt, items_in}
-use Rattle.wb_model.specs.heap.Debug.{Debug, debug_changed}
-use Rattle.wb_model.specs.meaning.Statements.{newest}
-use Rattle.wb_model.proofs.heaps.CleanupCells.{cleanup-read}
-use Rattle.wb_model.proofs.heaps.TextCellsHeap.{found-changed}
+use Rattle.wb_basics.specs.declared.limits.TheConstants.{CEILING}
+use Rattle.wb_heap_model.specs.declared.heap.Item.{Item}
+use Rattle.wb_heap_model.specs.Row.{cell_at}
+use Rattle.wb_heap_model.specs.CellRow.{content_or_nil, payload_of}
+use Rattle.wb_heap_model.specs.CleanupCells.{slot_words, IsItem, IsCleanup, IsCleanupAt, items_in}
+use Rattle.wb_heap_model.specs.Debug.{Debug, debug_changed}
+use Rattle.wb_heap_model.specs.Pointers.{newest}
+use Rattle.wb_heap_model.proofs.CleanupCells.{cleanup-read}
+use Rattle.wb_heap_model.proofs.TextCellsHeap.{found-changed}
 use Rattle.wb_cleanup.specs.declared.cleanup.Cleanup.{Cleanup}
 use Rattle.wb_cleanup.specs.Slots.{with_words, words_of_slot}
 use Rattle.wb_cleanup.specs.Stacks.{has_above, newest_above, IsStack, IsPopped, cell_of, slots_of, count_of, items_of, all_but}

@@ -1,12 +1,12 @@
 -- What a push leaves: the item, and in the heap the growth of a stack that it fills.
 use Rattle.std.specs.Prelude.{◌≡◌, ◌≢◌, ℕ, ◌+◌, ◌*◌, ◌<◌, ◌⊎◌, List, [], ◌∷◌, ◌++◌, Bool, true, false, nat_eq, if◌then◌else◌, Option, Some, None, length}
-use Rattle.wb_model.specs.declared.heap.Ptr.{Ptr}
-use Rattle.wb_model.specs.declared.heap.Item.{Item}
-use Rattle.wb_model.specs.declared.heap.Gave.{Gave}
-use Rattle.wb_model.specs.declared.heap.Gave.TheVariants as G
-use Rattle.wb_model.specs.heap.Row.{Cell, cell_at}
-use Rattle.wb_model.specs.cells.CellRow.{payload_of}
-use Rattle.wb_model.specs.heap.Debug.{Debug, Made, debug_changed, realloc_made}
+use Rattle.wb_heap_model.specs.declared.heap.Ptr.{Ptr}
+use Rattle.wb_heap_model.specs.declared.heap.Item.{Item}
+use Rattle.wb_heap_model.specs.declared.heap.Gave.{Gave}
+use Rattle.wb_heap_model.specs.declared.heap.Gave.TheVariants as G
+use Rattle.wb_heap_model.specs.Row.{Cell, cell_at}
+use Rattle.wb_heap_model.specs.CellRow.{payload_of}
+use Rattle.wb_heap_model.specs.Debug.{Debug, Made, debug_changed, realloc_made}
 use Rattle.wb_cleanup.specs.declared.cleanup.Cleanup.{Cleanup}
 use Rattle.wb_cleanup.specs.declared.cleanup.Pushed.{Pushed}
 use Rattle.wb_cleanup.specs.declared.cleanup.Pushed.TheVariants.{Fine, Leave, Ceiling}

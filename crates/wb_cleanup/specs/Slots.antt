@@ -1,7 +1,7 @@
 -- One slot of the cleanup stack among the words of its cell.
 use Rattle.std.specs.Prelude.{◌≡◌, ℕ, ◌+◌, ◌*◌, ◌^◌, ◌<◌, ◌≤◌, List, ◌++◌, length, take, drop}
-use Rattle.wb_model.specs.declared.heap.Item.{Item}
-use Rattle.wb_model.specs.cells.CleanupCells.{slot_words, IsItem}
+use Rattle.wb_heap_model.specs.declared.heap.Item.{Item}
+use Rattle.wb_heap_model.specs.CleanupCells.{slot_words, IsItem}
 
 -- words in place of as many others, from a place on
 abbrev pub with_words : ℕ → List ℕ → List ℕ → List ℕ

@@ -1,15 +1,14 @@
 -- The cleanup stack as the list of its items, which are in a cell of a heap.
 use Rattle.std.specs.Prelude.{◌≡◌, ℕ, ◌+◌, ◌-◌, ◌*◌, ◌≤◌, List, [], Bool, nat_le, if◌then◌else◌, Option, Some, None, length, take, unwrap_or}
-use Rattle.wb_model.specs.declared.heap.TheConstants.Panic.{POP_BELOW_TRAP, ANOTHER_ITEM_ON_TOP}
-use Rattle.wb_model.specs.declared.limits.TheConstants.{CEILING}
-use Rattle.wb_model.specs.declared.heap.Ptr.{Ptr}
-use Rattle.wb_model.specs.declared.heap.Item.{Item}
-use Rattle.wb_model.specs.declared.heap.Panic.{Panic}
-use Rattle.wb_model.specs.cells.CellRow.{payload_of}
-use Rattle.wb_model.specs.cells.CleanupCells.{IsCleanupAt, items_in}
-use Rattle.wb_model.specs.heap.Debug.{Debug}
-use Rattle.wb_model.specs.meaning.Reading.{is_same_pointer}
-use Rattle.wb_model.specs.meaning.Statements.{item_pointer, newest}
+use Rattle.wb_heap_model.specs.declared.heap.TheConstants.Panic.{POP_BELOW_TRAP, ANOTHER_ITEM_ON_TOP}
+use Rattle.wb_basics.specs.declared.limits.TheConstants.{CEILING}
+use Rattle.wb_heap_model.specs.declared.heap.Ptr.{Ptr}
+use Rattle.wb_heap_model.specs.declared.heap.Item.{Item}
+use Rattle.wb_heap_model.specs.declared.heap.Panic.{Panic}
+use Rattle.wb_heap_model.specs.CellRow.{payload_of}
+use Rattle.wb_heap_model.specs.CleanupCells.{IsCleanupAt, items_in}
+use Rattle.wb_heap_model.specs.Debug.{Debug}
+use Rattle.wb_heap_model.specs.Pointers.{is_same_pointer, item_pointer, newest}
 use Rattle.wb_cleanup.specs.declared.cleanup.Cleanup.{Cleanup}
 
 -- the pointer to the stack's cell

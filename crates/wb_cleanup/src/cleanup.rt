@@ -6,12 +6,12 @@ ghost use Rattle.wb_cleanup.specs.Pushes.{growth, GrowthLeaves, IsButForWords, I
 ghost use Rattle.wb_cleanup.specs.Pushes.{KeepsItems, PushLeaves, RoomLeaves, push_made};
 ghost use Rattle.wb_cleanup.specs.Stacks.{IsPopped, IsStack, cell_of, count_of, expected_refusal, items_of};
 ghost use Rattle.wb_cleanup.specs.Stacks.{newest_above, pop_refusal, slots_of};
-ghost use Rattle.wb_model.specs.heap.Debug.{IsSoundDebug, alloc_made, gave_of, keeps_rises};
+ghost use Rattle.wb_heap_model.specs.Debug.{IsSoundDebug, alloc_made, gave_of, keeps_rises};
 
 use crate::slots;
+use wb_basics::memory::NoMemory;
 use wb_debug::DebugHeap;
-use wb_model::heap::{Gave, Item, Kind, Panic, Ptr};
-use wb_model::memory::NoMemory;
+use wb_heap_model::heap::{Gave, Item, Kind, Panic, Ptr};
 
 /// The length of a slot, in bytes.
 const SLOT_BYTES: u32 = 16;

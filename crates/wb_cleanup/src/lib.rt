@@ -7,6 +7,6 @@ pub mod cleanup;
 mod slots;
 
 pub use cleanup::{Cleanup, Pushed};
+pub use wb_basics::memory::NoMemory;
 pub use wb_debug::DebugHeap;
-pub use wb_model::heap::{Item, Panic, Ptr};
-pub use wb_model::memory::NoMemory;
+pub use wb_heap_model::heap::{Item, Panic, Ptr};

@@ -3,13 +3,13 @@
 
 ghost use Rattle.std.specs.Prelude.{◌≡◌, ◌+◌, ◌*◌, ◌^◌, ◌<◌, ◌≤◌, length};
 ghost use Rattle.wb_cleanup.specs.Slots.{IsSlot, with_words, words_of_slot};
-ghost use Rattle.wb_model.specs.cells.CellRow.{payload_of};
-ghost use Rattle.wb_model.specs.cells.CleanupCells.{IsItem, slot_words};
-ghost use Rattle.wb_model.specs.heap.Debug.{IsSoundDebug, debug_changed};
-ghost use Rattle.wb_model.specs.meaning.Statements.{item_pointer};
+ghost use Rattle.wb_heap_model.specs.CellRow.{payload_of};
+ghost use Rattle.wb_heap_model.specs.CleanupCells.{IsItem, slot_words};
+ghost use Rattle.wb_heap_model.specs.Debug.{IsSoundDebug, debug_changed};
+ghost use Rattle.wb_heap_model.specs.Pointers.{item_pointer};
 
 use wb_debug::DebugHeap;
-use wb_model::heap::{Item, Ptr};
+use wb_heap_model::heap::{Item, Ptr};
 
 /// The first word of an item that is freed.
 const FREE: u32 = 1;

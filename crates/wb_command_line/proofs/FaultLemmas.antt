@@ -4,9 +4,9 @@ use Rattle.std.specs.Prelude.{◌≢◌, ◌%◌, IsTrue, nat_eq, nat_le}
 use Rattle.clap.specs.Words.{HasKind, Row, Text, fault_of, kind_of}
 use Rattle.clap.specs.declared.error.Error.{Error}
 use Rattle.clap.specs.declared.error.kind.ErrorKind.TheVariants.{OutOfMemory}
-use Rattle.wb_model.specs.declared.heap.Shape.{Shape as HeapShape}
-use Rattle.wb_model.specs.declared.limits.TheConstants.{LARGEST_MINIMUM}
-use Rattle.wb_model.specs.heap.Space.{is_shape}
+use Rattle.wb_heap_model.specs.declared.heap.Shape.{Shape as HeapShape}
+use Rattle.wb_basics.specs.declared.limits.TheConstants.{LARGEST_MINIMUM}
+use Rattle.wb_heap_model.specs.Space.{is_shape}
 use Rattle.wb_command_line.specs.Command.{is_sixteenfold}
 use Rattle.wb_command_line.specs.CommandLine.{command_line}
 use Rattle.wb_command_line.specs.Fault.{IsFaultOf, IsFaultOfOptions, IsFaultOfTask, fault_of_error, is_want_of_memory}

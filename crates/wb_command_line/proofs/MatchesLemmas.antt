@@ -20,8 +20,8 @@ use Rattle.clap.specs.declared.parser.matches.ArgMatches.TheViews.{out-ArgMatche
 use Rattle.clap.proofs.CallerReads.{signed_reads}
 use Rattle.clap.proofs.ValueTestLemmas.{accepts-Accepts}
 use Rattle.clap.proofs.WalkLemmas.{one_text-rows}
-use Rattle.wb_model.specs.declared.limits.TheConstants.{CEILING, LARGEST_BUDGET, LARGEST_MINIMUM, SMALLEST_STEP, LARGEST_STEP}
-use Rattle.wb_model.specs.declared.heap.Shape.{Shape}
+use Rattle.wb_basics.specs.declared.limits.TheConstants.{CEILING, LARGEST_BUDGET, LARGEST_MINIMUM, SMALLEST_STEP, LARGEST_STEP}
+use Rattle.wb_heap_model.specs.declared.heap.Shape.{Shape}
 use Rattle.wb_command_line.specs.Command.{is_sixteenfold}
 use Rattle.wb_command_line.specs.CommandLine.{command_line, joined_level}
 use Rattle.wb_command_line.specs.Fault.{IsAfterUsage, IsFaultOf, IsFaultOfOptions}

@@ -3,9 +3,9 @@ use Rattle.std.proofs.Common.{◌≡◌, ◌∙◌, ℕ, not, true, false, refl,
 use Rattle.std.specs.Prelude.{IfErr, IfOk, IsTrue, OnErr, OnOk}
 use Rattle.std.proofs.lemmas.Bool.{le-leb, or_parts}
 use Rattle.clap.specs.Words.{Row}
-use Rattle.wb_model.specs.declared.heap.Rule.{Rule}
-use Rattle.wb_model.specs.declared.heap.Rule.TheVariants.{Number, Pair}
-use Rattle.wb_model.specs.declared.limits.TheConstants.{CEILING}
+use Rattle.wb_heap_model.specs.declared.heap.Rule.{Rule}
+use Rattle.wb_heap_model.specs.declared.heap.Rule.TheVariants.{Number, Pair}
+use Rattle.wb_basics.specs.declared.limits.TheConstants.{CEILING}
 use Rattle.wb_command_line.specs.Command.{is_in_range}
 use Rattle.wb_command_line.specs.Fault.{IsFaultOfRule}
 use Rattle.wb_command_line.specs.Spelled.{IsPairOf, are_disordered, are_several, comes_before, first_rule_of, gives_disorder, gives_no_list, gives_several, gives_several_numbers, number_of, rule_beside, rule_by, rule_of, set_of}

@@ -11,7 +11,7 @@ use Rattle.std.proofs.lemmas.List.{append-nil, append_assoc, drop_all, drop_more
 use Rattle.std.proofs.lemmas.List.Splits.{length-slice_split}
 use Rattle.std.proofs.lemmas.Str.Parse.{IsNumeralModel, numerals_by_value, parse_plain, tells_all_ascii_digits}
 use Rattle.clap.specs.Words.{Row, Text, first_of}
-use Rattle.wb_model.specs.declared.limits.TheConstants.{CEILING}
+use Rattle.wb_basics.specs.declared.limits.TheConstants.{CEILING}
 use Rattle.wb_command_line.specs.Command.{are_ascending, are_of_set, ascend_after}
 use Rattle.wb_command_line.specs.Fault.{IsFaultOfSet, IsFaultOfText}
 use Rattle.wb_command_line.specs.SetList.{ascending_in, between_commas, is_list, is_next, is_of_digits, listed, numbers_in, written_by}

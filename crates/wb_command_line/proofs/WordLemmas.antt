@@ -10,8 +10,8 @@ use Rattle.clap.specs.Walk.{Held, Row, Text, Walk, idle, nothing_held, rows_afte
 use Rattle.clap.specs.Kinds.{Kinds}
 use Rattle.clap.specs.Faults.{defaults_fault, level_fault, turn_fault, walk_fault}
 use Rattle.clap.specs.Takes.{level_passes, turn_passes, walk_passes}
-use Rattle.wb_model.specs.declared.heap.Rule.{Rule}
-use Rattle.wb_model.specs.declared.heap.Rule.TheVariants.{Unlimited}
+use Rattle.wb_heap_model.specs.declared.heap.Rule.{Rule}
+use Rattle.wb_heap_model.specs.declared.heap.Rule.TheVariants.{Unlimited}
 use Rattle.wb_command_line.specs.CommandLine.{level, level_of}
 use Rattle.wb_command_line.specs.Spelled.{command_of, command_with, disorders, doubles, gives_disorder, gives_more_than_one, gives_no_list, mislists, rule_of, takes_rule, task_of, trial_of}
 use Rattle.wb_command_line.specs.Subcommands.{Subcommand, Trial, subcommand_named}

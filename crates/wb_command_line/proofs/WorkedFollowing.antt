@@ -5,7 +5,7 @@ use Rattle.clap.specs.Faults.{defaults_fault, flags_fault, walk_fault}
 use Rattle.clap.specs.Takes.{flags_pass, walk_passes}
 use Rattle.clap.specs.Walk.{bundle_met, walked}
 use Rattle.clap.specs.declared.error.kind.ErrorKind.TheVariants.{ArgumentConflict, InvalidValue, TooManyValues, UnknownArgument, ValueValidation}
-use Rattle.wb_model.specs.declared.heap.Rule.TheVariants.{Limit, Number, Unlimited}
+use Rattle.wb_heap_model.specs.declared.heap.Rule.TheVariants.{Limit, Number, Unlimited}
 use Rattle.wb_command_line.proofs.WorkedWords.{Double, Fail, Spell, run_with}
 
 -- ---- words that spell a command

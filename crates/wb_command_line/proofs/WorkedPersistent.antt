@@ -5,8 +5,8 @@ use Rattle.clap.specs.Faults.{defaults_fault, flags_fault, walk_fault}
 use Rattle.clap.specs.Takes.{flags_pass, walk_passes}
 use Rattle.clap.specs.Walk.{bundle_met, walked}
 use Rattle.clap.specs.declared.error.kind.ErrorKind.TheVariants.{ArgumentConflict, TooManyValues, UnknownArgument, ValueValidation}
-use Rattle.wb_model.specs.declared.failures.Failures.TheVariants.{Every, Persistent, Single}
-use Rattle.wb_model.specs.declared.heap.Rule.TheVariants.{From}
+use Rattle.wb_runs.specs.declared.failures.Failures.TheVariants.{Every, Persistent, Single}
+use Rattle.wb_heap_model.specs.declared.heap.Rule.TheVariants.{From}
 use Rattle.wb_command_line.specs.Spelled.{whole}
 use Rattle.wb_command_line.specs.declared.command.Search.TheVariants.{Least, All, Ends}
 use Rattle.wb_command_line.specs.declared.command.Task.TheVariants.{Sweep, Check}

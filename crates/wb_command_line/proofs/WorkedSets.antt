@@ -6,7 +6,7 @@ use Rattle.clap.specs.Faults.{defaults_fault, flags_fault, walk_fault}
 use Rattle.clap.specs.Takes.{flags_pass, walk_passes}
 use Rattle.clap.specs.Walk.{bundle_met, walked}
 use Rattle.clap.specs.declared.error.kind.ErrorKind.TheVariants.{ArgumentConflict, InvalidValue, UnknownArgument}
-use Rattle.wb_model.specs.declared.heap.Rule.TheVariants.{Set, Unlimited}
+use Rattle.wb_heap_model.specs.declared.heap.Rule.TheVariants.{Set, Unlimited}
 use Rattle.wb_command_line.specs.Command.{are_of_set}
 use Rattle.wb_command_line.specs.SetList.{between_commas, is_list}
 use Rattle.wb_command_line.specs.declared.command.Task.TheVariants.{Run}

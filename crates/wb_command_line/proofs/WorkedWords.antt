@@ -6,10 +6,10 @@ use Rattle.clap.specs.Kinds.{Kinds}
 use Rattle.clap.specs.Takes.{flags_pass, takes, walk_passes}
 use Rattle.clap.specs.Walk.{Text, bundle_met, walked}
 use Rattle.clap.specs.declared.error.kind.ErrorKind.TheVariants.{ArgumentConflict, InvalidValue, TooManyValues, UnknownArgument, ValueValidation}
-use Rattle.wb_model.specs.declared.failures.Failures.TheVariants.{Single}
-use Rattle.wb_model.specs.declared.failures.Failures.TheVariants as failures
-use Rattle.wb_model.specs.declared.heap.Rule.{Rule}
-use Rattle.wb_model.specs.declared.heap.Rule.TheVariants.{Every, Limit, Number, Unlimited}
+use Rattle.wb_runs.specs.declared.failures.Failures.TheVariants.{Single}
+use Rattle.wb_runs.specs.declared.failures.Failures.TheVariants as failures
+use Rattle.wb_heap_model.specs.declared.heap.Rule.{Rule}
+use Rattle.wb_heap_model.specs.declared.heap.Rule.TheVariants.{Every, Limit, Number, Unlimited}
 use Rattle.wb_command_line.specs.CommandLine.{command_line}
 use Rattle.wb_command_line.specs.Spelled.{spell_both, spell_disorder, spell_no_list, spelled, whole}
 use Rattle.wb_command_line.specs.declared.command.Command.{Command}

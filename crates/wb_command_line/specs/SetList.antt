@@ -5,7 +5,7 @@ use Rattle.std.specs.Str.{all_ascii_digits}
 use Rattle.std.specs.Str.Parse.{digits_value}
 use Rattle.clap.specs.Words.{Text}
 use Rattle.wb_command_line.specs.Command.{are_ascending, are_of_set}
-use Rattle.wb_model.specs.declared.limits.TheConstants.{CEILING}
+use Rattle.wb_basics.specs.declared.limits.TheConstants.{CEILING}
 
 -- what stands between the commas (44) of a text, before the first and after the last: one text more than there are commas
 abbrev pub between_commas : Text → List Text

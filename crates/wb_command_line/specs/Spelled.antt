@@ -5,13 +5,13 @@ use Rattle.std.specs.Option.{option_map_or}
 use Rattle.std.specs.Str.{bytes_eq}
 use Rattle.std.specs.Str.Parse.{digits_value, without_leading_plus}
 use Rattle.clap.specs.Words.{Row, Text, fault_of, first_of, one_of, subcommand_of}
-use Rattle.wb_model.specs.declared.failures.Failures.{Failures}
-use Rattle.wb_model.specs.declared.failures.Failures.TheVariants as failures
-use Rattle.wb_model.specs.declared.heap.Rule.{Rule}
-use Rattle.wb_model.specs.declared.heap.Rule.TheVariants.{Every, From, Limit, Number, Pair, Set, Unlimited}
-use Rattle.wb_model.specs.declared.heap.Shape.{Shape}
-use Rattle.wb_model.specs.declared.part.Part.{Part}
-use Rattle.wb_model.specs.declared.limits.TheConstants.{CEILING, DEFAULT_BUDGET, DEFAULT_MINIMUM, DEFAULT_STEP}
+use Rattle.wb_runs.specs.declared.failures.Failures.{Failures}
+use Rattle.wb_runs.specs.declared.failures.Failures.TheVariants as failures
+use Rattle.wb_heap_model.specs.declared.heap.Rule.{Rule}
+use Rattle.wb_heap_model.specs.declared.heap.Rule.TheVariants.{Every, From, Limit, Number, Pair, Set, Unlimited}
+use Rattle.wb_heap_model.specs.declared.heap.Shape.{Shape}
+use Rattle.wb_runs.specs.declared.part.Part.{Part}
+use Rattle.wb_basics.specs.declared.limits.TheConstants.{CEILING, DEFAULT_BUDGET, DEFAULT_MINIMUM, DEFAULT_STEP}
 use Rattle.wb_command_line.specs.Command.{are_in_order}
 use Rattle.wb_command_line.specs.CommandLine.{command_line}
 use Rattle.wb_command_line.specs.SetList.{is_list, numbers_in}

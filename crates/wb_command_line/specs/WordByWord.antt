@@ -5,9 +5,9 @@ use Rattle.std.specs.Option.{option_map_or}
 use Rattle.std.specs.Str.{bytes_eq}
 use Rattle.clap.specs.Lexer.{long_of}
 use Rattle.clap.specs.Words.{Text, fault_of, takes}
-use Rattle.wb_model.specs.declared.failures.Failures.TheVariants.{Single}
-use Rattle.wb_model.specs.declared.heap.Rule.TheVariants.{Unlimited}
-use Rattle.wb_model.specs.declared.limits.TheConstants.{DEFAULT_BUDGET}
+use Rattle.wb_runs.specs.declared.failures.Failures.TheVariants.{Single}
+use Rattle.wb_heap_model.specs.declared.heap.Rule.TheVariants.{Unlimited}
+use Rattle.wb_basics.specs.declared.limits.TheConstants.{DEFAULT_BUDGET}
 use Rattle.wb_command_line.specs.CommandLine.{command_line}
 use Rattle.wb_command_line.specs.Subcommands.{Subcommand, Trial, subcommand_named}
 use Rattle.wb_command_line.specs.Spelled.{IsSpelledBy, default_shape, whole}

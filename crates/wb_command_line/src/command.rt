@@ -7,9 +7,9 @@ use crate::file_name::FileName;
 use clap::error::ErrorKind;
 use std::alloc::AllocError;
 use thiserror::Error;
-use wb_model::failures::Failures;
-use wb_model::heap::{Rule, Shape};
-use wb_model::part::Part;
+use wb_heap_model::heap::{Rule, Shape};
+use wb_runs::failures::Failures;
+use wb_runs::part::Part;
 
 /// What a sweep looks for among failures.
 #[derive(Clone, Copy, Debug, PartialEq, Eq)]

@@ -9,7 +9,7 @@ ghost use Rattle.std.specs.Prelude.{◌≡◌, ◌≤◌, All, IfErr, IfOk, IsSo
 ghost use Rattle.std.specs.Prelude.{map, true};
 ghost use Rattle.std.specs.Str.{IsUtf8};
 ghost use Rattle.clap.specs.Words.{Text, first_of, found_of, rows_of, takes};
-ghost use Rattle.wb_model.specs.heap.Space.{is_shape};
+ghost use Rattle.wb_heap_model.specs.Space.{is_shape};
 ghost use Rattle.wb_command_line.specs.Command.{has_number, is_answerable, is_filled, is_in_range, is_sixteenfold};
 ghost use Rattle.wb_command_line.specs.CommandLine.{command_line, joined_level};
 ghost use Rattle.wb_command_line.specs.Fault.{IsAfterUsage, IsFaultOf, IsFaultOfOptions, IsFaultOfTask};
@@ -42,9 +42,9 @@ use crate::file_name::FileName;
 use clap::ArgMatches;
 use std::alloc::{AllocError, Global};
 use std::convert::AsStr;
-use wb_model::heap::Shape;
-use wb_model::limits::{CEILING, DEFAULT_BUDGET, DEFAULT_MINIMUM, DEFAULT_STEP, LARGEST_BUDGET};
-use wb_model::part::Part;
+use wb_basics::limits::{CEILING, DEFAULT_BUDGET, DEFAULT_MINIMUM, DEFAULT_STEP, LARGEST_BUDGET};
+use wb_heap_model::heap::Shape;
+use wb_runs::part::Part;
 
 /// The minimum length and the step of a heap are multiples of this, in bytes.
 const GRANULE: u32 = 16;

@@ -3,12 +3,12 @@ use Rattle.std.proofs.Common.{◌≡◌, ◌≢◌, ℕ, ◌-◌, ◌≤◌, suc
 use Rattle.std.specs.Prelude.{◌&&◌, not, nat_eq}
 use Rattle.std.proofs.lemmas.Bool.{ne_eqb}
 use Rattle.std.proofs.lemmas.List.Elements.{All-cons, All-nil}
-use Rattle.wb_model.specs.declared.heap.TheConstants.Panic.{NO_OPEN_MARK}
-use Rattle.wb_model.specs.declared.heap.Panic.{Panic}
-use Rattle.wb_model.specs.heap.Debug.{Debug, check_all_refusal, check_refusal}
-use Rattle.wb_model.specs.heap.Heap.{is_cleanup, lower, lowered, mark_end_refusal}
-use Rattle.wb_model.specs.heap.LimitedHeap.{LimitedHeap, IsSoundHeap}
-use Rattle.wb_model.specs.heap.Row.{Cell, headers}
+use Rattle.wb_heap_model.specs.declared.heap.TheConstants.Panic.{NO_OPEN_MARK}
+use Rattle.wb_heap_model.specs.declared.heap.Panic.{Panic}
+use Rattle.wb_heap_model.specs.Debug.{Debug, check_all_refusal, check_refusal}
+use Rattle.wb_heap_model.specs.Heap.{is_cleanup, lower, lowered, mark_end_refusal}
+use Rattle.wb_heap_model.specs.LimitedHeap.{LimitedHeap, IsSoundHeap}
+use Rattle.wb_heap_model.specs.Row.{Cell, headers}
 use Rattle.wb_debug.specs.declared.debug_heap.DebugHeap.TheInside.{Inside}
 use Rattle.wb_debug.specs.Debug.{IsKept}
 use Rattle.wb_debug.specs.Tally.{Tally, IsTally}

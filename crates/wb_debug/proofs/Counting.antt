@@ -2,10 +2,10 @@
 use Rattle.std.proofs.Common.{◌≡◌, ℕ, ◌+◌, ◌*◌, ◌≤◌, ◌&&◌, Bool, true, false, List, [], ◌∷◌, length, filter, None, refl, ap, ◌∙◌, sym, cond, subst, arith}
 use Rattle.std.specs.Prelude.{nat_le, nat_lt}
 use Rattle.std.proofs.lemmas.Bool.{leb-false, lt-ltb}
-use Rattle.wb_model.specs.declared.heap.Header.{Header}
-use Rattle.wb_model.specs.heap.LimitedHeap.{next_live_of}
-use Rattle.wb_model.specs.heap.Row.{end_of, IsSpacedFrom, top_from}
-use Rattle.wb_model.proofs.heaps.Onward.{onward, onward_none, onward_zero, IsNextCell}
+use Rattle.wb_heap_model.specs.declared.heap.Header.{Header}
+use Rattle.wb_heap_model.specs.LimitedHeap.{next_live_of}
+use Rattle.wb_heap_model.specs.Row.{end_of, IsSpacedFrom, top_from}
+use Rattle.wb_heap_model.proofs.Onward.{onward, onward_none, onward_zero, IsNextCell}
 use Rattle.wb_debug.specs.declared.checks.Levels.TheVariants.{All}
 use Rattle.wb_debug.specs.Levels.{is_counted}
 use Rattle.wb_debug.specs.Tally.{IsMore, IsTally, Tally, is_below, number}

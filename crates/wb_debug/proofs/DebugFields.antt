@@ -2,21 +2,21 @@
 use Rattle.std.proofs.Common.{◌≡◌, ◌⊎◌, inl, inr, ℕ, suc, ◌+◌, ◌%◌, ◌≤◌, ◌<◌, ◌^◌, ◌++◌, max, Result, Ok, Err, IsErr, IsOkAnd, IfOk, OnErr, OnOk, All, List, [], ◌∷◌, length, length-append, Option, Some, None, is_some, IfSome, option_map, find, Bool, true, false, cond, refl, sym, ap, subst, ◌∙◌, arith}
 use Rattle.std.specs.Prelude.{nat_lt}
 use Rattle.std.proofs.lemmas.List.Elements.{All-cons, All-nil}
-use Rattle.wb_model.specs.declared.heap.Header.{Header}
-use Rattle.wb_model.specs.declared.heap.Kind.{Kind}
-use Rattle.wb_model.specs.declared.heap.Ptr.{Ptr}
-use Rattle.wb_model.specs.declared.heap.Answer.TheVariants.{Simulated, Refused}
-use Rattle.wb_model.specs.declared.heap.Attempt.{Attempt}
-use Rattle.wb_model.specs.declared.heap.Shape.{Shape}
-use Rattle.wb_model.specs.declared.size.Rise.{Rise}
-use Rattle.wb_model.specs.heap.Debug.{Debug, IsLiveIn, IsSoundDebug}
-use Rattle.wb_model.specs.heap.LimitedHeap.{LimitedHeap, IsSoundHeap, space_in, place_in, fresh_cell, heap_with, heap_without, heap_changed, heap_compressed}
-use Rattle.wb_model.specs.runs.Rises.{end_of_line, granted_end, rise_of, rises_with, top_of_rises, trace_with}
-use Rattle.wb_model.specs.heap.Row.{Cell, IsSpacedFrom, headers, end_of, inserted, is_at, cell_at, without}
-use Rattle.wb_model.specs.heap.Space.{bound_below, space_below}
-use Rattle.wb_model.proofs.runs.AccountLemmas.{last-rise}
-use Rattle.wb_model.proofs.heaps.LimitedHeaps.{top_of-committed, All-heap_with, All-heap_without}
-use Rattle.wb_model.proofs.heaps.Rows.{headers-changed, head-cell_at}
+use Rattle.wb_heap_model.specs.declared.heap.Header.{Header}
+use Rattle.wb_heap_model.specs.declared.heap.Kind.{Kind}
+use Rattle.wb_heap_model.specs.declared.heap.Ptr.{Ptr}
+use Rattle.wb_heap_model.specs.declared.heap.Answer.TheVariants.{Simulated, Refused}
+use Rattle.wb_heap_model.specs.declared.heap.Attempt.{Attempt}
+use Rattle.wb_heap_model.specs.declared.heap.Shape.{Shape}
+use Rattle.wb_heap_model.specs.declared.size.Rise.{Rise}
+use Rattle.wb_heap_model.specs.Debug.{Debug, IsLiveIn, IsSoundDebug}
+use Rattle.wb_heap_model.specs.LimitedHeap.{LimitedHeap, IsSoundHeap, space_in, place_in, fresh_cell, heap_with, heap_without, heap_changed, heap_compressed}
+use Rattle.wb_heap_model.specs.Rises.{end_of_line, granted_end, rise_of, rises_with, top_of_rises, trace_with}
+use Rattle.wb_heap_model.specs.Row.{Cell, IsSpacedFrom, headers, end_of, inserted, is_at, cell_at, without}
+use Rattle.wb_heap_model.specs.Space.{bound_below, space_below}
+use Rattle.wb_heap_model.proofs.KeptRises.{last-rise}
+use Rattle.wb_heap_model.proofs.LimitedHeaps.{top_of-committed, All-heap_with, All-heap_without}
+use Rattle.wb_heap_model.proofs.Rows.{headers-changed, head-cell_at}
 use Rattle.wb_debug.specs.declared.debug_heap.DebugHeap.TheInside.{Inside}
 use Rattle.wb_debug.specs.declared.setting.Setting.{Setting}
 use Rattle.wb_debug.specs.Debug.{debug_of, IsStepped, IsKept}

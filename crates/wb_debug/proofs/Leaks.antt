@@ -1,12 +1,12 @@
 -- The leaks of a row, gathered from cell to cell.
 use Rattle.std.proofs.Common.{◌≡◌, ℕ, true, false, not, List, [], ◌∷◌, ◌++◌, map, ap, ◌∙◌, sym, cond, None, append_assoc, append-nil}
-use Rattle.wb_model.specs.declared.heap.Header.{Header}
-use Rattle.wb_model.specs.declared.run.Leak.{Leak}
-use Rattle.wb_model.specs.heap.Row.{end_of}
-use Rattle.wb_model.specs.heap.Heap.{is_cleanup, cells_of_all_levels}
-use Rattle.wb_model.specs.runs.Run.{leak_of}
-use Rattle.wb_model.specs.heap.LimitedHeap.{next_live_of}
-use Rattle.wb_model.proofs.heaps.Onward.{onward, onward_none, IsNextCell}
+use Rattle.wb_heap_model.specs.declared.heap.Header.{Header}
+use Rattle.wb_heap_model.specs.declared.reported.Leak.{Leak}
+use Rattle.wb_heap_model.specs.Row.{end_of}
+use Rattle.wb_heap_model.specs.Heap.{is_cleanup, cells_of_all_levels}
+use Rattle.wb_heap_model.specs.Reported.{leak_of}
+use Rattle.wb_heap_model.specs.LimitedHeap.{next_live_of}
+use Rattle.wb_heap_model.proofs.Onward.{onward, onward_none, IsNextCell}
 
 -- the leaks of a row
 abbrev pub leaks_of : List Header → List Leak

@@ -2,27 +2,28 @@
 use Rattle.std.proofs.Common.{option_map, ◌≡◌, ◌≢◌, ◌⊎◌, inl, inr, Result, Err, IsErr, IfErr, is_some, ℕ, ◌+◌, ◌<◌, ◌≤◌, All, List, Option, Some, IfSome, Bool, true, false, cond, refl, sym, ap, subst, ◌∙◌, arith}
 use Rattle.std.specs.Prelude.{nat_lt, nat_eq}
 use Rattle.std.proofs.lemmas.Bool.{cond-false, lt-ltb, le-ltb}
-use Rattle.wb_model.specs.declared.heap.Answer.{Answer}
-use Rattle.wb_model.specs.declared.heap.Answer.TheVariants.{Granted, Simulated, Refused}
-use Rattle.wb_model.specs.declared.heap.Attempt.{Attempt}
-use Rattle.wb_model.specs.declared.heap.Header.{Header}
-use Rattle.wb_model.specs.declared.heap.Gave.{Gave}
-use Rattle.wb_model.specs.declared.heap.Gave.TheVariants as G
-use Rattle.wb_model.specs.declared.heap.Ptr.{Ptr}
-use Rattle.wb_model.specs.cells.CellRow.{resized_words}
-use Rattle.wb_model.specs.heap.Debug.{Debug, Made, made_by, number_of_next, trace_line, answer_in, longer_made, shorter_made, realloc_made}
-use Rattle.wb_model.specs.heap.Heap.{after_realloc, request_at, shortened}
-use Rattle.wb_model.specs.heap.LimitedHeap.{LimitedHeap, IsSoundHeap, heap_grown, heap_shortened, heap_reallocated, committed_grown, grown_cell, grown_pointer, place_to_grow, space_in}
-use Rattle.wb_model.specs.runs.Rises.{end_of_line, granted_end, rises_with}
-use Rattle.wb_model.specs.heap.Placement.{placement_of}
-use Rattle.wb_model.specs.heap.Row.{Cell, headers, end_of, cell_at, cell_length, inserted, pointer_to, without}
-use Rattle.wb_model.specs.heap.Rules.{Request, after_attempt}
-use Rattle.wb_model.specs.heap.Rules as rules
-use Rattle.wb_model.specs.heap.Space.{committed_by, bound_below, space_below}
-use Rattle.wb_model.proofs.heaps.LimitedHeaps.{All-heap_without}
-use Rattle.wb_model.proofs.heaps.Reallocations.{found-all, found-head}
-use Rattle.wb_model.proofs.heaps.ReallocatedHeaps.{All-heap_reallocated}
-use Rattle.wb_model.proofs.heaps.Rows.{All-inserted}
+use Rattle.wb_heap_model.specs.declared.heap.Answer.{Answer}
+use Rattle.wb_heap_model.specs.declared.heap.Answer.TheVariants.{Granted, Simulated, Refused}
+use Rattle.wb_heap_model.specs.declared.heap.Attempt.{Attempt}
+use Rattle.wb_heap_model.specs.declared.heap.Header.{Header}
+use Rattle.wb_heap_model.specs.declared.heap.Gave.{Gave}
+use Rattle.wb_heap_model.specs.declared.heap.Gave.TheVariants as G
+use Rattle.wb_heap_model.specs.declared.heap.Ptr.{Ptr}
+use Rattle.wb_heap_model.specs.CellRow.{resized_words}
+use Rattle.wb_heap_model.specs.Debug.{Debug, Made, made_by, number_of_next, answer_in, longer_made, shorter_made, realloc_made}
+use Rattle.wb_heap_model.specs.Reported.{trace_line}
+use Rattle.wb_heap_model.specs.Heap.{after_realloc, request_at, shortened}
+use Rattle.wb_heap_model.specs.LimitedHeap.{LimitedHeap, IsSoundHeap, heap_grown, heap_shortened, heap_reallocated, committed_grown, grown_cell, grown_pointer, place_to_grow, space_in}
+use Rattle.wb_heap_model.specs.Rises.{end_of_line, granted_end, rises_with}
+use Rattle.wb_heap_model.specs.Placement.{placement_of}
+use Rattle.wb_heap_model.specs.Row.{Cell, headers, end_of, cell_at, cell_length, inserted, pointer_to, without}
+use Rattle.wb_heap_model.specs.Rules.{Request, after_attempt}
+use Rattle.wb_heap_model.specs.Rules as rules
+use Rattle.wb_heap_model.specs.Space.{committed_by, bound_below, space_below}
+use Rattle.wb_heap_model.proofs.LimitedHeaps.{All-heap_without}
+use Rattle.wb_heap_model.proofs.Reallocations.{found-all, found-head}
+use Rattle.wb_heap_model.proofs.ReallocatedHeaps.{All-heap_reallocated}
+use Rattle.wb_heap_model.proofs.Rows.{All-inserted}
 use Rattle.wb_debug.specs.declared.debug_heap.DebugHeap.TheInside.{Inside}
 use Rattle.wb_debug.specs.declared.setting.Setting.{Setting}
 use Rattle.wb_debug.specs.Debug.{debug_of, IsKept}

@@ -2,9 +2,9 @@
 use Rattle.std.proofs.Common.{◌≡◌, ◌≢◌, ℕ, ◌+◌, ◌-◌, ◌≤◌, Bool, true, false, not, ◌&&◌, cond, List, [], ◌∷◌, refl, sym, ◌∙◌, ap, subst, arith}
 use Rattle.std.specs.Prelude.{nat_eq, nat_lt}
 use Rattle.std.proofs.lemmas.Bool.{eq-eqb, ne_eqb}
-use Rattle.wb_model.specs.declared.heap.Header.{Header}
-use Rattle.wb_model.specs.heap.Heap.{is_cleanup, lower, lowered}
-use Rattle.wb_model.specs.heap.Row.{Cell, headers}
+use Rattle.wb_heap_model.specs.declared.heap.Header.{Header}
+use Rattle.wb_heap_model.specs.Heap.{is_cleanup, lower, lowered}
+use Rattle.wb_heap_model.specs.Row.{Cell, headers}
 use Rattle.wb_debug.specs.declared.level_counts.Counted.{Counted}
 use Rattle.wb_debug.specs.declared.checks.Levels.TheVariants.{One, All}
 use Rattle.wb_debug.specs.LevelCounts.{Edits, LevelCounts, counted_at, joined, lowered_at, no_cells, with_more}

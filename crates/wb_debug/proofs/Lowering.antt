@@ -2,13 +2,13 @@
 use Rattle.std.proofs.Common.{◌≡◌, ◌≢◌, ℕ, suc, ◌-◌, ◌≤◌, ◌<◌, ◌&&◌, Bool, true, false, List, [], ◌∷◌, length, Some, None, IsSome, refl, ap, ◌∙◌, sym, cond, subst, arith}
 use Rattle.std.specs.Prelude.{nat_eq, nat_le, nat_lt}
 use Rattle.std.proofs.lemmas.Bool.{eq-eqb, ne_eqb, leb-true, leb-false, le-leb, lt-leb, lt-ltb}
-use Rattle.wb_model.specs.declared.heap.Header.{Header}
-use Rattle.wb_model.specs.declared.heap.Ptr.{Ptr}
-use Rattle.wb_model.specs.cells.CellRow.{with_level}
-use Rattle.wb_model.specs.heap.Heap.{lower, lowered}
-use Rattle.wb_model.specs.heap.LimitedHeap.{LimitedHeap, IsSoundHeap, heap_leveled, next_live_of}
-use Rattle.wb_model.specs.heap.Row.{Cell, headers, end_of, is_at, cell_at, pointer_to, IsSpacedFrom}
-use Rattle.wb_model.proofs.heaps.Onward.{onward, onward_next, onward_fewer, IsNextCell}
+use Rattle.wb_heap_model.specs.declared.heap.Header.{Header}
+use Rattle.wb_heap_model.specs.declared.heap.Ptr.{Ptr}
+use Rattle.wb_heap_model.specs.CellRow.{with_level}
+use Rattle.wb_heap_model.specs.Heap.{lower, lowered}
+use Rattle.wb_heap_model.specs.LimitedHeap.{LimitedHeap, IsSoundHeap, heap_leveled, next_live_of}
+use Rattle.wb_heap_model.specs.Row.{Cell, headers, end_of, is_at, cell_at, pointer_to, IsSpacedFrom}
+use Rattle.wb_heap_model.proofs.Onward.{onward, onward_next, onward_fewer, IsNextCell}
 use Rattle.wb_debug.specs.Levels.{is_counted}
 use Rattle.wb_debug.specs.declared.checks.Levels.TheVariants.{One}
 use Rattle.wb_debug.specs.Tally.{is_below, number}

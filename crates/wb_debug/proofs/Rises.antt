@@ -2,21 +2,22 @@
 use Rattle.std.proofs.Common.{◌≡◌, ◌≢◌, ℕ, ◌+◌, ◌<◌, ◌≤◌, ◌++◌, arith, Result, Ok, Err, IsErr, IfErr, Bool, true, false, cond, List, [], ◌∷◌, length, length-append, Option, Some, None, is_some, refl, sym, ap, ◌∙◌}
 use Rattle.std.specs.Prelude.{nat_lt}
 use Rattle.std.proofs.lemmas.Bool.{ltb-false}
-use Rattle.wb_model.specs.declared.limits.TheConstants.{CEILING}
-use Rattle.wb_model.specs.declared.heap.Answer.{Answer}
-use Rattle.wb_model.specs.declared.heap.Answer.TheVariants.{Granted, Simulated, Refused}
-use Rattle.wb_model.specs.declared.heap.Attempt.{Attempt}
-use Rattle.wb_model.specs.declared.heap.Rule.{Rule}
-use Rattle.wb_model.specs.declared.size.Rise.{Rise}
-use Rattle.wb_model.specs.heap.Debug.{Debug, made_by, number_of_next, trace_line, answer_in}
-use Rattle.wb_model.specs.heap.Heap.{AfterAnswer, alloc_request, request_at}
-use Rattle.wb_model.specs.heap.LimitedHeap.{place_in, space_in}
-use Rattle.wb_model.specs.runs.Rises.{end_of_line, granted_end, rise_of, rises_with, top_of_rises}
-use Rattle.wb_model.specs.heap.Placement.{place_to_put}
-use Rattle.wb_model.specs.heap.Row.{cell_length, headers, place_of}
-use Rattle.wb_model.specs.heap.Rules.{Request, answer_to, limit_of, refusal_of, refusal_past, simulates, unless_refused}
-use Rattle.wb_model.specs.heap.Space.{below_ceiling, committed_by, limit_under}
-use Rattle.wb_model.proofs.heaps.LimitedHeaps.{shape_is}
+use Rattle.wb_basics.specs.declared.limits.TheConstants.{CEILING}
+use Rattle.wb_heap_model.specs.declared.heap.Answer.{Answer}
+use Rattle.wb_heap_model.specs.declared.heap.Answer.TheVariants.{Granted, Simulated, Refused}
+use Rattle.wb_heap_model.specs.declared.heap.Attempt.{Attempt}
+use Rattle.wb_heap_model.specs.declared.heap.Rule.{Rule}
+use Rattle.wb_heap_model.specs.declared.size.Rise.{Rise}
+use Rattle.wb_heap_model.specs.Debug.{Debug, made_by, number_of_next, answer_in}
+use Rattle.wb_heap_model.specs.Reported.{trace_line}
+use Rattle.wb_heap_model.specs.Heap.{AfterAnswer, alloc_request, request_at}
+use Rattle.wb_heap_model.specs.LimitedHeap.{place_in, space_in}
+use Rattle.wb_heap_model.specs.Rises.{end_of_line, granted_end, rise_of, rises_with, top_of_rises}
+use Rattle.wb_heap_model.specs.Placement.{place_to_put}
+use Rattle.wb_heap_model.specs.Row.{cell_length, headers, place_of}
+use Rattle.wb_heap_model.specs.Rules.{Request, answer_to, limit_of, refusal_of, refusal_past, simulates, unless_refused}
+use Rattle.wb_heap_model.specs.Space.{below_ceiling, committed_by, limit_under}
+use Rattle.wb_heap_model.proofs.LimitedHeaps.{shape_is}
 use Rattle.wb_rheap.specs.declared.fault.HeapFault.{HeapFault}
 use Rattle.wb_rheap.specs.declared.fault.HeapFault.TheVariants as faults
 use Rattle.wb_debug.specs.declared.debug_heap.DebugHeap.TheInside.{Inside}

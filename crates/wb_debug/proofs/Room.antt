@@ -3,10 +3,10 @@ use Rattle.std.proofs.Common.{◌≡◌, inl, inr, ℕ, suc, ◌+◌, ◌-◌, �
 use Rattle.std.specs.Prelude.{nat_lt}
 use Rattle.std.proofs.lemmas.Bool.{cases_lt, ltb-true}
 use native.Mathlib.Nat.{mul-le-mul_right, suc-mul}
-use Rattle.wb_model.specs.declared.heap.Header.{Header}
-use Rattle.wb_model.specs.heap.LimitedHeap.{LimitedHeap, space_in}
-use Rattle.wb_model.specs.heap.Row.{Cell, headers, inserted}
-use Rattle.wb_model.specs.heap.Space.{Space, committed_by, round_up}
+use Rattle.wb_heap_model.specs.declared.heap.Header.{Header}
+use Rattle.wb_heap_model.specs.LimitedHeap.{LimitedHeap, space_in}
+use Rattle.wb_heap_model.specs.Row.{Cell, headers, inserted}
+use Rattle.wb_heap_model.specs.Space.{Space, committed_by, round_up}
 use Rattle.wb_debug.specs.Debug.{IsStepped}
 
 -- what a grant leaves held is a number of steps as well

@@ -2,11 +2,11 @@
 use Rattle.std.proofs.Common.{◌≡◌, ◌≢◌, ℕ, suc, ◌+◌, ◌-◌, ◌≤◌, min, Bool, true, false, not, ◌&&◌, cond, List, [], ◌∷◌, length, filter, Some, None, AllPairs, refl, sym, ◌∙◌, ap, subst, arith}
 use Rattle.std.specs.Prelude.{nat_eq, nat_lt}
 use Rattle.std.proofs.lemmas.Bool.Decides.{nat_tests}
-use Rattle.wb_model.specs.declared.heap.Header.{Header}
-use Rattle.wb_model.specs.declared.heap.Ptr.{Ptr}
-use Rattle.wb_model.specs.heap.Heap.{is_cleanup}
-use Rattle.wb_model.specs.heap.Row.{Cell, headers, is_at, cell_at, inserted, without}
-use Rattle.wb_model.proofs.heaps.Reallocations.{without-absent, others-apart}
+use Rattle.wb_heap_model.specs.declared.heap.Header.{Header}
+use Rattle.wb_heap_model.specs.declared.heap.Ptr.{Ptr}
+use Rattle.wb_heap_model.specs.Heap.{is_cleanup}
+use Rattle.wb_heap_model.specs.Row.{Cell, headers, is_at, cell_at, inserted, without}
+use Rattle.wb_heap_model.proofs.Reallocations.{without-absent, others-apart}
 use Rattle.wb_debug.specs.declared.level_counts.Counted.{Counted}
 use Rattle.wb_debug.specs.declared.level_counts.LevelCount.{LevelCount}
 use Rattle.wb_debug.specs.declared.checks.Levels.TheVariants.{One, All}

@@ -1,10 +1,10 @@
 -- What contracts see of the debug heap, from what it holds, and what it keeps.
 use Rattle.std.specs.Prelude.{◌≡◌, ◌⊎◌, ℕ, ◌*◌, ◌≤◌, [], All, true, false, is_some, length, min}
-use Rattle.wb_model.specs.heap.Debug.{Debug}
-use Rattle.wb_model.specs.heap.LimitedHeap.{IsSoundHeap, space_in}
-use Rattle.wb_model.specs.heap.Placement.{placement_of}
-use Rattle.wb_model.specs.heap.Row.{headers}
-use Rattle.wb_model.specs.heap.Space.{Space, limit_under}
+use Rattle.wb_heap_model.specs.Debug.{Debug}
+use Rattle.wb_heap_model.specs.LimitedHeap.{IsSoundHeap, space_in}
+use Rattle.wb_heap_model.specs.Placement.{placement_of}
+use Rattle.wb_heap_model.specs.Row.{headers}
+use Rattle.wb_heap_model.specs.Space.{Space, limit_under}
 use Rattle.wb_debug.specs.Log.{top_in}
 use Rattle.wb_debug.specs.Setting.{setting_of}
 use Rattle.wb_debug.specs.Tally.{IsTally}

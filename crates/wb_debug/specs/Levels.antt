@@ -1,7 +1,7 @@
 -- Which cells a check counts.
 use Rattle.std.specs.Prelude.{Bool, ◌&&◌, not, nat_eq}
-use Rattle.wb_model.specs.declared.heap.Header.{Header}
-use Rattle.wb_model.specs.heap.Heap.{is_cleanup}
+use Rattle.wb_heap_model.specs.declared.heap.Header.{Header}
+use Rattle.wb_heap_model.specs.Heap.{is_cleanup}
 use Rattle.wb_debug.specs.declared.checks.Levels.{Levels}
 use Rattle.wb_debug.specs.declared.checks.Levels.TheVariants.{One, All}
 

@@ -1,8 +1,8 @@
 -- What a heap keeps of its attempts, and what one more makes of it.
 use Rattle.std.specs.Prelude.{◌≡◌, ℕ, List, [], Bool, true, nat_lt, Option, Some, None}
-use Rattle.wb_model.specs.declared.heap.Attempt.{Attempt}
-use Rattle.wb_model.specs.declared.size.Rise.{Rise}
-use Rattle.wb_model.specs.runs.Rises.{end_of_line, first_rises, rises_with, top_of_rises, trace_with}
+use Rattle.wb_heap_model.specs.declared.heap.Attempt.{Attempt}
+use Rattle.wb_heap_model.specs.declared.size.Rise.{Rise}
+use Rattle.wb_heap_model.specs.Rises.{end_of_line, first_rises, rises_with, top_of_rises, trace_with}
 
 -- a line of each attempt, or the rises alone
 pub record Log : Type 0 where

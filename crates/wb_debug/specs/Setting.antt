@@ -1,5 +1,5 @@
 -- What contracts see of the script's own setting.
-use Rattle.wb_model.specs.heap.Rules as rules
+use Rattle.wb_heap_model.specs.Rules as rules
 use Rattle.wb_debug.specs.declared.setting.Setting.{Setting}
 use Rattle.wb_debug.specs.declared.setting.Setting.TheVariants.{Never, Next, Each}
 

@@ -1,6 +1,6 @@
 -- What a heap's live cells come to: how many there are of all levels, and of each one, and from which place on.
 use Rattle.std.specs.Prelude.{◌≡◌, ℕ, ◌+◌, ◌≤◌, List, Bool, ◌&&◌, nat_lt, cond, filter, length}
-use Rattle.wb_model.specs.declared.heap.Header.{Header}
+use Rattle.wb_heap_model.specs.declared.heap.Header.{Header}
 use Rattle.wb_debug.specs.declared.checks.Levels.TheVariants.{One, All}
 use Rattle.wb_debug.specs.LevelCounts.{LevelCounts, counted_at}
 use Rattle.wb_debug.specs.Levels.{is_counted}

@@ -4,17 +4,17 @@
 ghost use Rattle.std.specs.Prelude.{◌≡◌, ◌≤◌, None, Some, filter, length, map, not, IfOk, IfErr, OnOk};
 ghost use Rattle.wb_debug.specs.Levels.{is_counted};
 ghost use Rattle.wb_debug.specs.Tally.{IsTally, is_below, number};
-ghost use Rattle.wb_model.specs.heap.Heap.{cells_of_all_levels, checked, is_cleanup, lowered, lowest};
-ghost use Rattle.wb_model.specs.heap.LimitedHeap.{IsSoundHeap};
-ghost use Rattle.wb_model.specs.heap.Row.{headers};
-ghost use Rattle.wb_model.specs.runs.Run.{leak_of};
+ghost use Rattle.wb_heap_model.specs.Heap.{cells_of_all_levels, checked, is_cleanup, lowered, lowest};
+ghost use Rattle.wb_heap_model.specs.LimitedHeap.{IsSoundHeap};
+ghost use Rattle.wb_heap_model.specs.Row.{headers};
+ghost use Rattle.wb_heap_model.specs.Reported.{leak_of};
 
 use crate::tally::Tally;
 use std::alloc::Global;
-use wb_model::heap::{Header, Kind, Panic};
-use wb_model::items::Items;
-use wb_model::memory::NoMemory;
-use wb_model::run::{Leak, Leaks};
+use wb_basics::items::Items;
+use wb_basics::memory::NoMemory;
+use wb_heap_model::heap::{Header, Kind, Panic};
+use wb_heap_model::reported::{Leak, Leaks};
 use wb_rheap::Heap;
 
 /// The levels whose cells are counted.

@@ -4,15 +4,16 @@
 ghost use Rattle.std.specs.Prelude.{◌≡◌, ◌≢◌, ◌+◌, ◌^◌, ◌<◌, ◌≤◌, ◌↔◌, [], false, true, None, Some, is_some, length};
 ghost use Rattle.std.specs.Prelude.{option_map, IfOk, IfErr, IfSome, IsOk, IsErr, IsOkAnd, IsSome, OnOk, OnErr};
 ghost use Rattle.wb_debug.specs.Log.{IsTakenBack};
-ghost use Rattle.wb_model.specs.heap.Debug.{IsSoundDebug, alloc_made, answer_in, debug_without, first_debug};
-ghost use Rattle.wb_model.specs.heap.Debug.{first_debug_of, leaks_of_heap, keeps_rises, trace_line, number_of_next};
-ghost use Rattle.wb_model.specs.heap.Debug.{realloc_made, release_refusal};
-ghost use Rattle.wb_model.specs.heap.Heap.{alloc_request, realloc_request, request_at};
-ghost use Rattle.wb_model.specs.runs.Rises.{first_rises};
-ghost use Rattle.wb_model.specs.heap.Row.{cell_at, cell_length};
-ghost use Rattle.wb_model.specs.heap.Space.{is_shape};
-ghost use Rattle.wb_model.specs.declared.heap.Attempt.{Attempt};
-ghost use Rattle.wb_model.specs.declared.heap.Rule.TheVariants.{Unlimited};
+ghost use Rattle.wb_heap_model.specs.Debug.{IsSoundDebug, alloc_made, answer_in, debug_without, first_debug};
+ghost use Rattle.wb_heap_model.specs.Debug.{first_debug_of, leaks_of_heap, keeps_rises, number_of_next};
+ghost use Rattle.wb_heap_model.specs.Reported.{trace_line};
+ghost use Rattle.wb_heap_model.specs.Debug.{realloc_made, release_refusal};
+ghost use Rattle.wb_heap_model.specs.Heap.{alloc_request, realloc_request, request_at};
+ghost use Rattle.wb_heap_model.specs.Rises.{first_rises};
+ghost use Rattle.wb_heap_model.specs.Row.{cell_at, cell_length};
+ghost use Rattle.wb_heap_model.specs.Space.{is_shape};
+ghost use Rattle.wb_heap_model.specs.declared.heap.Attempt.{Attempt};
+ghost use Rattle.wb_heap_model.specs.declared.heap.Rule.TheVariants.{Unlimited};
 
 use crate::checks;
 use crate::fault::DebugFault;
@@ -22,11 +23,11 @@ use crate::setting::Setting;
 use crate::tally::Tally;
 use std::alloc::{AllocError, Global};
 use std::marker::Model;
-use wb_model::heap::{Answer, Attempt, Gave, Header, Kind, Panic, Ptr, Rule, Shape};
-use wb_model::limits::CEILING;
-use wb_model::memory::NoMemory;
-use wb_model::run::{Leaks, Trace};
-use wb_model::size::Rises;
+use wb_basics::limits::CEILING;
+use wb_basics::memory::NoMemory;
+use wb_heap_model::heap::{Answer, Attempt, Gave, Header, Kind, Panic, Ptr, Rule, Shape};
+use wb_heap_model::reported::{Leaks, Trace};
+use wb_heap_model::size::Rises;
 use wb_rheap::{Heap, HeapFault};
 
 /// A simulated heap that counts attempts, refuses those that are to fail, and checks nested marks.
@@ -66,7 +67,7 @@ impl Drop for DebugHeap {
 }
 
 impl Model for DebugHeap {
-    ghost use Rattle.wb_model.specs.heap.Debug.{Debug};
+    ghost use Rattle.wb_heap_model.specs.Debug.{Debug};
 
     ghost Value = { Debug };
 

@@ -1,13 +1,13 @@
 //! What is to fail: the run's rule, and the script's own setting. Each call replaces the earlier rule or the earlier setting.
 
 ghost use Rattle.std.specs.Prelude.{◌≡◌, ◌≤◌, false};
-ghost use Rattle.wb_model.specs.heap.Debug.{IsSoundDebug, keeps_rises, with_setting};
-ghost use Rattle.wb_model.specs.runs.Rest.{SameSoFar};
-ghost use Rattle.wb_model.specs.heap.Rules.{each, never, next};
+ghost use Rattle.wb_heap_model.specs.Debug.{IsSoundDebug, keeps_rises, with_setting};
+ghost use Rattle.wb_heap_model.specs.SameRules.{SameSoFar};
+ghost use Rattle.wb_heap_model.specs.Rules.{each, never, next};
 
 use crate::debug_heap::DebugHeap;
 use crate::setting::Setting;
-use wb_model::heap::Rule;
+use wb_heap_model::heap::Rule;
 
 impl DebugHeap {
     /// Replaces the rule from here on; the script's own setting and all else stay. The heap must be one made by `new`. Neither the old nor

@@ -1,6 +1,6 @@
 //! Why a debug heap was not made.
 
-use wb_model::memory::NoMemory;
+use wb_basics::memory::NoMemory;
 
 /// Why a debug heap was not made.
 #[derive(Clone, Copy, Debug, PartialEq, Eq)]

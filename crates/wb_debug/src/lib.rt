@@ -6,10 +6,10 @@
 
 pub use debug_heap::DebugHeap;
 pub use fault::DebugFault;
-pub use wb_model::heap::{Answer, Attempt, Gave, Header, Kind, Panic, Ptr, Rule, Shape};
-pub use wb_model::memory::NoMemory;
-pub use wb_model::run::{Leak, Leaks, Note, Trace};
-pub use wb_model::size::{Rise, Rises};
+pub use wb_basics::memory::NoMemory;
+pub use wb_heap_model::heap::{Answer, Attempt, Gave, Header, Kind, Panic, Ptr, Rule, Shape};
+pub use wb_heap_model::reported::{Leak, Leaks, Note, Trace};
+pub use wb_heap_model::size::{Rise, Rises};
 pub use wb_rheap::Heap;
 
 mod checks;

@@ -1,17 +1,17 @@
 //! What a heap keeps of its attempts: a line of each attempt, or only the rises. Nothing here knows how an attempt is answered.
 
 ghost use Rattle.std.specs.Prelude.{◌≡◌, ◌<◌, ◌^◌, false, true, IfOk, IsOk, OnOk, OnErr, IsSome, Some};
-ghost use Rattle.wb_model.specs.runs.Rises.{end_of_line};
-ghost use Rattle.wb_model.specs.runs.Traces.{end_of_attempt};
+ghost use Rattle.wb_heap_model.specs.Rises.{end_of_line};
+ghost use Rattle.wb_heap_model.specs.Reported.{end_of_attempt};
 ghost use Rattle.wb_debug.specs.Log.{IsTakenBack, adds, first_log, logged, top_in};
 
 use std::alloc::Global;
 use std::marker::Model;
-use wb_model::heap::{Answer, Attempt};
-use wb_model::items::Items;
-use wb_model::memory::NoMemory;
-use wb_model::run::Trace;
-use wb_model::size::{Rise, Rises, top_of_rises};
+use wb_basics::items::Items;
+use wb_basics::memory::NoMemory;
+use wb_heap_model::heap::{Answer, Attempt};
+use wb_heap_model::reported::Trace;
+use wb_heap_model::size::{Rise, Rises, top_of_rises};
 
 /// What is kept of the attempts that were made.
 #[derive(Drop)]

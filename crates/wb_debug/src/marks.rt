@@ -1,13 +1,13 @@
 //! Nested marks, and the checks that a level has exactly as many cells as expected.
 
 ghost use Rattle.std.specs.Prelude.{◌≡◌, ◌+◌, ◌<◌, ◌^◌, None, Some, IfErr, OnOk, OnErr};
-ghost use Rattle.wb_model.specs.heap.Debug.{IsSoundDebug, check_all_refusal, check_refusal};
-ghost use Rattle.wb_model.specs.heap.Heap.{after_mark, after_mark_end, mark_end_refusal};
+ghost use Rattle.wb_heap_model.specs.Debug.{IsSoundDebug, check_all_refusal, check_refusal};
+ghost use Rattle.wb_heap_model.specs.Heap.{after_mark, after_mark_end, mark_end_refusal};
 
 use crate::checks;
 use crate::checks::Levels;
 use crate::debug_heap::DebugHeap;
-use wb_model::heap::Panic;
+use wb_heap_model::heap::Panic;
 
 impl DebugHeap {
     /// Opens a mark: new cells are of a level one deeper. Source: Symbian OS v9 SDK reference, `__UHEAP_MARK`.

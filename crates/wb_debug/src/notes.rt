@@ -1,11 +1,11 @@
 //! Notes: what the statements `heap`, `available` and `compress` report. Their lengths are in bytes.
 
 ghost use Rattle.std.specs.Prelude.{◌≡◌};
-ghost use Rattle.wb_model.specs.heap.Debug.{IsSoundDebug, debug_compressed, note_of_available, note_of_compress};
-ghost use Rattle.wb_model.specs.heap.Debug.{note_of_heap};
+ghost use Rattle.wb_heap_model.specs.Debug.{IsSoundDebug, debug_compressed, note_of_available, note_of_compress};
+ghost use Rattle.wb_heap_model.specs.Debug.{note_of_heap};
 
 use crate::debug_heap::DebugHeap;
-use wb_model::run::Note;
+use wb_heap_model::reported::Note;
 
 impl DebugHeap {
     /// Notes the number of live cells, the sum of their cell lengths, and the committed length. Source: Symbian OS v9 SDK reference, RHeap,

@@ -3,12 +3,12 @@
 ghost use Rattle.std.specs.Prelude.{◌≡◌, ◌+◌, ◌*◌, ◌<◌, ◌≤◌, ◌++◌, true, length, take, drop, replicate, slice_index};
 ghost use Rattle.std.specs.Prelude.{slice_set, option_map, IfSome, IsSome};
 ghost use Rattle.wb_chunk.specs.Halves.{half_of, halves_from, with_half, with_halves};
-ghost use Rattle.wb_model.specs.cells.CellRow.{payload_of};
-ghost use Rattle.wb_model.specs.heap.Debug.{IsLiveIn, IsSoundDebug, debug_changed};
-ghost use Rattle.wb_model.specs.heap.Row.{cell_at, usable_of};
+ghost use Rattle.wb_heap_model.specs.CellRow.{payload_of};
+ghost use Rattle.wb_heap_model.specs.Debug.{IsLiveIn, IsSoundDebug, debug_changed};
+ghost use Rattle.wb_heap_model.specs.Row.{cell_at, usable_of};
 
 use crate::debug_heap::DebugHeap;
-use wb_model::heap::{Header, Ptr};
+use wb_heap_model::heap::{Header, Ptr};
 
 impl DebugHeap {
     /// Returns the header of the cell that the pointer names; `None` exactly if it names no live cell. The cell's payload has one word for

@@ -2,11 +2,11 @@
 //! marks, the script's own setting, and how places are chosen. Nothing here changes a heap.
 
 ghost use Rattle.std.specs.Prelude.{◌≡◌, ◌↔◌, true, length};
-ghost use Rattle.wb_model.specs.heap.LimitedHeap.{next_live_of};
-ghost use Rattle.wb_model.specs.heap.Row.{headers, total_length};
+ghost use Rattle.wb_heap_model.specs.LimitedHeap.{next_live_of};
+ghost use Rattle.wb_heap_model.specs.Row.{headers, total_length};
 
 use crate::debug_heap::DebugHeap;
-use wb_model::heap::Header;
+use wb_heap_model::heap::Header;
 
 impl DebugHeap {
     /// The first live cell that begins at this place, in bytes, or above it; `None` if there is none.

@@ -2,13 +2,13 @@
 //! knows a heap.
 
 ghost use Rattle.std.specs.Prelude.{◌≡◌, ◌≤◌, if◌then◌else◌};
-ghost use Rattle.wb_model.specs.heap.LimitedHeap.{IsCellLength};
-ghost use Rattle.wb_model.specs.heap.Row.{cell_length};
-ghost use Rattle.wb_model.specs.heap.Rules.{refusal_of, unless_refused};
-ghost use Rattle.wb_model.specs.heap.Space.{limit_under};
+ghost use Rattle.wb_heap_model.specs.LimitedHeap.{IsCellLength};
+ghost use Rattle.wb_heap_model.specs.Row.{cell_length};
+ghost use Rattle.wb_heap_model.specs.Rules.{refusal_of, unless_refused};
+ghost use Rattle.wb_heap_model.specs.Space.{limit_under};
 
-use wb_model::heap::{Answer, Rule};
-use wb_model::limits::CEILING;
+use wb_basics::limits::CEILING;
+use wb_heap_model::heap::{Answer, Rule};
 
 /// Returns how a rule makes the attempt with this number fail, whose cell would end at `end`; `None` if the rule doesn't.
 fn refusal(rule: &Rule, number: u32, end: u32) -> Option<Answer>

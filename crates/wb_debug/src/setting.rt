@@ -2,7 +2,7 @@
 
 ghost use Rattle.std.specs.Prelude.{◌≡◌};
 ghost use Rattle.wb_debug.specs.Setting.{setting_of};
-ghost use Rattle.wb_model.specs.heap.Rules.{is_due, after_attempt};
+ghost use Rattle.wb_heap_model.specs.Rules.{is_due, after_attempt};
 
 /// The script's own setting. Source: Symbian OS v9 SDK reference, RHeap, for which attempts it makes fail.
 #[derive(Clone, Copy, Debug, PartialEq, Eq)]

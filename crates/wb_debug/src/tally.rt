@@ -2,16 +2,16 @@
 //! through the cells.
 
 ghost use Rattle.std.specs.Prelude.{◌≡◌, ℕ, ◌+◌, ◌<◌, ◌≤◌, ◌^◌, List, []};
-ghost use Rattle.wb_model.specs.declared.heap.Header.{Header};
-ghost use Rattle.wb_model.specs.heap.Heap.{lowered};
-ghost use Rattle.wb_model.specs.heap.Row.{Cell, headers};
+ghost use Rattle.wb_heap_model.specs.declared.heap.Header.{Header};
+ghost use Rattle.wb_heap_model.specs.Heap.{lowered};
+ghost use Rattle.wb_heap_model.specs.Row.{Cell, headers};
 ghost use Rattle.wb_debug.specs.LevelCounts.{known_at};
 ghost use Rattle.wb_debug.specs.Tally.{IsMore, IsOther, IsTally};
 
 use crate::checks::has_level;
 use crate::level_counts::{Counted, LevelCounts};
 use std::marker::Model;
-use wb_model::heap::Header;
+use wb_heap_model::heap::Header;
 
 /// How many live cells there are of all levels together, and of each level for which this is known. The cleanup stack's cell is of no
 /// level.

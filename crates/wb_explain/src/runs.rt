@@ -51,12 +51,12 @@ pub use shell_words::{ShellFile, ShellOptions};
 pub use states::ManyStates;
 use std::alloc::{AllocError, Global};
 pub use unasked::{Question, Shown};
+use wb_heap_model::heap::Rule;
+use wb_heap_model::size::Rise;
 use wb_history::{Attempts, ScriptLines, WatchedRun};
-use wb_model::failures::Failures;
-use wb_model::heap::Rule;
-use wb_model::lengths::LengthRange;
-use wb_model::number_ends::NumberEnd;
-use wb_model::size::Rise;
+use wb_runs::failures::Failures;
+use wb_runs::lengths::LengthRange;
+use wb_runs::number_ends::NumberEnd;
 pub use worse::longest_better;
 
 /// Returns what a run found, with the lines of the script that it is about; empty if there is nothing to say. The only error is that memory

@@ -1,9 +1,9 @@
 //! What a machine shows before a turn, and no longer shows after that turn.
 
+use wb_heap_model::heap::{Attempt, Header, Item, Ptr};
 use wb_history::{Ahead, live_at};
 use wb_machine::Machine;
-use wb_model::heap::{Attempt, Header, Item, Ptr};
-use wb_model::script::{Condition, Number, Statement};
+use wb_tree::script::{Condition, Number, Statement};
 
 /// What a statement's numbers, or its condition, come to.
 #[derive(Clone, Copy, Debug, PartialEq, Eq)]

@@ -6,7 +6,7 @@ use crate::statements::put_pointer;
 use crate::turns::Plan;
 use wb_history::has_panicked;
 use wb_machine::Machine;
-use wb_model::script::{Holder, Number, Parameter, Pointer, Statement};
+use wb_tree::script::{Holder, Number, Parameter, Pointer, Statement};
 
 /// What the statement of a row did, as far as the next row depends on it.
 #[derive(Clone, Copy)]

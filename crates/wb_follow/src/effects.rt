@@ -7,10 +7,10 @@ use crate::endings::put_panic;
 use crate::open::{ItemAt, Open};
 use crate::rows::Rows;
 use crate::statements::{put_attempt, put_count, put_free, put_freed, put_pointer, put_statement};
+use wb_heap_model::heap::{Item, KERR_NO_MEMORY};
 use wb_history::{Ahead, has_panicked};
 use wb_machine::Machine;
-use wb_model::heap::{Item, KERR_NO_MEMORY};
-use wb_model::script::Statement;
+use wb_tree::script::Statement;
 
 /// Says what a machine turn did, and keeps `open` up to date. Returns whether the turn's statement left.
 pub(crate) fn put_effects<'a>(

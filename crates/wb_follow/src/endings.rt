@@ -1,17 +1,17 @@
 //! How a run that is followed ends, and after how many steps. A run made beforehand finds this out.
 
 ghost use Rattle.std.specs.Prelude.{◌≤◌, IsTrue};
-ghost use Rattle.wb_model.specs.language.Sound.{is_script};
+ghost use Rattle.wb_tree.specs.Sound.{is_script};
 
 use crate::rows::Rows;
 use std::alloc::Global;
+use wb_basics::limits::{CEILING, LARGEST_BUDGET};
+use wb_basics::memory::NoMemory;
+use wb_heap_model::heap::Panic;
 use wb_history::{RunParameters, machine_of};
-use wb_model::heap::Panic;
-use wb_model::limits::{CEILING, LARGEST_BUDGET};
-use wb_model::memory::NoMemory;
-use wb_model::run::{Outcome, Why};
-use wb_model::run_end::RunEnd;
-use wb_model::script::Script;
+use wb_meaning::run::{Outcome, Why};
+use wb_runs::run_end::RunEnd;
+use wb_tree::script::Script;
 
 /// How a run ends.
 #[derive(Clone, Copy)]

@@ -1,7 +1,7 @@
 //! A run that is followed: its heading, its turns, and its end.
 
 ghost use Rattle.std.specs.Prelude.{◌≤◌, IsTrue};
-ghost use Rattle.wb_model.specs.language.Sound.{is_script};
+ghost use Rattle.wb_tree.specs.Sound.{is_script};
 
 use crate::endings::{ending_of, put_ending};
 use crate::open::Open;
@@ -9,10 +9,10 @@ use crate::rows::{RowSink, Rows, Widths};
 use crate::turns::{Plan, follow_turns};
 use crate::window::{Asked, window_of};
 use std::alloc::Global;
+use wb_basics::limits::LARGEST_BUDGET;
+use wb_basics::memory::NoMemory;
 use wb_history::{RunParameters, ScriptLines, machine_of};
-use wb_model::limits::LARGEST_BUDGET;
-use wb_model::memory::NoMemory;
-use wb_model::script::Script;
+use wb_tree::script::Script;
 
 /// What is said if the workbench runs out of memory, after the rows that were written.
 const NO_MEMORY: &str = "note: memory ran out, so the rest of the run isn't followed\n";

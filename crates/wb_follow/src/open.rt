@@ -3,11 +3,11 @@
 use crate::before::{Before, Value, live_cell};
 use crate::begun::{Begun, What};
 use std::alloc::{AllocError, Global};
+use wb_basics::limits::MOST_FRAMES;
+use wb_heap_model::heap::{Header, Item, Ptr};
 use wb_history::{Ahead, has_panicked};
 use wb_machine::Machine;
-use wb_model::heap::{Header, Item, Ptr};
-use wb_model::limits::MOST_FRAMES;
-use wb_model::script::Statement;
+use wb_tree::script::Statement;
 
 /// An item of the cleanup stack, and the line that pushed it.
 #[derive(Clone, Copy)]

@@ -2,7 +2,7 @@
 
 use std::alloc::{AllocError, Global};
 use std::fmt::{Display, Write};
-use wb_model::memory::NoMemory;
+use wb_basics::memory::NoMemory;
 
 /// How many bytes of whole rows are kept before they go out.
 const MOST_KEPT: usize = 8192;

@@ -3,10 +3,10 @@
 use crate::before::{Before, Value};
 use crate::open::Open;
 use crate::rows::Rows;
+use wb_heap_model::heap::{Answer, Attempt, Header, Kind, Ptr};
 use wb_history::{Ahead, live_at};
 use wb_machine::Machine;
-use wb_model::heap::{Answer, Attempt, Header, Kind, Ptr};
-use wb_model::script::Statement;
+use wb_tree::script::Statement;
 
 /// Says what became of an attempt. `before` is the cell that it was to make longer; `None` if it was for a new cell.
 pub(crate) fn put_attempt(

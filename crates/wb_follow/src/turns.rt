@@ -8,11 +8,11 @@ use crate::endings::Ending;
 use crate::open::{Doomed, ItemAt, Open};
 use crate::rows::{RowSink, Rows};
 use crate::window::Window;
+use wb_basics::memory::NoMemory;
+use wb_heap_model::heap::{Item, Kind};
 use wb_history::ScriptLines;
 use wb_machine::{Machine, Turn};
-use wb_model::heap::{Item, Kind};
-use wb_model::memory::NoMemory;
-use wb_model::script::Script;
+use wb_tree::script::Script;
 
 /// What is followed: a script's run, how it ends, and which of its steps are shown.
 #[derive(Clone, Copy)]

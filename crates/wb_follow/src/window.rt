@@ -1,14 +1,14 @@
 //! Which steps of a run are shown: the first and the last, or those around an attempt.
 
 ghost use Rattle.std.specs.Prelude.{◌≤◌, IsTrue};
-ghost use Rattle.wb_model.specs.language.Sound.{is_script};
+ghost use Rattle.wb_tree.specs.Sound.{is_script};
 
 use std::alloc::Global;
+use wb_basics::limits::LARGEST_BUDGET;
+use wb_basics::memory::NoMemory;
 use wb_history::{RunParameters, machine_of};
 use wb_machine::Turn;
-use wb_model::limits::LARGEST_BUDGET;
-use wb_model::memory::NoMemory;
-use wb_model::script::Script;
+use wb_tree::script::Script;
 
 /// Which steps are asked for.
 #[derive(Clone, Copy)]

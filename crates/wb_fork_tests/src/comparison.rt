@@ -1,7 +1,7 @@
 //! What the comparisons of a script's run find.
 
 ghost use Rattle.std.specs.Prelude.{IsTrue};
-ghost use Rattle.wb_model.specs.language.Sound.{is_script};
+ghost use Rattle.wb_tree.specs.Sound.{is_script};
 
 use crate::copies::compare_copies;
 use crate::forks::compare_forks;
@@ -10,9 +10,9 @@ use crate::pairs::compare_pairs;
 use crate::results::{MOVING, SHAPE};
 use std::alloc::Global;
 use wb_machine::RunFault;
-use wb_model::failures::{Failing, Failures};
-use wb_model::script::Script;
+use wb_runs::failures::{Failing, Failures};
 use wb_script::read;
+use wb_tree::script::Script;
 
 /// What was found.
 #[derive(Clone, Copy, Debug, PartialEq, Eq)]

@@ -1,15 +1,15 @@
 //! A copy of a run under way, and its source: each stays as it is while the other goes on to its end.
 
 ghost use Rattle.std.specs.Prelude.{IsTrue};
-ghost use Rattle.wb_model.specs.language.Sound.{is_script};
+ghost use Rattle.wb_tree.specs.Sound.{is_script};
 
 use crate::comparison::Comparison;
 use crate::results::{BUDGET, MOST_TURNS, SHAPE, comes_to_run};
 use std::alloc::Global;
+use wb_basics::memory::NoMemory;
+use wb_heap_model::heap::Rule;
 use wb_machine::{Machine, RunFault, Turn};
-use wb_model::heap::Rule;
-use wb_model::memory::NoMemory;
-use wb_model::script::Script;
+use wb_tree::script::Script;
 
 /// Where a run is, as far as its machine shows it.
 #[derive(Clone, Copy, Debug, PartialEq, Eq)]

@@ -1,16 +1,16 @@
 //! Forks of a run, each beside the whole run that it stands for.
 
 ghost use Rattle.std.specs.Prelude.{◌≡◌, ◌+◌, false, IsTrue};
-ghost use Rattle.wb_model.specs.language.Sound.{is_script};
-ghost use Rattle.wb_model.specs.runs.Sweeps.{rule_of};
+ghost use Rattle.wb_tree.specs.Sound.{is_script};
+ghost use Rattle.wb_runs.specs.Sweeps.{rule_of};
 
 use crate::comparison::Comparison;
 use crate::results::{BUDGET, MOST_TURNS, SHAPE, comes_to_run, is_result};
 use std::alloc::Global;
 use wb_machine::{Heap, Machine, RunFault, Turn};
-use wb_model::failures::Failures;
-use wb_model::script::Script;
+use wb_runs::failures::Failures;
 use wb_sweep::result_under;
+use wb_tree::script::Script;
 
 /// Compares the forks of a script's run without failure, one under each of these failures, with the whole runs that they stand for; and
 /// then the run from which the forks were taken with a whole run without failure.

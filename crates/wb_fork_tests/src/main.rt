@@ -19,7 +19,7 @@ use comparison::{Comparison, compare};
 use std::io;
 use std::io::Read;
 use std::process::ExitCode;
-use wb_model::failures::Failing;
+use wb_runs::failures::Failing;
 
 fn main(rt: HostRuntime) -> ExitCode {
     say(&rt).unwrap_or(ExitCode::FAILURE)

@@ -2,18 +2,18 @@
 //! numbers. From there on, each is compared with that run.
 
 ghost use Rattle.std.specs.Prelude.{◌≡◌, ◌≤◌, false, IsTrue};
-ghost use Rattle.wb_model.specs.language.Sound.{is_script};
-ghost use Rattle.wb_model.specs.declared.heap.Rule.TheVariants as rules;
+ghost use Rattle.wb_tree.specs.Sound.{is_script};
+ghost use Rattle.wb_heap_model.specs.declared.heap.Rule.TheVariants as rules;
 ghost use Rattle.wb_machine.specs.Turns.{IsSameRun};
 
 use crate::comparison::Comparison;
 use crate::results::{BUDGET, MOST_TURNS, Reached, is_same_from};
 use std::alloc::Global;
+use wb_basics::memory::NoMemory;
+use wb_heap_model::heap::{Rule, Shape};
 use wb_machine::{Machine, RunFault, Turn};
-use wb_model::heap::{Rule, Shape};
-use wb_model::memory::NoMemory;
-use wb_model::run::RunResult;
-use wb_model::script::Script;
+use wb_meaning::run::RunResult;
+use wb_tree::script::Script;
 
 /// How many attempts a fork may make after its failed one before it is given up, and how many attempts the run without failure may be
 /// ahead.

@@ -2,17 +2,17 @@
 //! whole run in which both fail.
 
 ghost use Rattle.std.specs.Prelude.{◌≡◌, ◌+◌, ◌≤◌, false, IsTrue};
-ghost use Rattle.wb_model.specs.language.Sound.{is_script};
-ghost use Rattle.wb_model.specs.declared.heap.Rule.TheVariants as rules;
+ghost use Rattle.wb_tree.specs.Sound.{is_script};
+ghost use Rattle.wb_heap_model.specs.declared.heap.Rule.TheVariants as rules;
 
 use crate::comparison::Comparison;
 use crate::results::{BUDGET, MOST_TURNS, SHAPE, comes_to_run, is_result};
 use std::alloc::Global;
+use wb_heap_model::heap::Rule;
 use wb_machine::{Heap, Machine, RunFault, Turn};
-use wb_model::failures::Failing;
-use wb_model::heap::Rule;
-use wb_model::script::Script;
+use wb_runs::failures::Failing;
 use wb_sweep::result_under;
+use wb_tree::script::Script;
 
 /// How many attempts after the first failed one are tried as the second of a pair, at most.
 const MOST_AFTER: u32 = 40;

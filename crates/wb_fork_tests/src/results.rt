@@ -1,13 +1,14 @@
 //! Comparisons of the results of runs: all that a run reports is compared.
 
 ghost use Rattle.std.specs.Prelude.{IsTrue};
-ghost use Rattle.wb_model.specs.language.Sound.{is_script};
+ghost use Rattle.wb_tree.specs.Sound.{is_script};
 
 use std::alloc::Global;
+use wb_heap_model::heap::{Rule, Shape};
+use wb_heap_model::reported::Leaks;
 use wb_machine::{Machine, RunFault, run};
-use wb_model::heap::{Rule, Shape};
-use wb_model::run::{Leaks, Lines, Outcome, RunResult, Why};
-use wb_model::script::Script;
+use wb_meaning::run::{Lines, Outcome, RunResult, Why};
+use wb_tree::script::Script;
 
 /// The greatest number of steps of each run.
 pub(crate) const BUDGET: u32 = 100_000;

@@ -3,16 +3,16 @@ use Rattle.std.proofs.Common.{◌≡◌, ℕ, suc, ◌+◌, ◌*◌, ◌%◌, �
 use Rattle.std.proofs.lemmas.List.{length-set}
 use Rattle.std.proofs.lemmas.List.Elements.{All-replicate, All-set}
 use Rattle.wb_chunk.specs.Halves.{with_half, with_halves}
-use Rattle.wb_model.specs.declared.heap.Ptr.{Ptr}
-use Rattle.wb_model.specs.heap.Row.{Cell, cell_at, end_of, headers, is_at, usable_of}
-use Rattle.wb_model.specs.cells.CellRow.{content_or_nil, payload_of}
-use Rattle.wb_model.specs.meaning.Texts.{AreUnits, exactly}
-use Rattle.wb_model.specs.heap.Debug.{Debug, IsSoundDebug, debug_changed, with_row}
-use Rattle.wb_model.specs.heap.Space.{limit_under}
-use Rattle.wb_model.proofs.heaps.LimitedHeaps.{limit_under-ceiling}
-use Rattle.wb_model.specs.cells.TextCells.{joined, room_in, units_after, text_in, text_at, IsTextAt}
-use Rattle.wb_model.proofs.heaps.TextCells.{IsUnit, zeros, joined-halves, halves-joined, length-halves, length-joined, room-even, text-read, IsUnit-exactly, IsUnit-shorter}
-use Rattle.wb_model.proofs.heaps.TextCellsHeap.{IsTextNow, text-changed, found-changed, changed-twice, changed-same}
+use Rattle.wb_heap_model.specs.declared.heap.Ptr.{Ptr}
+use Rattle.wb_heap_model.specs.Row.{Cell, cell_at, end_of, headers, is_at, usable_of}
+use Rattle.wb_heap_model.specs.CellRow.{content_or_nil, payload_of}
+use Rattle.wb_heap_model.specs.Texts.{AreUnits, exactly}
+use Rattle.wb_heap_model.specs.Debug.{Debug, IsSoundDebug, debug_changed, with_row}
+use Rattle.wb_heap_model.specs.Space.{limit_under}
+use Rattle.wb_heap_model.proofs.LimitedHeaps.{limit_under-ceiling}
+use Rattle.wb_heap_model.specs.TextCells.{joined, room_in, units_after, text_in, text_at, IsTextAt}
+use Rattle.wb_heap_model.proofs.TextCells.{IsUnit, zeros, joined-halves, halves-joined, length-halves, length-joined, room-even, text-read, IsUnit-exactly, IsUnit-shorter}
+use Rattle.wb_heap_model.proofs.TextCellsHeap.{IsTextNow, text-changed, found-changed, changed-twice, changed-same}
 use Rattle.wb_hbuf.specs.Drafts.{HasUnits, IsDraft, put}
 use Rattle.wb_hbuf.proofs.Units.{set-following, put-following, length-put, units-put}
 

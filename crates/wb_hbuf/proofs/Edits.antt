@@ -2,15 +2,15 @@
 use Rattle.std.proofs.Common.{◌≡◌, ℕ, ◌+◌, ◌-◌, ◌<◌, ◌≤◌, ◌⊎◌, inl, inr, min, List, ◌∷◌, ◌++◌, length, take, drop, replicate, slice_index, Ok, Err, cond, refl, sym, ap, subst, ◌∙◌, arith, get_or, append_assoc, append-nil}
 use Rattle.std.proofs.lemmas.Bool.{cases_lt, le-leb, lt-leb, lt-ltb, le-ltb}
 use Rattle.std.proofs.lemmas.List.{length-append, length-drop, length-take-le, length-take, take_at, drop_at, take_all, drop_all, take-append-le, take-take, get_or-take, ext_get_or}
-use Rattle.wb_model.specs.declared.heap.TheConstants.Panic.{TOO_LONG, POSITION_OUT_OF_BOUNDS}
-use Rattle.wb_model.specs.declared.heap.Ptr.{Ptr}
-use Rattle.wb_model.specs.declared.heap.Panic.{Panic}
-use Rattle.wb_model.specs.cells.CellRow.{content_or_nil, payload_of}
-use Rattle.wb_model.specs.meaning.Texts.{Edited, exactly, units_of_part, answer_of, at_most, insert_text, delete_text, set_length_text}
-use Rattle.wb_model.specs.heap.Debug.{Debug, IsSoundDebug, debug_changed}
-use Rattle.wb_model.specs.cells.TextCells.{joined, room_in, units_after, text_in, text_at, IsTextAt, debug_edited}
-use Rattle.wb_model.proofs.heaps.TextCells.{length-exactly}
-use Rattle.wb_model.proofs.heaps.TextCellsHeap.{IsTextNow, found-other}
+use Rattle.wb_heap_model.specs.declared.heap.TheConstants.Panic.{TOO_LONG, POSITION_OUT_OF_BOUNDS}
+use Rattle.wb_heap_model.specs.declared.heap.Ptr.{Ptr}
+use Rattle.wb_heap_model.specs.declared.heap.Panic.{Panic}
+use Rattle.wb_heap_model.specs.CellRow.{content_or_nil, payload_of}
+use Rattle.wb_heap_model.specs.Texts.{Edited, exactly, units_of_part, answer_of, at_most, insert_text, delete_text, set_length_text}
+use Rattle.wb_heap_model.specs.Debug.{Debug, IsSoundDebug, debug_changed}
+use Rattle.wb_heap_model.specs.TextCells.{joined, room_in, units_after, text_in, text_at, IsTextAt, debug_edited}
+use Rattle.wb_heap_model.proofs.TextCells.{length-exactly}
+use Rattle.wb_heap_model.proofs.TextCellsHeap.{IsTextNow, found-other}
 use Rattle.wb_hbuf.specs.declared.sources.Source.{Source}
 use Rattle.wb_hbuf.specs.declared.sources.Source.TheVariants.{Literal, Buffer, Cell, Own}
 use Rattle.wb_hbuf.specs.Sources.{IsApart, IsForeign, source_units}

@@ -1,20 +1,20 @@
 -- A cell that is granted for a text reads as it.
 use Rattle.std.proofs.Common.{◌≡◌, ◌≢◌, ℕ, ◌+◌, ◌*◌, ◌/◌, ◌-◌, ◌≤◌, Bool, true, false, cond, List, [], length, Option, Some, None, Result, Ok, Err, AllPairs, refl, sym, ap, subst, ◌∙◌, arith}
 use Rattle.std.specs.Prelude.{IfOk, IfSome, OnOk, nat_lt}
-use Rattle.wb_model.specs.declared.heap.Ptr.{Ptr}
-use Rattle.wb_model.specs.declared.heap.Kind.TheVariants.{Text}
-use Rattle.wb_model.specs.declared.heap.Answer.{Answer}
-use Rattle.wb_model.specs.declared.heap.Answer.TheVariants.{Granted, Simulated, Refused}
-use Rattle.wb_model.specs.declared.heap.Gave.{Gave}
-use Rattle.wb_model.specs.heap.Row.{Cell, headers, pointer_to, cell_at, inserted, without, cell_length}
-use Rattle.wb_model.specs.cells.CellRow.{content_or_nil, resized_words}
-use Rattle.wb_model.specs.heap.Rules.{Request}
-use Rattle.wb_model.specs.heap.Heap.{alloc_request, new_cell, after_alloc, realloc_request, moved, after_realloc}
-use Rattle.wb_model.specs.heap.LimitedHeap.{zero_words}
-use Rattle.wb_model.specs.heap.Debug.{Debug, IsSoundDebug, made_by, answer_in, number_of_next, alloc_made, longer_made, shorter_made, realloc_made}
-use Rattle.wb_model.specs.cells.TextCells.{text_in, text_at, IsText, IsTextAt, IsGrantedText, IsRemadeText}
-use Rattle.wb_model.proofs.heaps.NewCells.{found-inserted}
-use Rattle.wb_model.proofs.heaps.TextCells.{text-read, zeros-text, resized-text}
+use Rattle.wb_heap_model.specs.declared.heap.Ptr.{Ptr}
+use Rattle.wb_heap_model.specs.declared.heap.Kind.TheVariants.{Text}
+use Rattle.wb_heap_model.specs.declared.heap.Answer.{Answer}
+use Rattle.wb_heap_model.specs.declared.heap.Answer.TheVariants.{Granted, Simulated, Refused}
+use Rattle.wb_heap_model.specs.declared.heap.Gave.{Gave}
+use Rattle.wb_heap_model.specs.Row.{Cell, headers, pointer_to, cell_at, inserted, without, cell_length}
+use Rattle.wb_heap_model.specs.CellRow.{content_or_nil, resized_words}
+use Rattle.wb_heap_model.specs.Rules.{Request}
+use Rattle.wb_heap_model.specs.Heap.{alloc_request, new_cell, after_alloc, realloc_request, moved, after_realloc}
+use Rattle.wb_heap_model.specs.LimitedHeap.{zero_words}
+use Rattle.wb_heap_model.specs.Debug.{Debug, IsSoundDebug, made_by, answer_in, number_of_next, alloc_made, longer_made, shorter_made, realloc_made}
+use Rattle.wb_heap_model.specs.TextCells.{text_in, text_at, IsText, IsTextAt, IsGrantedText, IsRemadeText}
+use Rattle.wb_heap_model.proofs.NewCells.{found-inserted}
+use Rattle.wb_heap_model.proofs.TextCells.{text-read, zeros-text, resized-text}
 
 granted-text : (new : Debug) (c : Cell (List ℕ)) (row : List (Cell (List ℕ))) (t : List ℕ) → new.heap.row ≡ inserted c row → IsSoundDebug new → c.head.kind ≡ Text →
     IsText c.content t → IsTextAt (pointer_to c.head) new × (text_at (pointer_to c.head) new ≡ t)

@@ -3,10 +3,10 @@ use Rattle.std.proofs.Common.{◌≡◌, ◌≢◌, ℕ, ◌+◌, ◌/◌, ◌%�
 use Rattle.std.specs.Prelude.{nat_eq}
 use Rattle.std.proofs.lemmas.Bool.{eq-eqb, ne_eqb}
 use Rattle.std.proofs.lemmas.List.{get_or-take, get_or-drop}
-use Rattle.wb_model.specs.declared.heap.Ptr.{Ptr}
-use Rattle.wb_model.specs.heap.Debug.{Debug, debug_changed}
-use Rattle.wb_model.specs.cells.TextCells.{units_after, text_in}
-use Rattle.wb_model.proofs.heaps.TextCellsHeap.{text-other}
+use Rattle.wb_heap_model.specs.declared.heap.Ptr.{Ptr}
+use Rattle.wb_heap_model.specs.Debug.{Debug, debug_changed}
+use Rattle.wb_heap_model.specs.TextCells.{units_after, text_in}
+use Rattle.wb_heap_model.proofs.TextCellsHeap.{text-other}
 use Rattle.wb_hbuf.specs.declared.sources.Source.{Source}
 use Rattle.wb_hbuf.specs.declared.sources.Source.TheVariants.{Literal, Buffer, Cell, Own}
 use Rattle.wb_hbuf.specs.Sources.{IsSource, IsReadable, IsApart, base_units, count_of, from_of, source_units}

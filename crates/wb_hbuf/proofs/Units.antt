@@ -6,10 +6,10 @@ use Rattle.std.proofs.lemmas.List.Elements.{All-append, All-drop, All-take}
 use Rattle.std.proofs.lemmas.Bool.{cases_lt}
 use Rattle.wb_chunk.specs.Halves.{half_of, halves_from, with_half, with_halves}
 use Rattle.wb_chunk.proofs.WrittenHalves.{length-halves_from, get_or-halves_from}
-use Rattle.wb_model.specs.cells.Spelling.{halves}
-use Rattle.wb_model.specs.meaning.Texts.{AreUnits, exactly, units_of_part}
-use Rattle.wb_model.specs.cells.TextCells.{joined}
-use Rattle.wb_model.proofs.heaps.TextCells.{IsUnit, length-exactly}
+use Rattle.wb_heap_model.specs.Spelling.{halves}
+use Rattle.wb_heap_model.specs.Texts.{AreUnits, exactly, units_of_part}
+use Rattle.wb_heap_model.specs.TextCells.{joined}
+use Rattle.wb_heap_model.proofs.TextCells.{IsUnit, length-exactly}
 use Rattle.wb_hbuf.specs.Drafts.{put}
 
 following-two : (i : ℕ) → suc (suc i) / 2 ≡ suc (i / 2)

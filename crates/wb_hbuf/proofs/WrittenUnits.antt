@@ -1,11 +1,11 @@
 -- A cell before an edit, and what a source has.
 use Rattle.std.proofs.Common.{◌≡◌, ℕ, List, length, take, drop, slice_index, sym, subst, arith}
 use Rattle.std.proofs.lemmas.List.{length-take-le}
-use Rattle.wb_model.specs.declared.heap.Ptr.{Ptr}
-use Rattle.wb_model.specs.cells.CellRow.{payload_of}
-use Rattle.wb_model.specs.heap.Debug.{Debug}
-use Rattle.wb_model.specs.cells.TextCells.{room_in, units_after, text_at}
-use Rattle.wb_model.proofs.heaps.TextCells.{length-exactly}
+use Rattle.wb_heap_model.specs.declared.heap.Ptr.{Ptr}
+use Rattle.wb_heap_model.specs.CellRow.{payload_of}
+use Rattle.wb_heap_model.specs.Debug.{Debug}
+use Rattle.wb_heap_model.specs.TextCells.{room_in, units_after, text_at}
+use Rattle.wb_heap_model.proofs.TextCells.{length-exactly}
 use Rattle.wb_hbuf.specs.declared.sources.Source.{Source}
 use Rattle.wb_hbuf.specs.Sources.{base_units, count_of, from_of, source_units}
 use Rattle.wb_hbuf.specs.Drafts.{HasUnits, IsDraft, put}

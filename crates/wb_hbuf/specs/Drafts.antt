@@ -1,11 +1,11 @@
 -- A text while an edit is at work on it: the length word still tells the text that was, and units are put one after another.
 use Rattle.std.specs.Prelude.{◌≡◌, ℕ, ◌+◌, ◌*◌, ◌^◌, ◌<◌, ◌≤◌, List, ◌∷◌, ◌++◌, length, take, drop, slice_index, Result, Ok, OnOk}
-use Rattle.wb_model.specs.declared.heap.Ptr.{Ptr}
-use Rattle.wb_model.specs.cells.CellRow.{payload_of}
-use Rattle.wb_model.specs.declared.heap.Panic.{Panic}
-use Rattle.wb_model.specs.meaning.Texts.{AreUnits, Edited, answer_of}
-use Rattle.wb_model.specs.heap.Debug.{Debug, IsSoundDebug, debug_changed}
-use Rattle.wb_model.specs.cells.TextCells.{joined, room_in, units_after, text_at, max_at, IsTextAt, debug_edited}
+use Rattle.wb_heap_model.specs.declared.heap.Ptr.{Ptr}
+use Rattle.wb_heap_model.specs.CellRow.{payload_of}
+use Rattle.wb_heap_model.specs.declared.heap.Panic.{Panic}
+use Rattle.wb_heap_model.specs.Texts.{AreUnits, Edited, answer_of}
+use Rattle.wb_heap_model.specs.Debug.{Debug, IsSoundDebug, debug_changed}
+use Rattle.wb_heap_model.specs.TextCells.{joined, room_in, units_after, text_at, max_at, IsTextAt, debug_edited}
 
 -- units in place of as many others, from a place on
 abbrev pub put : ℕ → List ℕ → List ℕ → List ℕ

@@ -1,9 +1,9 @@
 -- What an edit reads, and what it makes of a text.
 use Rattle.std.specs.Prelude.{◌≢◌, ℕ, ◌+◌, ◌^◌, ◌<◌, List, ◌++◌}
-use Rattle.wb_model.specs.declared.heap.Ptr.{Ptr}
-use Rattle.wb_model.specs.meaning.Texts.{Edited, at_most, insert_text, units_of_part}
-use Rattle.wb_model.specs.heap.Debug.{Debug}
-use Rattle.wb_model.specs.cells.TextCells.{text_at, max_at, IsTextAt}
+use Rattle.wb_heap_model.specs.declared.heap.Ptr.{Ptr}
+use Rattle.wb_heap_model.specs.Texts.{Edited, at_most, insert_text, units_of_part}
+use Rattle.wb_heap_model.specs.Debug.{Debug}
+use Rattle.wb_heap_model.specs.TextCells.{text_at, max_at, IsTextAt}
 use Rattle.wb_hbuf.specs.declared.sources.Edit.{Edit}
 use Rattle.wb_hbuf.specs.declared.sources.Edit.TheVariants.{Copy, Append, Insert}
 use Rattle.wb_hbuf.specs.declared.sources.Source.{Source}

@@ -5,23 +5,23 @@ ghost use Rattle.std.specs.Prelude.{OnErr, OnOk};
 ghost use Rattle.wb_hbuf.specs.Drafts.{IsEdited, IsMeasured};
 ghost use Rattle.wb_hbuf.specs.Sources.{IsApart, IsForeign, IsReadableAlone, IsSource, SuitsEdit, cell_edited};
 ghost use Rattle.wb_hbuf.specs.Sources.{edit_text, source_units};
-ghost use Rattle.wb_model.specs.heap.Debug.{IsSoundDebug, alloc_made, answer_in, keeps_rises};
-ghost use Rattle.wb_model.specs.heap.Debug.{realloc_made};
-ghost use Rattle.wb_model.specs.heap.Heap.{alloc_request, realloc_request};
-ghost use Rattle.wb_model.specs.meaning.Reading.{printed, printed_unit};
-ghost use Rattle.wb_model.specs.heap.Row.{cell_at, cell_length};
-ghost use Rattle.wb_model.specs.cells.TextCells.{IsGrantedText, IsRemadeText, IsTextAt, debug_edited, max_at, text_at};
-ghost use Rattle.wb_model.specs.meaning.Texts.{answer_of, at_most, delete_text, edited, set_length_text};
+ghost use Rattle.wb_heap_model.specs.Debug.{IsSoundDebug, alloc_made, answer_in, keeps_rises};
+ghost use Rattle.wb_heap_model.specs.Debug.{realloc_made};
+ghost use Rattle.wb_heap_model.specs.Heap.{alloc_request, realloc_request};
+ghost use Rattle.wb_heap_model.specs.Texts.{printed, printed_unit};
+ghost use Rattle.wb_heap_model.specs.Row.{cell_at, cell_length};
+ghost use Rattle.wb_heap_model.specs.TextCells.{IsGrantedText, IsRemadeText, IsTextAt, debug_edited, max_at, text_at};
+ghost use Rattle.wb_heap_model.specs.Texts.{answer_of, at_most, delete_text, edited, set_length_text};
 
 use crate::reading::{Part, count, foreign_unit};
 use crate::sources::{Edit, Source};
 use crate::writing::{open_gap, settle, write_units};
 use arrayvec::ArrayVec;
+use wb_basics::limits::MOST_UNITS;
+use wb_basics::memory::NoMemory;
+use wb_basics::printed_line::Line;
 use wb_debug::DebugHeap;
-use wb_model::heap::{Gave, Kind, Panic, Ptr};
-use wb_model::limits::MOST_UNITS;
-use wb_model::memory::NoMemory;
-use wb_model::printed_line::Line;
+use wb_heap_model::heap::{Gave, Kind, Panic, Ptr};
 use wb_text::Buf;
 
 /// Attempts to get a cell for an empty text that may have `n` units.

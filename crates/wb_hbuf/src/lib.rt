@@ -11,9 +11,9 @@ mod writing;
 
 pub use hbuf::{delete, edit, edit_buf, length, make, max_len, print_units, remake, set_length};
 pub use sources::{Edit, Source};
+pub use wb_basics::items::Chars;
+pub use wb_basics::memory::NoMemory;
+pub use wb_basics::printed_line::Line;
 pub use wb_debug::DebugHeap;
-pub use wb_model::heap::{Gave, Panic, Ptr};
-pub use wb_model::memory::NoMemory;
-pub use wb_model::printed_line::Line;
-pub use wb_model::script::Chars;
+pub use wb_heap_model::heap::{Gave, Panic, Ptr};
 pub use wb_text::Buf;

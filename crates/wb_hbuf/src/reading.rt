@@ -3,13 +3,13 @@
 ghost use Rattle.std.specs.Prelude.{◌≡◌, ◌+◌, ◌<◌, ◌≤◌, ◌++◌, [], length, replicate, slice_index};
 ghost use Rattle.wb_hbuf.specs.Drafts.{HasUnits};
 ghost use Rattle.wb_hbuf.specs.Sources.{IsForeign, IsReadableAlone, IsSource, count_of, source_units};
-ghost use Rattle.wb_model.specs.cells.TextCells.{text_at};
-ghost use Rattle.wb_model.specs.meaning.Texts.{AreUnits, units_of_part};
+ghost use Rattle.wb_heap_model.specs.TextCells.{text_at};
+ghost use Rattle.wb_heap_model.specs.Texts.{AreUnits, units_of_part};
 
 use crate::sources::Source;
 use arrayvec::ArrayVec;
 use wb_debug::DebugHeap;
-use wb_model::heap::Ptr;
+use wb_heap_model::heap::Ptr;
 use wb_text::{Units, append_bytes, append_units};
 
 /// How many units a source has.

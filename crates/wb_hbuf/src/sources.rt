@@ -1,7 +1,7 @@
 //! How an edit changes a text, and what it reads.
 
-use wb_model::heap::Ptr;
-use wb_model::script::Chars;
+use wb_basics::items::Chars;
+use wb_heap_model::heap::Ptr;
 use wb_text::Buf;
 
 /// How the units of a source change a text.

@@ -4,16 +4,16 @@
 ghost use Rattle.std.specs.Prelude.{◌≡◌, ◌+◌, ◌-◌, ◌*◌, ◌^◌, ◌<◌, ◌≤◌, drop, length, replicate, slice_index};
 ghost use Rattle.wb_hbuf.specs.Drafts.{HasUnits, IsDraft, IsPut, put};
 ghost use Rattle.wb_hbuf.specs.Sources.{IsApart, IsSource, count_of, source_units};
-ghost use Rattle.wb_model.specs.cells.CellRow.{payload_of};
-ghost use Rattle.wb_model.specs.heap.Debug.{IsSoundDebug};
-ghost use Rattle.wb_model.specs.cells.TextCells.{room_in, text_at, units_after};
-ghost use Rattle.wb_model.specs.meaning.Texts.{units_of_part};
+ghost use Rattle.wb_heap_model.specs.CellRow.{payload_of};
+ghost use Rattle.wb_heap_model.specs.Debug.{IsSoundDebug};
+ghost use Rattle.wb_heap_model.specs.TextCells.{room_in, text_at, units_after};
+ghost use Rattle.wb_heap_model.specs.Texts.{units_of_part};
 
 use crate::reading::foreign_unit;
 use crate::sources::Source;
+use wb_basics::items::Chars;
 use wb_debug::DebugHeap;
-use wb_model::heap::Ptr;
-use wb_model::script::Chars;
+use wb_heap_model::heap::Ptr;
 
 /// Writes the units of a source into a text, from a position on. The units are read as they were before the call, also if they are the
 /// text's own.

@@ -1,15 +1,15 @@
 -- No attempt changes a level.
 use Rattle.std.proofs.Common.{◌≡◌, ℕ, List, refl, ap, ◌∙◌, Result, Ok, Err, OnOk, OnErr, IfSome, Option, Some, None, Bool, true, false, cond}
 use Rattle.std.specs.Prelude.{IsSome, nat_lt}
-use Rattle.wb_model.specs.declared.heap.Answer.{Answer}
-use Rattle.wb_model.specs.declared.heap.Answer.TheVariants.{Granted, Simulated, Refused}
-use Rattle.wb_model.specs.declared.heap.Kind.{Kind}
-use Rattle.wb_model.specs.cells.CellRow.{resized_words}
-use Rattle.wb_model.specs.heap.Debug.{Debug, number_of_next, made_by, answer_in, alloc_made, longer_made, shorter_made, realloc_made}
-use Rattle.wb_model.specs.heap.Heap.{after_alloc, alloc_request, after_realloc, realloc_request}
-use Rattle.wb_model.specs.heap.LimitedHeap.{zero_words}
-use Rattle.wb_model.specs.heap.Row.{Cell, cell_length}
-use Rattle.wb_model.specs.heap.Rules.{Request}
+use Rattle.wb_heap_model.specs.declared.heap.Answer.{Answer}
+use Rattle.wb_heap_model.specs.declared.heap.Answer.TheVariants.{Granted, Simulated, Refused}
+use Rattle.wb_heap_model.specs.declared.heap.Kind.{Kind}
+use Rattle.wb_heap_model.specs.CellRow.{resized_words}
+use Rattle.wb_heap_model.specs.Debug.{Debug, number_of_next, made_by, answer_in, alloc_made, longer_made, shorter_made, realloc_made}
+use Rattle.wb_heap_model.specs.Heap.{after_alloc, alloc_request, after_realloc, realloc_request}
+use Rattle.wb_heap_model.specs.LimitedHeap.{zero_words}
+use Rattle.wb_heap_model.specs.Row.{Cell, cell_length}
+use Rattle.wb_heap_model.specs.Rules.{Request}
 
 alloc_level : (d : Debug) (bytes : ℕ) (kind : Kind) → (alloc_made d bytes kind).debug.heap.level ≡ d.heap.level
 alloc_level d bytes kind = by (answer_in d t)

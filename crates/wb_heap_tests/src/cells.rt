@@ -2,7 +2,7 @@
 
 use std::test::Fail;
 use wb_cells::Cells;
-use wb_model::heap::{Header, Kind, Ptr};
+use wb_heap_model::heap::{Header, Kind, Ptr};
 
 /// Whether 256 bytes are held, and a cell of 32 bytes first fits at place 0.
 fn has_room(cells: &Cells) -> bool {

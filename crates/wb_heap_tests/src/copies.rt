@@ -9,8 +9,8 @@ use crate::walker::{Called, all_answer};
 use std::test::Fail;
 use wb_cells::Cells;
 use wb_chunk::Chunk;
-use wb_model::heap::Answer::Granted;
-use wb_model::heap::{Header, Kind, Ptr};
+use wb_heap_model::heap::Answer::Granted;
+use wb_heap_model::heap::{Header, Kind, Ptr};
 
 /// A heap that is copied after some calls: what both report then, and calls that change one of them.
 struct Copied<W, C: 'static> {

@@ -7,10 +7,10 @@ use crate::rules::Refuses;
 use crate::walker;
 use crate::walker::Called;
 use std::alloc::Global;
+use wb_basics::limits::CEILING;
 use wb_debug::{DebugFault, DebugHeap};
-use wb_model::heap::{Answer, Attempt, Gave, Kind, Panic, Ptr, Shape};
-use wb_model::limits::CEILING;
-use wb_model::run::{Leak, Leaks, Note, Trace};
+use wb_heap_model::heap::{Answer, Attempt, Gave, Kind, Panic, Ptr, Shape};
+use wb_heap_model::reported::{Leak, Leaks, Note, Trace};
 
 /// A call on a debug heap. The answer that it must give is last. Lengths are in bytes, without the header.
 #[derive(Clone, Copy)]

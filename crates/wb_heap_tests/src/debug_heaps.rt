@@ -6,8 +6,8 @@ use crate::rules::Refuses;
 use crate::shapes::{SHAPE, WITH_MINIMUM};
 use std::test::Fail;
 use wb_debug::{DebugFault, DebugHeap};
-use wb_model::heap::Answer::{Granted, Refused, Simulated};
-use wb_model::heap::{Attempt, Kind, Rule, Shape};
+use wb_heap_model::heap::Answer::{Granted, Refused, Simulated};
+use wb_heap_model::heap::{Attempt, Kind, Rule, Shape};
 
 static ATTEMPTS: [WorkedDebugHeap; 20] = [
     WorkedDebugHeap {

@@ -1,14 +1,14 @@
 //! Calls on a heap with the answers that they must give, so that a worked heap is a table of calls.
 
 ghost use Rattle.std.specs.Prelude.{◌<◌, ◌≤◌, All, IsTrue};
-ghost use Rattle.wb_model.specs.heap.LimitedHeap.{IsCellLength};
-ghost use Rattle.wb_model.specs.heap.Row.{headers};
+ghost use Rattle.wb_heap_model.specs.LimitedHeap.{IsCellLength};
+ghost use Rattle.wb_heap_model.specs.Row.{headers};
 
 use crate::walker;
 use crate::walker::Called;
 use std::alloc::Global;
-use wb_model::heap::{Header, Kind, Ptr, Shape};
-use wb_model::limits::CEILING;
+use wb_basics::limits::CEILING;
+use wb_heap_model::heap::{Header, Kind, Ptr, Shape};
 use wb_rheap::{Heap, HeapFault};
 
 /// A cell, by its place and its allocation number.

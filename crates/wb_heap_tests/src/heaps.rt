@@ -3,8 +3,8 @@
 use crate::heap_calls::{Call, WorkedHeap, first_other};
 use crate::shapes::{SHAPE, SMALL_STEP, WITH_MINIMUM};
 use std::test::Fail;
-use wb_model::heap::Shape;
-use wb_model::limits::CEILING;
+use wb_basics::limits::CEILING;
+use wb_heap_model::heap::Shape;
 use wb_rheap::HeapFault;
 
 static GRANTS_AND_RELEASES: [WorkedHeap; 10] = [

@@ -4,7 +4,7 @@ use crate::debug_calls::{Call, WorkedDebugHeap, first_other};
 use crate::rules::Refuses;
 use crate::shapes::SHAPE;
 use std::test::Fail;
-use wb_model::heap::Panic;
+use wb_heap_model::heap::Panic;
 
 static MARKS: [WorkedDebugHeap; 4] = [
     WorkedDebugHeap {

@@ -1,8 +1,8 @@
 //! Rules as the tests' tables name them. A static can't own a list, as a [`Rule`] may, but it can borrow one.
 
 use std::alloc::Global;
-use wb_model::heap::{Numbers, Rule};
-use wb_model::memory::NoMemory;
+use wb_basics::memory::NoMemory;
+use wb_heap_model::heap::{Numbers, Rule};
 
 /// Which attempts are denied or made to fail.
 #[derive(Clone, Copy)]

@@ -1,6 +1,6 @@
 //! Shapes of heaps that the tests' tables name. In all but the last, a cell that grows stays at its place if it can.
 
-use wb_model::heap::Shape;
+use wb_heap_model::heap::Shape;
 
 /// The shape of most heaps in the tables.
 pub(crate) const SHAPE: Shape = Shape {

@@ -2,8 +2,8 @@
 use Rattle.std.specs.Prelude.{◌≡◌}
 use Rattle.wb_history.specs.declared.parameters.RunParameters.{RunParameters}
 use Rattle.wb_history.specs.declared.watch.WatchedRun.{WatchedRun}
-use Rattle.wb_model.specs.declared.script.Script.{Script}
-use Rattle.wb_model.specs.runs.Run.{run}
+use Rattle.wb_tree.specs.declared.script.Script.{Script}
+use Rattle.wb_meaning.specs.Run.{run}
 
 -- it has these parameters, and ends as the run of the script with them does
 pub record IsWatchedRun (script : Script) (parameters : RunParameters) (watched : WatchedRun) : Type 0 where

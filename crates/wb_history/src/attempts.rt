@@ -2,9 +2,9 @@
 
 use crate::makers::Maker;
 use std::alloc::{AllocError, Global};
+use wb_basics::limits::CEILING;
+use wb_heap_model::heap::{Answer, Attempt, Rule};
 use wb_machine::Machine;
-use wb_model::heap::{Answer, Attempt, Rule};
-use wb_model::limits::CEILING;
 
 /// How many of a run's first attempts are kept in any case.
 const MOST_ATTEMPTS: usize = 100_000;

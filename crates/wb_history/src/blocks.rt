@@ -7,7 +7,7 @@
 //! TRAPs the previous one ended.
 
 use std::alloc::{AllocError, Global};
-use wb_model::script::{Body, Script, Statement, StatementAt};
+use wb_tree::script::{Body, Script, Statement, StatementAt};
 
 /// A block that is open.
 #[derive(Clone, Copy)]

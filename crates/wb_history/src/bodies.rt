@@ -1,7 +1,7 @@
 //! Which body of a script each line is in.
 
 use std::alloc::{AllocError, Global};
-use wb_model::script::{Class, Script};
+use wb_tree::script::{Class, Script};
 
 /// What a body is.
 #[derive(Clone, Copy, Debug, PartialEq, Eq, PartialOrd, Ord)]

@@ -2,9 +2,9 @@
 
 use crate::statements::NULL;
 use std::alloc::{AllocError, Global};
-use wb_model::heap::Ptr;
-use wb_model::limits::MOST_FRAMES;
-use wb_model::script::Statement;
+use wb_basics::limits::MOST_FRAMES;
+use wb_heap_model::heap::Ptr;
+use wb_tree::script::Statement;
 
 /// The most calls that are kept. What a further call leads to has a line, but no call path.
 const MOST_CALLS: usize = 100_000;

@@ -1,9 +1,9 @@
 //! Which cells a failed heap check counted, read off the machine that the check stopped.
 
 use std::alloc::{AllocError, Global};
+use wb_heap_model::heap::{Kind, Panic, Ptr};
 use wb_machine::Machine;
-use wb_model::heap::{Kind, Panic, Ptr};
-use wb_model::script::{Number, Statement};
+use wb_tree::script::{Number, Statement};
 
 /// The most cells that are listed.
 const MOST_CELLS: usize = 20;

@@ -3,8 +3,8 @@
 use crate::lives::End;
 use crate::series::Series;
 use std::alloc::{AllocError, Global};
+use wb_heap_model::heap::{Header, Kind, Ptr};
 use wb_machine::Machine;
-use wb_model::heap::{Header, Kind, Ptr};
 
 /// Stands for the step at which a part ends, if it hasn't ended yet.
 pub const NEVER: u32 = u32::MAX;

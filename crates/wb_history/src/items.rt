@@ -2,7 +2,7 @@
 
 use crate::moments::{Moment, ShortLine};
 use std::alloc::{AllocError, Global};
-use wb_model::heap::{Item, Ptr};
+use wb_heap_model::heap::{Item, Ptr};
 
 /// An item on the cleanup stack, and when it was pushed.
 #[derive(Clone, Copy, Debug, PartialEq, Eq)]

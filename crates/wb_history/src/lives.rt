@@ -2,7 +2,7 @@
 
 use crate::moments::{Held, ShortLine};
 use std::alloc::{AllocError, Global};
-use wb_model::heap::{Header, Kind, Ptr};
+use wb_heap_model::heap::{Header, Kind, Ptr};
 
 /// How many of the first lives are kept in any case. Past them, a new life replaces the newest one at the same place.
 const MOST_LIVES: usize = 100_000;

@@ -1,7 +1,7 @@
 //! Single looks at a machine between two machine turns.
 
+use wb_heap_model::heap::{Header, Ptr};
 use wb_machine::{Machine, Raiser};
-use wb_model::heap::{Header, Ptr};
 
 /// Returns whether the statement begun last has panicked itself. A panic that the end of its block or body raises comes later, and doesn't
 /// count.

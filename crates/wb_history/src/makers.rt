@@ -1,6 +1,6 @@
 //! Which line made an attempt, and where the run went on after it.
 
-use wb_model::script::{Refusal, Statement};
+use wb_tree::script::{Refusal, Statement};
 
 /// Which line made an attempt, and what came after it.
 #[derive(Clone, Copy)]

@@ -1,6 +1,6 @@
 //! When something happened in a run, and where.
 
-use wb_model::heap::Ptr;
+use wb_heap_model::heap::Ptr;
 
 /// When something happened: after how many steps, at which line, and by which call path (`Calls`).
 #[derive(Clone, Copy, Debug, PartialEq, Eq)]

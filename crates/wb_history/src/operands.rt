@@ -1,7 +1,7 @@
 //! The operands of a statement that name cells, by the words of its line.
 
 use crate::statements::target_of;
-use wb_model::script::{Argument, Condition, Pointer, Readable, Statement, Writable};
+use wb_tree::script::{Argument, Condition, Pointer, Readable, Statement, Writable};
 
 /// The greatest index of a word that may name a cell: a `callto` has its target, the procedure's name, and up to 4 arguments.
 pub const MOST_OPERANDS: usize = 6;

@@ -4,9 +4,9 @@ use crate::lives::{Life, Lives};
 use crate::looks::is_live;
 use crate::operands::{CellName, MOST_OPERANDS, Operand, operand_at};
 use crate::turns::History;
+use wb_heap_model::heap::{Panic, Ptr};
 use wb_machine::{Machine, Raised, Raiser};
-use wb_model::heap::{Panic, Ptr};
-use wb_model::script::{Holder, Pointer, Readable};
+use wb_tree::script::{Holder, Pointer, Readable};
 
 /// Why a pointer names no cell.
 #[derive(Clone, Copy, Debug, PartialEq, Eq)]

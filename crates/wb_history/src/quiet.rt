@@ -1,6 +1,6 @@
 //! Which statements change nothing that a history keeps, except for the line.
 
-use wb_model::script::Statement;
+use wb_tree::script::Statement;
 
 /// Whether a statement is quiet: it makes no attempt, frees or resizes no cell, and changes no pointer, item, view or mark. It doesn't
 /// leave or return, and begins no TRAP and no `repeat`.

@@ -1,8 +1,8 @@
 //! What a statement does with pointers, and what these pointers name before it begins.
 
+use wb_heap_model::heap::{Answer, Attempt, Item, Ptr};
 use wb_machine::Machine;
-use wb_model::heap::{Answer, Attempt, Item, Ptr};
-use wb_model::script::{Holder, Number, Pointer, Refusal, Statement};
+use wb_tree::script::{Holder, Number, Pointer, Refusal, Statement};
 
 /// The pointer that names no cell.
 pub const NULL: Ptr = Ptr {

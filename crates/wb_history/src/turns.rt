@@ -17,9 +17,9 @@ use crate::statements::{Ahead, NULL};
 use crate::traps::Traps;
 use crate::views::Views;
 use std::alloc::{AllocError, Global};
+use wb_heap_model::heap::{Item, Ptr, Rule};
 use wb_machine::Machine;
-use wb_model::heap::{Item, Ptr, Rule};
-use wb_model::script::{Script, Statement};
+use wb_tree::script::{Script, Statement};
 
 /// An object that is being deleted, what deletes it, and the line that began the deletion.
 #[derive(Clone, Copy)]

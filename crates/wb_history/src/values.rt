@@ -1,8 +1,8 @@
 //! The values with which a line panicked, read off the machine that the panic stopped.
 
+use wb_heap_model::heap::Panic;
 use wb_machine::{Machine, Raiser};
-use wb_model::heap::Panic;
-use wb_model::script::{Number, Pointer, Readable, Statement, Writable};
+use wb_tree::script::{Number, Pointer, Readable, Statement, Writable};
 
 /// The values with which a line panicked. Positions, lengths and maxima count units; `bytes` is how many bytes of a cell can be used.
 #[derive(Clone, Copy, Debug, PartialEq, Eq)]

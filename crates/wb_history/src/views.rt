@@ -2,9 +2,9 @@
 
 use crate::statements::NULL;
 use std::alloc::{AllocError, Global};
+use wb_heap_model::heap::Ptr;
 use wb_machine::Machine;
-use wb_model::heap::Ptr;
-use wb_model::script::{Readable, Statement, Writable};
+use wb_tree::script::{Readable, Statement, Writable};
 
 /// How many different indexes a body's locals may have: an index is one byte.
 const LOCALS: usize = 256;

@@ -4,7 +4,7 @@ ghost use Rattle.std.specs.Prelude.{◌≡◌, ◌≤◌, false, IfOk, IfSome, I
 ghost use Rattle.wb_history.specs.Watched.{IsWatchedRun};
 ghost use Rattle.wb_machine.specs.Seen.{seen_at_start, whole_run_of};
 ghost use Rattle.wb_machine.specs.Turns.{IsSameRun};
-ghost use Rattle.wb_model.specs.language.Sound.{is_script};
+ghost use Rattle.wb_tree.specs.Sound.{is_script};
 
 use crate::attempts::{Attempts, Keep};
 use crate::checks::{Counted, counted_by};
@@ -15,12 +15,12 @@ use crate::statements::{Ahead, last_read};
 use crate::turns::History;
 use crate::values::{Meant, values_of};
 use std::alloc::{AllocError, Global};
+use wb_basics::limits::LARGEST_BUDGET;
+use wb_basics::memory::NoMemory;
+use wb_heap_model::heap::Ptr;
 use wb_machine::{Machine, Raised, Raiser, RunFault, Turn};
-use wb_model::heap::Ptr;
-use wb_model::limits::LARGEST_BUDGET;
-use wb_model::memory::NoMemory;
-use wb_model::run::Outcome;
-use wb_model::script::{Script, Statement};
+use wb_meaning::run::Outcome;
+use wb_tree::script::{Script, Statement};
 
 /// What ended a run.
 pub struct EndOfRun<'a> {

@@ -2,17 +2,17 @@
 use Rattle.std.proofs.Common.{◌≡◌, ◌⊎◌, inl, inr, ℕ, ◌+◌, ◌-◌, ◌<◌, ◌≤◌, arith, Bool, true, false, List, [], ◌∷◌, refl, sym, ◌∙◌, ap, subst, Some, None, cond}
 use Rattle.std.specs.Prelude.{slice_get}
 use Rattle.std.proofs.lemmas.Bool.{cases_lt, false≢true}
-use Rattle.wb_model.specs.declared.heap.Shape.{Shape}
-use Rattle.wb_model.specs.declared.lengths.LengthRange.{LengthRange}
-use Rattle.wb_model.specs.declared.limits.TheConstants.{CEILING}
-use Rattle.wb_model.specs.declared.run.RunResult.{RunResult}
-use Rattle.wb_model.specs.declared.run_end.RunEnd.{RunEnd}
-use Rattle.wb_model.specs.declared.script.Script.{Script}
-use Rattle.wb_model.specs.runs.Lengths.{end_in, run_in, IsLeastBadLength, IsLengthTable, IsNoBadLength, IsTableFrom}
-use Rattle.wb_model.specs.runs.Run.{highest_end}
-use Rattle.wb_model.specs.runs.RunEnds.{end_of, is_bad_end, is_cut_end}
-use Rattle.wb_model.proofs.runs.LengthLemmas.{heap-grants-within, heap-within, heaps-same}
-use Rattle.wb_model.proofs.runs.LengthTables.{bad-end, cut-end, from_within}
+use Rattle.wb_heap_model.specs.declared.heap.Shape.{Shape}
+use Rattle.wb_runs.specs.declared.lengths.LengthRange.{LengthRange}
+use Rattle.wb_basics.specs.declared.limits.TheConstants.{CEILING}
+use Rattle.wb_meaning.specs.declared.run.RunResult.{RunResult}
+use Rattle.wb_runs.specs.declared.run_end.RunEnd.{RunEnd}
+use Rattle.wb_tree.specs.declared.script.Script.{Script}
+use Rattle.wb_runs.specs.Lengths.{end_in, run_in, IsLeastBadLength, IsLengthTable, IsNoBadLength, IsTableFrom}
+use Rattle.wb_heap_model.specs.Rises.{highest_end}
+use Rattle.wb_runs.specs.RunEnds.{end_of, is_bad_end, is_cut_end}
+use Rattle.wb_runs.proofs.LengthLemmas.{heap-grants-within, heap-within, heaps-same}
+use Rattle.wb_runs.proofs.LengthTables.{bad-end, cut-end, from_within}
 use Rattle.wb_lengths.specs.Lengths.{first_bad, has_cut, IsCutNowhere, IsCutSomewhere}
 use Rattle.wb_lengths.specs.Walk.{range, GrantsWithin, IsPutBefore, IsRightFrom}
 

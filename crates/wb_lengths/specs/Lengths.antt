@@ -1,12 +1,12 @@
 -- What is found of a script's runs in heaps of all lengths.
 use Rattle.std.specs.Prelude.{◌≡◌, ℕ, ◌≤◌, List, [], ◌∷◌, Bool, true, false, if◌then◌else◌, Option, Some, None, IfSome}
-use Rattle.wb_model.specs.declared.heap.Shape.{Shape}
-use Rattle.wb_model.specs.declared.lengths.LengthRange.{LengthRange}
-use Rattle.wb_model.specs.declared.limits.TheConstants.{CEILING}
-use Rattle.wb_model.specs.declared.script.Script.{Script}
-use Rattle.wb_model.specs.runs.Lengths.{run_in, IsLeastBadLength, IsLengthTable, IsNoBadLength}
-use Rattle.wb_model.specs.runs.RunEnds.{is_bad_end, is_cut_end}
-use Rattle.wb_model.specs.runs.Sweeps.{is_cut_outcome}
+use Rattle.wb_heap_model.specs.declared.heap.Shape.{Shape}
+use Rattle.wb_runs.specs.declared.lengths.LengthRange.{LengthRange}
+use Rattle.wb_basics.specs.declared.limits.TheConstants.{CEILING}
+use Rattle.wb_tree.specs.declared.script.Script.{Script}
+use Rattle.wb_runs.specs.Lengths.{run_in, IsLeastBadLength, IsLengthTable, IsNoBadLength}
+use Rattle.wb_runs.specs.RunEnds.{is_bad_end, is_cut_end}
+use Rattle.wb_runs.specs.Sweeps.{is_cut_outcome}
 use Rattle.wb_lengths.specs.declared.all_lengths.LengthFindings.{LengthFindings}
 
 -- the run in a heap of some length up to the ceiling is cut

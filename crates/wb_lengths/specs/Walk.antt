@@ -1,14 +1,14 @@
 -- What a walk down the lengths knows between two runs.
 use Rattle.std.specs.Prelude.{◌≡◌, ◌≢◌, ◌⊎◌, ℕ, ◌+◌, ◌-◌, ◌≤◌, List, [], ◌∷◌, Option, Some, None, slice_get}
-use Rattle.wb_model.specs.declared.heap.Answer.TheVariants.{Granted}
-use Rattle.wb_model.specs.declared.heap.Attempt.{Attempt}
-use Rattle.wb_model.specs.declared.heap.Shape.{Shape}
-use Rattle.wb_model.specs.declared.lengths.LengthRange.{LengthRange}
-use Rattle.wb_model.specs.declared.limits.TheConstants.{CEILING}
-use Rattle.wb_model.specs.declared.run_end.RunEnd.{RunEnd}
-use Rattle.wb_model.specs.declared.script.Script.{Script}
-use Rattle.wb_model.specs.runs.Lengths.{end_in, IsTableFrom}
-use Rattle.wb_model.specs.runs.Traces.{end_of_attempt}
+use Rattle.wb_heap_model.specs.declared.heap.Answer.TheVariants.{Granted}
+use Rattle.wb_heap_model.specs.declared.heap.Attempt.{Attempt}
+use Rattle.wb_heap_model.specs.declared.heap.Shape.{Shape}
+use Rattle.wb_runs.specs.declared.lengths.LengthRange.{LengthRange}
+use Rattle.wb_basics.specs.declared.limits.TheConstants.{CEILING}
+use Rattle.wb_runs.specs.declared.run_end.RunEnd.{RunEnd}
+use Rattle.wb_tree.specs.declared.script.Script.{Script}
+use Rattle.wb_runs.specs.Lengths.{end_in, IsTableFrom}
+use Rattle.wb_heap_model.specs.Reported.{end_of_attempt}
 
 -- no granted cell of a trace ends past a length
 abbrev pub GrantsWithin : ℕ → List Attempt → Type 0

@@ -1,10 +1,10 @@
 //! How the runs of a script end in heaps of every length, found by whole runs from the longest heap down.
 
 ghost use Rattle.std.specs.Prelude.{◌≡◌, ◌≢◌, ◌↔◌, ◌+◌, ◌-◌, ◌<◌, ◌≤◌, None, false, IfOk, IfSome, IsTrue};
-ghost use Rattle.wb_model.specs.heap.Space.{is_shape};
-ghost use Rattle.wb_model.specs.language.Sound.{is_script};
-ghost use Rattle.wb_model.specs.runs.Lengths.{run_in, IsLeastBadLength, IsLengthTable, IsNoBadLength};
-ghost use Rattle.wb_model.specs.runs.Rises.{highest_end};
+ghost use Rattle.wb_heap_model.specs.Space.{is_shape};
+ghost use Rattle.wb_tree.specs.Sound.{is_script};
+ghost use Rattle.wb_runs.specs.Lengths.{run_in, IsLeastBadLength, IsLengthTable, IsNoBadLength};
+ghost use Rattle.wb_heap_model.specs.Rises.{highest_end};
 ghost use Rattle.wb_machine.specs.declared.fault.RunFault.TheVariants.{BadShape};
 ghost use Rattle.wb_lengths.specs.Lengths.{AreLengths, first_bad, has_cut};
 ghost use Rattle.wb_lengths.specs.Walk.{IsRightFrom};
@@ -13,14 +13,14 @@ use crate::heap_runs::HeapRuns;
 use crate::highest_end::highest_end;
 use crate::table_so_far::TableSoFar;
 use std::alloc::Global;
+use wb_basics::limits::{CEILING, LARGEST_BUDGET};
+use wb_heap_model::heap::{Rule, Shape};
 use wb_machine::{RunFault, run};
-use wb_model::heap::{Rule, Shape};
-use wb_model::lengths::LengthTable;
-use wb_model::limits::{CEILING, LARGEST_BUDGET};
-use wb_model::progress::{Progress, Silent};
-use wb_model::run::RunResult;
-use wb_model::run_end::RunEnd;
-use wb_model::script::Script;
+use wb_meaning::run::RunResult;
+use wb_runs::lengths::LengthTable;
+use wb_runs::progress::{Progress, Silent};
+use wb_runs::run_end::RunEnd;
+use wb_tree::script::Script;
 
 /// The least length of heap whose run leaks or panics, in bytes, and the result of that run.
 #[derive(Debug, Drop)]
@@ -137,7 +137,7 @@ fn find_bad(
 }
 
 /// The least length, in bytes, of the first range whose runs leak or panic; `None` if there is no such range.
-fn first_bad(table: &LengthTable) -> Option<u32>
+pub fn first_bad(table: &LengthTable) -> Option<u32>
     ensures { result ≡ first_bad table.now }
 {
     for range in table.as_slice() {

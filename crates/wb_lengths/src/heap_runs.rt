@@ -1,20 +1,20 @@
 //! Whole runs of a script in heaps of one length after another.
 
 ghost use Rattle.std.specs.Prelude.{◌≡◌, ◌≢◌, ◌↔◌, ◌≤◌, None, false, IfOk, IfSome, IsTrue};
-ghost use Rattle.wb_model.specs.heap.Space.{is_shape};
-ghost use Rattle.wb_model.specs.language.Sound.{is_script};
-ghost use Rattle.wb_model.specs.runs.Lengths.{run_in};
+ghost use Rattle.wb_heap_model.specs.Space.{is_shape};
+ghost use Rattle.wb_tree.specs.Sound.{is_script};
+ghost use Rattle.wb_runs.specs.Lengths.{run_in};
 ghost use Rattle.wb_machine.specs.declared.fault.RunFault.TheVariants.{BadShape};
 ghost use Rattle.wb_machine.specs.Seen.{whole_run_of};
 ghost use Rattle.wb_lengths.specs.Walk.{steps_after};
 
 use std::alloc::Global;
+use wb_basics::limits::LARGEST_BUDGET;
+use wb_basics::memory::NoMemory;
+use wb_heap_model::heap::{Rule, Shape};
 use wb_machine::{Finished, Heap, Machine, RunFault, Turn};
-use wb_model::heap::{Rule, Shape};
-use wb_model::limits::LARGEST_BUDGET;
-use wb_model::memory::NoMemory;
-use wb_model::run::RunResult;
-use wb_model::script::Script;
+use wb_meaning::run::RunResult;
+use wb_tree::script::Script;
 
 /// What the runs that are made one after another share.
 #[derive(Drop)]

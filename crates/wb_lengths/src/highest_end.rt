@@ -1,15 +1,15 @@
 //! The greatest end of a granted cell in a trace.
 
 ghost use Rattle.std.specs.Prelude.{◌≡◌, ◌≤◌, ℕ, Some, slice_get};
-ghost use Rattle.wb_model.specs.declared.heap.Answer.TheVariants.{Granted};
-ghost use Rattle.wb_model.specs.declared.heap.Attempt.{Attempt};
-ghost use Rattle.wb_model.specs.declared.limits.TheConstants.{CEILING};
-ghost use Rattle.wb_model.specs.runs.Rises.{end_of_line, highest_end};
-ghost use Rattle.wb_model.specs.runs.Traces.{end_of_attempt};
+ghost use Rattle.wb_heap_model.specs.declared.heap.Answer.TheVariants.{Granted};
+ghost use Rattle.wb_heap_model.specs.declared.heap.Attempt.{Attempt};
+ghost use Rattle.wb_basics.specs.declared.limits.TheConstants.{CEILING};
+ghost use Rattle.wb_heap_model.specs.Rises.{end_of_line, highest_end};
+ghost use Rattle.wb_heap_model.specs.Reported.{end_of_attempt};
 ghost use Rattle.wb_lengths.specs.Walk.{GrantsWithin};
 
-use wb_model::heap::{Answer, Attempt};
-use wb_model::run::Trace;
+use wb_heap_model::heap::{Answer, Attempt};
+use wb_heap_model::reported::Trace;
 
 /// The greatest end of a granted cell in a trace, in bytes from the heap's start; 0 if no attempt is granted.
 pub(crate) fn highest_end(trace: &Trace) -> u32

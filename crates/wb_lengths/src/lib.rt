@@ -6,11 +6,11 @@ mod heap_runs;
 mod highest_end;
 mod table_so_far;
 
-pub use all_lengths::{BadLength, LengthFindings, lengths, lengths_within};
+pub use all_lengths::{BadLength, LengthFindings, first_bad, lengths, lengths_within};
+pub use wb_heap_model::heap::Shape;
 pub use wb_machine::RunFault;
-pub use wb_model::heap::Shape;
-pub use wb_model::lengths::{LengthRange, LengthTable};
-pub use wb_model::progress::{Progress, Silent};
-pub use wb_model::run::RunResult;
-pub use wb_model::run_end::RunEnd;
-pub use wb_model::script::Script;
+pub use wb_meaning::run::RunResult;
+pub use wb_runs::lengths::{LengthRange, LengthTable};
+pub use wb_runs::progress::{Progress, Silent};
+pub use wb_runs::run_end::RunEnd;
+pub use wb_tree::script::Script;

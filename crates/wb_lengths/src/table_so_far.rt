@@ -6,10 +6,10 @@ ghost use Rattle.wb_lengths.specs.Walk.{IsPutBefore, range};
 
 use std::alloc::{AllocError, Global};
 use std::marker::Model;
-use wb_model::items::Items;
-use wb_model::lengths::{LengthRange, LengthTable};
-use wb_model::memory::NoMemory;
-use wb_model::run_end::RunEnd;
+use wb_basics::items::Items;
+use wb_basics::memory::NoMemory;
+use wb_runs::lengths::{LengthRange, LengthTable};
+use wb_runs::run_end::RunEnd;
 
 /// The last ranges of a table, those found so far. The `Vec` holds them in reverse order, so the first range is its last element; contracts
 /// see the ranges in the order of the table.
@@ -20,7 +20,7 @@ pub(crate) struct TableSoFar {
 
 impl Model for TableSoFar {
     ghost use Rattle.std.specs.Prelude.{List, reverse};
-    ghost use Rattle.wb_model.specs.declared.lengths.LengthRange.{LengthRange};
+    ghost use Rattle.wb_runs.specs.declared.lengths.LengthRange.{LengthRange};
 
     ghost Value = { List LengthRange };
 

@@ -1,8 +1,8 @@
 -- What bytes are cut into is no longer than they are.
 use Rattle.std.proofs.Common.{ℕ, zero, suc, ◌≤◌, List, [], ◌∷◌, Bool, true, false, length, arith}
 use Rattle.std.specs.List.{flat_map}
-use Rattle.wb_model.specs.language.Lines.{Separator, onto_first, quoted_after, ends_line, ends_word, pieces_from, lines_of, unless_empty, words_of}
-use Rattle.wb_model.specs.language.Names.{Text}
+use Rattle.wb_language.specs.Lines.{Separator, onto_first, quoted_after, ends_line, ends_word, pieces_from, lines_of, unless_empty, words_of}
+use Rattle.wb_language.specs.Names.{Text}
 
 -- none of the texts has more than a number of bytes
 abbrev pub AreWithin : ℕ → List Text → Type 0

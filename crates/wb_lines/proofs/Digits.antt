@@ -3,7 +3,7 @@ use Rattle.std.proofs.Common.{◌≡◌, ℕ, ◌+◌, ◌-◌, ◌*◌, ◌^◌
 use Rattle.std.proofs.Math.Nat.{pow-le-pow_right}
 use Rattle.std.proofs.lemmas.Bool.Decides.{nat_tests}
 use Rattle.std.proofs.lemmas.Grind.{common_steps, pow_more}
-use Rattle.wb_model.specs.language.Words.{is_digit}
+use Rattle.wb_language.specs.Words.{is_digit}
 
 pub digit_at_most_nine : (byte : ℕ) → is_digit byte ≡ true → byte - 48 ≤ 9
 digit_at_most_nine byte digit = grind (arith, common_steps, nat_tests)

@@ -3,11 +3,11 @@ use Rattle.std.proofs.Common.{◌≡◌, ℕ, ◌<◌, List, [], ◌∷◌, leng
 use Rattle.std.specs.List.{filter, list_all, list_any}
 use Rattle.std.specs.Str.{bytes_eq}
 use Rattle.std.proofs.lemmas.Bool.{false≢true, eqb-true}
-use Rattle.wb_model.specs.declared.script_lines.Form.TheVariants.{Unknown}
-use Rattle.wb_model.specs.declared.script_lines.LineKind.{LineKind}
-use Rattle.wb_model.specs.language.Forms.{form_in, line_or, operands_if}
-use Rattle.wb_model.specs.language.LineKinds.{line_kinds, text_of}
-use Rattle.wb_model.specs.language.Names.{Text}
+use Rattle.wb_tree.specs.declared.script_lines.Form.TheVariants.{Unknown}
+use Rattle.wb_tree.specs.declared.script_lines.LineKind.{LineKind}
+use Rattle.wb_language.specs.Forms.{form_in, line_or, operands_if}
+use Rattle.wb_language.specs.LineKinds.{line_kinds, text_of}
+use Rattle.wb_language.specs.Names.{Text}
 use Rattle.wb_lines.specs.FirstBytes.{begins_with, line_kinds_with_first}
 
 -- the bytes with which words of line kinds begin

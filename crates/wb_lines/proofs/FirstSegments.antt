@@ -6,7 +6,7 @@ use Rattle.std.proofs.lemmas.Bool.Decides.{nat_tests}
 use Rattle.wb_lines.specs.declared.segments.Cut.{Cut}
 use Rattle.wb_lines.specs.declared.segments.Cut.TheVariants.{Lines, Words}
 use Rattle.wb_lines.specs.Segments.{ends_of}
-use Rattle.wb_model.specs.language.Lines.{Separator, ends_word, is_blank, onto_first, quoted_after, pieces_from, pieces, unless_empty, words_of}
+use Rattle.wb_language.specs.Lines.{Separator, ends_word, is_blank, onto_first, quoted_after, pieces_from, pieces, unless_empty, words_of}
 
 pub to_end : (n : ℕ) (bytes : List ℕ) → take (length bytes - n) (drop n bytes) ≡ drop n bytes
 to_end n bytes = take_all (length bytes - n) (drop n bytes) (simp length-drop (omega arith))

@@ -4,7 +4,7 @@ use Rattle.std.proofs.lemmas.Bool.{false≢true}
 use Rattle.std.proofs.lemmas.Bool.Decides.{nat_tests}
 use Rattle.std.proofs.lemmas.Grind.{common_steps}
 use Rattle.std.specs.List.{list_any, position_from}
-use Rattle.wb_model.specs.language.Lines.{is_foreign, first_foreign_line, is_too_long, quoted_after, onto_first, ends_line, pieces_from, lines_of}
+use Rattle.wb_language.specs.Lines.{is_foreign, first_foreign_line, is_too_long, quoted_after, onto_first, ends_line, pieces_from, lines_of}
 
 pub at_most : (bytes : List ℕ) → is_too_long bytes ≡ false → length bytes ≤ 65536
 at_most bytes short = grind (arith, common_steps, nat_tests)

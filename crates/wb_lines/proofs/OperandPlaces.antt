@@ -6,12 +6,12 @@ use Rattle.std.specs.Option.{option_and_then, option_map}
 use Rattle.std.specs.Str.{bytes_eq}
 use Rattle.std.proofs.lemmas.List.{drop_all}
 use Rattle.std.proofs.lemmas.Option.{slice_get_within, get_or_from_slice_get}
-use Rattle.wb_model.specs.declared.script_lines.LineKind.{LineKind}
-use Rattle.wb_model.specs.declared.script_lines.OperandPlace.{OperandPlace}
-use Rattle.wb_model.specs.declared.script_lines.Operand.{Operand}
-use Rattle.wb_model.specs.language.Forms.{operand_of, operands_of, onto, operands_if, line_or, form_in}
-use Rattle.wb_model.specs.language.LineKinds.{text_of}
-use Rattle.wb_model.specs.language.Names.{Text}
+use Rattle.wb_tree.specs.declared.script_lines.LineKind.{LineKind}
+use Rattle.wb_tree.specs.declared.script_lines.OperandPlace.{OperandPlace}
+use Rattle.wb_tree.specs.declared.script_lines.Operand.{Operand}
+use Rattle.wb_language.specs.Forms.{operand_of, operands_of, onto, operands_if, line_or, form_in}
+use Rattle.wb_language.specs.LineKinds.{text_of}
+use Rattle.wb_language.specs.Names.{Text}
 use Rattle.wb_lines.specs.BytesOf.{bytes_of_texts}
 
 module _ {X : Type 0} where

@@ -7,21 +7,21 @@ use Rattle.std.specs.Str.{bytes_eq}
 use Rattle.std.proofs.lemmas.Bool.{le-leb}
 use Rattle.std.proofs.lemmas.Bool.Decides.{nat_tests}
 use Rattle.std.proofs.lemmas.List.{length-take}
-use Rattle.wb_model.specs.declared.script_lines.LineKind.{LineKind}
-use Rattle.wb_model.specs.declared.script_lines.OperandPlace.{OperandPlace}
-use Rattle.wb_model.specs.declared.script_lines.ParameterType.{ParameterType}
-use Rattle.wb_model.specs.declared.script_lines.ParameterType.TheVariants as parameter_type
-use Rattle.wb_model.specs.declared.script_lines.WordKind.{WordKind}
-use Rattle.wb_model.specs.declared.script_lines.WordKind.TheVariants as word
-use Rattle.wb_model.specs.declared.script_lines.Operand.{Operand}
-use Rattle.wb_model.specs.declared.script_lines.Operand.TheVariants.{Name, Field, Number, Size, Literal, Parameter, Keyword}
-use Rattle.wb_model.specs.declared.script_lines.Form.{Form}
-use Rattle.wb_model.specs.language.Forms.{operand_as, operand_among, operand_of, operands_of, onto, operands_if, line_or, form_in, form_of, skipped_or, begins_comment, forms_of, either, size_of, parameter_of, field_of}
-use Rattle.wb_model.specs.language.LineKinds.{line_kinds, operand_places_for, text_of, word_kinds}
-use Rattle.wb_model.specs.language.Lines.{words_of}
-use Rattle.wb_model.specs.language.Names.{Text}
-use Rattle.wb_model.specs.language.Sound.{is_literal_text}
-use Rattle.wb_model.specs.language.Words.{is_quotable, is_digit, with_digit, digits_of, number_spelled, declared_name, used_name, literal_spelled, is_literal, inside, base_name, field_name, parameter_name, parameter_type_of_word, text_of_keyword}
+use Rattle.wb_tree.specs.declared.script_lines.LineKind.{LineKind}
+use Rattle.wb_tree.specs.declared.script_lines.OperandPlace.{OperandPlace}
+use Rattle.wb_tree.specs.declared.script_lines.ParameterType.{ParameterType}
+use Rattle.wb_tree.specs.declared.script_lines.ParameterType.TheVariants as parameter_type
+use Rattle.wb_tree.specs.declared.script_lines.WordKind.{WordKind}
+use Rattle.wb_tree.specs.declared.script_lines.WordKind.TheVariants as word
+use Rattle.wb_tree.specs.declared.script_lines.Operand.{Operand}
+use Rattle.wb_tree.specs.declared.script_lines.Operand.TheVariants.{Name, Field, Number, Size, Literal, Parameter, Keyword}
+use Rattle.wb_tree.specs.declared.script_lines.Form.{Form}
+use Rattle.wb_language.specs.Forms.{operand_as, operand_among, operand_of, operands_of, onto, operands_if, line_or, form_in, form_of, skipped_or, begins_comment, forms_of, either, size_of, parameter_of, field_of}
+use Rattle.wb_language.specs.LineKinds.{line_kinds, operand_places_for, text_of, word_kinds}
+use Rattle.wb_language.specs.Lines.{words_of}
+use Rattle.wb_language.specs.Names.{Text}
+use Rattle.wb_tree.specs.Sound.{is_literal_text, is_quotable}
+use Rattle.wb_language.specs.Words.{is_digit, with_digit, digits_of, number_spelled, declared_name, used_name, literal_spelled, is_literal, inside, base_name, field_name, parameter_name, parameter_type_of_word, text_of_keyword}
 use Rattle.wb_lines.specs.Typed.{is_short, is_word_of, is_operand, are_operands, is_typed, AreTyped}
 use Rattle.wb_lines.proofs.Cuts.{AreWithin, words_within}
 use Rattle.wb_lines.proofs.Digits.{digit_at_most_nine, one_more_digit, nine_digits}

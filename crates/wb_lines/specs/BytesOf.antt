@@ -2,12 +2,12 @@
 use Rattle.std.specs.Prelude.{List, map}
 use Rattle.std.specs.Borrow.{Bor}
 use Rattle.std.specs.Option.{option_map}
-use Rattle.wb_model.specs.declared.script_lines.Form.{Form}
-use Rattle.wb_model.specs.declared.script_lines.Operand.{Operand}
-use Rattle.wb_model.specs.declared.script_lines.LocalKind.{LocalKind}
-use Rattle.wb_model.specs.declared.script_lines.LocalKind.TheVariants.{Pointer, Number, Buffer, View}
-use Rattle.wb_model.specs.language.Forms.{renamed, renamed_operand}
-use Rattle.wb_model.specs.language.Names.{Text}
+use Rattle.wb_tree.specs.declared.script_lines.Form.{Form}
+use Rattle.wb_tree.specs.declared.script_lines.Operand.{Operand}
+use Rattle.wb_tree.specs.declared.script_lines.LocalKind.{LocalKind}
+use Rattle.wb_tree.specs.declared.script_lines.LocalKind.TheVariants.{Pointer, Number, Buffer, View}
+use Rattle.wb_language.specs.Forms.{renamed, renamed_operand}
+use Rattle.wb_language.specs.Names.{Text}
 
 abbrev pub bytes_of_text : Bor Text → Text
 bytes_of_text text = text.now

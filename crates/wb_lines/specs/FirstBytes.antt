@@ -1,8 +1,8 @@
 -- The line kinds by the first byte of their words.
 use Rattle.std.specs.Prelude.{ℕ, List, [], ◌∷◌, Bool, false, nat_eq}
 use Rattle.std.specs.List.{filter}
-use Rattle.wb_model.specs.declared.script_lines.LineKind.{LineKind}
-use Rattle.wb_model.specs.language.LineKinds.{line_kinds, text_of}
+use Rattle.wb_tree.specs.declared.script_lines.LineKind.{LineKind}
+use Rattle.wb_language.specs.LineKinds.{line_kinds, text_of}
 
 abbrev pub begins_with : ℕ → List ℕ → Bool
 begins_with byte [] = false

@@ -1,5 +1,5 @@
 -- The two ways in which bytes are cut.
-use Rattle.wb_model.specs.language.Lines.{Separator, ends_line, ends_word}
+use Rattle.wb_language.specs.Lines.{Separator, ends_line, ends_word}
 use Rattle.wb_lines.specs.declared.segments.Cut.{Cut}
 use Rattle.wb_lines.specs.declared.segments.Cut.TheVariants.{Lines, Words}
 

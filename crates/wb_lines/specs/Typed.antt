@@ -1,18 +1,18 @@
 -- Forms whose operands are of the operand places of their line kinds, as each line's is that is no longer than a script.
 use Rattle.std.specs.Prelude.{ℤ, pos, negsuc, nat_le, nat_lt, List, [], ◌∷◌, Bool, true, false, ◌&&◌, IsTrue, length}
 use Rattle.std.specs.List.{list_all, list_any}
-use Rattle.wb_model.specs.declared.limits.TheConstants.{NINE_DIGITS}
-use Rattle.wb_model.specs.declared.script_lines.OperandPlace.{OperandPlace}
-use Rattle.wb_model.specs.declared.script_lines.ParameterType.TheVariants as parameter_type
-use Rattle.wb_model.specs.declared.script_lines.Operand.{Operand}
-use Rattle.wb_model.specs.declared.script_lines.Operand.TheVariants.{Name, Field, Number, Size, Literal, Parameter, Keyword}
-use Rattle.wb_model.specs.declared.script_lines.Form.{Form}
-use Rattle.wb_model.specs.declared.script_lines.Form.TheVariants.{Line}
-use Rattle.wb_model.specs.declared.script_lines.WordKind.{WordKind}
-use Rattle.wb_model.specs.declared.script_lines.WordKind.TheVariants as word
-use Rattle.wb_model.specs.language.LineKinds.{operand_places_for, word_kinds}
-use Rattle.wb_model.specs.language.Names.{Text}
-use Rattle.wb_model.specs.language.Sound.{is_literal_text}
+use Rattle.wb_basics.specs.declared.limits.TheConstants.{NINE_DIGITS}
+use Rattle.wb_tree.specs.declared.script_lines.OperandPlace.{OperandPlace}
+use Rattle.wb_tree.specs.declared.script_lines.ParameterType.TheVariants as parameter_type
+use Rattle.wb_tree.specs.declared.script_lines.Operand.{Operand}
+use Rattle.wb_tree.specs.declared.script_lines.Operand.TheVariants.{Name, Field, Number, Size, Literal, Parameter, Keyword}
+use Rattle.wb_tree.specs.declared.script_lines.Form.{Form}
+use Rattle.wb_tree.specs.declared.script_lines.Form.TheVariants.{Line}
+use Rattle.wb_tree.specs.declared.script_lines.WordKind.{WordKind}
+use Rattle.wb_tree.specs.declared.script_lines.WordKind.TheVariants as word
+use Rattle.wb_language.specs.LineKinds.{operand_places_for, word_kinds}
+use Rattle.wb_language.specs.Names.{Text}
+use Rattle.wb_tree.specs.Sound.{is_literal_text}
 
 -- at most nine digits
 abbrev pub is_short : ℤ → Bool

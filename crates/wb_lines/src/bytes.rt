@@ -2,9 +2,9 @@
 
 ghost use Rattle.std.specs.Prelude.{◌≡◌, false};
 ghost use Rattle.std.specs.List.{list_any};
-ghost use Rattle.wb_model.specs.language.Lines.{is_foreign, first_foreign_line, is_too_long};
+ghost use Rattle.wb_language.specs.Lines.{is_foreign, first_foreign_line, is_too_long};
 
-use wb_model::limits::LONGEST_SCRIPT;
+use wb_basics::limits::LONGEST_SCRIPT;
 
 /// Whether there are more bytes than a script may have.
 pub fn is_too_long(bytes: &[u8]) -> bool

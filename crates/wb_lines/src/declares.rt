@@ -2,14 +2,14 @@
 
 ghost use Rattle.std.specs.Prelude.{◌≡◌};
 ghost use Rattle.std.specs.Option.{option_map, option_to_list};
-ghost use Rattle.wb_model.specs.language.Forms.{renamed_parameter_type};
-ghost use Rattle.wb_model.specs.language.Names.{body_in, body_kind_of, first_name, item_kind_in, item_kind_of};
-ghost use Rattle.wb_model.specs.language.Names.{kind_of_parameter, local_kind_in, local_kind_of};
-ghost use Rattle.wb_model.specs.language.Names.{parameter_type_of, second_name};
+ghost use Rattle.wb_language.specs.Forms.{renamed_parameter_type};
+ghost use Rattle.wb_language.specs.Names.{body_in, body_kind_of, first_name, item_kind_in, item_kind_of};
+ghost use Rattle.wb_language.specs.Names.{kind_of_parameter, local_kind_in, local_kind_of};
+ghost use Rattle.wb_language.specs.Names.{parameter_type_of, second_name};
 ghost use Rattle.wb_lines.specs.BytesOf.{bytes_of_form, bytes_of_kind, bytes_of_operand, bytes_of_operands};
 ghost use Rattle.wb_lines.specs.BytesOf.{bytes_of_text};
 
-use wb_model::script_lines::{
+use wb_tree::script_lines::{
     BodyKind, Form, ItemKind, LineKind, LocalKind, Operand, ParameterType,
 };
 

@@ -3,12 +3,12 @@
 ghost use Rattle.std.specs.Prelude.{◌≡◌, ◌<◌, ℕ, [], ◌∷◌, ◌++◌, length, slice_get, IfOk, IfErr, OnOk};
 ghost use Rattle.std.specs.Option.{option_and_then, option_map};
 ghost use Rattle.std.specs.Str.{bytes_eq};
-ghost use Rattle.wb_model.specs.declared.script_lines.Operand.TheVariants.{Name, Number, Literal};
-ghost use Rattle.wb_model.specs.language.Forms.{renamed_parameter_type, size_of, field_of, parameter_of, operand_as};
-ghost use Rattle.wb_model.specs.language.Forms.{operand_among, operand_of, operands_of, operands_if, form_in, form_of};
-ghost use Rattle.wb_model.specs.language.Forms.{forms_of, line_form, begins_comment, role_of_form};
-ghost use Rattle.wb_model.specs.declared.script_lines.WordKind.TheVariants as kind;
-ghost use Rattle.wb_model.specs.language.LineKinds.{line_kinds, operand_places_with, operand_places_for, text_of};
+ghost use Rattle.wb_tree.specs.declared.script_lines.Operand.TheVariants.{Name, Number, Literal};
+ghost use Rattle.wb_language.specs.Forms.{renamed_parameter_type, size_of, field_of, parameter_of, operand_as};
+ghost use Rattle.wb_language.specs.Forms.{operand_among, operand_of, operands_of, operands_if, form_in, form_of};
+ghost use Rattle.wb_language.specs.Forms.{forms_of, line_form, begins_comment, role_of_form};
+ghost use Rattle.wb_tree.specs.declared.script_lines.WordKind.TheVariants as kind;
+ghost use Rattle.wb_language.specs.LineKinds.{line_kinds, operand_places_with, operand_places_for, text_of};
 ghost use Rattle.wb_lines.specs.BytesOf.{bytes_of_text, bytes_of_texts, bytes_of_operand, bytes_of_operands};
 ghost use Rattle.wb_lines.specs.BytesOf.{bytes_of_form, bytes_of_forms};
 
@@ -22,8 +22,8 @@ use crate::words::{
     parameter_type_of_word, used_name,
 };
 use std::alloc::{AllocError, Global};
-use wb_model::items::Items;
-use wb_model::script_lines::{
+use wb_basics::items::Items;
+use wb_tree::script_lines::{
     Form, Keyword, LineKind, Operand, OperandPlace, ParameterType, Role, WordKind,
 };
 

@@ -1,10 +1,10 @@
 //! Which lines count as lines that may leave, in a body that must not leave.
 
 ghost use Rattle.std.specs.Prelude.{◌≡◌};
-ghost use Rattle.wb_model.specs.language.LineKinds.{is_loud, is_outside, may_leave_in};
+ghost use Rattle.wb_language.specs.LineKinds.{is_loud, is_outside, may_leave_in};
 
 use crate::line_kinds::{is_quiet, role_of};
-use wb_model::script_lines::{BodyKind, LineKind, Role};
+use wb_tree::script_lines::{BodyKind, LineKind, Role};
 
 /// Whether lines of this kind belong to the script or to a class, and not to a body.
 fn is_outside(line_kind: LineKind) -> bool

@@ -1,16 +1,17 @@
 //! The tables of the language that have a row for each line kind. What a line means is not said here.
 
 ghost use Rattle.std.specs.Prelude.{◌≡◌};
-ghost use Rattle.wb_model.specs.language.LineKinds.{is_quiet, line_kinds, operand_places_of, rest_of, role_of};
-ghost use Rattle.wb_model.specs.language.LineKinds.{text_of};
+ghost use Rattle.wb_tree.specs.QuietLines.{is_quiet};
+ghost use Rattle.wb_language.specs.LineKinds.{line_kinds, operand_places_of, rest_of, role_of};
+ghost use Rattle.wb_language.specs.LineKinds.{text_of};
 ghost use Rattle.wb_lines.specs.FirstBytes.{line_kinds_with_first};
 
-use wb_model::script_lines::OperandPlace::{
+use wb_tree::script_lines::OperandPlace::{
     Argument, Class, Declared, FieldTarget, ItsPointer, Operation, Parameter, Pointer, Printed,
     Procedure, Readable, Receiver, Size, Source, Target, Value, Variable, ViewName, Writable,
     Written,
 };
-use wb_model::script_lines::{Keyword, LineKind, OperandPlace, Role};
+use wb_tree::script_lines::{Keyword, LineKind, OperandPlace, Role};
 
 /// Every line kind, in the order in which they are tried on a line.
 pub fn line_kinds() -> &'static [LineKind]

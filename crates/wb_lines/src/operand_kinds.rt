@@ -1,12 +1,12 @@
 //! The kind of an operand, and which kinds are right in which operand place of a line.
 
 ghost use Rattle.std.specs.Prelude.{◌≡◌};
-ghost use Rattle.wb_model.specs.language.Kinds.{operand_kind_of, operand_kind_of_class, operand_kind_of_field};
-ghost use Rattle.wb_model.specs.language.Kinds.{operand_kind_of_name, operand_kind_of_type};
-ghost use Rattle.wb_model.specs.language.LineKinds.{is_pointer_kind, takes};
-ghost use Rattle.wb_model.specs.declared.script_lines.OperandPlace.TheVariants as operand_place;
+ghost use Rattle.wb_language.specs.Kinds.{operand_kind_of, operand_kind_of_class, operand_kind_of_field};
+ghost use Rattle.wb_language.specs.Kinds.{operand_kind_of_name, operand_kind_of_type};
+ghost use Rattle.wb_language.specs.LineKinds.{is_pointer_kind, takes};
+ghost use Rattle.wb_tree.specs.declared.script_lines.OperandPlace.TheVariants as operand_place;
 
-use wb_model::script_lines::{Operand, OperandKind, OperandPlace, ParameterType, Referent};
+use wb_tree::script_lines::{Operand, OperandKind, OperandPlace, ParameterType, Referent};
 
 /// Whether an operand of this kind is a pointer that can be read.
 pub fn is_pointer_kind(operand_kind: OperandKind) -> bool

@@ -1,10 +1,10 @@
 //! The words after the first word of a line: which operand place each of them has, and which words are grammatical in an operand place.
 
 ghost use Rattle.std.specs.Prelude.{◌≡◌, ◌<◌, ℕ, length, nat_eq, slice_get};
-ghost use Rattle.wb_model.specs.language.LineKinds.{operand_places_with, operand_places_for, word_kinds};
+ghost use Rattle.wb_language.specs.LineKinds.{operand_places_with, operand_places_for, word_kinds};
 
 use crate::line_kinds::{operand_places_of, rest_of};
-use wb_model::script_lines::{Keyword, LineKind, OperandPlace, WordKind};
+use wb_tree::script_lines::{Keyword, LineKind, OperandPlace, WordKind};
 
 /// The operand places of a line kind: the `fixed` ones, which every line has, and the place of any number of further words, if there may be
 /// some.

@@ -2,7 +2,7 @@
 
 ghost use Rattle.std.specs.Prelude.{◌≡◌, ◌≢◌, ◌∷◌, ◌++◌, ◌<◌, [], length, IfOk, OnOk};
 ghost use Rattle.std.specs.Option.{option_map, option_to_list};
-ghost use Rattle.wb_model.specs.language.Lines.{is_blank, quoted_after, pieces, lines_of, words_of, unless_empty};
+ghost use Rattle.wb_language.specs.Lines.{is_blank, quoted_after, pieces, lines_of, words_of, unless_empty};
 ghost use Rattle.wb_lines.specs.BytesOf.{bytes_of_text, bytes_of_texts};
 ghost use Rattle.wb_lines.specs.Segments.{ends_of};
 

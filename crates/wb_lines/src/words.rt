@@ -4,16 +4,17 @@ ghost use Rattle.std.specs.Prelude.{◌≡◌, ◌<◌, ◌≤◌, ◌^◌, IfSo
 ghost use Rattle.std.specs.List.{list_all, list_any};
 ghost use Rattle.std.specs.Option.{option_copied, option_map};
 ghost use Rattle.std.specs.Str.{bytes_eq};
-ghost use Rattle.wb_model.specs.language.Words.{is_letter, is_digit, is_name_byte, is_name, is_reserved, declared_name};
-ghost use Rattle.wb_model.specs.language.Words.{is_quotable, used_name, length_before, before_first};
-ghost use Rattle.wb_model.specs.language.Words.{after_first_of, digits_of};
-ghost use Rattle.wb_model.specs.language.Words.{number_spelled, literal_spelled, base_name, field_name};
-ghost use Rattle.wb_model.specs.language.Words.{parameter_type_after_colon, parameter_name, parameter_type_of_word};
-ghost use Rattle.wb_model.specs.language.Words.{text_of_keyword};
-ghost use Rattle.wb_model.specs.language.Forms.{renamed_parameter_type};
+ghost use Rattle.wb_language.specs.Words.{is_letter, is_digit, is_name_byte, is_name, is_reserved, declared_name};
+ghost use Rattle.wb_tree.specs.Sound.{is_quotable};
+ghost use Rattle.wb_language.specs.Words.{used_name, length_before, before_first};
+ghost use Rattle.wb_language.specs.Words.{after_first_of, digits_of};
+ghost use Rattle.wb_language.specs.Words.{number_spelled, literal_spelled, base_name, field_name};
+ghost use Rattle.wb_language.specs.Words.{parameter_type_after_colon, parameter_name, parameter_type_of_word};
+ghost use Rattle.wb_language.specs.Words.{text_of_keyword};
+ghost use Rattle.wb_language.specs.Forms.{renamed_parameter_type};
 ghost use Rattle.wb_lines.specs.BytesOf.{bytes_of_text};
 
-use wb_model::script_lines::{Keyword, ParameterType};
+use wb_tree::script_lines::{Keyword, ParameterType};
 
 /// The names that can't be declared.
 const RESERVED: [&[u8]; 7] = [b"self", b"ptr", b"int", b"null", b"some", b"eq", b"less"];

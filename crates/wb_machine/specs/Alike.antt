@@ -1,15 +1,15 @@
 -- What it means that a run goes on like another, and what comparing two machines finds out. Numbers are carried by a map that grows.
 use Rattle.std.specs.Prelude.{◌≡◌, ◌≢◌, ℕ, List, map, find, drop, nat_eq, ◌||◌, Option}
-use Rattle.wb_model.specs.cells.Spelling.{pointers}
-use Rattle.wb_model.specs.declared.heap.Kind.{Kind}
-use Rattle.wb_model.specs.declared.heap.Kind.TheVariants.{Raw, Object, Text, Cleanup}
-use Rattle.wb_model.specs.declared.heap.Rule.{Rule}
-use Rattle.wb_model.specs.declared.run.Outcome.TheVariants.{Cut}
-use Rattle.wb_model.specs.declared.run.Why.TheVariants.{Budget}
-use Rattle.wb_model.specs.runs.Follows.{Reached, RefusesAlike, RestsAgree}
-use Rattle.wb_model.specs.runs.Rest.{Fits}
-use Rattle.wb_model.specs.runs.Run.{WholeRun, whole_run}
-use Rattle.wb_model.specs.runs.SameButNumbers.{Names, Renames, Renaming, IsRenaming, AllBeside, IsSamePointer}
+use Rattle.wb_heap_model.specs.Spelling.{pointers}
+use Rattle.wb_heap_model.specs.declared.heap.Kind.{Kind}
+use Rattle.wb_heap_model.specs.declared.heap.Kind.TheVariants.{Raw, Object, Text, Cleanup}
+use Rattle.wb_heap_model.specs.declared.heap.Rule.{Rule}
+use Rattle.wb_meaning.specs.declared.run.Outcome.TheVariants.{Cut}
+use Rattle.wb_meaning.specs.declared.run.Why.TheVariants.{Budget}
+use Rattle.wb_renaming.specs.Follows.{Reached, RefusesAlike, RestsAgree}
+use Rattle.wb_heap_model.specs.SameRules.{Fits}
+use Rattle.wb_meaning.specs.Run.{WholeRun, whole_run}
+use Rattle.wb_renaming.specs.SameButNumbers.{Names, Renames, Renaming, IsRenaming, AllBeside, IsSamePointer}
 use Rattle.wb_machine.specs.declared.alike.names.Name.{Name}
 use Rattle.wb_machine.specs.Seen.{Seen}
 

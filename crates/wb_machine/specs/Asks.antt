@@ -1,15 +1,16 @@
 -- When the next turn asks for an attempt.
 use Rattle.std.specs.Prelude.{◌≡◌, ℕ, ◌+◌, ◌*◌, List, Bool, true, false, not, ◌&&◌, nat_eq, nat_lt, nat_le, if◌then◌else◌, Option, Some, None, length}
-use Rattle.wb_model.specs.declared.limits.TheConstants.{LARGEST_REQUEST, MOST_UNITS}
-use Rattle.wb_model.specs.declared.heap.Ptr.{Ptr}
-use Rattle.wb_model.specs.declared.script.Script.{Script}
-use Rattle.wb_model.specs.declared.script.Statement.TheOpen.{Statement-F}
-use Rattle.wb_model.specs.meaning.State.{Process, asks, notes}
-use Rattle.wb_model.specs.heap.Row.{Cell, cell_at, cell_length}
-use Rattle.wb_model.specs.meaning.Operands.{within}
-use Rattle.wb_model.specs.cells.TextCells.{text_in}
-use Rattle.wb_model.specs.meaning.Statements.{Layer, is_null, is_raw}
-use Rattle.wb_model.specs.runs.Rest.{Progress, not_begun, going, has_stopped, resume}
+use Rattle.wb_basics.specs.declared.limits.TheConstants.{LARGEST_REQUEST, MOST_UNITS}
+use Rattle.wb_heap_model.specs.declared.heap.Ptr.{Ptr}
+use Rattle.wb_tree.specs.declared.script.Script.{Script}
+use Rattle.wb_tree.specs.declared.script.Statement.TheOpen.{Statement-F}
+use Rattle.wb_meaning.specs.State.{Process, asks, notes}
+use Rattle.wb_heap_model.specs.Row.{Cell, cell_at, cell_length}
+use Rattle.wb_meaning.specs.Operands.{within}
+use Rattle.wb_heap_model.specs.TextCells.{text_in}
+use Rattle.wb_meaning.specs.Statements.{Layer, is_raw}
+use Rattle.wb_heap_model.specs.Pointers.{is_null}
+use Rattle.wb_meaning.specs.Rest.{Progress, not_begun, going, has_stopped, resume}
 use Rattle.wb_machine.specs.RunState.{RunState}
 use Rattle.wb_machine.specs.Effects.{pointer_read, number_read}
 use Rattle.wb_machine.specs.PointerOperands.{operands_refusal}

@@ -1,17 +1,18 @@
 -- The rises that a run keeps, once a statement has made the attempt that it asks for.
 use Rattle.std.specs.Prelude.{◌≡◌, ℕ, ◌+◌, ◌*◌, List, true, if◌then◌else◌, Option, Some, None}
-use Rattle.wb_model.specs.declared.limits.TheConstants.{LARGEST_REQUEST, MOST_UNITS}
-use Rattle.wb_model.specs.declared.heap.Kind.{Kind}
-use Rattle.wb_model.specs.declared.heap.Kind.TheVariants.{Raw, Text}
-use Rattle.wb_model.specs.declared.heap.Ptr.{Ptr}
-use Rattle.wb_model.specs.declared.script.Script.{Script}
-use Rattle.wb_model.specs.declared.script.Statement.TheOpen.{Statement-F}
-use Rattle.wb_model.specs.declared.size.Rise.{Rise}
-use Rattle.wb_model.specs.heap.Debug.{alloc_made, keeps_rises, realloc_made}
-use Rattle.wb_model.specs.heap.Row.{Cell, cell_at}
-use Rattle.wb_model.specs.meaning.Bodies.{class_at}
-use Rattle.wb_model.specs.meaning.Operands.{within}
-use Rattle.wb_model.specs.meaning.Statements.{Layer, is_null}
+use Rattle.wb_basics.specs.declared.limits.TheConstants.{LARGEST_REQUEST, MOST_UNITS}
+use Rattle.wb_heap_model.specs.declared.heap.Kind.{Kind}
+use Rattle.wb_heap_model.specs.declared.heap.Kind.TheVariants.{Raw, Text}
+use Rattle.wb_heap_model.specs.declared.heap.Ptr.{Ptr}
+use Rattle.wb_tree.specs.declared.script.Script.{Script}
+use Rattle.wb_tree.specs.declared.script.Statement.TheOpen.{Statement-F}
+use Rattle.wb_heap_model.specs.declared.size.Rise.{Rise}
+use Rattle.wb_heap_model.specs.Debug.{alloc_made, keeps_rises, realloc_made}
+use Rattle.wb_heap_model.specs.Row.{Cell, cell_at}
+use Rattle.wb_tree.specs.Bodies.{class_at}
+use Rattle.wb_meaning.specs.Operands.{within}
+use Rattle.wb_meaning.specs.Statements.{Layer}
+use Rattle.wb_heap_model.specs.Pointers.{is_null}
 use Rattle.wb_objects.specs.Objects.{object_made}
 use Rattle.wb_machine.specs.RunState.{RunState}
 use Rattle.wb_machine.specs.Asks.{effect_asks}

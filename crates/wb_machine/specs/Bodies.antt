@@ -1,13 +1,13 @@
 -- The bodies of a script as a machine is lent them, and the classes of objects.
 use Rattle.std.specs.Prelude.{◌≡◌, ℕ, ◌-◌, length, take, Result}
-use Rattle.wb_model.specs.declared.heap.Panic.{Panic}
-use Rattle.wb_model.specs.declared.heap.Ptr.{Ptr}
-use Rattle.wb_model.specs.declared.script.Body.{Body}
+use Rattle.wb_heap_model.specs.declared.heap.Panic.{Panic}
+use Rattle.wb_heap_model.specs.declared.heap.Ptr.{Ptr}
+use Rattle.wb_tree.specs.declared.script.Body.{Body}
 use Rattle.wb_objects.specs.Objects.{class_found}
 use Rattle.wb_machine.specs.declared.bodies.BodyContent.{BodyContent}
 use Rattle.wb_machine.specs.declared.pieces.After.{After}
 use Rattle.wb_machine.specs.declared.pieces.After.TheVariants.{Nothing, Gives, Releases}
-use Rattle.wb_model.specs.meaning.State.{pointer}
+use Rattle.wb_meaning.specs.State.{pointer}
 use Rattle.wb_machine.specs.RunState.{RunState}
 use Rattle.wb_machine.specs.Effects.{Effect, gone_on, stored, free_effect}
 

@@ -1,7 +1,7 @@
 -- The frames of locals once the buffer in one of them was edited.
 use Rattle.std.specs.Prelude.{ℕ, Result, Ok, Err, slice_set}
-use Rattle.wb_model.specs.declared.heap.Panic.{Panic}
-use Rattle.wb_model.specs.meaning.Texts.{Buffer, Edited, answer_of, edited}
+use Rattle.wb_heap_model.specs.declared.heap.Panic.{Panic}
+use Rattle.wb_heap_model.specs.Texts.{Buffer, Edited, answer_of, edited}
 use Rattle.wb_machine.specs.LocalValues.{Frames, value_of_buffer}
 
 -- a buffer was put in a local, unless its edit was refused

@@ -1,16 +1,16 @@
 -- What carrying out a statement on the cleanup stack makes of the state of a run.
 use Rattle.std.specs.Prelude.{◌≡◌, ℕ, ◌+◌, ◌-◌, ◌*◌, List, [], ◌∷◌, ◌++◌, Bool, nat_eq, if◌then◌else◌, Option, Some, None, length, take}
-use Rattle.wb_model.specs.declared.heap.TheConstants.{KERR_NO_MEMORY}
-use Rattle.wb_model.specs.declared.heap.TheConstants.Panic.{NUMBER_OUT_OF_RANGE}
-use Rattle.wb_model.specs.declared.heap.Ptr.{Ptr}
-use Rattle.wb_model.specs.declared.heap.Item.{Item}
-use Rattle.wb_model.specs.declared.heap.Gave.{Gave}
-use Rattle.wb_model.specs.declared.heap.Gave.TheVariants.{Granted, Denied, Ceiling}
-use Rattle.wb_model.specs.declared.run.Why.TheVariants as why
-use Rattle.wb_model.specs.heap.Row.{cell_at}
-use Rattle.wb_model.specs.cells.CellRow.{payload_of}
-use Rattle.wb_model.specs.cells.CleanupCells.{IsCleanupAt}
-use Rattle.wb_model.specs.heap.Debug.{Debug, Made, debug_changed}
+use Rattle.wb_heap_model.specs.declared.heap.TheConstants.{KERR_NO_MEMORY}
+use Rattle.wb_heap_model.specs.declared.heap.TheConstants.Panic.{NUMBER_OUT_OF_RANGE}
+use Rattle.wb_heap_model.specs.declared.heap.Ptr.{Ptr}
+use Rattle.wb_heap_model.specs.declared.heap.Item.{Item}
+use Rattle.wb_heap_model.specs.declared.heap.Gave.{Gave}
+use Rattle.wb_heap_model.specs.declared.heap.Gave.TheVariants.{Granted, Denied, Ceiling}
+use Rattle.wb_meaning.specs.declared.run.Why.TheVariants as why
+use Rattle.wb_heap_model.specs.Row.{cell_at}
+use Rattle.wb_heap_model.specs.CellRow.{payload_of}
+use Rattle.wb_heap_model.specs.CleanupCells.{IsCleanupAt}
+use Rattle.wb_heap_model.specs.Debug.{Debug, Made, debug_changed}
 use Rattle.wb_cleanup.specs.Pushes.{cell_by, remade, slots_by}
 use Rattle.wb_cleanup.specs.Stacks.{expected_refusal, pop_refusal}
 use Rattle.wb_machine.specs.declared.pieces.Ending.TheVariants.{Cut}

@@ -1,35 +1,36 @@
 -- What carrying out a statement makes of the state of a run, and how it ends.
 use Rattle.std.specs.Prelude.{ℕ, ℤ, pos, ◌+◌, ◌+ℤ◌, Bool, not, ◌&&◌, int_le, int_lt, List, [], ◌∷◌, ◌++◌, if◌then◌else◌, Option, Some, None, slice_index, slice_set, map, take, drop, true, false}
 use Rattle.std.specs.Int.{w32, cast_unsigned}
-use Rattle.wb_model.specs.declared.limits.TheConstants.{LARGEST_REQUEST}
-use Rattle.wb_model.specs.declared.heap.TheConstants.{KERR_NO_MEMORY}
-use Rattle.wb_model.specs.declared.heap.TheConstants.Panic.{NUMBER_OUT_OF_RANGE, BAD_CELL, WRONG_KIND, NULL_OR_STALE}
-use Rattle.wb_model.specs.declared.heap.Ptr.{Ptr}
-use Rattle.wb_model.specs.declared.heap.Kind.TheVariants.{Raw, Cleanup}
-use Rattle.wb_model.specs.declared.heap.Gave.{Gave}
-use Rattle.wb_model.specs.declared.heap.Gave.TheVariants.{Granted, Denied, Ceiling}
-use Rattle.wb_model.specs.declared.heap.Panic.{Panic}
-use Rattle.wb_model.specs.declared.run.Note.{Note}
-use Rattle.wb_model.specs.declared.run.Why.TheVariants as why
-use Rattle.wb_model.specs.declared.script.Holder.TheVariants as H
-use Rattle.wb_model.specs.declared.script.Script.{Script}
-use Rattle.wb_model.specs.declared.script.Local.{Local}
-use Rattle.wb_model.specs.declared.script.Pointer.{Pointer}
-use Rattle.wb_model.specs.declared.script.Pointer.TheVariants as P
-use Rattle.wb_model.specs.declared.script.Number.{Number}
-use Rattle.wb_model.specs.declared.script.Condition.{Condition}
-use Rattle.wb_model.specs.declared.script.Condition.TheVariants.{IsNull, NotNull, Equal, Less}
-use Rattle.wb_model.specs.declared.script.Refusal.{Refusal}
-use Rattle.wb_model.specs.declared.script.Refusal.TheVariants as refusals
-use Rattle.wb_model.specs.heap.Row.{Cell, cell_at, usable_of, without}
-use Rattle.wb_model.specs.cells.CellRow.{payload_of}
-use Rattle.wb_model.specs.meaning.State.{Value, pointer, number, initial, number_in, null}
-use Rattle.wb_model.specs.meaning.Operands.{within}
-use Rattle.wb_model.specs.meaning.Statements.{is_null, is_raw, index_in, in_range}
-use Rattle.wb_model.specs.heap.Rules.{Setting}
-use Rattle.wb_model.specs.heap.Heap.{is_cleanup, after_mark, after_mark_end, mark_end_refusal}
-use Rattle.wb_model.specs.cells.Spelling.{signed}
-use Rattle.wb_model.specs.heap.Debug.{Made, alloc_made, realloc_made, with_row, debug_changed, with_setting, debug_compressed, note_of_heap, note_of_available, note_of_compress}
+use Rattle.wb_basics.specs.declared.limits.TheConstants.{LARGEST_REQUEST}
+use Rattle.wb_heap_model.specs.declared.heap.TheConstants.{KERR_NO_MEMORY}
+use Rattle.wb_heap_model.specs.declared.heap.TheConstants.Panic.{NUMBER_OUT_OF_RANGE, BAD_CELL, WRONG_KIND, NULL_OR_STALE}
+use Rattle.wb_heap_model.specs.declared.heap.Ptr.{Ptr}
+use Rattle.wb_heap_model.specs.declared.heap.Kind.TheVariants.{Raw, Cleanup}
+use Rattle.wb_heap_model.specs.declared.heap.Gave.{Gave}
+use Rattle.wb_heap_model.specs.declared.heap.Gave.TheVariants.{Granted, Denied, Ceiling}
+use Rattle.wb_heap_model.specs.declared.heap.Panic.{Panic}
+use Rattle.wb_heap_model.specs.declared.reported.Note.{Note}
+use Rattle.wb_meaning.specs.declared.run.Why.TheVariants as why
+use Rattle.wb_tree.specs.declared.script.Holder.TheVariants as H
+use Rattle.wb_tree.specs.declared.script.Script.{Script}
+use Rattle.wb_tree.specs.declared.script.Local.{Local}
+use Rattle.wb_tree.specs.declared.script.Pointer.{Pointer}
+use Rattle.wb_tree.specs.declared.script.Pointer.TheVariants as P
+use Rattle.wb_tree.specs.declared.script.Number.{Number}
+use Rattle.wb_tree.specs.declared.script.Condition.{Condition}
+use Rattle.wb_tree.specs.declared.script.Condition.TheVariants.{IsNull, NotNull, Equal, Less}
+use Rattle.wb_tree.specs.declared.script.Refusal.{Refusal}
+use Rattle.wb_tree.specs.declared.script.Refusal.TheVariants as refusals
+use Rattle.wb_heap_model.specs.Row.{Cell, cell_at, usable_of, without}
+use Rattle.wb_heap_model.specs.CellRow.{payload_of}
+use Rattle.wb_meaning.specs.State.{Value, pointer, number, initial, number_in}
+use Rattle.wb_heap_model.specs.Pointers.{null, is_null}
+use Rattle.wb_meaning.specs.Operands.{within}
+use Rattle.wb_meaning.specs.Statements.{is_raw, index_in, in_range}
+use Rattle.wb_heap_model.specs.Rules.{Setting}
+use Rattle.wb_heap_model.specs.Heap.{is_cleanup, after_mark, after_mark_end, mark_end_refusal}
+use Rattle.wb_heap_model.specs.Spelling.{signed}
+use Rattle.wb_heap_model.specs.Debug.{Made, alloc_made, realloc_made, with_row, debug_changed, with_setting, debug_compressed, note_of_heap, note_of_available, note_of_compress}
 use Rattle.wb_machine.specs.declared.pieces.Ending.{Ending}
 use Rattle.wb_machine.specs.declared.pieces.Ending.TheVariants.{GoesOn, Returns, Leaves, Panics, Cut, NoCleanup}
 use Rattle.wb_machine.specs.RunState.{Values, RunState, with_debug, value_in}

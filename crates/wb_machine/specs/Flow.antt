@@ -1,21 +1,22 @@
 -- What is still to do as a machine holds it, and which process of the definitions that is.
 use Rattle.std.specs.Prelude.{◌≡◌, ℕ, ◌+◌, List, [], ◌∷◌, ◌++◌, Bool, true, false, not, nat_lt, ◌||◌, slice_get, reverse, length, take, drop, Option, None}
-use Rattle.wb_model.specs.declared.heap.Ptr.{Ptr}
-use Rattle.wb_model.specs.declared.heap.Rule.{Rule}
-use Rattle.wb_model.specs.declared.run.Why.TheVariants.{Ceiling}
-use Rattle.wb_model.specs.declared.script.Script.{Script}
-use Rattle.wb_model.specs.declared.script.Body.{Body}
-use Rattle.wb_model.specs.declared.script.StatementAt.{StatementAt}
-use Rattle.wb_model.specs.declared.script.Statement.TheOpen.{Statement-F}
-use Rattle.wb_model.specs.language.Sound.{Scope, is_simple, is_pointer, is_nested, are_within, declared_in, fields_declared}
-use Rattle.wb_model.specs.heap.Space.{space_of}
-use Rattle.wb_model.specs.meaning.State.{State, Frame, Way, goes_on, returns, leaves, panics, is_cut, no_cleanup, Process, ends, stops, and_then}
-use Rattle.wb_model.specs.meaning.Statements.{all, turns, destroy_items, destroy_object, Context, Layer, Meaning, statement, in_frame, plain}
-use Rattle.wb_model.specs.meaning.Meaning.{meaning_of}
-use Rattle.wb_model.specs.heap.Debug.{keeps_rises}
-use Rattle.wb_model.specs.runs.Run.{WholeRun, whole_of}
-use Rattle.wb_model.specs.runs.Account.{Settled, settled}
-use Rattle.wb_model.specs.runs.Rest.{Fits, Afterwards, nothing_more, gives_to, releases, after_frame, Pending, doing, catching, caught, calling, main_catching, main_caught, Progress, not_begun, going, has_stopped, resume, rest}
+use Rattle.wb_heap_model.specs.declared.heap.Ptr.{Ptr}
+use Rattle.wb_heap_model.specs.declared.heap.Rule.{Rule}
+use Rattle.wb_meaning.specs.declared.run.Why.TheVariants.{Ceiling}
+use Rattle.wb_tree.specs.declared.script.Script.{Script}
+use Rattle.wb_tree.specs.declared.script.Body.{Body}
+use Rattle.wb_tree.specs.declared.script.StatementAt.{StatementAt}
+use Rattle.wb_tree.specs.declared.script.Statement.TheOpen.{Statement-F}
+use Rattle.wb_tree.specs.Sound.{Scope, is_simple, is_pointer, is_nested, are_within, declared_in, fields_declared}
+use Rattle.wb_heap_model.specs.Space.{space_of}
+use Rattle.wb_meaning.specs.State.{State, Frame, Way, goes_on, returns, leaves, panics, is_cut, no_cleanup, Process, ends, stops, and_then}
+use Rattle.wb_meaning.specs.Statements.{all, turns, destroy_items, destroy_object, Context, Layer, Meaning, statement, in_frame, plain}
+use Rattle.wb_meaning.specs.Meaning.{meaning_of}
+use Rattle.wb_heap_model.specs.Debug.{keeps_rises}
+use Rattle.wb_meaning.specs.Run.{WholeRun, whole_of}
+use Rattle.wb_meaning.specs.Account.{Settled, settled}
+use Rattle.wb_heap_model.specs.SameRules.{Fits}
+use Rattle.wb_meaning.specs.Rest.{Afterwards, nothing_more, gives_to, releases, after_frame, Pending, doing, catching, caught, calling, main_catching, main_caught, Progress, not_begun, going, has_stopped, resume, rest}
 use Rattle.wb_machine.specs.declared.pieces.Ending.{Ending}
 use Rattle.wb_machine.specs.declared.pieces.Ending.TheVariants.{GoesOn, Returns, Leaves, Panics, Cut, NoCleanup}
 use Rattle.wb_machine.specs.declared.pieces.PendingPiece.{PendingPiece}

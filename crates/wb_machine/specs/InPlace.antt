@@ -1,7 +1,7 @@
 -- Which statements are carried out without memory for more than the state has.
 use Rattle.std.specs.Prelude.{Bool, true, false}
-use Rattle.wb_model.specs.declared.script.Statement.TheOpen.{Statement-F}
-use Rattle.wb_model.specs.meaning.Statements.{Layer}
+use Rattle.wb_tree.specs.declared.script.Statement.TheOpen.{Statement-F}
+use Rattle.wb_meaning.specs.Statements.{Layer}
 
 abbrev pub is_in_place : Layer → Bool
 is_in_place (Statement-F.Free p) = true

@@ -1,20 +1,20 @@
 -- Locals as values.
 use Rattle.std.specs.Prelude.{◌≡◌, ℕ, ℤ, pos, suc, Bool, true, nat_le, ◌≤◌, ◌++◌, ◌∷◌, [], List, map, take, drop, vec_len, slice_index_or}
-use Rattle.wb_model.specs.declared.heap.Ptr.{Ptr}
-use Rattle.wb_model.specs.declared.script.Argument.{Argument}
-use Rattle.wb_model.specs.declared.script.Argument.TheVariants.{Passed, Given}
-use Rattle.wb_model.specs.declared.limits.TheConstants.{LARGEST_BUFFER}
-use Rattle.wb_model.specs.declared.script.Local.{Local}
-use Rattle.wb_model.specs.declared.script.Local.TheVariants.{OfBuffer}
-use Rattle.wb_model.specs.declared.script.Script.{Script}
-use Rattle.wb_model.specs.declared.script.Number.{Number}
-use Rattle.wb_model.specs.declared.script.Number.TheVariants.{Constant, Variable}
-use Rattle.wb_model.specs.declared.text.Base.{Base}
-use Rattle.wb_model.specs.declared.text.Base.TheVariants.{Nothing}
-use Rattle.wb_model.specs.declared.text.View.{View}
-use Rattle.wb_model.specs.meaning.Texts.{Buffer}
-use Rattle.wb_model.specs.meaning.State.{Value, pointer, number, buffer, view, initial, number_in}
-use Rattle.wb_model.specs.meaning.Reading.{buffer_text, max_in}
+use Rattle.wb_heap_model.specs.declared.heap.Ptr.{Ptr}
+use Rattle.wb_tree.specs.declared.script.Argument.{Argument}
+use Rattle.wb_tree.specs.declared.script.Argument.TheVariants.{Passed, Given}
+use Rattle.wb_basics.specs.declared.limits.TheConstants.{LARGEST_BUFFER}
+use Rattle.wb_tree.specs.declared.script.Local.{Local}
+use Rattle.wb_tree.specs.declared.script.Local.TheVariants.{OfBuffer}
+use Rattle.wb_tree.specs.declared.script.Script.{Script}
+use Rattle.wb_tree.specs.declared.script.Number.{Number}
+use Rattle.wb_tree.specs.declared.script.Number.TheVariants.{Constant, Variable}
+use Rattle.wb_heap_model.specs.declared.text.Base.{Base}
+use Rattle.wb_heap_model.specs.declared.text.Base.TheVariants.{Nothing}
+use Rattle.wb_heap_model.specs.declared.text.View.{View}
+use Rattle.wb_heap_model.specs.Texts.{Buffer}
+use Rattle.wb_meaning.specs.State.{Value, pointer, number, buffer, view, initial, number_in}
+use Rattle.wb_meaning.specs.Reading.{buffer_text, max_in}
 use Rattle.wb_machine.specs.declared.arguments.CallArguments.{CallArguments}
 use Rattle.wb_machine.specs.declared.arguments.CallArguments.TheVariants.{Arguments, Item}
 use Rattle.wb_machine.specs.declared.locals.Slot.{Slot}
@@ -22,7 +22,7 @@ use Rattle.wb_machine.specs.declared.locals.Slot.TheVariants as S
 use Rattle.wb_machine.specs.declared.locals.Stored.{Stored}
 use Rattle.wb_machine.specs.declared.locals.Stored.TheVariants as T
 use Rattle.wb_machine.specs.declared.locals.Locals.TheInside.{Inside}
-use Rattle.wb_model.specs.heap.Debug.{Debug}
+use Rattle.wb_heap_model.specs.Debug.{Debug}
 use Rattle.wb_machine.specs.RunState.{Values, RunState, value_in}
 use Rattle.wb_machine.specs.PointerOperands.{pointer_over}
 

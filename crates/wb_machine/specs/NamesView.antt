@@ -1,5 +1,5 @@
 -- What contracts see of the map of numbers that a comparison makes.
-use Rattle.wb_model.specs.runs.SameButNumbers.{Renaming, AreAddedSince, since_fork}
+use Rattle.wb_renaming.specs.SameButNumbers.{Renaming, AreAddedSince, since_fork}
 use Rattle.wb_machine.specs.declared.alike.names.Names.TheInside.{Inside}
 use Rattle.wb_machine.specs.Alike.{names_of}
 

@@ -1,8 +1,8 @@
 -- Rows whose cells read as what their kinds hold.
 use Rattle.std.specs.Prelude.{ℕ, List, All}
-use Rattle.wb_model.specs.declared.script.Script.{Script}
-use Rattle.wb_model.specs.heap.Row.{Cell}
-use Rattle.wb_model.specs.runs.Throughout.{HoldsItsKind}
+use Rattle.wb_tree.specs.declared.script.Script.{Script}
+use Rattle.wb_heap_model.specs.Row.{Cell}
+use Rattle.wb_meaning.specs.Throughout.{HoldsItsKind}
 use Rattle.wb_machine.specs.RunState.{RunState, read_row}
 
 -- each cell reads as what its kind holds, so that an object has a pointer for each field of its class

@@ -1,8 +1,8 @@
 -- What each method owes that carries out a statement, or a part of one.
 use Rattle.std.specs.Prelude.{◌≡◌, ◌+◌, ◌^◌, ◌<◌, ◌≤◌, length}
-use Rattle.wb_model.specs.heap.Debug.{keeps_rises}
+use Rattle.wb_heap_model.specs.Debug.{keeps_rises}
 use Rattle.wb_machine.specs.declared.pieces.Ending.{Ending}
-use Rattle.wb_model.specs.declared.script.Script.{Script}
+use Rattle.wb_tree.specs.declared.script.Script.{Script}
 use Rattle.wb_machine.specs.RunState.{RunState}
 use Rattle.wb_machine.specs.Effects.{Effect}
 use Rattle.wb_machine.specs.ObjectInvariant.{StaysWhole}

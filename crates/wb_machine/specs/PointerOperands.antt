@@ -1,30 +1,31 @@
 -- Pointer operands: what they are, what refuses them before a statement is carried out, and what is left of a cell whose field
 -- is written.
 use Rattle.std.specs.Prelude.{ℕ, ◌+◌, ◌*◌, List, [], ◌∷◌, ◌++◌, Bool, true, false, ◌&&◌, nat_le, if◌then◌else◌, Option, Some, None, Result, Ok, Err, length, slice_get, unwrap_or}
-use Rattle.wb_model.specs.declared.heap.Ptr.{Ptr}
-use Rattle.wb_model.specs.declared.heap.Kind.{Kind}
-use Rattle.wb_model.specs.declared.heap.Kind.TheVariants.{Object}
-use Rattle.wb_model.specs.declared.heap.Panic.{Panic}
-use Rattle.wb_model.specs.declared.script.Script.{Script}
-use Rattle.wb_model.specs.declared.script.Argument.{Argument}
-use Rattle.wb_model.specs.declared.script.Argument.TheVariants.{Passed, Given}
-use Rattle.wb_model.specs.declared.script.Holder.{Holder}
-use Rattle.wb_model.specs.declared.script.Holder.TheVariants as H
-use Rattle.wb_model.specs.declared.script.Pointer.{Pointer}
-use Rattle.wb_model.specs.declared.script.Pointer.TheVariants.{Held, Field}
-use Rattle.wb_model.specs.declared.script.Writable.{Writable}
-use Rattle.wb_model.specs.declared.script.Writable.TheVariants.{OwnBuffer, InCell}
-use Rattle.wb_model.specs.declared.script.Readable.{Readable}
-use Rattle.wb_model.specs.declared.script.Readable.TheVariants.{Of, ViewOf, Quoted}
-use Rattle.wb_model.specs.declared.script.Condition.{Condition}
-use Rattle.wb_model.specs.declared.script.Condition.TheVariants.{IsNull, NotNull, Equal, Less}
-use Rattle.wb_model.specs.declared.script.Statement.TheOpen.{Statement-F}
-use Rattle.wb_model.specs.heap.Row.{Cell, cell_at}
-use Rattle.wb_model.specs.cells.CellRow.{with_payload}
-use Rattle.wb_model.specs.cells.Spelling.{fields_in}
-use Rattle.wb_model.specs.meaning.State.{null, pointer_in}
-use Rattle.wb_model.specs.meaning.Statements.{Layer}
-use Rattle.wb_model.specs.heap.Debug.{Debug}
+use Rattle.wb_heap_model.specs.declared.heap.Ptr.{Ptr}
+use Rattle.wb_heap_model.specs.declared.heap.Kind.{Kind}
+use Rattle.wb_heap_model.specs.declared.heap.Kind.TheVariants.{Object}
+use Rattle.wb_heap_model.specs.declared.heap.Panic.{Panic}
+use Rattle.wb_tree.specs.declared.script.Script.{Script}
+use Rattle.wb_tree.specs.declared.script.Argument.{Argument}
+use Rattle.wb_tree.specs.declared.script.Argument.TheVariants.{Passed, Given}
+use Rattle.wb_tree.specs.declared.script.Holder.{Holder}
+use Rattle.wb_tree.specs.declared.script.Holder.TheVariants as H
+use Rattle.wb_tree.specs.declared.script.Pointer.{Pointer}
+use Rattle.wb_tree.specs.declared.script.Pointer.TheVariants.{Held, Field}
+use Rattle.wb_tree.specs.declared.script.Writable.{Writable}
+use Rattle.wb_tree.specs.declared.script.Writable.TheVariants.{OwnBuffer, InCell}
+use Rattle.wb_tree.specs.declared.script.Readable.{Readable}
+use Rattle.wb_tree.specs.declared.script.Readable.TheVariants.{Of, ViewOf, Quoted}
+use Rattle.wb_tree.specs.declared.script.Condition.{Condition}
+use Rattle.wb_tree.specs.declared.script.Condition.TheVariants.{IsNull, NotNull, Equal, Less}
+use Rattle.wb_tree.specs.declared.script.Statement.TheOpen.{Statement-F}
+use Rattle.wb_heap_model.specs.Row.{Cell, cell_at}
+use Rattle.wb_heap_model.specs.CellRow.{with_payload}
+use Rattle.wb_heap_model.specs.Spelling.{fields_in}
+use Rattle.wb_heap_model.specs.Pointers.{null}
+use Rattle.wb_meaning.specs.State.{pointer_in}
+use Rattle.wb_meaning.specs.Statements.{Layer}
+use Rattle.wb_heap_model.specs.Debug.{Debug}
 use Rattle.wb_objects.specs.Objects.{words_found, with_field}
 use Rattle.wb_machine.specs.RunState.{Values, RunState, field_count, value_in}
 

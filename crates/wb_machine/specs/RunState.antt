@@ -1,19 +1,21 @@
 -- The state of a run as a machine keeps it, and which state and account of the definitions that is.
 use Rattle.std.specs.Prelude.{ℕ, pos, Bool, List, [], map, length, slice_get, unwrap_or}
-use Rattle.wb_model.specs.declared.heap.Ptr.{Ptr}
-use Rattle.wb_model.specs.declared.heap.Item.{Item}
-use Rattle.wb_model.specs.declared.heap.Rule.{Rule}
-use Rattle.wb_model.specs.declared.heap.Shape.{Shape}
-use Rattle.wb_model.specs.declared.run.Note.{Note}
-use Rattle.wb_model.specs.declared.script.Body.{Body}
-use Rattle.wb_model.specs.declared.script.Script.{Script}
-use Rattle.wb_model.specs.heap.Row.{Cell}
-use Rattle.wb_model.specs.heap.Heap.{Heap}
-use Rattle.wb_model.specs.meaning.State.{Content, Value, number, State, null}
-use Rattle.wb_model.specs.meaning.Bodies.{class_at, procedure_at}
-use Rattle.wb_model.specs.runs.Account.{Account}
-use Rattle.wb_model.specs.heap.Debug.{Debug, first_debug_of}
-use Rattle.wb_model.specs.cells.Spelling.{read_as}
+use Rattle.wb_heap_model.specs.declared.heap.Ptr.{Ptr}
+use Rattle.wb_heap_model.specs.declared.heap.Item.{Item}
+use Rattle.wb_heap_model.specs.declared.heap.Rule.{Rule}
+use Rattle.wb_heap_model.specs.declared.heap.Shape.{Shape}
+use Rattle.wb_heap_model.specs.declared.reported.Note.{Note}
+use Rattle.wb_tree.specs.declared.script.Body.{Body}
+use Rattle.wb_tree.specs.declared.script.Script.{Script}
+use Rattle.wb_heap_model.specs.Row.{Cell}
+use Rattle.wb_heap_model.specs.Heap.{Heap}
+use Rattle.wb_heap_model.specs.Contents.{Content}
+use Rattle.wb_meaning.specs.State.{Value, number, State}
+use Rattle.wb_heap_model.specs.Pointers.{null}
+use Rattle.wb_tree.specs.Bodies.{class_at, procedure_at}
+use Rattle.wb_meaning.specs.Account.{Account}
+use Rattle.wb_heap_model.specs.Debug.{Debug, first_debug_of}
+use Rattle.wb_heap_model.specs.Spelling.{read_as}
 
 -- the locals of a body, by their index
 abbrev pub Values : Type 0

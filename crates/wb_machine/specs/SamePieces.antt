@@ -1,9 +1,9 @@
 -- Pending pieces, as a machine holds them, that are the same but for allocation numbers.
 use Rattle.std.specs.Prelude.{◌≡◌, ℕ, ℤ, Bool, true, false, List}
 use Rattle.std.specs.Borrow.{Bor}
-use Rattle.wb_model.specs.declared.heap.Ptr.{Ptr}
-use Rattle.wb_model.specs.declared.script.StatementAt.{StatementAt}
-use Rattle.wb_model.specs.runs.SameButNumbers.{Names, AllBeside, IsSamePointer, IsSameValue, IsSamePending}
+use Rattle.wb_heap_model.specs.declared.heap.Ptr.{Ptr}
+use Rattle.wb_tree.specs.declared.script.StatementAt.{StatementAt}
+use Rattle.wb_renaming.specs.SameButNumbers.{Names, AllBeside, IsSamePointer, IsSameValue, IsSamePending}
 use Rattle.wb_machine.specs.declared.pieces.After.{After}
 use Rattle.wb_machine.specs.declared.pieces.After.TheVariants.{Nothing, Gives, Releases}
 use Rattle.wb_machine.specs.declared.pieces.Context as pieces

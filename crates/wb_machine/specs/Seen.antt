@@ -1,14 +1,14 @@
 -- What callers see of a machine.
 use Rattle.std.specs.Prelude.{ℕ, Bool, true, false, ◌&&◌, List, [], Option, None, nat_lt, unwrap_or, if◌then◌else◌}
-use Rattle.wb_model.specs.declared.heap.Attempt.{Attempt}
-use Rattle.wb_model.specs.declared.heap.Header.{Header}
-use Rattle.wb_model.specs.declared.heap.Rule.{Rule}
-use Rattle.wb_model.specs.declared.heap.Shape.{Shape}
-use Rattle.wb_model.specs.declared.script.Script.{Script}
-use Rattle.wb_model.specs.declared.size.Rise.{Rise}
-use Rattle.wb_model.specs.runs.Rises.{first_rises}
-use Rattle.wb_model.specs.runs.Run.{WholeRun, whole_run}
-use Rattle.wb_model.specs.heap.Space.{space_of}
+use Rattle.wb_heap_model.specs.declared.heap.Attempt.{Attempt}
+use Rattle.wb_heap_model.specs.declared.heap.Header.{Header}
+use Rattle.wb_heap_model.specs.declared.heap.Rule.{Rule}
+use Rattle.wb_heap_model.specs.declared.heap.Shape.{Shape}
+use Rattle.wb_tree.specs.declared.script.Script.{Script}
+use Rattle.wb_heap_model.specs.declared.size.Rise.{Rise}
+use Rattle.wb_heap_model.specs.Rises.{first_rises}
+use Rattle.wb_meaning.specs.Run.{WholeRun, whole_run}
+use Rattle.wb_heap_model.specs.Space.{space_of}
 
 pub record Seen : Type 0 where
   pub script : Script

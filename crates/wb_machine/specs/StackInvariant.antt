@@ -1,10 +1,10 @@
 -- The cleanup stack beside the heap that it is in, and what always holds of both.
 use Rattle.std.specs.Prelude.{◌≡◌, ℕ, List, [], Option, Some, None}
-use Rattle.wb_model.specs.declared.heap.Ptr.{Ptr}
-use Rattle.wb_model.specs.declared.heap.Item.{Item}
-use Rattle.wb_model.specs.heap.Row.{Cell}
-use Rattle.wb_model.specs.meaning.State.{null}
-use Rattle.wb_model.specs.heap.Debug.{Debug, IsSoundDebug}
+use Rattle.wb_heap_model.specs.declared.heap.Ptr.{Ptr}
+use Rattle.wb_heap_model.specs.declared.heap.Item.{Item}
+use Rattle.wb_heap_model.specs.Row.{Cell}
+use Rattle.wb_heap_model.specs.Pointers.{null}
+use Rattle.wb_heap_model.specs.Debug.{Debug, IsSoundDebug}
 use Rattle.wb_cleanup.specs.declared.cleanup.Cleanup.{Cleanup}
 use Rattle.wb_cleanup.specs.Stacks.{IsStack, cell_of, slots_of, items_of}
 use Rattle.wb_machine.specs.TextInvariant.{AreTexts}

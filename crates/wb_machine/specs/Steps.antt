@@ -1,6 +1,6 @@
 -- What must hold before a step, and before a statement that begins in it: of the pieces that are left, and of the state.
 use Rattle.std.specs.Prelude.{◌≡◌, ◌+◌, ◌^◌, ◌<◌, List}
-use Rattle.wb_model.specs.declared.script.Script.{Script}
+use Rattle.wb_tree.specs.declared.script.Script.{Script}
 use Rattle.wb_machine.specs.declared.pieces.Ending.{Ending}
 use Rattle.wb_machine.specs.declared.pieces.Ending.TheVariants.{GoesOn}
 use Rattle.wb_machine.specs.declared.pieces.PendingPiece.{PendingPiece}

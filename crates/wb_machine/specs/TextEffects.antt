@@ -1,26 +1,26 @@
 -- What statements on texts make of the state of a run, and how they end.
 use Rattle.std.specs.Prelude.{◌≡◌, ℕ, ℤ, pos, ◌+◌, ◌*◌, List, [], false, nat_le, length, if◌then◌else◌, Option, Some, None, ok_or, Result, Ok, Err}
-use Rattle.wb_model.specs.declared.limits.TheConstants.{MOST_UNITS}
-use Rattle.wb_model.specs.declared.heap.TheConstants.Panic.{NUMBER_OUT_OF_RANGE, SHORTER_THAN_TEXT, NULL_OR_STALE}
-use Rattle.wb_model.specs.declared.heap.Kind.TheVariants.{Text}
-use Rattle.wb_model.specs.declared.heap.Panic.{Panic}
-use Rattle.wb_model.specs.declared.heap.Ptr.{Ptr}
-use Rattle.wb_model.specs.declared.script.Pointer.{Pointer}
-use Rattle.wb_model.specs.declared.script.Script.{Script}
-use Rattle.wb_model.specs.declared.script.Refusal.{Refusal}
-use Rattle.wb_model.specs.declared.script.Refusal.TheVariants.{GivesNull}
-use Rattle.wb_model.specs.declared.text.Base.{Base}
-use Rattle.wb_model.specs.declared.text.Base.TheVariants as B
-use Rattle.wb_model.specs.declared.text.View.{View}
-use Rattle.wb_model.specs.heap.Row.{Cell, cell_at}
-use Rattle.wb_model.specs.declared.script.Readable.{Readable}
-use Rattle.wb_model.specs.declared.script.Number.{Number}
-use Rattle.wb_model.specs.meaning.Texts.{Edited, delete_text, set_length_text, left_part, right_part, mid_part, view_of_part}
-use Rattle.wb_model.specs.meaning.State.{number, buffer, view}
-use Rattle.wb_model.specs.meaning.Operands.{within, not_negative}
-use Rattle.wb_model.specs.meaning.Reading.{is_same_base, printed}
-use Rattle.wb_model.specs.heap.Debug.{alloc_made, realloc_made}
-use Rattle.wb_model.specs.cells.TextCells.{text_in, text_at, text_changed}
+use Rattle.wb_basics.specs.declared.limits.TheConstants.{MOST_UNITS}
+use Rattle.wb_heap_model.specs.declared.heap.TheConstants.Panic.{NUMBER_OUT_OF_RANGE, SHORTER_THAN_TEXT, NULL_OR_STALE}
+use Rattle.wb_heap_model.specs.declared.heap.Kind.TheVariants.{Text}
+use Rattle.wb_heap_model.specs.declared.heap.Panic.{Panic}
+use Rattle.wb_heap_model.specs.declared.heap.Ptr.{Ptr}
+use Rattle.wb_tree.specs.declared.script.Pointer.{Pointer}
+use Rattle.wb_tree.specs.declared.script.Script.{Script}
+use Rattle.wb_tree.specs.declared.script.Refusal.{Refusal}
+use Rattle.wb_tree.specs.declared.script.Refusal.TheVariants.{GivesNull}
+use Rattle.wb_heap_model.specs.declared.text.Base.{Base}
+use Rattle.wb_heap_model.specs.declared.text.Base.TheVariants as B
+use Rattle.wb_heap_model.specs.declared.text.View.{View}
+use Rattle.wb_heap_model.specs.Row.{Cell, cell_at}
+use Rattle.wb_tree.specs.declared.script.Readable.{Readable}
+use Rattle.wb_tree.specs.declared.script.Number.{Number}
+use Rattle.wb_heap_model.specs.Texts.{Edited, delete_text, set_length_text, left_part, right_part, mid_part, view_of_part, printed}
+use Rattle.wb_meaning.specs.State.{number, buffer, view}
+use Rattle.wb_meaning.specs.Operands.{within, not_negative}
+use Rattle.wb_meaning.specs.Reading.{is_same_base}
+use Rattle.wb_heap_model.specs.Debug.{alloc_made, realloc_made}
+use Rattle.wb_heap_model.specs.TextCells.{text_in, text_at, text_changed}
 use Rattle.wb_hbuf.specs.declared.sources.Edit.{Edit}
 use Rattle.wb_hbuf.specs.declared.sources.Edit.TheVariants.{Insert}
 use Rattle.wb_hbuf.specs.Sources.{edit_text}

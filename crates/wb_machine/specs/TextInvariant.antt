@@ -1,8 +1,8 @@
 -- Rows whose text cells hold texts.
 use Rattle.std.specs.Prelude.{◌≡◌, ℕ, List, [], ◌∷◌}
-use Rattle.wb_model.specs.declared.heap.Kind.TheVariants.{Text}
-use Rattle.wb_model.specs.heap.Row.{Cell}
-use Rattle.wb_model.specs.cells.TextCells.{IsText, text_in}
+use Rattle.wb_heap_model.specs.declared.heap.Kind.TheVariants.{Text}
+use Rattle.wb_heap_model.specs.Row.{Cell}
+use Rattle.wb_heap_model.specs.TextCells.{IsText, text_in}
 
 -- the words of a text cell are those of a text
 abbrev pub IsTextCell : Cell (List ℕ) → Type 0

@@ -1,7 +1,7 @@
 -- Which statements are on texts.
 use Rattle.std.specs.Prelude.{Bool, true, false}
-use Rattle.wb_model.specs.declared.script.Statement.TheOpen.{Statement-F}
-use Rattle.wb_model.specs.meaning.Statements.{Layer}
+use Rattle.wb_tree.specs.declared.script.Statement.TheOpen.{Statement-F}
+use Rattle.wb_meaning.specs.Statements.{Layer}
 
 abbrev pub is_on_text : Layer → Bool
 is_on_text (Statement-F.NewText target units refusal) = true

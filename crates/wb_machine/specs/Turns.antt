@@ -1,9 +1,6 @@
 -- What callers see of a turn.
-use Rattle.std.specs.Prelude.{◌≡◌, ◌↔◌, ◌⊎◌, ℕ, ◌+◌, ◌<◌, ◌≤◌, true, false, length, min}
-use Rattle.wb_model.specs.declared.run.Outcome.TheVariants.{Cut}
-use Rattle.wb_model.specs.declared.run.RunResult.{RunResult}
-use Rattle.wb_model.specs.declared.run.Why.TheVariants.{Ceiling}
-use Rattle.wb_model.specs.runs.Run.{run}
+use Rattle.std.specs.Prelude.{◌≡◌, ◌↔◌, ℕ, ◌+◌, ◌≤◌, true, false, min}
+use Rattle.wb_meaning.specs.Run.{MakesMoreThan, run}
 use Rattle.wb_machine.specs.declared.machine.Turn.{Turn}
 use Rattle.wb_machine.specs.declared.machine.Turn.TheVariants.{GoesOn, Ended}
 use Rattle.wb_machine.specs.Asks.{MakesAsked}
@@ -42,12 +39,6 @@ pub record WillMakeNoRise (m : Seen) : Type 0 where
   pub keeps : m.keeps_rises ≡ true
   pub asks : m.asks ≡ true
   pub same : m.next_rises ≡ m.rises
-
--- a run makes more attempts than so many, or the ceiling cuts it where it asks for the next one
-abbrev pub MakesMoreThan : ℕ → RunResult → Type 0
-MakesMoreThan attempts ran =
-    (attempts < length ran.trace)
-    ⊎ ((attempts ≡ length ran.trace) × (ran.outcome ≡ Cut Ceiling))
 
 -- the run of a machine makes more attempts than the machine has made so far, or the ceiling cuts it there
 abbrev pub MakesMore : Seen → Type 0

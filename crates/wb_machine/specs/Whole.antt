@@ -1,12 +1,13 @@
 -- A whole machine: what callers see of it, and what it keeps.
 use Rattle.std.specs.Prelude.{◌≡◌, ◌-◌, ◌≤◌, Bool, true, false, not, ◌&&◌, length, slice_get}
-use Rattle.wb_model.specs.declared.limits.TheConstants.{LARGEST_BUDGET}
-use Rattle.wb_model.specs.declared.heap.Rule.{Rule}
-use Rattle.wb_model.specs.language.Sound.{is_script}
-use Rattle.wb_model.specs.heap.Debug.{keeps_rises}
-use Rattle.wb_model.specs.heap.Row.{headers}
-use Rattle.wb_model.specs.runs.Run.{WholeRun, whole_run}
-use Rattle.wb_model.specs.runs.Rest.{Fits, Progress, next_line}
+use Rattle.wb_basics.specs.declared.limits.TheConstants.{LARGEST_BUDGET}
+use Rattle.wb_heap_model.specs.declared.heap.Rule.{Rule}
+use Rattle.wb_tree.specs.Sound.{is_script}
+use Rattle.wb_heap_model.specs.Debug.{keeps_rises}
+use Rattle.wb_heap_model.specs.Row.{headers}
+use Rattle.wb_meaning.specs.Run.{WholeRun, whole_run}
+use Rattle.wb_heap_model.specs.SameRules.{Fits}
+use Rattle.wb_meaning.specs.Rest.{Progress, next_line}
 use Rattle.wb_machine.specs.declared.machine.Machine.TheInside.{Inside}
 use Rattle.wb_machine.specs.RunState.{state_of}
 use Rattle.wb_machine.specs.Asks.{asks_next}

@@ -1,15 +1,15 @@
 //! What the parameters of a body get from its caller.
 
 ghost use Rattle.std.specs.Prelude.{◌≡◌, ℕ, ◌≤◌, List, ◌++◌, map, drop, vec_len, OnOk};
-ghost use Rattle.wb_model.specs.meaning.Texts.{Buffer};
+ghost use Rattle.wb_heap_model.specs.Texts.{Buffer};
 ghost use Rattle.wb_machine.specs.LocalValues.{value_of, values_stored, AreAscending, number_over, passed_over};
 ghost use Rattle.wb_machine.specs.LocalValues.{values_over};
 
 use crate::locals::{Slot, Stored, push_slot};
 use crate::pointers::{ReadContext, pointer_over};
 use std::alloc::AllocError;
-use wb_model::heap::Ptr;
-use wb_model::script::{Argument, Number};
+use wb_heap_model::heap::Ptr;
+use wb_tree::script::{Argument, Number};
 
 /// What the parameters of a body get.
 #[derive(Clone, Copy)]

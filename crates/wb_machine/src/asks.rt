@@ -1,10 +1,10 @@
 //! Whether a statement that is about to begin asks for an attempt. Nothing here changes a state.
 
 ghost use Rattle.std.specs.Prelude.{◌≡◌, ◌≤◌};
-ghost use Rattle.wb_model.specs.meaning.Operands.{within};
-ghost use Rattle.wb_model.specs.heap.Row.{cell_at, cell_length};
-ghost use Rattle.wb_model.specs.declared.limits.TheConstants.{LARGEST_REQUEST, MOST_UNITS, CEILING};
-ghost use Rattle.wb_model.specs.declared.script.Statement.TheViews.{out-Statement};
+ghost use Rattle.wb_meaning.specs.Operands.{within};
+ghost use Rattle.wb_heap_model.specs.Row.{cell_at, cell_length};
+ghost use Rattle.wb_basics.specs.declared.limits.TheConstants.{LARGEST_REQUEST, MOST_UNITS, CEILING};
+ghost use Rattle.wb_tree.specs.declared.script.Statement.TheViews.{out-Statement};
 ghost use Rattle.wb_machine.specs.Effects.{pointer_read, number_read};
 ghost use Rattle.wb_machine.specs.Asks.{cell_asks, text_asks, realloc_asks, realloc_text_asks, push_asks, effect_asks};
 ghost use Rattle.wb_machine.specs.Asks.{statement_asks};
@@ -13,9 +13,9 @@ use crate::operands::number_within;
 use crate::state::State;
 use crate::text_operands::is_text;
 use crate::words::is_raw;
-use wb_model::heap::Ptr;
-use wb_model::limits::{LARGEST_REQUEST, MOST_UNITS};
-use wb_model::script::{Number, Pointer, Script, Statement};
+use wb_basics::limits::{LARGEST_REQUEST, MOST_UNITS};
+use wb_heap_model::heap::Ptr;
+use wb_tree::script::{Number, Pointer, Script, Statement};
 
 /// The length of the cell for a request of `bytes` bytes, in bytes.
 fn cell_length(bytes: u32) -> u32

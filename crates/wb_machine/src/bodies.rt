@@ -1,10 +1,10 @@
 //! The bodies of a script. A body that the script doesn't have counts as a body without a line.
 
-ghost use Rattle.wb_model.specs.meaning.Bodies.{class_at, no_body, operation_at};
+ghost use Rattle.wb_tree.specs.Bodies.{class_at, no_body, operation_at};
 ghost use Rattle.std.specs.Prelude.{unwrap_or};
 ghost use Rattle.wb_machine.specs.Bodies.{IsBody};
 
-use wb_model::script::{Body, Class, Local, Script, StatementAt};
+use wb_tree::script::{Body, Class, Local, Script, StatementAt};
 
 /// The locals that a body declares, and its statements.
 #[derive(Clone, Copy)]

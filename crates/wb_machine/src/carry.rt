@@ -1,8 +1,8 @@
 //! Which function carries out which statement. The statements on texts are in `carry_text`.
 
 ghost use Rattle.std.specs.Prelude.{◌≡◌, ◌+◌, ◌^◌, ◌<◌, length, None, IfOk, IsOk, OnOk, IsTrue};
-ghost use Rattle.wb_model.specs.language.Sound.{is_script};
-ghost use Rattle.wb_model.specs.declared.script.Statement.TheViews.{out-Statement};
+ghost use Rattle.wb_tree.specs.Sound.{is_script};
+ghost use Rattle.wb_tree.specs.declared.script.Statement.TheViews.{out-Statement};
 ghost use Rattle.wb_machine.specs.AttemptRises.{AsksForNoRise};
 ghost use Rattle.wb_machine.specs.Flow.{IsSimple, IsCarriedOut};
 ghost use Rattle.wb_machine.specs.Owed.{HasStack, KeepsCount, MayAttempt};
@@ -11,8 +11,8 @@ ghost use Rattle.wb_machine.specs.PointerOperands.{operands_refusal};
 
 use crate::pieces::Ending;
 use crate::state::State;
-use wb_model::memory::NoMemory;
-use wb_model::script::{Script, Statement};
+use wb_basics::memory::NoMemory;
+use wb_tree::script::{Script, Statement};
 
 impl State {
     /// Carries out a statement that runs no other, and returns how it ends.

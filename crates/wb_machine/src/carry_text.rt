@@ -1,8 +1,8 @@
 //! Which function carries out which statement on texts.
 
 ghost use Rattle.std.specs.Prelude.{◌≡◌, ℕ, None, IfOk, IsOk, IsTrue};
-ghost use Rattle.wb_model.specs.language.Sound.{is_script};
-ghost use Rattle.wb_model.specs.declared.script.Statement.TheViews.{out-Statement};
+ghost use Rattle.wb_tree.specs.Sound.{is_script};
+ghost use Rattle.wb_tree.specs.declared.script.Statement.TheViews.{out-Statement};
 ghost use Rattle.wb_machine.specs.AttemptRises.{AsksForNoRise};
 ghost use Rattle.wb_machine.specs.Flow.{IsSimple, IsCarriedOut};
 ghost use Rattle.wb_machine.specs.TextStatements.{is_on_text};
@@ -11,9 +11,9 @@ ghost use Rattle.wb_machine.specs.PointerOperands.{operands_refusal};
 
 use crate::pieces::Ending;
 use crate::state::State;
+use wb_basics::memory::NoMemory;
 use wb_hbuf::sources::Edit;
-use wb_model::memory::NoMemory;
-use wb_model::script::{Script, Statement};
+use wb_tree::script::{Script, Statement};
 
 impl State {
     /// Carries out a statement on texts, as `carry_out` does any other. This is a function of its own, so that other statements don't pay

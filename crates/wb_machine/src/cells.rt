@@ -1,11 +1,11 @@
 //! Statements that allocate, reallocate and release cells.
 
 ghost use Rattle.std.specs.Prelude.{◌≡◌, ◌≢◌, false, ◌+◌, ◌^◌, ◌<◌, ◌≤◌, length, true, IfOk, IfSome, IsOk, IsSome, OnErr, OnOk};
-ghost use Rattle.wb_model.specs.declared.heap.Kind.TheVariants.{Raw, Text};
-ghost use Rattle.wb_model.specs.heap.Debug.{alloc_made, keeps_rises, realloc_made, with_row};
-ghost use Rattle.wb_model.specs.heap.Row.{cell_at, without};
-ghost use Rattle.wb_model.specs.heap.Heap.{is_cleanup};
-ghost use Rattle.wb_model.specs.meaning.Operands.{within};
+ghost use Rattle.wb_heap_model.specs.declared.heap.Kind.TheVariants.{Raw, Text};
+ghost use Rattle.wb_heap_model.specs.Debug.{alloc_made, keeps_rises, realloc_made, with_row};
+ghost use Rattle.wb_heap_model.specs.Row.{cell_at, without};
+ghost use Rattle.wb_heap_model.specs.Heap.{is_cleanup};
+ghost use Rattle.wb_meaning.specs.Operands.{within};
 ghost use Rattle.wb_machine.specs.AttemptRises.{alloc_rises, cell_rises, raw_rises, realloc_rises};
 ghost use Rattle.wb_machine.specs.RunState.{with_debug};
 ghost use Rattle.wb_machine.specs.Effects.{pointer_read, number_read, refused_effect, given_effect, alloc_effect};
@@ -17,11 +17,11 @@ use crate::operands::number_within;
 use crate::pieces::Ending;
 use crate::state::State;
 use crate::words::is_raw;
-use wb_model::heap::{Gave, KERR_NO_MEMORY, Kind, Panic, Ptr};
-use wb_model::limits::{CEILING, LARGEST_REQUEST};
-use wb_model::memory::NoMemory;
-use wb_model::run::Why;
-use wb_model::script::{Number, Pointer, Refusal, Script};
+use wb_basics::limits::{CEILING, LARGEST_REQUEST};
+use wb_basics::memory::NoMemory;
+use wb_heap_model::heap::{Gave, KERR_NO_MEMORY, Kind, Panic, Ptr};
+use wb_meaning::run::Why;
+use wb_tree::script::{Number, Pointer, Refusal, Script};
 
 /// Whether a cell is the cleanup stack's.
 fn is_cleanup(kind: Kind) -> bool

@@ -1,16 +1,16 @@
 //! The cleanup stack: attempt 1, which makes it, and statements that push items and pop them.
 
 ghost use Rattle.std.specs.Prelude.{◌≡◌, ◌≢◌, ◌-◌, ◌^◌, ◌<◌, length, take, true, None, Some, IfErr, IfOk, IsOk, OnErr, OnOk};
-ghost use Rattle.wb_model.specs.declared.heap.Gave.TheVariants.{Ceiling};
-ghost use Rattle.wb_model.specs.declared.heap.Item.TheVariants as I;
-ghost use Rattle.wb_model.specs.cells.CellRow.{payload_of};
-ghost use Rattle.wb_model.specs.meaning.Operands.{not_negative};
-ghost use Rattle.wb_model.specs.meaning.Statements.{newest};
+ghost use Rattle.wb_heap_model.specs.declared.heap.Gave.TheVariants.{Ceiling};
+ghost use Rattle.wb_heap_model.specs.declared.heap.Item.TheVariants as I;
+ghost use Rattle.wb_heap_model.specs.CellRow.{payload_of};
+ghost use Rattle.wb_meaning.specs.Operands.{not_negative};
+ghost use Rattle.wb_heap_model.specs.Pointers.{newest};
 ghost use Rattle.wb_cleanup.specs.Pushes.{pushed_by};
 ghost use Rattle.wb_cleanup.specs.Stacks.{expected_refusal, pop_refusal};
 ghost use Rattle.wb_machine.specs.AttemptRises.{push_rises};
 ghost use Rattle.wb_machine.specs.RunState.{first_state, with_debug};
-ghost use Rattle.wb_model.specs.heap.Debug.{keeps_rises};
+ghost use Rattle.wb_heap_model.specs.Debug.{keeps_rises};
 ghost use Rattle.wb_machine.specs.Effects.{first_made, started_by, is_granted, number_read, pointer_read};
 ghost use Rattle.wb_machine.specs.CleanupEffects.{IsPushed, IsStackThere, growth_made, is_filled, pop_check_effect};
 ghost use Rattle.wb_machine.specs.CleanupEffects.{pop_within, push_effect, without_newest};
@@ -19,11 +19,11 @@ ghost use Rattle.wb_machine.specs.Owed.{CarriesOut, HasStack, KeepsCount, MayAtt
 use crate::operands::not_negative;
 use crate::pieces::Ending;
 use crate::state::State;
+use wb_basics::memory::NoMemory;
 use wb_cleanup::{Cleanup, Pushed};
-use wb_model::heap::{Item, KERR_NO_MEMORY, Panic, Ptr};
-use wb_model::memory::NoMemory;
-use wb_model::run::Why;
-use wb_model::script::{Number, Pointer, Script};
+use wb_heap_model::heap::{Item, KERR_NO_MEMORY, Panic, Ptr};
+use wb_meaning::run::Why;
+use wb_tree::script::{Number, Pointer, Script};
 
 impl State {
     /// Makes attempt 1, for the cleanup stack's cell. Returns whether it was granted.

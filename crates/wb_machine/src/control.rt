@@ -4,15 +4,16 @@
 
 ghost use Rattle.std.specs.Prelude.{IfOk, List, take, vec_len, ◌-◌, ◌≡◌, ◌+◌, ◌^◌, ◌<◌, ◌≤◌, ◌⊎◌, ◌++◌, ◌∷◌, [], ℕ};
 ghost use Rattle.std.specs.Prelude.{true, false, if◌then◌else◌, length, unwrap_or, max, vec_capacity, IsOk, IsTrue, OnOk};
-ghost use Rattle.wb_model.specs.language.Sound.{is_script};
-ghost use Rattle.wb_model.specs.meaning.Statements.{turns};
-ghost use Rattle.wb_model.specs.meaning.Bodies.{procedure_at};
-ghost use Rattle.wb_model.specs.runs.Rest.{doing, first_line, Fits};
-ghost use Rattle.wb_model.specs.heap.Debug.{keeps_rises};
-ghost use Rattle.wb_model.specs.runs.Run.{whole_run};
-ghost use Rattle.wb_model.specs.declared.heap.Rule.{Rule};
-ghost use Rattle.wb_model.specs.declared.script.Script.{Script};
-ghost use Rattle.wb_model.specs.declared.script.Statement.TheViews.{out-Statement};
+ghost use Rattle.wb_tree.specs.Sound.{is_script};
+ghost use Rattle.wb_meaning.specs.Statements.{turns};
+ghost use Rattle.wb_tree.specs.Bodies.{procedure_at};
+ghost use Rattle.wb_meaning.specs.Rest.{doing, first_line};
+ghost use Rattle.wb_heap_model.specs.SameRules.{Fits};
+ghost use Rattle.wb_heap_model.specs.Debug.{keeps_rises};
+ghost use Rattle.wb_meaning.specs.Run.{whole_run};
+ghost use Rattle.wb_heap_model.specs.declared.heap.Rule.{Rule};
+ghost use Rattle.wb_tree.specs.declared.script.Script.{Script};
+ghost use Rattle.wb_tree.specs.declared.script.Statement.TheViews.{out-Statement};
 ghost use Rattle.wb_machine.specs.declared.pieces.Ending.TheVariants.{GoesOn};
 ghost use Rattle.wb_machine.specs.declared.pieces.PendingPiece.{PendingPiece};
 ghost use Rattle.wb_machine.specs.declared.pieces.PendingPiece.TheVariants.{Turns};
@@ -43,8 +44,8 @@ use crate::pieces::{Context, Ending, IN_MAIN, PendingPiece, first_statement};
 use crate::raiser::{Raised, Raiser};
 use crate::state::State;
 use std::alloc::{AllocError, Global};
-use wb_model::memory::NoMemory;
-use wb_model::script::{Body, Script, Statement, StatementAt};
+use wb_basics::memory::NoMemory;
+use wb_tree::script::{Body, Script, Statement, StatementAt};
 
 /// The pending pieces, of which the last is on top, how the piece that was above them ended, and the statement begun last.
 #[derive(Drop)]

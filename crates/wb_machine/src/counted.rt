@@ -1,18 +1,18 @@
 //! A whole run without a limit whose attempts are counted.
 
 ghost use Rattle.std.specs.Prelude.{◌≡◌, ◌≤◌, ◌↔◌, false, length, IfOk, IsTrue};
-ghost use Rattle.wb_model.specs.declared.heap.Rule.TheVariants.{Unlimited};
-ghost use Rattle.wb_model.specs.heap.Space.{is_shape};
-ghost use Rattle.wb_model.specs.language.Sound.{is_script};
-ghost use Rattle.wb_model.specs.runs.Run.{rises_result_of, run};
+ghost use Rattle.wb_heap_model.specs.declared.heap.Rule.TheVariants.{Unlimited};
+ghost use Rattle.wb_heap_model.specs.Space.{is_shape};
+ghost use Rattle.wb_tree.specs.Sound.{is_script};
+ghost use Rattle.wb_meaning.specs.Run.{rises_result_of, run};
 
 use crate::fault::RunFault;
 use crate::machine::Machine;
 use std::alloc::Global;
-use wb_model::heap::Shape;
-use wb_model::limits::LARGEST_BUDGET;
-use wb_model::run::RisesResult;
-use wb_model::script::Script;
+use wb_basics::limits::LARGEST_BUDGET;
+use wb_heap_model::heap::Shape;
+use wb_meaning::run::RisesResult;
+use wb_tree::script::Script;
 
 /// Runs a script as `run_rises` does, and also returns how many attempts the run makes.
 pub fn run_rises_counted(

@@ -4,7 +4,7 @@
 ghost use Rattle.std.specs.Prelude.{◌≡◌, ◌+◌, false, true, IfSome, None};
 
 use crate::machine::Machine;
-use wb_model::heap::Attempt;
+use wb_heap_model::heap::Attempt;
 
 impl<'a> Machine<'a> {
     /// The attempt made last, granted or failed; `None` before the first attempt, and if the machine keeps its rises and no trace.

@@ -1,7 +1,7 @@
 //! Why a run gives no result.
 
+use wb_basics::memory::NoMemory;
 use wb_debug::fault::DebugFault;
-use wb_model::memory::NoMemory;
 
 /// Why a run gives no result.
 #[derive(Clone, Copy, Debug, PartialEq, Eq)]

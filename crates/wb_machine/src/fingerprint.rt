@@ -3,12 +3,12 @@
 //! does.
 
 ghost use Rattle.std.specs.Prelude.{◌≡◌, length};
-ghost use Rattle.wb_model.specs.cells.CellRow.{payload_of};
+ghost use Rattle.wb_heap_model.specs.CellRow.{payload_of};
 
 use crate::machine::Machine;
 use crate::state::State;
 use wb_debug::DebugHeap;
-use wb_model::heap::{Header, Kind, Ptr};
+use wb_heap_model::heap::{Header, Kind, Ptr};
 
 /// How many words of a cell, and how many units of a buffer, go into the fingerprint at most.
 pub const MOST_WORDS: u32 = 16;

@@ -1,15 +1,15 @@
 //! What remains of a run once it is over.
 
 ghost use Rattle.std.specs.Prelude.{◌≡◌, ◌+◌, ◌≤◌, ◌↔◌, true, false, length, IfOk};
-ghost use Rattle.wb_model.specs.runs.Run.{rises_result_of, run};
-ghost use Rattle.wb_model.specs.declared.run.Outcome.TheVariants.{Cut};
-ghost use Rattle.wb_model.specs.declared.run.Why.TheVariants.{Ceiling};
+ghost use Rattle.wb_meaning.specs.Run.{rises_result_of, run};
+ghost use Rattle.wb_meaning.specs.declared.run.Outcome.TheVariants.{Cut};
+ghost use Rattle.wb_meaning.specs.declared.run.Why.TheVariants.{Ceiling};
 ghost use Rattle.wb_machine.specs.Seen.{whole_run_of};
 
 use crate::machine::Machine;
+use wb_basics::memory::NoMemory;
 use wb_debug::Heap;
-use wb_model::memory::NoMemory;
-use wb_model::run::{RisesResult, RunResult};
+use wb_meaning::run::{RisesResult, RunResult};
 
 /// What remains of a run.
 #[derive(Drop)]

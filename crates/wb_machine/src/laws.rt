@@ -1,9 +1,9 @@
 //! A law about what every machine keeps true. It is the contract of a function that does nothing, so that checking the function proves it.
 
 ghost use Rattle.std.specs.Prelude.{ℕ, ◌<◌};
-ghost use Rattle.wb_model.specs.declared.heap.Ptr.{Ptr};
-ghost use Rattle.wb_model.specs.declared.script.Script.{Script};
-ghost use Rattle.wb_model.specs.heap.Debug.{Debug};
+ghost use Rattle.wb_heap_model.specs.declared.heap.Ptr.{Ptr};
+ghost use Rattle.wb_tree.specs.declared.script.Script.{Script};
+ghost use Rattle.wb_heap_model.specs.Debug.{Debug};
 ghost use Rattle.wb_objects.specs.Objects.{HasField};
 ghost use Rattle.wb_machine.specs.ObjectInvariant.{AreWhole};
 ghost use Rattle.wb_machine.specs.RunState.{field_count};

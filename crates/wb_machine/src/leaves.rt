@@ -1,17 +1,17 @@
 //! Conditions of an `if`, and statements that end a body or leave.
 
 ghost use Rattle.std.specs.Prelude.{◌≡◌, pos, int_lt};
-ghost use Rattle.wb_model.specs.meaning.State.{null};
-ghost use Rattle.wb_model.specs.meaning.Statements.{is_null};
-ghost use Rattle.wb_model.specs.declared.heap.TheConstants.{KERR_NO_MEMORY};
+ghost use Rattle.wb_heap_model.specs.Pointers.{null};
+ghost use Rattle.wb_heap_model.specs.Pointers.{is_null};
+ghost use Rattle.wb_heap_model.specs.declared.heap.TheConstants.{KERR_NO_MEMORY};
 ghost use Rattle.wb_machine.specs.Effects.{pointer_read, number_read, condition_read, left_with, left_where, returned};
 ghost use Rattle.wb_machine.specs.Owed.{CarriesOut};
 
 use crate::locals::NULL;
 use crate::pieces::Ending;
 use crate::state::State;
-use wb_model::heap::KERR_NO_MEMORY;
-use wb_model::script::{Condition, Number, Pointer, Script};
+use wb_heap_model::heap::KERR_NO_MEMORY;
+use wb_tree::script::{Condition, Number, Pointer, Script};
 
 impl State {
     /// Whether a condition holds.

@@ -10,10 +10,10 @@ ghost use Rattle.wb_machine.specs.Owed.{CarriesOut, KeepsCount};
 use crate::pieces::Ending;
 use crate::print::number_line;
 use crate::state::State;
-use wb_model::memory::NoMemory;
-use wb_model::printed_line::Line;
-use wb_model::run::Note;
-use wb_model::script::Number;
+use wb_basics::memory::NoMemory;
+use wb_basics::printed_line::Line;
+use wb_heap_model::reported::Note;
+use wb_tree::script::Number;
 
 impl State {
     /// Prints a line.

@@ -3,9 +3,9 @@
 ghost use Rattle.std.specs.Prelude.{◌≡◌, ℕ, List, ◌∷◌, ◌++◌, [], map, length, slice_set, vec_len, ◌≤◌, IsTrue, IfOk};
 ghost use Rattle.std.specs.Prelude.{OnOk};
 ghost use Rattle.std.specs.List.{list_all};
-ghost use Rattle.wb_model.specs.meaning.Texts.{Buffer};
-ghost use Rattle.wb_model.specs.meaning.Reading.{max_in};
-ghost use Rattle.wb_model.specs.meaning.State.{initial};
+ghost use Rattle.wb_heap_model.specs.Texts.{Buffer};
+ghost use Rattle.wb_meaning.specs.Reading.{max_in};
+ghost use Rattle.wb_meaning.specs.State.{initial};
 ghost use Rattle.wb_machine.specs.RunState.{value_in};
 ghost use Rattle.wb_machine.specs.LocalValues.{is_small, value_of, value_of_buffer, values_stored, no_buffer};
 ghost use Rattle.wb_machine.specs.LocalValues.{stored_at, AreAscending, first_buffer, number_over};
@@ -20,9 +20,9 @@ use crate::pointers::{ReadContext, holder_pointer_over, pointer_over};
 use crate::windows::Window;
 use std::alloc::{AllocError, Global};
 use std::marker::Model;
-use wb_model::heap::Ptr;
-use wb_model::script::{Holder, Local, Number, Pointer};
+use wb_heap_model::heap::Ptr;
 use wb_text::buf::Buf;
+use wb_tree::script::{Holder, Local, Number, Pointer};
 
 /// The pointer that names no cell.
 pub const NULL: Ptr = Ptr {

@@ -2,12 +2,12 @@
 
 ghost use Rattle.std.specs.Prelude.{◌≡◌, ◌+◌, ◌≤◌, ◌↔◌, true, false, length, is_err, IsTrue};
 ghost use Rattle.std.specs.Prelude.{IfOk, IsOk, OnOk, OnErr};
-ghost use Rattle.wb_model.specs.language.Sound.{is_script};
-ghost use Rattle.wb_model.specs.runs.Rest.{SameSoFar};
-ghost use Rattle.wb_model.specs.heap.Space.{is_shape};
-ghost use Rattle.wb_model.specs.heap.Debug.{keeps_rises};
-ghost use Rattle.wb_model.specs.runs.Run.{rises_result_of, run};
-ghost use Rattle.wb_model.specs.declared.heap.Rule.TheVariants.{Unlimited};
+ghost use Rattle.wb_tree.specs.Sound.{is_script};
+ghost use Rattle.wb_heap_model.specs.SameRules.{SameSoFar};
+ghost use Rattle.wb_heap_model.specs.Space.{is_shape};
+ghost use Rattle.wb_heap_model.specs.Debug.{keeps_rises};
+ghost use Rattle.wb_meaning.specs.Run.{rises_result_of, run};
+ghost use Rattle.wb_heap_model.specs.declared.heap.Rule.TheVariants.{Unlimited};
 ghost use Rattle.wb_machine.specs.declared.fault.RunFault.TheVariants.{BadShape};
 ghost use Rattle.wb_machine.specs.Flow.{is_stop};
 ghost use Rattle.wb_machine.specs.RunState.{first_state};
@@ -21,13 +21,14 @@ use crate::pieces::Ending;
 use crate::state::State;
 use std::alloc::{AllocError, Global};
 use std::marker::Model;
+use wb_basics::items::Items;
+use wb_basics::limits::LARGEST_BUDGET;
+use wb_basics::memory::NoMemory;
 use wb_debug::Heap;
-use wb_model::heap::{Rule, Shape};
-use wb_model::items::Items;
-use wb_model::limits::LARGEST_BUDGET;
-use wb_model::memory::NoMemory;
-use wb_model::run::{Leaks, RisesResult, RunResult};
-use wb_model::script::Script;
+use wb_heap_model::heap::{Rule, Shape};
+use wb_heap_model::reported::Leaks;
+use wb_meaning::run::{RisesResult, RunResult};
+use wb_tree::script::Script;
 
 /// What a machine turn comes to.
 #[derive(Clone, Copy, Debug, PartialEq, Eq)]
@@ -52,7 +53,7 @@ pub struct Machine<'a> {
 
 impl<'a> Model for Machine<'a> {
     ghost use Rattle.wb_machine.specs.Seen.{Seen};
-    ghost use Rattle.wb_model.specs.contracts.script.Statement as e;
+    ghost use Rattle.wb_tree.specs.contracts.script.Statement as e;
     ghost use Rattle.std.specs.Coded.{codes};
 
     ghost Value = { Seen };

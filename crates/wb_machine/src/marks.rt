@@ -1,11 +1,11 @@
 //! Statements that mark the heap, check it, and set which attempts are to fail.
 
 ghost use Rattle.std.specs.Prelude.{◌≡◌, ◌+◌, ◌^◌, ◌<◌, None, Some, IfErr, OnErr, OnOk};
-ghost use Rattle.wb_model.specs.meaning.Operands.{not_negative};
-ghost use Rattle.wb_model.specs.meaning.Statements.{at_least_one};
-ghost use Rattle.wb_model.specs.heap.Rules.{never, next, each};
-ghost use Rattle.wb_model.specs.heap.Heap.{after_mark_end, mark_end_refusal};
-ghost use Rattle.wb_model.specs.heap.Debug.{check_refusal, check_all_refusal, with_setting};
+ghost use Rattle.wb_meaning.specs.Operands.{not_negative};
+ghost use Rattle.wb_meaning.specs.Statements.{at_least_one};
+ghost use Rattle.wb_heap_model.specs.Rules.{never, next, each};
+ghost use Rattle.wb_heap_model.specs.Heap.{after_mark_end, mark_end_refusal};
+ghost use Rattle.wb_heap_model.specs.Debug.{check_refusal, check_all_refusal, with_setting};
 ghost use Rattle.wb_machine.specs.RunState.{with_debug};
 ghost use Rattle.wb_machine.specs.declared.pieces.Ending.TheVariants.{GoesOn};
 ghost use Rattle.wb_machine.specs.Effects.{gone_on, number_read, marked, mark_end_within, check_within, set_within};
@@ -14,8 +14,8 @@ ghost use Rattle.wb_machine.specs.Owed.{CarriesOut};
 use crate::operands::{at_least_one, not_negative};
 use crate::pieces::Ending;
 use crate::state::State;
-use wb_model::heap::Panic;
-use wb_model::script::Number;
+use wb_heap_model::heap::Panic;
+use wb_tree::script::Number;
 
 impl State {
     /// Opens a mark: cells that are allocated from now on are of the next level.

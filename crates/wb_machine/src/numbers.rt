@@ -1,7 +1,8 @@
 //! Statements that set pointers and number locals.
 
 ghost use Rattle.std.specs.Prelude.{◌≡◌};
-ghost use Rattle.wb_model.specs.meaning.State.{number, null};
+ghost use Rattle.wb_meaning.specs.State.{number};
+ghost use Rattle.wb_heap_model.specs.Pointers.{null};
 ghost use Rattle.wb_machine.specs.declared.pieces.Ending.TheVariants.{GoesOn};
 ghost use Rattle.wb_machine.specs.Effects.{gone_on, pointer_read, number_read, pointer_stored, stored, add_effect};
 ghost use Rattle.wb_machine.specs.Owed.{CarriesOut};
@@ -9,8 +10,8 @@ ghost use Rattle.wb_machine.specs.Owed.{CarriesOut};
 use crate::locals::{NULL, Slot};
 use crate::pieces::Ending;
 use crate::state::State;
-use wb_model::heap::Panic;
-use wb_model::script::{Number, Pointer, Script};
+use wb_heap_model::heap::Panic;
+use wb_tree::script::{Number, Pointer, Script};
 
 impl State {
     /// A target gets the pointer of a source.

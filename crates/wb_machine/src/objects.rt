@@ -1,10 +1,10 @@
 //! Statements that make objects, the class of an object, and its fields.
 
 ghost use Rattle.std.specs.Prelude.{◌≡◌, ◌+◌, ◌*◌, ◌^◌, ◌<◌, ◌≤◌, true, Ok, length, IfOk, IsOk, OnErr, OnOk, IsTrue};
-ghost use Rattle.wb_model.specs.meaning.Bodies.{class_at};
-ghost use Rattle.wb_model.specs.language.Sound.{is_script};
-ghost use Rattle.wb_model.specs.cells.CellRow.{payload_of};
-ghost use Rattle.wb_model.specs.heap.Debug.{debug_changed, keeps_rises, with_row};
+ghost use Rattle.wb_tree.specs.Bodies.{class_at};
+ghost use Rattle.wb_tree.specs.Sound.{is_script};
+ghost use Rattle.wb_heap_model.specs.CellRow.{payload_of};
+ghost use Rattle.wb_heap_model.specs.Debug.{debug_changed, keeps_rises, with_row};
 ghost use Rattle.wb_objects.specs.Objects.{object_made, with_field};
 ghost use Rattle.wb_machine.specs.AttemptRises.{new_rises};
 ghost use Rattle.wb_machine.specs.Bodies.{class_read};
@@ -16,10 +16,10 @@ ghost use Rattle.wb_machine.specs.RunState.{with_debug};
 use crate::pieces::Ending;
 use crate::pointers::has_words;
 use crate::state::State;
-use wb_model::heap::{Gave, Panic, Ptr};
-use wb_model::memory::NoMemory;
-use wb_model::script::{Pointer, Refusal, Script};
+use wb_basics::memory::NoMemory;
+use wb_heap_model::heap::{Gave, Panic, Ptr};
 use wb_objects::set_field;
+use wb_tree::script::{Pointer, Refusal, Script};
 
 impl State {
     /// The class of the object that a pointer names. WORKBENCH 1 if the pointer names no live cell, and WORKBENCH 2 if the cell holds no

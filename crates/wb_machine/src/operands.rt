@@ -1,8 +1,8 @@
 //! The ranges in which the numbers of statements must be. Nothing here changes a state.
 
 ghost use Rattle.std.specs.Prelude.{◌≡◌, ◌≤◌, IfSome};
-ghost use Rattle.wb_model.specs.meaning.Operands.{within, not_negative};
-ghost use Rattle.wb_model.specs.meaning.Statements.{index_in, at_least_one};
+ghost use Rattle.wb_meaning.specs.Operands.{within, not_negative};
+ghost use Rattle.wb_meaning.specs.Statements.{index_in, at_least_one};
 
 /// The number, if it is from 0 to `greatest`; `None` otherwise.
 pub fn number_within(greatest: u32, number: i32) -> Option<u32>

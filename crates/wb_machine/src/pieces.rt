@@ -4,9 +4,9 @@ ghost use Rattle.std.specs.Prelude.{◌≡◌};
 ghost use Rattle.std.specs.Option.{option_copied};
 ghost use Rattle.wb_machine.specs.Flow.{needs_step, is_stop, first_statement};
 
-use wb_model::heap::{Panic, Ptr};
-use wb_model::run::Why;
-use wb_model::script::StatementAt;
+use wb_heap_model::heap::{Panic, Ptr};
+use wb_meaning::run::Why;
+use wb_tree::script::StatementAt;
 
 /// How the piece that was above the pending ones ended.
 #[derive(Clone, Copy)]

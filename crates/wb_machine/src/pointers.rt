@@ -1,8 +1,8 @@
 //! Pointer operands over the locals of a frame: what a local holds, `self`, and fields of objects.
 
 ghost use Rattle.std.specs.Prelude.{◌≡◌, ◌+◌, ◌*◌, List, length, nat_le};
-ghost use Rattle.wb_model.specs.cells.CellRow.{payload_of};
-ghost use Rattle.wb_model.specs.meaning.Texts.{Buffer};
+ghost use Rattle.wb_heap_model.specs.CellRow.{payload_of};
+ghost use Rattle.wb_heap_model.specs.Texts.{Buffer};
 ghost use Rattle.wb_objects.specs.Objects.{words_found};
 ghost use Rattle.wb_machine.specs.RunState.{field_count};
 ghost use Rattle.wb_machine.specs.LocalValues.{values_stored};
@@ -10,9 +10,9 @@ ghost use Rattle.wb_machine.specs.PointerOperands.{holder_pointer_over, field_am
 
 use crate::locals::{NULL, Slot, Stored};
 use wb_debug::debug_heap::DebugHeap;
-use wb_model::heap::Ptr;
-use wb_model::script::{Holder, Pointer, Script};
+use wb_heap_model::heap::Ptr;
 use wb_objects::field;
+use wb_tree::script::{Holder, Pointer, Script};
 
 /// What operands are read from besides the locals of their frame: the script, the heap, and the object whose body runs.
 #[derive(Clone, Copy)]

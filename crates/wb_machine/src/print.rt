@@ -5,7 +5,7 @@ ghost use Rattle.std.specs.Fmt.{signed_decimal};
 
 use arrayvec::ArrayVec;
 use itoa::Buffer;
-use wb_model::printed_line::Line;
+use wb_basics::printed_line::Line;
 
 /// The line that a number prints: its decimal digits, after a minus sign if it is negative.
 pub fn number_line(number: i32) -> Line

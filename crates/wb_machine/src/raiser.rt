@@ -1,6 +1,6 @@
 //! What raises a panic, for callers that explain a run. Contracts say what raised a panic only where a TRAP, `main` or a call ends.
 
-use wb_model::heap::Panic;
+use wb_heap_model::heap::Panic;
 
 /// What raises a panic.
 #[derive(Clone, Copy, Debug, PartialEq, Eq)]

@@ -2,11 +2,11 @@
 //! each answer in terms of the machine's view. Nothing here takes a machine turn.
 
 ghost use Rattle.std.specs.Prelude.{◌≡◌, length};
-ghost use Rattle.wb_model.specs.heap.LimitedHeap.{next_live_of};
-ghost use Rattle.wb_model.specs.heap.Row.{total_length};
+ghost use Rattle.wb_heap_model.specs.LimitedHeap.{next_live_of};
+ghost use Rattle.wb_heap_model.specs.Row.{total_length};
 
 use crate::machine::Machine;
-use wb_model::heap::Header;
+use wb_heap_model::heap::Header;
 
 impl<'a> Machine<'a> {
     /// The first live cell that begins at the place `from`, in bytes, or above it; `None` if there is none. The cleanup stack's own cell is

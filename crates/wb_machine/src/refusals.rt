@@ -2,15 +2,15 @@
 //! holder names no live cell, or no object of the class that the holder is declared with. Nothing here changes a state.
 
 ghost use Rattle.std.specs.Prelude.{◌≡◌, [], ◌∷◌, ◌++◌};
-ghost use Rattle.wb_model.specs.declared.script.Statement.TheViews.{out-Statement};
+ghost use Rattle.wb_tree.specs.declared.script.Statement.TheViews.{out-Statement};
 ghost use Rattle.wb_objects.specs.Objects.{words_found};
 ghost use Rattle.wb_machine.specs.PointerOperands.{refusal_in, pointer_refusal, first_refusal, of_writable};
 ghost use Rattle.wb_machine.specs.PointerOperands.{of_readable, of_condition, of_arguments, operands_refusal};
 
 use crate::state::State;
-use wb_model::heap::{Kind, Panic, Ptr};
-use wb_model::items::Items;
-use wb_model::script::{Argument, Condition, Pointer, Readable, Statement, Writable};
+use wb_basics::items::Items;
+use wb_heap_model::heap::{Kind, Panic, Ptr};
+use wb_tree::script::{Argument, Condition, Pointer, Readable, Statement, Writable};
 
 /// Panics of single operands.
 impl State {

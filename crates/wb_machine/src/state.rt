@@ -3,11 +3,11 @@
 
 ghost use Rattle.std.specs.Prelude.{◌≡◌, ◌+◌, ◌^◌, ◌<◌, ◌↔◌, [], length, false, true, IfOk, OnOk, IsSome, IsTrue, Some};
 ghost use Rattle.std.specs.List.{list_all};
-ghost use Rattle.wb_model.specs.heap.Debug.{first_debug_of, keeps_rises};
-ghost use Rattle.wb_model.specs.runs.Rest.{SameSoFar};
-ghost use Rattle.wb_model.specs.declared.heap.Rule.TheVariants.{Unlimited};
-ghost use Rattle.wb_model.specs.heap.Space.{is_shape};
-ghost use Rattle.wb_model.specs.meaning.State.{null};
+ghost use Rattle.wb_heap_model.specs.Debug.{first_debug_of, keeps_rises};
+ghost use Rattle.wb_heap_model.specs.SameRules.{SameSoFar};
+ghost use Rattle.wb_heap_model.specs.declared.heap.Rule.TheVariants.{Unlimited};
+ghost use Rattle.wb_heap_model.specs.Space.{is_shape};
+ghost use Rattle.wb_heap_model.specs.Pointers.{null};
 ghost use Rattle.wb_machine.specs.RunState.{first_state};
 ghost use Rattle.wb_machine.specs.Results.{leaks_at_end, outcome_by, run_result_by};
 ghost use Rattle.wb_machine.specs.Effects.{pointer_read, number_read, pointer_stored, stored, stepped, entered};
@@ -23,16 +23,17 @@ use crate::pieces::Ending;
 use crate::pointers::ReadContext;
 use std::alloc::Global;
 use std::marker::Model;
+use wb_basics::items::Items;
+use wb_basics::memory::NoMemory;
+use wb_basics::printed_line::copy_of_lines;
 use wb_cleanup::Cleanup;
 use wb_debug::Heap;
 use wb_debug::debug_heap::DebugHeap;
 use wb_debug::fault::DebugFault;
-use wb_model::heap::{Ptr, Rule, Shape};
-use wb_model::items::Items;
-use wb_model::memory::NoMemory;
-use wb_model::printed_line::copy_of_lines;
-use wb_model::run::{Leaks, Lines, Notes, Outcome, RisesResult, RunResult};
-use wb_model::script::{Holder, Local, Number, Pointer, Script};
+use wb_heap_model::heap::{Ptr, Rule, Shape};
+use wb_heap_model::reported::{Leaks, Notes};
+use wb_meaning::run::{Lines, Outcome, RisesResult, RunResult};
+use wb_tree::script::{Holder, Local, Number, Pointer, Script};
 
 /// The state that all bodies share.
 pub struct State {

@@ -1,12 +1,12 @@
 //! Statements that allocate and reallocate texts in cells, and edits of such texts.
 
 ghost use Rattle.std.specs.Prelude.{◌≡◌, ◌+◌, ◌*◌, ◌^◌, ◌<◌, ◌≤◌, true, None, Some, length, IfOk, IfSome, IsOk, OnErr, OnOk};
-ghost use Rattle.wb_model.specs.declared.limits.TheConstants.{MOST_UNITS};
-ghost use Rattle.wb_model.specs.heap.Debug.{keeps_rises, realloc_made};
-ghost use Rattle.wb_model.specs.meaning.Operands.{within};
-ghost use Rattle.wb_model.specs.heap.Row.{cell_at};
-ghost use Rattle.wb_model.specs.cells.TextCells.{debug_edited, max_at, text_at};
-ghost use Rattle.wb_model.specs.meaning.Texts.{answer_of, delete_text, set_length_text};
+ghost use Rattle.wb_basics.specs.declared.limits.TheConstants.{MOST_UNITS};
+ghost use Rattle.wb_heap_model.specs.Debug.{keeps_rises, realloc_made};
+ghost use Rattle.wb_meaning.specs.Operands.{within};
+ghost use Rattle.wb_heap_model.specs.Row.{cell_at};
+ghost use Rattle.wb_heap_model.specs.TextCells.{debug_edited, max_at, text_at};
+ghost use Rattle.wb_heap_model.specs.Texts.{answer_of, delete_text, set_length_text};
 ghost use Rattle.wb_hbuf.specs.Sources.{IsApart, IsSource, SuitsEdit, cell_edited};
 ghost use Rattle.wb_machine.specs.AttemptRises.{realloc_text_rises, text_rises};
 ghost use Rattle.wb_machine.specs.RunState.{with_debug};
@@ -19,12 +19,12 @@ ghost use Rattle.wb_machine.specs.Owed.{CarriesOut, KeepsCount, MayAttempt};
 use crate::operands::number_within;
 use crate::pieces::Ending;
 use crate::state::State;
+use wb_basics::limits::MOST_UNITS;
+use wb_basics::memory::NoMemory;
 use wb_hbuf::sources::{Edit, Source};
-use wb_model::heap::{Gave, Kind, Panic, Ptr};
-use wb_model::limits::MOST_UNITS;
-use wb_model::memory::NoMemory;
-use wb_model::script::{Number, Pointer, Refusal, Script};
+use wb_heap_model::heap::{Gave, Kind, Panic, Ptr};
 use wb_text::Base;
+use wb_tree::script::{Number, Pointer, Refusal, Script};
 
 impl State {
     /// Reallocates the cell of a text to hold `units` units, which is an attempt if the cell must become longer. If the workbench runs out

@@ -1,10 +1,10 @@
 //! What text operands stand for: a buffer, a cell, a literal, or a view of one of these.
 
 ghost use Rattle.std.specs.Prelude.{◌≡◌, ◌+◌, ◌^◌, ◌<◌, ℕ, List, Some, None, false, length, IsTrue};
-ghost use Rattle.wb_model.specs.meaning.Reading.{is_same_base};
-ghost use Rattle.wb_model.specs.language.Sound.{is_script};
-ghost use Rattle.wb_model.specs.declared.heap.Ptr.{Ptr};
-ghost use Rattle.wb_model.specs.declared.text.Base.TheVariants as B;
+ghost use Rattle.wb_meaning.specs.Reading.{is_same_base};
+ghost use Rattle.wb_tree.specs.Sound.{is_script};
+ghost use Rattle.wb_heap_model.specs.declared.heap.Ptr.{Ptr};
+ghost use Rattle.wb_heap_model.specs.declared.text.Base.TheVariants as B;
 ghost use Rattle.wb_hbuf.specs.Sources.{IsApart, IsForeign, IsSource, source_units};
 ghost use Rattle.wb_machine.specs.RunState.{RunState};
 ghost use Rattle.wb_machine.specs.TextOperands.{base_named, is_text, base_refusal, base_text, window_units};
@@ -13,9 +13,9 @@ ghost use Rattle.wb_machine.specs.TextOperands.{window_found, whole_of, unless_g
 use crate::state::State;
 use crate::windows::Window;
 use wb_hbuf::sources::Source;
-use wb_model::heap::{Kind, Panic};
-use wb_model::script::{Readable, Script, Writable};
+use wb_heap_model::heap::{Kind, Panic};
 use wb_text::{Base, Buf, View};
+use wb_tree::script::{Readable, Script, Writable};
 
 /// Whether a cell holds a text.
 pub fn is_text(kind: Kind) -> bool

@@ -1,10 +1,10 @@
 //! Statements that change texts.
 
 ghost use Rattle.std.specs.Prelude.{◌≡◌, [], None, IsTrue};
-ghost use Rattle.wb_model.specs.language.Sound.{is_script};
-ghost use Rattle.wb_model.specs.meaning.Texts.{delete_text, set_length_text};
-ghost use Rattle.wb_model.specs.declared.text.Base.{Base};
-ghost use Rattle.wb_model.specs.declared.text.Base.TheVariants as B;
+ghost use Rattle.wb_tree.specs.Sound.{is_script};
+ghost use Rattle.wb_heap_model.specs.Texts.{delete_text, set_length_text};
+ghost use Rattle.wb_heap_model.specs.declared.text.Base.{Base};
+ghost use Rattle.wb_heap_model.specs.declared.text.Base.TheVariants as B;
 ghost use Rattle.wb_hbuf.specs.Sources.{edit_text};
 ghost use Rattle.wb_machine.specs.Effects.{number_read};
 ghost use Rattle.wb_machine.specs.TextOperands.{base_named, base_refusal, base_text, base_max, is_writable_base};
@@ -20,9 +20,9 @@ use crate::state::State;
 use crate::text_operands::is_same_base;
 use crate::windows::Window;
 use wb_hbuf::sources::{Edit, Source};
-use wb_model::heap::{Panic, Ptr};
-use wb_model::script::{Number, Readable, Script, Writable};
+use wb_heap_model::heap::{Panic, Ptr};
 use wb_text::{Base, Buf};
+use wb_tree::script::{Number, Readable, Script, Writable};
 
 /// How a statement ends whose edit gave this answer: plainly, or with the edit's panic.
 fn ending_of(answer: Result<(), Panic>) -> Ending

@@ -2,14 +2,14 @@
 //! A statement that panics changes nothing before the panic, so its operands hold what they held when the statement began.
 
 ghost use Rattle.std.specs.Prelude.{◌≡◌, option_map, Any, IfSome};
-ghost use Rattle.wb_model.specs.heap.Row.{cell_at, usable_of};
+ghost use Rattle.wb_heap_model.specs.Row.{cell_at, usable_of};
 ghost use Rattle.wb_machine.specs.Effects.{pointer_read};
 
 use crate::machine::Machine;
 use crate::raiser::Raised;
 use crate::state::State;
-use wb_model::heap::Ptr;
-use wb_model::script::{Number, Pointer, Readable, Script, Statement, Writable};
+use wb_heap_model::heap::Ptr;
+use wb_tree::script::{Number, Pointer, Readable, Script, Statement, Writable};
 
 impl<'a> Machine<'a> {
     /// The statement begun last; `None` before the first.

@@ -1,8 +1,8 @@
 //! Statements that read texts: views of parts, lengths, maxima, and what is printed.
 
 ghost use Rattle.std.specs.Prelude.{◌≡◌, ◌^◌, ◌<◌, None, IfOk, OnOk, IsTrue};
-ghost use Rattle.wb_model.specs.meaning.Operands.{not_negative};
-ghost use Rattle.wb_model.specs.language.Sound.{is_script};
+ghost use Rattle.wb_meaning.specs.Operands.{not_negative};
+ghost use Rattle.wb_tree.specs.Sound.{is_script};
 ghost use Rattle.wb_machine.specs.Effects.{number_read};
 ghost use Rattle.wb_machine.specs.TextOperands.{base_named, base_refusal, base_max, window_read, window_units};
 ghost use Rattle.wb_machine.specs.TextEffects.{unless_panics, part_stored, count_read, left_read, right_read, mid_read};
@@ -14,10 +14,10 @@ use crate::operands::not_negative;
 use crate::pieces::Ending;
 use crate::state::State;
 use crate::windows::Window;
-use wb_model::heap::Panic;
-use wb_model::memory::NoMemory;
-use wb_model::script::{Number, Readable, Script, Writable};
+use wb_basics::memory::NoMemory;
+use wb_heap_model::heap::Panic;
 use wb_text::Base;
+use wb_tree::script::{Number, Readable, Script, Writable};
 
 /// Views of parts of texts.
 impl State {

@@ -1,11 +1,11 @@
 //! Views: parts of texts that a script names.
 
 ghost use Rattle.std.specs.Prelude.{◌≡◌, ◌+◌, ◌^◌, ◌<◌};
-ghost use Rattle.wb_model.specs.meaning.Texts.{left_part, right_part, mid_part, view_of_part};
+ghost use Rattle.wb_heap_model.specs.Texts.{left_part, right_part, mid_part, view_of_part};
 ghost use Rattle.wb_machine.specs.LocalValues.{whole_window, no_window};
 
 use std::marker::Model;
-use wb_model::heap::Panic;
+use wb_heap_model::heap::Panic;
 use wb_text::{Base, View};
 
 /// A view whose end, in units, fits into an int.
@@ -16,7 +16,7 @@ pub struct Window {
 
 impl Model for Window {
     ghost use Rattle.std.specs.Prelude.{◌+◌, ◌^◌, ◌<◌};
-    ghost use Rattle.wb_model.specs.declared.text.View.{View};
+    ghost use Rattle.wb_heap_model.specs.declared.text.View.{View};
 
     ghost Value = { View };
 

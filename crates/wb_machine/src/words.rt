@@ -1,12 +1,12 @@
 //! Statements on the words of Raw cells.
 
 ghost use Rattle.std.specs.Prelude.{◌≡◌, ◌<◌, true, length, slice_set, IfSome};
-ghost use Rattle.wb_model.specs.heap.Row.{cell_at};
-ghost use Rattle.wb_model.specs.cells.CellRow.{payload_of};
-ghost use Rattle.wb_model.specs.heap.Debug.{debug_changed};
-ghost use Rattle.wb_model.specs.cells.Spelling.{signed};
-ghost use Rattle.wb_model.specs.meaning.State.{number};
-ghost use Rattle.wb_model.specs.meaning.Statements.{is_raw};
+ghost use Rattle.wb_heap_model.specs.Row.{cell_at};
+ghost use Rattle.wb_heap_model.specs.CellRow.{payload_of};
+ghost use Rattle.wb_heap_model.specs.Debug.{debug_changed};
+ghost use Rattle.wb_heap_model.specs.Spelling.{signed};
+ghost use Rattle.wb_meaning.specs.State.{number};
+ghost use Rattle.wb_meaning.specs.Statements.{is_raw};
 ghost use Rattle.wb_machine.specs.RunState.{with_debug};
 ghost use Rattle.wb_machine.specs.Effects.{pointer_read, number_read, stored, store_effect, load_effect};
 ghost use Rattle.wb_machine.specs.Owed.{CarriesOut, KeepsCount};
@@ -15,8 +15,8 @@ use crate::locals::Slot;
 use crate::operands::word_within;
 use crate::pieces::Ending;
 use crate::state::State;
-use wb_model::heap::{Kind, Panic, Ptr};
-use wb_model::script::{Number, Pointer, Script};
+use wb_heap_model::heap::{Kind, Panic, Ptr};
+use wb_tree::script::{Number, Pointer, Script};
 
 /// Whether cells of a kind hold words that the script stores itself.
 pub fn is_raw(kind: Kind) -> bool

@@ -1,17 +1,18 @@
 -- Which run a report shows, as the command and what was found say it.
-use Rattle.std.specs.Prelude.{◌≡◌, ℕ, ◌≤◌, List, Option, Some, None, option_map, IfSome}
+use Rattle.std.specs.Prelude.{◌≡◌, ℕ, ◌≤◌, List, Option, Some, None, option_map, option_and_then, IfSome}
 use Rattle.wb_command_line.specs.declared.command.Command.{Command}
 use Rattle.wb_command_line.specs.declared.command.Task.{Task}
 use Rattle.wb_command_line.specs.declared.command.Task.TheVariants.{Run, Size, Lengths, Sweep, Check}
 use Rattle.wb_history.specs.declared.parameters.RunParameters.{RunParameters}
 use Rattle.wb_history.specs.declared.watch.WatchedRun.{WatchedRun}
 use Rattle.wb_history.specs.Watched.{IsWatchedRun}
-use Rattle.wb_model.specs.declared.failures.Failing.{Failing}
-use Rattle.wb_model.specs.declared.heap.Rule.{Rule}
-use Rattle.wb_model.specs.declared.heap.Rule.TheVariants.{Set}
-use Rattle.wb_model.specs.declared.script.Script.{Script}
-use Rattle.wb_model.specs.declared.limits.TheConstants.{LARGEST_BUDGET}
-use Rattle.wb_model.specs.runs.Sweeps.{rule_for}
+use Rattle.wb_lengths.specs.Lengths.{first_bad}
+use Rattle.wb_runs.specs.declared.failures.Failing.{Failing}
+use Rattle.wb_heap_model.specs.declared.heap.Rule.{Rule}
+use Rattle.wb_heap_model.specs.declared.heap.Rule.TheVariants.{Limit, Set}
+use Rattle.wb_tree.specs.declared.script.Script.{Script}
+use Rattle.wb_basics.specs.declared.limits.TheConstants.{LARGEST_BUDGET}
+use Rattle.wb_runs.specs.Sweeps.{rule_for}
 use Rattle.workbench.specs.declared.findings.Findings.{Findings}
 
 -- the rule of a set, if one was found, or else of a failure
@@ -29,11 +30,12 @@ pub record IsAsAsked (command : Command) (rule : Rule) (parameters : RunParamete
   pub budget : 1 ≤ command.budget → command.budget ≤ LARGEST_BUDGET → parameters.budget ≡ command.budget
   pub shape : parameters.shape ≡ command.shape
 
--- the run that is explained and drawn is the one that was asked for, or the one that a sweep's report shows
+-- The run that is explained and drawn is the one that was asked for, the one that a sweep's report shows, or the one in the shortest heap that a
+-- table of lengths says is bad.
 abbrev pub IsRuleToWatch : Task → Findings → Option Rule → Type 0
 IsRuleToWatch (Run rule) findings watched = IfSome watched (λ (r : Rule). r ≡ rule)
 IsRuleToWatch Size findings watched = watched ≡ rule_named findings
-IsRuleToWatch Lengths findings watched = Unit {0}
+IsRuleToWatch Lengths findings watched = watched ≡ option_map Limit (option_and_then first_bad findings.ranges)
 IsRuleToWatch (Sweep search part) findings watched = watched ≡ rule_named findings
 IsRuleToWatch (Check search) findings watched = watched ≡ rule_named findings
 

@@ -4,13 +4,12 @@
 ghost use Rattle.std.specs.Prelude.{◌≡◌, ◌≤◌, IfOk};
 ghost use Rattle.wb_main.specs.Asked.{rule_named, IsAsAsked};
 
+use wb_basics::limits::LARGEST_BUDGET;
+use wb_basics::memory::NoMemory;
 use wb_command_line::command_line::MOST_STATES;
 use wb_explain::runs::ManyStates;
+use wb_heap_model::heap::Rule;
 use wb_history::RunParameters;
-use wb_model::heap::Rule;
-use wb_model::lengths::LengthTable;
-use wb_model::limits::LARGEST_BUDGET;
-use wb_model::memory::NoMemory;
 use workbench::findings::Findings;
 use workbench::{Command, FileName, Search, Task};
 
@@ -102,14 +101,4 @@ fn more_states(states: u32) -> Option<u32> {
     } else {
         None
     }
-}
-
-/// Returns the least length of heap in a table for which the run leaks or panics, in bytes; `None` if there is none.
-pub fn least_bad_length(ranges: &LengthTable) -> Option<u32> {
-    for range in ranges.as_slice() {
-        if range.end.is_bad() {
-            return Some(range.from);
-        }
-    }
-    None
 }

@@ -1,7 +1,7 @@
 //! The text on standard error that explains an answer.
 
 ghost use Rattle.std.specs.Prelude.{IsTrue};
-ghost use Rattle.wb_model.specs.language.Sound.{is_script};
+ghost use Rattle.wb_tree.specs.Sound.{is_script};
 
 use crate::asked::{budget_of, many_states, parameters_of, search_of, source_name};
 use crate::further::explain_unasked;
@@ -9,20 +9,20 @@ use crate::recorded::FirstFault;
 use crate::run_shown::explain_run;
 use crate::runs::{Answer, Runs, has_run_to_explain, plain_run};
 use std::alloc::Global;
+use wb_basics::limits::CEILING;
+use wb_basics::memory::NoMemory;
 use wb_explain::files::{Deed, file_fault};
 use wb_explain::runs::{
     greatest_bad, heaps_found, last_bad, last_named, lengths_found, longest_better, numbers_found,
     states_found,
 };
+use wb_heap_model::heap::Rule;
+use wb_heap_model::size::Rise;
 use wb_history::{Attempts, ScriptLines, Until, watch_attempts};
-use wb_model::failures::Failures;
-use wb_model::heap::Rule;
-use wb_model::lengths::LengthRange;
-use wb_model::limits::CEILING;
-use wb_model::memory::NoMemory;
-use wb_model::number_ends::NumberEnd;
-use wb_model::script::Script;
-use wb_model::size::Rise;
+use wb_runs::failures::Failures;
+use wb_runs::lengths::LengthRange;
+use wb_runs::number_ends::NumberEnd;
+use wb_tree::script::Script;
 use workbench::exit_status::NOTHING_FOUND;
 use workbench::findings::Findings;
 use workbench::{Command, Search, Task};

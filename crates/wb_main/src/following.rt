@@ -1,14 +1,14 @@
 //! The steps of a run on standard error, if the command asks for them.
 
 ghost use Rattle.std.specs.Prelude.{◌≤◌, IsTrue};
-ghost use Rattle.wb_model.specs.language.Sound.{is_script};
+ghost use Rattle.wb_tree.specs.Sound.{is_script};
 
 use crate::asked::{parameters_of, script_name};
 use std::io::Write;
+use wb_basics::memory::NoMemory;
 use wb_follow::{Asked, RowSink, follow_run};
+use wb_heap_model::heap::Rule;
 use wb_history::{ScriptFile, ScriptLines};
-use wb_model::heap::Rule;
-use wb_model::memory::NoMemory;
 use workbench::exit_status::READ_OR_WRITE_FAULT;
 use workbench::findings::Findings;
 use workbench::program::Exit;

@@ -1,17 +1,17 @@
 //! The text on what `check` asks unasked if it found nothing. How each question is answered, and with how much work, is in `unasked`.
 
 ghost use Rattle.std.specs.Prelude.{IsTrue};
-ghost use Rattle.wb_model.specs.language.Sound.{is_script};
+ghost use Rattle.wb_tree.specs.Sound.{is_script};
 
 use crate::asked::{budget_of, parameters_of};
 use crate::run_shown::explain_run;
 use crate::unasked::{Verdict, ask, is_open};
 use std::alloc::Global;
+use wb_basics::memory::NoMemory;
 use wb_explain::runs::{Question, ShellOptions, nothing_else, unasked_found, undecided_question};
+use wb_heap_model::heap::{Numbers, Rule, Shape};
 use wb_history::{Keep, RunParameters, ScriptLines, watch_run};
-use wb_model::heap::{Numbers, Rule, Shape};
-use wb_model::memory::NoMemory;
-use wb_model::script::Script;
+use wb_tree::script::Script;
 use workbench::Command;
 
 /// The questions that `check` asks unasked, in this order.

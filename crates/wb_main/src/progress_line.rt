@@ -8,8 +8,8 @@ use std::fmt;
 use std::fmt::Write as _;
 use std::io::{IsTerminal, Write};
 use std::time::{Duration, Instant};
-use wb_model::failures::Failing;
-use wb_model::heap::Numbers;
+use wb_heap_model::heap::Numbers;
+use wb_runs::failures::Failing;
 use workbench::Progress;
 
 /// How long runs go on before the line is first shown, in milliseconds.

@@ -1,10 +1,10 @@
 //! The text on a run: what it found, and, if it leaks or panics, the command that shows it step by step.
 
 use std::alloc::Global;
+use wb_basics::memory::NoMemory;
 use wb_explain::runs::{ShellFile, ShellOptions, run_found, steps_shown};
 use wb_history::{RunParameters, ScriptLines, WatchedRun};
-use wb_model::memory::NoMemory;
-use wb_model::run_end::RunEnd;
+use wb_runs::run_end::RunEnd;
 use workbench::{Command, FileName};
 
 /// Returns what a run found. If the run leaks or panics, and the command doesn't show its steps already, the text also has a command that

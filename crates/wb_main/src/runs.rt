@@ -1,15 +1,17 @@
 //! An answer, and the runs that it is about. Each run is watched once, for both its explanation and its picture.
 
-ghost use Rattle.std.specs.Prelude.{IfOk, IfSome, IsTrue};
+ghost use Rattle.std.specs.Prelude.{◌≡◌, IfOk, IfSome, IsTrue, option_and_then};
+ghost use Rattle.wb_lengths.specs.Lengths.{first_bad};
 ghost use Rattle.wb_main.specs.Asked.{IsRuleToWatch, IsShownRun};
-ghost use Rattle.wb_model.specs.language.Sound.{is_script};
+ghost use Rattle.wb_tree.specs.Sound.{is_script};
 
-use crate::asked::{least_bad_length, parameters_of, rule_named};
+use crate::asked::{parameters_of, rule_named};
 use std::alloc::Global;
+use wb_basics::memory::NoMemory;
+use wb_heap_model::heap::Rule;
 use wb_history::{Keep, WatchedRun, watch_run};
-use wb_model::heap::Rule;
-use wb_model::memory::NoMemory;
-use wb_model::script::Script;
+use wb_lengths::first_bad;
+use wb_tree::script::Script;
 use workbench::exit_status::NOTHING_FOUND;
 use workbench::findings::Findings;
 use workbench::{Command, Task};
@@ -117,8 +119,10 @@ fn rule_to_watch(
 }
 
 /// The least length of heap whose run leaks or panics, in bytes; `None` if there is none.
-fn length_to_explain(findings: &Findings) -> Option<u32> {
-    least_bad_length(findings.ranges.as_ref()?)
+fn length_to_explain(findings: &Findings) -> Option<u32>
+    ensures { result ≡ option_and_then first_bad findings.now.ranges }
+{
+    first_bad(findings.ranges.as_ref()?)
 }
 
 /// Returns whether there is a run to explain even if nothing was found: `run` was given a rule, or the report names a failure, a set or a

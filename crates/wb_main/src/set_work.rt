@@ -3,7 +3,7 @@
 
 use crate::work::{Estimate, estimate_of};
 use std::time::Duration;
-use wb_model::heap::Numbers;
+use wb_heap_model::heap::Numbers;
 
 /// The sets of one size that a sweep tries, in their order.
 #[derive(Clone, Copy, Debug, Drop)]

@@ -2,18 +2,18 @@
 //! more, and each run that the text or the picture is about is watched once.
 
 ghost use Rattle.std.specs.Prelude.{IsTrue};
-ghost use Rattle.wb_model.specs.language.Sound.{is_script};
+ghost use Rattle.wb_tree.specs.Sound.{is_script};
 
 use crate::asked::script_name;
 use crate::explanation::{explain_fault, explain_runs, has_nothing_to_say};
 use crate::recorded::FirstFault;
 use crate::runs::{Answer, Runs, runs_of};
 use std::alloc::Global;
+use wb_basics::memory::NoMemory;
 use wb_history::{ScriptFile, ScriptLines};
 use wb_mistakes::refused_script;
-use wb_model::memory::NoMemory;
-use wb_model::script::Script;
 use wb_picture::{ShownRuns, Table, draw};
+use wb_tree::script::Script;
 use workbench::Task;
 use workbench::exit_status::READ_OR_WRITE_FAULT;
 use workbench::findings::Findings;

@@ -4,22 +4,22 @@
 //! answer. What the user is told of it is in `wb_explain`.
 
 ghost use Rattle.std.specs.Prelude.{IsTrue, ◌≤◌};
-ghost use Rattle.wb_model.specs.language.Sound.{is_script};
+ghost use Rattle.wb_tree.specs.Sound.{is_script};
 
-use crate::asked::{budget_of, least_bad_length, search_of};
+use crate::asked::{budget_of, search_of};
 use std::alloc::Global;
+use wb_basics::limits::LARGEST_BUDGET;
 use wb_explain::runs::{Question, Shown};
-use wb_lengths::lengths_within;
+use wb_heap_model::heap::{Numbers, Rule, Shape};
+use wb_lengths::{first_bad, lengths_within};
 use wb_machine::run;
-use wb_model::failures::{Failing, Failures};
-use wb_model::heap::{Numbers, Rule, Shape};
-use wb_model::lengths::LengthTable;
-use wb_model::limits::LARGEST_BUDGET;
-use wb_model::part::Part;
-use wb_model::progress::Silent;
-use wb_model::run_end::RunEnd;
-use wb_model::script::Script;
+use wb_runs::failures::{Failing, Failures};
+use wb_runs::lengths::LengthTable;
+use wb_runs::part::Part;
+use wb_runs::progress::Silent;
+use wb_runs::run_end::RunEnd;
 use wb_sweep::{FoundSet, sweep, sweep_every_set};
+use wb_tree::script::Script;
 use workbench::{Command, Search};
 
 /// How many steps the runs under failures that persist may take together.
@@ -151,7 +151,7 @@ fn ask_lengths(alloc: Global, script: &Script, budget: u32, shape: Shape) -> Ver
     let Ok(Some(table)) = lengths_within(alloc, script, budget, shape, MOST_STEPS_OF_LENGTHS) else {
         return Verdict::Undecided;
     };
-    match least_bad_length(&table) {
+    match first_bad(&table) {
         Some(length) => Verdict::Length(table, length),
         None if has_cut(&table) => Verdict::Undecided,
         None => Verdict::Fine,

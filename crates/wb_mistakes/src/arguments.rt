@@ -6,8 +6,8 @@ use crate::operand_kinds::{description_of, operand_kind_in_body};
 use crate::spaces::find_item;
 use wb_lines::operand_kinds::{is_number_kind, is_pointer_kind};
 use wb_lines::words::{before_first, parameter_type_of_word};
-use wb_model::script_lines::{LineKind, ParameterType};
 use wb_pages::{Page, Shown, Spot, Word};
+use wb_tree::script_lines::{LineKind, ParameterType};
 
 /// The place of the procedure's name among the words of a call.
 fn procedure_place(line: &Line) -> usize {

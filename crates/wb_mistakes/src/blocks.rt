@@ -3,7 +3,7 @@
 use crate::lines::Line;
 use std::alloc::{AllocError, Global};
 use wb_lines::line_kinds::role_of;
-use wb_model::script_lines::Role;
+use wb_tree::script_lines::Role;
 
 /// How far an open block has come, and so what may come next in it.
 #[derive(Clone, Copy)]

@@ -6,8 +6,8 @@ use crate::nearest::{Candidate, Search};
 use crate::operand_kinds::operand_kind_in_body;
 use crate::words::is_field;
 use wb_lines::words::{is_name, text_of_keyword};
-use wb_model::script_lines::{Keyword, OperandKind};
 use wb_pages::{Page, Shown};
+use wb_tree::script_lines::{Keyword, OperandKind};
 
 /// The keywords of conditions.
 static CONDITIONS: [Keyword; 4] = [Keyword::Null, Keyword::Some, Keyword::Equal, Keyword::Less];

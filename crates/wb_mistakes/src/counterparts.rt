@@ -1,6 +1,6 @@
 //! What a script has in place of words of Symbian C++. "Line by line" in `docs/IDIOMS.md` has the same table, in the same order.
 
-use wb_model::script_lines::LineKind;
+use wb_tree::script_lines::LineKind;
 
 /// Words of C++, the kinds of script lines that do the same, and a hint. There are no line kinds if the hint says it all, and the hint may
 /// be empty.

@@ -6,8 +6,8 @@ use crate::lines::Line;
 use crate::words::has_byte;
 use wb_lines::line_kinds::role_of;
 use wb_lines::words::{after_first_of, before_first};
-use wb_model::script_lines::Role;
 use wb_pages::{Page, Shown};
+use wb_tree::script_lines::Role;
 
 /// A word of C++ as the line has it, and what a script has in its place.
 #[derive(Clone, Copy)]

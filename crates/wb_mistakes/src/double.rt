@@ -6,8 +6,8 @@ use crate::lines::Line;
 use crate::spaces::{line_of_field, line_of_item, line_of_local};
 use crate::words::{is_parameter, is_parameter_named};
 use wb_lines::words::before_first;
-use wb_model::script_lines::Role;
 use wb_pages::{Page, Spot, Word};
+use wb_tree::script_lines::Role;
 
 /// Says that a name is declared a second time, and shows it.
 fn mark_again(page: &mut Page, spot: Spot) {

@@ -3,8 +3,8 @@
 use crate::further_lines::mark_name;
 use crate::lines::Line;
 use crate::spaces::{find_item, find_local, find_local_anywhere, has_self, line_of_field};
-use wb_model::script_lines::{ItemKind, LocalKind};
 use wb_pages::{Page, Shown};
+use wb_tree::script_lines::{ItemKind, LocalKind};
 
 /// What a name means elsewhere in the script, and the index of the line that declares it there.
 #[derive(Clone, Copy)]

@@ -5,8 +5,8 @@ use wb_lines::forms::operand_of;
 use wb_lines::line_kinds::{line_kinds, operand_places_of, rest_of, text_of};
 use wb_lines::operand_places::OperandPlaces;
 use wb_lines::words::text_of_keyword;
-use wb_model::script_lines::{LineKind, OperandPlace};
 use wb_pages::{Page, Shown, Word};
+use wb_tree::script_lines::{LineKind, OperandPlace};
 
 /// The operand place of the word at `place` in lines of this kind: `place` is 0 for the first word, and counts operands from 1. `None` for
 /// the first word, and if there may be no such word.

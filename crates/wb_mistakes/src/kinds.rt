@@ -13,8 +13,8 @@ use crate::spaces::{body_of, class_of_holder, line_kind_at, line_of_item};
 use crate::words::{is_field, is_parameter};
 use wb_lines::operand_kinds::{is_pointer_kind, takes};
 use wb_lines::words::{after_first_of, before_first};
-use wb_model::script_lines::{LineKind, OperandKind, OperandPlace, Role};
 use wb_pages::{Page, Shown, Spot, Word};
+use wb_tree::script_lines::{LineKind, OperandKind, OperandPlace, Role};
 
 /// Whether what a word refers to is right in this operand place.
 fn fits_letter(lines: &[Line], index: usize, operand_place: OperandPlace, word: &[u8]) -> bool {

@@ -4,8 +4,8 @@ use crate::further_lines::mark_line;
 use crate::lines::Line;
 use crate::spaces::body_of;
 use wb_lines::line_kinds::{is_quiet, line_kinds, role_of, text_of};
-use wb_model::script_lines::{LineKind, Role};
 use wb_pages::{Page, Shown};
+use wb_tree::script_lines::{LineKind, Role};
 
 /// Whether a message names this line kind among those that are allowed in every body. `else` and `end` aren't named, since they go with the
 /// first line of their block.

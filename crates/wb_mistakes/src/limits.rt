@@ -4,15 +4,15 @@ use crate::blocks::{Blocks, role, role_at};
 use crate::lines::Line;
 use crate::spaces::{body_of, class_before};
 use crate::words::is_parameter;
-use wb_lines::declares::parameter_type_of;
-use wb_lines::forms::operand_of;
-use wb_lines::words::{after_first_of, before_first, is_name};
-use wb_model::limits::{
+use wb_basics::limits::{
     DEEPEST_BLOCK, LARGEST_BUFFER, LONGEST_NAME, MOST_CLASSES, MOST_EXTRA, MOST_FIELDS,
     MOST_LOCALS, MOST_PARAMETERS, MOST_PROCEDURES,
 };
-use wb_model::script_lines::{LineKind, Operand, OperandPlace, Role};
+use wb_lines::declares::parameter_type_of;
+use wb_lines::forms::operand_of;
+use wb_lines::words::{after_first_of, before_first, is_name};
 use wb_pages::{Page, Span};
+use wb_tree::script_lines::{LineKind, Operand, OperandPlace, Role};
 
 /// An excess over a limit: what was counted, the count, the limit, and the part of the line that exceeds the limit.
 #[derive(Clone, Copy)]

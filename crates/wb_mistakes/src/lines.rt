@@ -4,9 +4,9 @@ use std::alloc::{AllocError, Global};
 use wb_lines::declares::body_in;
 use wb_lines::forms::{begins_comment, form_of};
 use wb_lines::segments::{self, add_words};
-use wb_model::script_lines::{Form, LineKind, Operand};
 use wb_pages::words::{count_blanks, place_words, trim};
 use wb_pages::{Shown, Span, Spot, Word};
+use wb_tree::script_lines::{Form, LineKind, Operand};
 
 /// A line: its number, its text without the blanks around it, the number of blanks before it, its words, its form, and the index of the
 /// line that begins its body. The last is the nearest line, from this one upwards, that begins a body; 0 if there is none.

@@ -4,8 +4,8 @@ use crate::further_lines::mark_line;
 use crate::lines::Line;
 use crate::near_names::nearest_item;
 use crate::spaces::find_item;
-use wb_model::script_lines::ItemKind;
 use wb_pages::Page;
+use wb_tree::script_lines::ItemKind;
 
 /// Says that there is no `main`, and which procedure may be meant to be `main`.
 pub fn explain_no_main(page: &mut Page, lines: &[Line]) {

@@ -4,8 +4,8 @@ use crate::lines::Line;
 use crate::words::{digits, is_numeral};
 use wb_lines::forms::operand_of;
 use wb_lines::words::{after_first_of, before_first, is_name};
-use wb_model::script_lines::{LineKind, OperandPlace};
 use wb_pages::{Page, Shown, Span, Spot, Word};
+use wb_tree::script_lines::{LineKind, OperandPlace};
 
 /// Words by which other languages subtract.
 const SUBTRACTING: [&[u8]; 6] = [b"sub", b"subtract", b"minus", b"dec", b"decr", b"decrement"];

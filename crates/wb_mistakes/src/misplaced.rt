@@ -5,8 +5,8 @@ use crate::counterparts::{EXTRA_BYTES, POINTER_MEMBER};
 use crate::further_lines::mark_line;
 use crate::lines::Line;
 use crate::spaces::is_statement;
-use wb_model::script_lines::{LineKind, Role};
 use wb_pages::Page;
+use wb_tree::script_lines::{LineKind, Role};
 
 fn is_further_left(lines: &[Line], closed: ClosedBlock) -> bool {
     indent_at(lines, closed.end) < indent_at(lines, closed.first)

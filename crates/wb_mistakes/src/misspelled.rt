@@ -18,8 +18,8 @@ use crate::words::{has_byte, is_field};
 use crate::wrong_words::{complaint_of, expectation_of, hint_at_end};
 use wb_lines::forms::{begins_comment, operand_of};
 use wb_lines::line_kinds::{line_kinds, operand_places_of, text_of};
-use wb_model::script_lines::{LineKind, OperandPlace};
 use wb_pages::{Page, Shown, Span, Spot, Word};
+use wb_tree::script_lines::{LineKind, OperandPlace};
 
 /// The part of a line from a word to the end of the line.
 fn spot_from<'a>(line: &Line<'a>, word: Word<'a>) -> Spot<'a> {

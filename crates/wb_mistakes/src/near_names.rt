@@ -5,7 +5,7 @@ use crate::lines::Line;
 use crate::nearest::{Candidate, Search};
 use crate::spaces::body_of;
 use wb_lines::declares::{body_in, item_kind_in, local_kind_in};
-use wb_model::script_lines::{BodyKind, ItemKind, Operand, Role};
+use wb_tree::script_lines::{BodyKind, ItemKind, Operand, Role};
 
 fn is_item(line: &Line, kind: ItemKind) -> bool {
     matches!(

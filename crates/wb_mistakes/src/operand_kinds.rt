@@ -9,7 +9,7 @@ use crate::spaces::{
 use wb_lines::forms::operand_of;
 use wb_lines::operand_kinds;
 use wb_lines::words::before_first;
-use wb_model::script_lines::{
+use wb_tree::script_lines::{
     ItemKind, LocalKind, Operand, OperandKind, OperandPlace, ParameterType, Referent,
 };
 

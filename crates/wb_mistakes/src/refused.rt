@@ -12,7 +12,7 @@ use crate::misspelled::explain_misspelled;
 use crate::not_ascii::explain_not_ascii;
 use crate::unknown::explain_unknown_name;
 use std::alloc::{AllocError, Global};
-use wb_model::fault::ScriptFault;
+use wb_language::fault::ScriptFault;
 use wb_pages::Page;
 
 /// Says why a line is not allowed where it is, or has no form; or that the file ends too early.

@@ -3,7 +3,7 @@
 use crate::blocks::{role, role_at};
 use crate::lines::Line;
 use wb_lines::declares::{item_kind_in, kind_of_parameter, local_kind_in};
-use wb_model::script_lines::{ItemKind, LineKind, LocalKind, Operand, ParameterType, Role};
+use wb_tree::script_lines::{ItemKind, LineKind, LocalKind, Operand, ParameterType, Role};
 
 /// A local: what it holds, and the index of the line that declares it.
 #[derive(Clone, Copy)]

@@ -11,8 +11,8 @@ use crate::nearest::Candidate;
 use crate::spaces::{body_of, class_of_holder, find_field, find_item, find_local, has_self};
 use crate::words::{is_field, is_parameter};
 use wb_lines::words::{after_first_of, before_first, is_name, is_reserved, parameter_type_of_word};
-use wb_model::script_lines::{ItemKind, LineKind, OperandPlace, ParameterType};
 use wb_pages::{Page, Shown, Spot};
+use wb_tree::script_lines::{ItemKind, LineKind, OperandPlace, ParameterType};
 
 /// The help for a name that can't be declared.
 const RESERVED: &str = "the name is reserved and can't be declared";

@@ -2,7 +2,7 @@
 
 use crate::words::{digits, has_byte, is_field, is_literal, is_numeral};
 use wb_lines::words::{after_first_of, before_first, is_digit, is_name, is_reserved};
-use wb_model::script_lines::{Keyword, OperandPlace};
+use wb_tree::script_lines::{Keyword, OperandPlace};
 
 /// What is wrong with a word, and a hint, which may be empty.
 pub type Complaint = (&'static str, &'static str);

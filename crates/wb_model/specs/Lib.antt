@@ -1,5 +1,4 @@
 pub mod cells
-pub mod formers
 pub mod heap
 pub mod language
 pub mod meaning

@@ -1,4 +1,4 @@
--- How words spell cells, and what cells of each kind hold.
+-- The definitions of this subject, given on.
 pub mod CellRow
 pub mod CleanupCells
 pub mod ObjectCells

@@ -1,4 +1,4 @@
--- The simulated heap: rows of cells, rules, and what each call makes of them.
+-- The definitions of this subject, given on.
 pub mod Debug
 pub mod Heap
 pub mod LimitedHeap

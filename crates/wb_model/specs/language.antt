@@ -1,4 +1,4 @@
--- Lines, words and forms, the checks of a script, and which bytes spell one.
+-- The definitions of this subject, given on.
 pub mod DeclaredAgain
 pub mod FaultOrder
 pub mod FirstLines
@@ -18,5 +18,5 @@ pub mod Sound
 pub mod Trees
 pub mod Undeclared
 pub mod Words
-pub mod WrongSorts
 pub mod Writing
+pub mod WrongSorts

@@ -1,4 +1,4 @@
--- What each statement means.
+-- The definitions of this subject, given on.
 pub mod Attempts
 pub mod Bodies
 pub mod Destructions

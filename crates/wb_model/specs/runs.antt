@@ -1,4 +1,4 @@
--- Whole runs under a rule, and what sizes and sweeps say of them.
+-- The definitions of this subject, given on.
 pub mod Account
 pub mod Agreement
 pub mod AllNumbers

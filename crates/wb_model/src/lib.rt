@@ -1,7 +1,5 @@
-//! The plain types of the out-of-memory testing workbench, the definitions of what a script means, and the laws of these definitions.
-//!
-//! The definitions are in `specs/`, one subject to a file; `docs/ARCHITECTURE.md` lists these files. The only code here is that of the
-//! types themselves, such as the lists.
+//! Gives on the public names of what things mean: the plain types, the definitions and the laws, under one name. Nothing is defined here,
+//! and no crate of the workbench stands on it: each names the rooms that it needs.
 #![tactic(auto)]
 
 pub mod every_set_laws;

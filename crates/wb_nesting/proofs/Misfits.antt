@@ -4,10 +4,10 @@ use Rattle.std.specs.Option.{option_and_then}
 use Rattle.std.specs.List.{flat_map}
 use Rattle.std.proofs.lemmas.Grind.{flat_map-append}
 use Rattle.std.proofs.lemmas.List.{take_more, get_or_default, take_all, take-append-drop}
-use Rattle.wb_model.specs.declared.script_lines.Role.{Role}
-use Rattle.wb_model.specs.declared.script_lines.Role.TheVariants.{Skip, Class, End}
+use Rattle.wb_tree.specs.declared.script_lines.Role.{Role}
+use Rattle.wb_tree.specs.declared.script_lines.Role.TheVariants.{Skip, Class, End}
 use Rattle.wb_nesting.specs.declared.open.Open.{Open}
-use Rattle.wb_model.specs.language.Grammar.{AreItems, content, IsGrammatical, Begins, EndsComplete, IsFirstMisfit}
+use Rattle.wb_language.specs.Grammar.{AreItems, content, IsGrammatical, Begins, EndsComplete, IsFirstMisfit}
 use Rattle.wb_nesting.proofs.Runs.{run, run_back, run-append, items_run, ends, ends_complete}
 use Rattle.wb_nesting.specs.Machine.{step, after_line}
 

@@ -2,14 +2,14 @@
 use Rattle.std.proofs.Common.{◌≡◌, List, [], ◌∷◌, ◌++◌, Option, Some, None, ◌⊎◌, inl, inr, refl, sym, ap, subst, ◌∙◌, append_assoc}
 use Rattle.std.proofs.lemmas.Option.{option_and_then_some}
 use Rattle.std.specs.Option.{option_and_then}
-use Rattle.wb_model.specs.declared.script_lines.Role.{Role}
-use Rattle.wb_model.specs.declared.script_lines.Role.TheVariants.{Class, Field, Construct, Destroy, Procedure, Declaration, Plain, Loop, If, Else, End}
+use Rattle.wb_tree.specs.declared.script_lines.Role.{Role}
+use Rattle.wb_tree.specs.declared.script_lines.Role.TheVariants.{Class, Field, Construct, Destroy, Procedure, Declaration, Plain, Loop, If, Else, End}
 use Rattle.wb_nesting.specs.declared.open.Open.{Open}
 use Rattle.wb_nesting.specs.declared.open.Open.TheVariants.{Fields, Made, Destroyed, Declarations, Statements, Branch, Block}
 use Rattle.wb_nesting.specs.declared.open.Move.{Move}
 use Rattle.wb_nesting.specs.declared.open.Move.TheVariants.{Close, Stay, Enter}
 use Rattle.wb_nesting.specs.Machine.{statement, move_of, after, moved, step}
-use Rattle.wb_model.specs.language.Grammar.{AreStatements, IsBody, AreFields, IsOptional, AreItems}
+use Rattle.wb_language.specs.Grammar.{AreStatements, IsBody, AreFields, IsOptional, AreItems}
 
 -- the open blocks after some lines
 abbrev pub run : List Open → List Role → Option (List Open)

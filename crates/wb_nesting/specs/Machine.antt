@@ -1,7 +1,7 @@
 -- How lines are read, with the open blocks, the innermost first.
 use Rattle.std.specs.Prelude.{List, [], ◌∷◌, Option, Some, None}
-use Rattle.wb_model.specs.declared.script_lines.Role.{Role}
-use Rattle.wb_model.specs.declared.script_lines.Role.TheVariants.{Skip, Class, Field, Construct, Destroy, Procedure, Declaration, Plain, Loop, If, Else, End}
+use Rattle.wb_tree.specs.declared.script_lines.Role.{Role}
+use Rattle.wb_tree.specs.declared.script_lines.Role.TheVariants.{Skip, Class, Field, Construct, Destroy, Procedure, Declaration, Plain, Loop, If, Else, End}
 use Rattle.wb_nesting.specs.declared.open.Open.{Open}
 use Rattle.wb_nesting.specs.declared.open.Open.TheVariants.{Fields, Made, Destroyed, Declarations, Statements, Branch, Block}
 use Rattle.wb_nesting.specs.declared.open.Move.{Move}

@@ -1,12 +1,12 @@
 //! Reads the lines of a script by their roles, with a stack of the open blocks, up to the first line that is not allowed where it is.
 
 ghost use Rattle.std.specs.Prelude.{◌≡◌, ◌∷◌, IfOk, OnOk, MatchOption, MatchBool, reverse};
-ghost use Rattle.wb_model.specs.language.Grammar.{IsGrammatical, IsFirstMisfit};
+ghost use Rattle.wb_language.specs.Grammar.{IsGrammatical, IsFirstMisfit};
 ghost use Rattle.wb_nesting.specs.Machine.{move_of, after, step, after_line};
 
 use crate::open::{Move, Open};
 use std::alloc::{AllocError, Global};
-use wb_model::script_lines::Role;
+use wb_tree::script_lines::Role;
 
 fn statement_in(place: Open, role: Role) -> Option<Move>
     ensures { result ≡ Rattle.wb_nesting.specs.Machine.statement place role }

@@ -1,6 +1,6 @@
 -- A cleanup stack that is kept beside its heap.
 use Rattle.std.specs.Prelude.{◌≡◌, ◌<◌, Bool, false}
-use Rattle.wb_model.specs.heap.Debug.{Debug, IsSoundDebug}
+use Rattle.wb_heap_model.specs.Debug.{Debug, IsSoundDebug}
 use Rattle.wb_cleanup.specs.declared.cleanup.Cleanup.{Cleanup}
 use Rattle.wb_cleanup.specs.Stacks.{IsStack, count_of, slots_of}
 

@@ -6,7 +6,7 @@ use crate::literals::literal;
 use arrayvec::ArrayVec;
 use std::alloc::{AllocError, Global};
 use std::test::Fail;
-use wb_model::heap::Panic;
+use wb_heap_model::heap::Panic;
 use wb_text::{Buf, Units, append_bytes, append_units};
 
 /// What is done to a buffer.

@@ -1,17 +1,17 @@
 //! `wb_hbuf`: worked edits of texts in cells and in a buffer, by what each edit returns and what the texts read as afterwards.
 
 ghost use Rattle.std.specs.Prelude.{◌≤◌, IfOk};
-ghost use Rattle.wb_model.specs.cells.TextCells.{IsTextAt};
+ghost use Rattle.wb_heap_model.specs.TextCells.{IsTextAt};
 
 use crate::literals::literal;
 use crate::texts::{Change, Taken, Target, WorkedTexts, first_other, grant_text, printed_line};
 use std::alloc::AllocError;
 use std::test::Fail;
+use wb_basics::limits::MOST_UNITS;
+use wb_basics::memory::NoMemory;
 use wb_debug::DebugHeap;
 use wb_hbuf::{Edit, Source, edit, length, max_len, remake};
-use wb_model::heap::{Gave, Panic, Ptr, Rule, Shape};
-use wb_model::limits::MOST_UNITS;
-use wb_model::memory::NoMemory;
+use wb_heap_model::heap::{Gave, Panic, Ptr, Rule, Shape};
 
 static EDITS: [WorkedTexts; 10] = [
     WorkedTexts {

@@ -1,14 +1,14 @@
-//! The lists of `wb_model`, each call once on its happy path; and the parts of a view.
+//! The lists of `wb_basics`, each call once on its happy path; and the parts of a view.
 
 use arrayvec::ArrayVec;
 use std::alloc::AllocError;
 use std::test::Fail;
-use wb_model::heap::{Answer, Attempt, Panic};
-use wb_model::items::Items;
-use wb_model::memory::NoMemory;
-use wb_model::printed_line::Line;
-use wb_model::run::Trace;
-use wb_model::text::{Base, View};
+use wb_basics::items::Items;
+use wb_basics::memory::NoMemory;
+use wb_basics::printed_line::Line;
+use wb_heap_model::heap::{Answer, Attempt, Panic};
+use wb_heap_model::reported::Trace;
+use wb_heap_model::text::{Base, View};
 
 fn attempt(number: u32) -> Attempt {
     Attempt {

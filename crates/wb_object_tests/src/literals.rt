@@ -3,7 +3,7 @@
 ghost use Rattle.std.specs.Prelude.{◌≡◌, IfOk};
 
 use std::alloc::{AllocError, Global};
-use wb_model::script::Chars;
+use wb_basics::items::Chars;
 
 /// A literal of these bytes.
 pub(crate) fn literal(alloc: Global, bytes: &[u8]) -> Result<Chars, AllocError>

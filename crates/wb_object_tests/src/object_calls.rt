@@ -1,20 +1,20 @@
 //! Calls on objects with the answers that they must give, so that worked objects are a table of calls.
 
 ghost use Rattle.std.specs.Prelude.{◌≡◌, ℕ, ◌+◌, ◌^◌, ◌<◌, ◌≤◌, length, true};
-ghost use Rattle.wb_model.specs.meaning.Statements.{payload_of_object};
-ghost use Rattle.wb_model.specs.meaning.Bodies.{class_at};
+ghost use Rattle.wb_tree.specs.Bodies.{payload_of_object};
+ghost use Rattle.wb_tree.specs.Bodies.{class_at};
 ghost use Rattle.wb_objects.specs.Objects.{HasField};
 
 use crate::pointers::{Cell, pointer};
 use std::alloc::Global;
+use wb_basics::items::Items;
+use wb_basics::limits::CEILING;
+use wb_basics::memory::NoMemory;
 use wb_debug::{DebugFault, DebugHeap};
 use wb_hbuf::make as make_text;
-use wb_model::heap::{Gave, Kind, Panic, Ptr, Rule, Shape};
-use wb_model::items::Items;
-use wb_model::limits::CEILING;
-use wb_model::memory::NoMemory;
-use wb_model::script::{Class, Script};
+use wb_heap_model::heap::{Gave, Kind, Panic, Ptr, Rule, Shape};
 use wb_objects::{class_of, field, make, set_field};
+use wb_tree::script::{Class, Script};
 
 /// A class: its extra bytes, and for each field the field's class, if it has one.
 pub(crate) type ClassRow = (u32, &'static [Option<u16>]);

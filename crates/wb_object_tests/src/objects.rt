@@ -2,7 +2,7 @@
 
 use crate::object_calls::{Call, ClassRow, WorkedObjects, first_other};
 use std::test::Fail;
-use wb_model::heap::Panic;
+use wb_heap_model::heap::Panic;
 
 /// A class with one field, one with three fields and extra bytes, one with neither, and one so large that no object of it fits below the
 /// heap's ceiling after 160 bytes.

@@ -1,6 +1,6 @@
 //! Cells as the tables of calls name them.
 
-use wb_model::heap::Ptr;
+use wb_heap_model::heap::Ptr;
 
 /// A cell, by its place and its allocation number.
 pub(crate) type Cell = (u32, u32);

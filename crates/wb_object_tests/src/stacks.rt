@@ -6,10 +6,10 @@ use crate::worked_stacks::{Entry, STACKS, Step, WorkedStack};
 use std::alloc::Global;
 use std::marker::Model;
 use std::test::Fail;
+use wb_basics::limits::CEILING;
 use wb_cleanup::{Cleanup, Pushed};
 use wb_debug::{DebugFault, DebugHeap};
-use wb_model::heap::{Gave, Header, Item, Kind, Panic, Ptr, Shape};
-use wb_model::limits::CEILING;
+use wb_heap_model::heap::{Gave, Header, Item, Kind, Panic, Ptr, Shape};
 
 const SHAPE: Shape = Shape {
     min: 0,

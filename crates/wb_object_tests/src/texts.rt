@@ -2,18 +2,18 @@
 
 ghost use Rattle.std.specs.Prelude.{◌≢◌, ◌≤◌, IfOk};
 ghost use Rattle.wb_hbuf.specs.Sources.{IsApart, IsSource, SuitsEdit};
-ghost use Rattle.wb_model.specs.heap.Debug.{IsSoundDebug};
-ghost use Rattle.wb_model.specs.cells.TextCells.{IsTextAt};
+ghost use Rattle.wb_heap_model.specs.Debug.{IsSoundDebug};
+ghost use Rattle.wb_heap_model.specs.TextCells.{IsTextAt};
 
 use crate::literals::literal;
 use std::alloc::{AllocError, Global};
+use wb_basics::items::Chars;
+use wb_basics::limits::MOST_UNITS;
+use wb_basics::memory::NoMemory;
+use wb_basics::printed_line::Line;
 use wb_debug::DebugHeap;
 use wb_hbuf::{Edit, Source, delete, edit, edit_buf, length, make, print_units, set_length};
-use wb_model::heap::{Gave, Panic, Ptr, Rule, Shape};
-use wb_model::limits::MOST_UNITS;
-use wb_model::memory::NoMemory;
-use wb_model::printed_line::Line;
-use wb_model::script::Chars;
+use wb_heap_model::heap::{Gave, Panic, Ptr, Rule, Shape};
 use wb_text::Buf;
 
 /// Where a text is: in one of two cells, or in a buffer.

@@ -3,7 +3,7 @@
 use crate::pointers::Cell;
 use crate::rules::Refuses;
 use wb_cleanup::Pushed;
-use wb_model::heap::Panic;
+use wb_heap_model::heap::Panic;
 
 /// An item of a cleanup stack, by its cell.
 #[derive(Clone, Copy)]

@@ -3,16 +3,16 @@ use Rattle.std.proofs.Common.{◌≡◌, ℕ, suc, ◌+◌, ◌*◌, ◌<◌, �
 use Rattle.std.specs.Prelude.{IfOk, slice_get, slice_set}
 use Rattle.std.proofs.lemmas.Bool.{eq-eqb}
 use Rattle.std.proofs.lemmas.List.{length-set}
-use Rattle.wb_model.specs.declared.heap.TheConstants.Panic.{WRONG_KIND}
-use Rattle.wb_model.specs.declared.heap.Ptr.{Ptr}
-use Rattle.wb_model.specs.declared.heap.Panic.{Panic}
-use Rattle.wb_model.specs.heap.Row.{Cell, cell_at}
-use Rattle.wb_model.specs.cells.CellRow.{content_or_nil, payload_of}
-use Rattle.wb_model.specs.cells.Spelling.{fields_in}
-use Rattle.wb_model.specs.meaning.Texts.{answer_of}
-use Rattle.wb_model.specs.heap.Debug.{Debug, with_row, debug_changed}
-use Rattle.wb_model.specs.cells.ObjectCells.{IsObject, IsObjectAt}
-use Rattle.wb_model.proofs.heaps.TextCellsHeap.{found-changed, changed-twice}
+use Rattle.wb_heap_model.specs.declared.heap.TheConstants.Panic.{WRONG_KIND}
+use Rattle.wb_heap_model.specs.declared.heap.Ptr.{Ptr}
+use Rattle.wb_heap_model.specs.declared.heap.Panic.{Panic}
+use Rattle.wb_heap_model.specs.Row.{Cell, cell_at}
+use Rattle.wb_heap_model.specs.CellRow.{content_or_nil, payload_of}
+use Rattle.wb_heap_model.specs.Spelling.{fields_in}
+use Rattle.wb_heap_model.specs.Texts.{answer_of}
+use Rattle.wb_heap_model.specs.Debug.{Debug, with_row, debug_changed}
+use Rattle.wb_heap_model.specs.ObjectCells.{IsObject, IsObjectAt}
+use Rattle.wb_heap_model.proofs.TextCellsHeap.{found-changed, changed-twice}
 use Rattle.wb_objects.specs.Objects.{is_of_class, words_of_cell, words_found, HasField, field_in, field_of, with_field, field_changed}
 use Rattle.wb_objects.proofs.Fields.{field-read, field-among, field-written, fields-written, object-written}
 

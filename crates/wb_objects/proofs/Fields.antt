@@ -2,11 +2,11 @@
 use Rattle.std.proofs.Common.{◌≡◌, ℕ, zero, suc, ◌+◌, ◌-◌, ◌*◌, ◌<◌, ◌≤◌, List, [], ◌∷◌, ◌++◌, length, take, drop, slice_index, Some, refl, sym, ap, ◌∙◌, arith}
 use Rattle.std.specs.Prelude.{slice_get, slice_set, unwrap_or}
 use Rattle.std.proofs.lemmas.List.{length-set}
-use Rattle.wb_model.specs.declared.heap.Ptr.{Ptr}
-use Rattle.wb_model.specs.meaning.State.{null}
-use Rattle.wb_model.specs.cells.Spelling.{pointers, fields_in}
-use Rattle.wb_model.specs.cells.ObjectCells.{pointer_words, object_words, IsObject}
-use Rattle.wb_model.proofs.heaps.TextCells.{exactly-longer, zeros}
+use Rattle.wb_heap_model.specs.declared.heap.Ptr.{Ptr}
+use Rattle.wb_heap_model.specs.Pointers.{null}
+use Rattle.wb_heap_model.specs.Spelling.{pointers, fields_in}
+use Rattle.wb_heap_model.specs.ObjectCells.{pointer_words, object_words, IsObject}
+use Rattle.wb_heap_model.proofs.TextCells.{exactly-longer, zeros}
 use Rattle.wb_objects.specs.Objects.{field_in, with_field}
 
 -- two words, one after the other

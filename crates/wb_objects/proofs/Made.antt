@@ -2,30 +2,29 @@
 use Rattle.std.proofs.Common.{◌≡◌, ◌≢◌, ℕ, zero, suc, ◌+◌, ◌-◌, ◌*◌, ◌/◌, ◌<◌, ◌≤◌, Bool, true, false, cond, List, [], ◌∷◌, ◌++◌, length, replicate, Option, Some, None, All, AllPairs, refl, sym, ap, subst, ◌∙◌, arith}
 use Rattle.std.specs.Prelude.{nat_lt, slice_get, slice_set, unwrap_or}
 use Rattle.std.proofs.lemmas.List.{length-replicate, length-set}
-use Rattle.wb_model.specs.declared.heap.Ptr.{Ptr}
-use Rattle.wb_model.specs.declared.heap.Header.{Header}
-use Rattle.wb_model.specs.declared.heap.Kind.TheVariants.{Object}
-use Rattle.wb_model.specs.declared.heap.Answer.{Answer}
-use Rattle.wb_model.specs.declared.heap.Answer.TheVariants as answer
-use Rattle.wb_model.specs.declared.heap.Gave.{Gave}
-use Rattle.wb_model.specs.declared.heap.Gave.TheVariants.{Granted}
-use Rattle.wb_model.specs.declared.script.Class.{Class}
-use Rattle.wb_model.specs.declared.script.Script.{Script}
-use Rattle.wb_model.specs.heap.Row.{Cell, headers, pointer_to, cell_at, inserted, cell_length}
-use Rattle.wb_model.specs.cells.CellRow.{content_or_nil, payload_of, with_payload}
-use Rattle.wb_model.specs.heap.Rules.{Request}
-use Rattle.wb_model.specs.heap.Heap.{alloc_request, new_cell, after_alloc}
-use Rattle.wb_model.specs.heap.LimitedHeap.{zero_words}
-use Rattle.wb_model.specs.meaning.State.{null}
-use Rattle.wb_model.specs.meaning.Statements.{payload_of_object}
-use Rattle.wb_model.specs.meaning.Bodies.{class_at}
-use Rattle.wb_model.specs.cells.Spelling.{fields_in}
-use Rattle.wb_model.specs.cells.ObjectCells.{pointer_words, object_words, IsObject, IsObjectAt}
-use Rattle.wb_model.specs.heap.Debug.{Debug, IsSoundDebug, made_by, answer_in, number_of_next, alloc_made, debug_changed, with_row}
-use Rattle.wb_model.proofs.heaps.TextCells.{zeros}
-use Rattle.wb_model.proofs.heaps.ObjectCells.{object-read}
-use Rattle.wb_model.proofs.heaps.Reallocations.{at-own, cell_at-inserted, changed-inserted}
-use Rattle.wb_model.proofs.heaps.TextCellsHeap.{found-changed}
+use Rattle.wb_heap_model.specs.declared.heap.Ptr.{Ptr}
+use Rattle.wb_heap_model.specs.declared.heap.Header.{Header}
+use Rattle.wb_heap_model.specs.declared.heap.Kind.TheVariants.{Object}
+use Rattle.wb_heap_model.specs.declared.heap.Answer.{Answer}
+use Rattle.wb_heap_model.specs.declared.heap.Answer.TheVariants as answer
+use Rattle.wb_heap_model.specs.declared.heap.Gave.{Gave}
+use Rattle.wb_heap_model.specs.declared.heap.Gave.TheVariants.{Granted}
+use Rattle.wb_tree.specs.declared.script.Class.{Class}
+use Rattle.wb_tree.specs.declared.script.Script.{Script}
+use Rattle.wb_heap_model.specs.Row.{Cell, headers, pointer_to, cell_at, inserted, cell_length}
+use Rattle.wb_heap_model.specs.CellRow.{content_or_nil, payload_of, with_payload}
+use Rattle.wb_heap_model.specs.Rules.{Request}
+use Rattle.wb_heap_model.specs.Heap.{alloc_request, new_cell, after_alloc}
+use Rattle.wb_heap_model.specs.LimitedHeap.{zero_words}
+use Rattle.wb_heap_model.specs.Pointers.{null}
+use Rattle.wb_tree.specs.Bodies.{payload_of_object, class_at}
+use Rattle.wb_heap_model.specs.Spelling.{fields_in}
+use Rattle.wb_heap_model.specs.ObjectCells.{pointer_words, object_words, IsObject, IsObjectAt}
+use Rattle.wb_heap_model.specs.Debug.{Debug, IsSoundDebug, made_by, answer_in, number_of_next, alloc_made, debug_changed, with_row}
+use Rattle.wb_heap_model.proofs.TextCells.{zeros}
+use Rattle.wb_heap_model.proofs.ObjectCells.{object-read}
+use Rattle.wb_heap_model.proofs.Reallocations.{at-own, cell_at-inserted, changed-inserted}
+use Rattle.wb_heap_model.proofs.TextCellsHeap.{found-changed}
 use Rattle.wb_objects.specs.Objects.{new_words, object_made, IsNewObject}
 use Rattle.wb_objects.proofs.Fields.{object-filled}
 

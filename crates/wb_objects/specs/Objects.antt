@@ -1,22 +1,23 @@
 -- Objects in a heap, by their pointers: what is refused, what their words hold, and the heap once one is made or has another
 -- pointer in a field.
 use Rattle.std.specs.Prelude.{◌≡◌, ℕ, ◌+◌, ◌-◌, ◌*◌, ◌/◌, ◌≤◌, List, ◌∷◌, ◌++◌, Bool, false, nat_eq, if◌then◌else◌, Option, Some, None, Result, Ok, Err, IfOk, ok_or, unwrap_or, length, take, drop, replicate, slice_get}
-use Rattle.wb_model.specs.declared.heap.TheConstants.Panic.{NULL_OR_STALE, WRONG_KIND}
-use Rattle.wb_model.specs.declared.heap.Ptr.{Ptr}
-use Rattle.wb_model.specs.declared.heap.Kind.{Kind}
-use Rattle.wb_model.specs.declared.heap.Kind.TheVariants.{Object}
-use Rattle.wb_model.specs.declared.heap.Gave.{Gave}
-use Rattle.wb_model.specs.declared.heap.Gave.TheVariants.{Granted}
-use Rattle.wb_model.specs.declared.heap.Panic.{Panic}
-use Rattle.wb_model.specs.declared.script.Class.{Class}
-use Rattle.wb_model.specs.heap.Row.{Cell, cell_at}
-use Rattle.wb_model.specs.cells.CellRow.{payload_of}
-use Rattle.wb_model.specs.heap.Heap.{alloc_request, after_alloc}
-use Rattle.wb_model.specs.meaning.State.{null}
-use Rattle.wb_model.specs.meaning.Statements.{class_of, payload_of_object}
-use Rattle.wb_model.specs.cells.Spelling.{pointers, fields_in}
-use Rattle.wb_model.specs.cells.ObjectCells.{object_words, IsObjectAt}
-use Rattle.wb_model.specs.heap.Debug.{Debug, Made, made_by, answer_in, debug_changed}
+use Rattle.wb_heap_model.specs.declared.heap.TheConstants.Panic.{NULL_OR_STALE, WRONG_KIND}
+use Rattle.wb_heap_model.specs.declared.heap.Ptr.{Ptr}
+use Rattle.wb_heap_model.specs.declared.heap.Kind.{Kind}
+use Rattle.wb_heap_model.specs.declared.heap.Kind.TheVariants.{Object}
+use Rattle.wb_heap_model.specs.declared.heap.Gave.{Gave}
+use Rattle.wb_heap_model.specs.declared.heap.Gave.TheVariants.{Granted}
+use Rattle.wb_heap_model.specs.declared.heap.Panic.{Panic}
+use Rattle.wb_tree.specs.declared.script.Class.{Class}
+use Rattle.wb_heap_model.specs.Row.{Cell, cell_at}
+use Rattle.wb_heap_model.specs.CellRow.{payload_of}
+use Rattle.wb_heap_model.specs.Heap.{alloc_request, after_alloc}
+use Rattle.wb_heap_model.specs.Pointers.{null}
+use Rattle.wb_heap_model.specs.Contents.{class_of}
+use Rattle.wb_tree.specs.Bodies.{payload_of_object}
+use Rattle.wb_heap_model.specs.Spelling.{pointers, fields_in}
+use Rattle.wb_heap_model.specs.ObjectCells.{object_words, IsObjectAt}
+use Rattle.wb_heap_model.specs.Debug.{Debug, Made, made_by, answer_in, debug_changed}
 
 -- the class of a cell: WORKBENCH 1 where there is none, and WORKBENCH 2 where it is no object
 abbrev pub class_of_cell : Option (Cell (List ℕ)) → Result ℕ Panic

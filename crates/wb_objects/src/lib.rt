@@ -7,7 +7,7 @@
 pub mod objects;
 
 pub use objects::{class_of, field, make, set_field};
+pub use wb_basics::memory::NoMemory;
 pub use wb_debug::DebugHeap;
-pub use wb_model::heap::{Gave, Panic, Ptr};
-pub use wb_model::memory::NoMemory;
-pub use wb_model::script::Script;
+pub use wb_heap_model::heap::{Gave, Panic, Ptr};
+pub use wb_tree::script::Script;

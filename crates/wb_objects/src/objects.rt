@@ -3,22 +3,22 @@
 
 ghost use Rattle.std.specs.Prelude.{◌≡◌, ℕ, ◌+◌, ◌*◌, ◌^◌, ◌<◌, ◌≤◌, length, true, None, Some, IfOk, IsOk, OnErr, OnOk};
 ghost use Rattle.std.specs.Prelude.{slice_get, slice_set};
-ghost use Rattle.wb_model.specs.cells.CellRow.{payload_of};
-ghost use Rattle.wb_model.specs.heap.Debug.{IsSoundDebug, answer_in, keeps_rises};
-ghost use Rattle.wb_model.specs.heap.Heap.{alloc_request};
-ghost use Rattle.wb_model.specs.cells.ObjectCells.{IsObjectAt};
-ghost use Rattle.wb_model.specs.cells.Spelling.{fields_in};
-ghost use Rattle.wb_model.specs.meaning.Statements.{payload_of_object};
-ghost use Rattle.wb_model.specs.meaning.Bodies.{class_at};
-ghost use Rattle.wb_model.specs.meaning.Texts.{answer_of};
+ghost use Rattle.wb_heap_model.specs.CellRow.{payload_of};
+ghost use Rattle.wb_heap_model.specs.Debug.{IsSoundDebug, answer_in, keeps_rises};
+ghost use Rattle.wb_heap_model.specs.Heap.{alloc_request};
+ghost use Rattle.wb_heap_model.specs.ObjectCells.{IsObjectAt};
+ghost use Rattle.wb_heap_model.specs.Spelling.{fields_in};
+ghost use Rattle.wb_tree.specs.Bodies.{payload_of_object};
+ghost use Rattle.wb_tree.specs.Bodies.{class_at};
+ghost use Rattle.wb_heap_model.specs.Texts.{answer_of};
 ghost use Rattle.wb_objects.specs.Objects.{HasField, IsNewObject, class_found, field_changed, field_of, object_made};
 ghost use Rattle.wb_objects.specs.Objects.{words_found};
 
+use wb_basics::limits::CEILING;
+use wb_basics::memory::NoMemory;
 use wb_debug::DebugHeap;
-use wb_model::heap::{Gave, Kind, Panic, Ptr};
-use wb_model::limits::CEILING;
-use wb_model::memory::NoMemory;
-use wb_model::script::{Class, Script};
+use wb_heap_model::heap::{Gave, Kind, Panic, Ptr};
+use wb_tree::script::{Class, Script};
 
 /// The index of the word in which an object has the index of its class.
 const CLASS_WORD: u32 = 0;

@@ -14,8 +14,8 @@ use crate::leaks::{LeakLabel, is_free};
 use crate::panel::Panel;
 use crate::scale::Area;
 use crate::titles::{put_group_title, put_part_title};
+use wb_heap_model::heap::Kind;
 use wb_history::{Part, ScriptLines};
-use wb_model::heap::Kind;
 
 /// The least height of a rectangle in which something is written, in pixels.
 pub const LEAST_WITH_TEXT: u32 = 11;

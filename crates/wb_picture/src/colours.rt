@@ -2,7 +2,7 @@
 //! colour-blind people can tell apart.
 
 use crate::drawing::{Drawing, Drawn};
-use wb_model::heap::Kind;
+use wb_heap_model::heap::Kind;
 
 /// What a cell is painted as.
 #[derive(Clone, Copy, PartialEq, Eq)]

@@ -1,7 +1,7 @@
 //! Which runs have their end drawn once more, and from which step on.
 
 use wb_history::WatchedRun;
-use wb_model::run::Outcome;
+use wb_meaning::run::Outcome;
 
 /// How many of a run's last attempts are drawn once more.
 const LAST_ATTEMPTS: usize = 60;

@@ -4,10 +4,10 @@ use crate::drawing::{Drawing, Drawn};
 use crate::escape::put_line;
 use crate::labels::{close_line, close_text, open_line, open_text};
 use crate::scale::{Area, Scale};
+use wb_heap_model::heap::Panic;
 use wb_history::WatchedRun;
-use wb_model::heap::Panic;
-use wb_model::run::{Outcome, Why};
-use wb_model::run_end::RunEnd;
+use wb_meaning::run::{Outcome, Why};
+use wb_runs::run_end::RunEnd;
 
 /// How far above the frame the words are, in pixels.
 const ABOVE: u32 = 24;

@@ -10,7 +10,7 @@ use crate::labels::{close_text, open_text, width_of_number};
 use crate::panel::Panel;
 use crate::scale::{Area, Scale};
 use std::alloc::{AllocError, Global};
-use wb_model::heap::Kind;
+use wb_heap_model::heap::Kind;
 
 /// The distance between the base lines of labels, in pixels.
 const APART: u32 = 13;

@@ -6,8 +6,8 @@ use crate::escape::{put_escaped, width_of};
 use crate::labels::{close_text, open_text};
 use crate::shown::ShownRuns;
 use std::alloc::AllocError;
+use wb_heap_model::heap::{Answer, Kind};
 use wb_history::{Part, ScriptLines, WatchedRun};
-use wb_model::heap::{Answer, Kind};
 
 /// The height of a row, in pixels.
 const ROW: u32 = 18;

@@ -11,8 +11,8 @@ use crate::leaks::{LeakLabel, is_free};
 use crate::marks::{ColumnAttempts, extend};
 use crate::scale::{Area, Scale};
 use std::alloc::{AllocError, Global};
+use wb_heap_model::heap::Rule;
 use wb_history::{AttemptMade, WatchedRun};
-use wb_model::heap::Rule;
 
 /// How far apart labels are, in pixels.
 const APART: u32 = 13;

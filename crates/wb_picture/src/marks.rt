@@ -9,8 +9,8 @@ use crate::labels::{
 use crate::scale::{Area, Scale};
 use crate::titles::put_attempt_title;
 use std::alloc::AllocError;
+use wb_heap_model::heap::Answer;
 use wb_history::AttemptMade;
-use wb_model::heap::Answer;
 
 /// The greatest width of a mark, in pixels.
 const WIDEST: u32 = 26;

@@ -6,8 +6,8 @@ use crate::endings::put_outcome;
 use crate::escape::put_escaped;
 use crate::labels::{close_text, open_text};
 use crate::shown::ShownRuns;
+use wb_heap_model::heap::Rule;
 use wb_history::{AttemptMade, WatchedRun};
-use wb_model::heap::Rule;
 
 /// The most attempts that a heading names.
 const MOST_NAMED: usize = 4;

@@ -13,9 +13,9 @@ use crate::marks::{put_failed, put_ticks};
 use crate::ranges::put_ranges;
 use crate::refusals::put_refusals;
 use crate::scale::{Area, Scale};
+use wb_heap_model::heap::Answer;
 use wb_history::{AttemptMade, WatchedRun};
-use wb_model::heap::Answer;
-use wb_model::lengths::LengthRange;
+use wb_runs::lengths::LengthRange;
 
 /// The distance from the top of a panel to its frame, in pixels.
 pub const ABOVE: u32 = 54;

@@ -5,7 +5,7 @@ use crate::endings::put_run_end;
 use crate::labels::{close_rect, close_text, open_rect};
 use crate::refusals::{LEAST, LEAST_WITH_TEXT, bar_of, open_beside, put_head};
 use crate::scale::Scale;
-use wb_model::lengths::LengthRange;
+use wb_runs::lengths::LengthRange;
 
 /// Successive ranges of lengths that are drawn as one: from `from` to before `until`, in bytes.
 #[derive(Clone, Copy)]

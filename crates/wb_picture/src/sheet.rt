@@ -14,8 +14,8 @@ use crate::refusals::BESIDE;
 use crate::scale::{Frame, Scale};
 use crate::shown::ShownRuns;
 use std::alloc::{AllocError, Global};
+use wb_heap_model::heap::Rule;
 use wb_history::{AttemptMade, ScriptLines, WatchedRun};
-use wb_model::heap::Rule;
 
 /// The left margin of a picture, in pixels.
 const LEFT: u32 = 76;

@@ -4,8 +4,8 @@ use crate::drawing::{Drawing, Drawn};
 use crate::escape::{put_class, put_line};
 use crate::groups::Group;
 use crate::labels::{put_both, put_digits};
+use wb_heap_model::heap::{Answer, Attempt, Kind};
 use wb_history::{AttemptMade, Part, PartEnd};
-use wb_model::heap::{Answer, Attempt, Kind};
 
 /// Says of a part of a cell's life which cell it is, when it was there, and which line made it.
 pub fn put_part_title(drawing: &mut Drawing<'_>, part: &Part) -> Drawn {

@@ -9,4 +9,3 @@ pub mod PlacedFrames
 pub mod PlacedStatements
 pub mod PlacedPieces
 pub mod PlacedResults
-pub mod PlacedExamples

@@ -1,21 +1,23 @@
 -- Pointers of a run in a heap where each growing cell moves, each with its partner, which the other run holds in its place; and what it means that two states
 -- are the same but for that. A pointer of the first has one partner. Two of its pointers may have the same: one whose cell has moved, and the one that it got.
 use Rattle.std.proofs.Common.{◌≡◌, ◌⊎◌, ℕ, ℤ, ◌+◌, ◌≤◌, List, [], ◌∷◌, inl, inr, refl, sym, ap, ◌∙◌, arith}
-use Rattle.wb_model.specs.declared.heap.Answer.{Answer}
-use Rattle.wb_model.specs.declared.heap.Answer.TheVariants.{Granted, Simulated, Refused}
-use Rattle.wb_model.specs.declared.heap.Header.{Header}
-use Rattle.wb_model.specs.declared.heap.Item.{Item}
-use Rattle.wb_model.specs.declared.heap.Item.TheVariants as I
-use Rattle.wb_model.specs.declared.heap.Ptr.{Ptr}
-use Rattle.wb_model.specs.declared.text.Base.{Base}
-use Rattle.wb_model.specs.declared.text.Base.TheVariants as B
-use Rattle.wb_model.specs.declared.text.View.{View}
-use Rattle.wb_model.specs.heap.Row.{Cell, pointer_to}
-use Rattle.wb_model.specs.meaning.State.{Content, words, fields, units, none, Value, pointer, number, buffer, view, Frame, Way, goes_on, returns, leaves, null}
-use Rattle.wb_model.specs.meaning.Statements.{Todo, all, turns, destroy_items, destroy_object, is_null}
-use Rattle.wb_model.specs.declared.script.StatementAt.{StatementAt}
-use Rattle.wb_model.specs.runs.SameButNumbers.{AllBeside}
-use Rattle.wb_model.proofs.renaming.SameNumbers.{all-weaker}
+use Rattle.wb_heap_model.specs.declared.heap.Answer.{Answer}
+use Rattle.wb_heap_model.specs.declared.heap.Answer.TheVariants.{Granted, Simulated, Refused}
+use Rattle.wb_heap_model.specs.declared.heap.Header.{Header}
+use Rattle.wb_heap_model.specs.declared.heap.Item.{Item}
+use Rattle.wb_heap_model.specs.declared.heap.Item.TheVariants as I
+use Rattle.wb_heap_model.specs.declared.heap.Ptr.{Ptr}
+use Rattle.wb_heap_model.specs.declared.text.Base.{Base}
+use Rattle.wb_heap_model.specs.declared.text.Base.TheVariants as B
+use Rattle.wb_heap_model.specs.declared.text.View.{View}
+use Rattle.wb_heap_model.specs.Row.{Cell, pointer_to}
+use Rattle.wb_heap_model.specs.Contents.{Content, words, fields, units, none}
+use Rattle.wb_meaning.specs.State.{Value, pointer, number, buffer, view, Frame, Way, goes_on, returns, leaves}
+use Rattle.wb_heap_model.specs.Pointers.{null, is_null}
+use Rattle.wb_meaning.specs.Statements.{Todo, all, turns, destroy_items, destroy_object}
+use Rattle.wb_tree.specs.declared.script.StatementAt.{StatementAt}
+use Rattle.wb_renaming.specs.SameButNumbers.{AllBeside}
+use Rattle.wb_renaming.proofs.SameNumbers.{all-weaker}
 
 -- pointers, each with its partner
 abbrev pub PointerPairs : Type 0

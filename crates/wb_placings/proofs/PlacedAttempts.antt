@@ -2,26 +2,28 @@
 use Rattle.std.proofs.Common.{◌≡◌, ℕ, ℤ, ◌+◌, ◌*◌, ◌-◌, ◌≢◌, Bool, true, false, List, [], ◌∷◌, ◌++◌, refl, sym, ap, ◌∙◌, subst, Option, Some}
 use Rattle.std.specs.Prelude.{nat_eq, nat_lt}
 use Rattle.std.proofs.lemmas.Bool.{ltb-false, false≢true}
-use Rattle.wb_model.specs.declared.heap.TheConstants.{KERR_NO_MEMORY}
-use Rattle.wb_model.specs.declared.limits.TheConstants.{LARGEST_REQUEST}
-use Rattle.wb_model.specs.declared.heap.Answer.{Answer}
-use Rattle.wb_model.specs.declared.heap.Item.{Item}
-use Rattle.wb_model.specs.declared.heap.Kind.{Kind}
-use Rattle.wb_model.specs.declared.heap.Kind.TheVariants as K
-use Rattle.wb_model.specs.declared.heap.Ptr.{Ptr}
-use Rattle.wb_model.specs.declared.script.Pointer.{Pointer}
-use Rattle.wb_model.specs.declared.script.Pointer.TheVariants.{Held, Field}
-use Rattle.wb_model.specs.declared.script.Refusal.{Refusal}
-use Rattle.wb_model.specs.declared.script.Refusal.TheVariants.{GivesNull, Leaves}
-use Rattle.wb_model.specs.heap.Heap.{Heap, AfterAnswer, shortened}
-use Rattle.wb_model.specs.heap.Row.{Cell, pointer_to, cell_at, cell_length}
-use Rattle.wb_model.specs.heap.Rules.{Request, is_due}
-use Rattle.wb_model.specs.meaning.State.{Content, State, Process, set_heap}
-use Rattle.wb_model.specs.meaning.Operands.{held_by, units_of, within}
-use Rattle.wb_model.specs.meaning.Attempts.{attempt, allocate, resized, reallocate, reallocate_longer, after_growth, grow_if, push}
-use Rattle.wb_model.specs.meaning.Statements.{given_to, is_null, is_raw, fresh_words, alloc_raw, realloc_raw, realloc_of}
-use Rattle.wb_model.specs.runs.SameButNumbers.{none_beside, one_beside}
-use Rattle.wb_model.proofs.renaming.SameNumbers.{ap_two, length-beside, append-beside, BothSome, neither, both_some}
+use Rattle.wb_heap_model.specs.declared.heap.TheConstants.{KERR_NO_MEMORY}
+use Rattle.wb_basics.specs.declared.limits.TheConstants.{LARGEST_REQUEST}
+use Rattle.wb_heap_model.specs.declared.heap.Answer.{Answer}
+use Rattle.wb_heap_model.specs.declared.heap.Item.{Item}
+use Rattle.wb_heap_model.specs.declared.heap.Kind.{Kind}
+use Rattle.wb_heap_model.specs.declared.heap.Kind.TheVariants as K
+use Rattle.wb_heap_model.specs.declared.heap.Ptr.{Ptr}
+use Rattle.wb_tree.specs.declared.script.Pointer.{Pointer}
+use Rattle.wb_tree.specs.declared.script.Pointer.TheVariants.{Held, Field}
+use Rattle.wb_tree.specs.declared.script.Refusal.{Refusal}
+use Rattle.wb_tree.specs.declared.script.Refusal.TheVariants.{GivesNull, Leaves}
+use Rattle.wb_heap_model.specs.Heap.{Heap, AfterAnswer, shortened}
+use Rattle.wb_heap_model.specs.Row.{Cell, pointer_to, cell_at, cell_length}
+use Rattle.wb_heap_model.specs.Rules.{Request, is_due}
+use Rattle.wb_heap_model.specs.Contents.{Content}
+use Rattle.wb_meaning.specs.State.{State, Process, set_heap}
+use Rattle.wb_meaning.specs.Operands.{held_by, units_of, within}
+use Rattle.wb_meaning.specs.Attempts.{attempt, allocate, resized, reallocate, reallocate_longer, after_growth, grow_if, push}
+use Rattle.wb_meaning.specs.Statements.{given_to, is_raw, fresh_words, alloc_raw, realloc_raw, realloc_of}
+use Rattle.wb_heap_model.specs.Pointers.{is_null}
+use Rattle.wb_renaming.specs.SameButNumbers.{none_beside, one_beside}
+use Rattle.wb_renaming.proofs.SameNumbers.{ap_two, length-beside, append-beside, BothSome, neither, both_some}
 use Rattle.wb_placings.proofs.Partners.{Stands, Partners, after_answer, answer-extends, answer-partners, Extends, IsSameContent, same_words, IsSameItem, same_plain, same_leave}
 use Rattle.wb_placings.proofs.RowLemmas.{lacking-none, lacks-next}
 use Rattle.wb_placings.proofs.SameRows.{not-both}

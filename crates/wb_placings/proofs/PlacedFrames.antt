@@ -1,22 +1,22 @@
 -- Frames, arguments, destructions, traps and conditions in states that are the same but for partners, where what is inside goes alike.
 use Rattle.std.proofs.Common.{◌≡◌, ℕ, ℤ, ◌-◌, Bool, true, false, not, ◌&&◌, List, [], ◌∷◌, map, refl, ap, ◌∙◌}
 use Rattle.std.specs.Prelude.{nat_eq, int_le, int_lt, pos}
-use Rattle.wb_model.specs.declared.heap.Item.{Item}
-use Rattle.wb_model.specs.declared.heap.Ptr.{Ptr}
-use Rattle.wb_model.specs.declared.script.Argument.{Argument}
-use Rattle.wb_model.specs.declared.script.Argument.TheVariants.{Passed, Given}
-use Rattle.wb_model.specs.declared.script.Body.{Body}
-use Rattle.wb_model.specs.declared.script.Condition.{Condition}
-use Rattle.wb_model.specs.declared.script.Condition.TheVariants.{IsNull, NotNull, Equal, Less}
-use Rattle.wb_model.specs.declared.script.Local.{Local}
-use Rattle.wb_model.specs.declared.script.Local.TheVariants.{OfPointer, OfNumber, OfBuffer, OfView}
-use Rattle.wb_model.specs.declared.script.Script.{Script}
-use Rattle.wb_model.specs.meaning.Bodies.{operation_at}
-use Rattle.wb_model.specs.meaning.Operands.{number_of}
-use Rattle.wb_model.specs.meaning.State.{Frame, Value, number, initial, State, Way, leaves, Process, ends}
-use Rattle.wb_model.specs.meaning.Statements.{Todo, destroy_items, Context, Meaning, in_frame, plain, with_arguments, destroyed_object, destroyed_item, trapped, with_condition, leave_if}
-use Rattle.wb_model.specs.runs.SameButNumbers.{AllBeside, none_beside, one_beside}
-use Rattle.wb_model.proofs.renaming.SameNumbers.{ap_two, length-beside, append-beside}
+use Rattle.wb_heap_model.specs.declared.heap.Item.{Item}
+use Rattle.wb_heap_model.specs.declared.heap.Ptr.{Ptr}
+use Rattle.wb_tree.specs.declared.script.Argument.{Argument}
+use Rattle.wb_tree.specs.declared.script.Argument.TheVariants.{Passed, Given}
+use Rattle.wb_tree.specs.declared.script.Body.{Body}
+use Rattle.wb_tree.specs.declared.script.Condition.{Condition}
+use Rattle.wb_tree.specs.declared.script.Condition.TheVariants.{IsNull, NotNull, Equal, Less}
+use Rattle.wb_tree.specs.declared.script.Local.{Local}
+use Rattle.wb_tree.specs.declared.script.Local.TheVariants.{OfPointer, OfNumber, OfBuffer, OfView}
+use Rattle.wb_tree.specs.declared.script.Script.{Script}
+use Rattle.wb_tree.specs.Bodies.{operation_at}
+use Rattle.wb_meaning.specs.Operands.{number_of}
+use Rattle.wb_meaning.specs.State.{Frame, Value, number, initial, State, Way, leaves, Process, ends}
+use Rattle.wb_meaning.specs.Statements.{Todo, destroy_items, Context, Meaning, in_frame, plain, with_arguments, destroyed_object, destroyed_item, trapped, with_condition, leave_if}
+use Rattle.wb_renaming.specs.SameButNumbers.{AllBeside, none_beside, one_beside}
+use Rattle.wb_renaming.proofs.SameNumbers.{ap_two, length-beside, append-beside}
 use Rattle.wb_placings.proofs.Partners.{PointerPairs, Stands, Partners, ArePartners, IsSameItem, same_free, same_delete, same_call, same_nothing, IsSameValue, same_pointer, same_number, same_buffer, same_view, IsSameFrame, IsSameWay, same_plain, same_return, same_leave, IsSameTodo, same_statements, same_items, same_object, frame-later}
 use Rattle.wb_placings.proofs.PlacedProcesses.{IsBeside, GoesAlike, both_end, number-same, set_local-beside, GoesOn, and_then-alike, then_do-alike, require-alike, given-same, with_pointer-alike}
 use Rattle.wb_placings.proofs.PlacedTexts.{release-alike}

@@ -2,22 +2,22 @@
 use Rattle.std.proofs.Common.{◌≡◌, ◌≢◌, ℕ, ◌+◌, ◌-◌, ◌≤◌, Bool, true, false, not, List, inl, inr, refl, sym, ap, ◌∙◌, subst, arith, cond, length, Some, None}
 use Rattle.std.specs.Prelude.{nat_eq, ◌&&◌}
 use Rattle.std.proofs.lemmas.Bool.{ne_eqb}
-use Rattle.wb_model.specs.declared.heap.TheConstants.Panic.{NO_OPEN_MARK}
-use Rattle.wb_model.specs.declared.heap.Answer.{Answer}
-use Rattle.wb_model.specs.declared.heap.Answer.TheVariants.{Granted, Simulated, Refused}
-use Rattle.wb_model.specs.declared.heap.Header.{Header}
-use Rattle.wb_model.specs.declared.heap.Kind.{Kind}
-use Rattle.wb_model.specs.declared.heap.Panic.TheVariants.{Alloc}
-use Rattle.wb_model.specs.declared.heap.Ptr.{Ptr}
-use Rattle.wb_model.specs.heap.Heap.{Heap, AfterAnswer, attempt_counted, alloc_request, after_alloc, realloc_request, moved, after_realloc, shortened, is_cleanup, cells_of_level, cells_of_all_levels, checked, after_mark, after_mark_end, mark_end_refusal, lowest, lowered}
-use Rattle.wb_model.specs.heap.Placement.{first_fit, after_placing, has_stayed, place_to_grow_to, place_to_put}
-use Rattle.wb_model.specs.heap.Row.{Cell, headers, pointer_to, is_at, cell_at, inserted, without, IsFree, IsLeastPlace, Misses, place_of, cell_length}
-use Rattle.wb_model.specs.heap.Rules.{after_attempt}
-use Rattle.wb_model.specs.meaning.State.{Content}
-use Rattle.wb_model.proofs.heaps.Places.{place_of-least}
-use Rattle.wb_model.proofs.heaps.Rows.{headers-without, spaced-inserted}
-use Rattle.wb_model.proofs.heaps.Reallocations.{at-number, pointer-at, found-from, found-all, found-head, found-missed, fits-words, fits-free, fits-shorter, free-filter, cell_at-inserted_other}
-use Rattle.wb_model.proofs.renaming.SameNumbers.{BothSome, neither, both_some}
+use Rattle.wb_heap_model.specs.declared.heap.TheConstants.Panic.{NO_OPEN_MARK}
+use Rattle.wb_heap_model.specs.declared.heap.Answer.{Answer}
+use Rattle.wb_heap_model.specs.declared.heap.Answer.TheVariants.{Granted, Simulated, Refused}
+use Rattle.wb_heap_model.specs.declared.heap.Header.{Header}
+use Rattle.wb_heap_model.specs.declared.heap.Kind.{Kind}
+use Rattle.wb_heap_model.specs.declared.heap.Panic.TheVariants.{Alloc}
+use Rattle.wb_heap_model.specs.declared.heap.Ptr.{Ptr}
+use Rattle.wb_heap_model.specs.Heap.{Heap, AfterAnswer, attempt_counted, alloc_request, after_alloc, realloc_request, moved, after_realloc, shortened, is_cleanup, cells_of_level, cells_of_all_levels, checked, after_mark, after_mark_end, mark_end_refusal, lowest, lowered}
+use Rattle.wb_heap_model.specs.Placement.{first_fit, after_placing, has_stayed, place_to_grow_to, place_to_put}
+use Rattle.wb_heap_model.specs.Row.{Cell, headers, pointer_to, is_at, cell_at, inserted, without, IsFree, IsLeastPlace, Misses, place_of, cell_length}
+use Rattle.wb_heap_model.specs.Rules.{after_attempt}
+use Rattle.wb_heap_model.specs.Contents.{Content}
+use Rattle.wb_heap_model.proofs.Places.{place_of-least}
+use Rattle.wb_heap_model.proofs.Rows.{headers-without, spaced-inserted}
+use Rattle.wb_heap_model.proofs.Reallocations.{at-number, pointer-at, found-from, found-all, found-head, found-missed, fits-words, fits-free, fits-shorter, free-filter, cell_at-inserted_other}
+use Rattle.wb_renaming.proofs.SameNumbers.{BothSome, neither, both_some}
 use Rattle.wb_placings.proofs.Partners.{Stands, newest-stands, Partners, ArePartners, after_answer, answer-extends, answer-partners, IsSameContent, IsSameCell, content-later}
 use Rattle.wb_placings.proofs.RowLemmas.{IsNumbered, Lacks, lacking-none, found-without_other, without-lacks, lacks-next}
 use Rattle.wb_placings.proofs.SameRows.{AreSameRows, not-both, rows-without, rows-inserted, rows-lowered, rows-later}

@@ -2,16 +2,17 @@
 use Rattle.std.proofs.Common.{◌≡◌, ℕ, zero, suc, ◌+◌, ◌≤◌, inl, inr, sym, arith, Bool, true, false, [], ◌∷◌, refl, ap, ◌∙◌, Option}
 use Rattle.std.specs.Prelude.{nat_eq, nat_lt}
 use Rattle.std.proofs.lemmas.List.Elements.{All-nil}
-use Rattle.wb_model.specs.declared.heap.Ptr.{Ptr}
-use Rattle.wb_model.specs.declared.script.Script.{Script}
-use Rattle.wb_model.specs.declared.script.Statement.TheViews.{out-Statement}
-use Rattle.wb_model.specs.heap.Placement.{Placement, first_fit}
-use Rattle.wb_model.specs.meaning.Meaning.{begun, begun_if, piece, meaning_within, meaning_of}
-use Rattle.wb_model.specs.meaning.State.{State, Way, Process, null}
-use Rattle.wb_model.specs.meaning.Statements.{Todo, is_null, destroy_items, Context, Meaning}
-use Rattle.wb_model.specs.runs.Run.{start, main_trapped, in_main, started, process}
-use Rattle.wb_model.specs.runs.SameButNumbers.{none_beside}
-use Rattle.wb_model.proofs.renaming.SameNumbers.{length-beside, BothSome, neither, both_some}
+use Rattle.wb_heap_model.specs.declared.heap.Ptr.{Ptr}
+use Rattle.wb_tree.specs.declared.script.Script.{Script}
+use Rattle.wb_tree.specs.declared.script.Statement.TheViews.{out-Statement}
+use Rattle.wb_heap_model.specs.Placement.{Placement, first_fit}
+use Rattle.wb_meaning.specs.Meaning.{begun, begun_if, piece, meaning_within, meaning_of}
+use Rattle.wb_meaning.specs.State.{State, Way, Process}
+use Rattle.wb_heap_model.specs.Pointers.{null, is_null}
+use Rattle.wb_meaning.specs.Statements.{Todo, destroy_items, Context, Meaning}
+use Rattle.wb_meaning.specs.Run.{start, main_trapped, in_main, started, process}
+use Rattle.wb_renaming.specs.SameButNumbers.{none_beside}
+use Rattle.wb_renaming.proofs.SameNumbers.{length-beside, BothSome, neither, both_some}
 use Rattle.wb_placings.proofs.Partners.{Stands, newest-stands, Partners, ArePartners, IsListed, IsSameItem, same_none, IsSameWay, same_plain, same_return, same_leave, IsSameTodo, same_statements, same_turns, same_items, same_object, pointer-later}
 use Rattle.wb_placings.proofs.SameRows.{AreSameRows}
 use Rattle.wb_placings.proofs.PlacedProcesses.{IsBeside, GoesAlike, both_end, both_lack, cut_first, if_found, and_then-alike, then_do-alike, require-alike, with_some-alike, given-same}

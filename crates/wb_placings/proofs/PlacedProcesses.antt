@@ -2,26 +2,28 @@
 -- in `PlacedStatements`.
 use Rattle.std.proofs.Common.{◌≡◌, ℕ, ◌+◌, Bool, true, false, refl, sym, ap, ◌∙◌, subst, cond, Option, Some, None}
 use Rattle.std.specs.Prelude.{nat_eq, pos}
-use Rattle.wb_model.specs.declared.heap.Answer.{Answer}
-use Rattle.wb_model.specs.declared.heap.Kind.{Kind}
-use Rattle.wb_model.specs.declared.heap.Kind.TheVariants as K
-use Rattle.wb_model.specs.declared.heap.Panic.{Panic}
-use Rattle.wb_model.specs.declared.heap.Ptr.{Ptr}
-use Rattle.wb_model.specs.declared.run.Why.{Why}
-use Rattle.wb_model.specs.declared.script.Holder.{Holder}
-use Rattle.wb_model.specs.declared.script.Holder.TheVariants as H
-use Rattle.wb_model.specs.declared.script.Number.{Number}
-use Rattle.wb_model.specs.declared.script.Number.TheVariants.{Constant, Variable}
-use Rattle.wb_model.specs.declared.script.Pointer.{Pointer}
-use Rattle.wb_model.specs.declared.script.Pointer.TheVariants.{Held, Field}
-use Rattle.wb_model.specs.heap.Heap.{Heap}
-use Rattle.wb_model.specs.heap.Row.{Cell, cell_at, changed}
-use Rattle.wb_model.specs.heap.Rules.{Request}
-use Rattle.wb_model.specs.meaning.State.{Content, Value, number, State, Way, panics, is_cut, no_cleanup, Query, Process, ends, stops, asks, notes, and_then, on_plain_end, then_do, require, with_some, unless, set_heap, set_local, pointer_in, number_in, local_of, null}
-use Rattle.wb_model.specs.meaning.Operands.{number_of, held_by, fields_of, raw_words_of, units_of, with_cell, with_fields, with_pointer, set_field, set_pointer, set_row}
-use Rattle.wb_model.specs.meaning.Attempts.{resized}
-use Rattle.wb_model.specs.runs.SameButNumbers.{AllBeside}
-use Rattle.wb_model.proofs.renaming.SameNumbers.{set-beside, BothSome, neither, both_some, get-beside, unwrap-beside}
+use Rattle.wb_heap_model.specs.declared.heap.Answer.{Answer}
+use Rattle.wb_heap_model.specs.declared.heap.Kind.{Kind}
+use Rattle.wb_heap_model.specs.declared.heap.Kind.TheVariants as K
+use Rattle.wb_heap_model.specs.declared.heap.Panic.{Panic}
+use Rattle.wb_heap_model.specs.declared.heap.Ptr.{Ptr}
+use Rattle.wb_meaning.specs.declared.run.Why.{Why}
+use Rattle.wb_tree.specs.declared.script.Holder.{Holder}
+use Rattle.wb_tree.specs.declared.script.Holder.TheVariants as H
+use Rattle.wb_tree.specs.declared.script.Number.{Number}
+use Rattle.wb_tree.specs.declared.script.Number.TheVariants.{Constant, Variable}
+use Rattle.wb_tree.specs.declared.script.Pointer.{Pointer}
+use Rattle.wb_tree.specs.declared.script.Pointer.TheVariants.{Held, Field}
+use Rattle.wb_heap_model.specs.Heap.{Heap}
+use Rattle.wb_heap_model.specs.Row.{Cell, cell_at, changed}
+use Rattle.wb_heap_model.specs.Rules.{Request}
+use Rattle.wb_heap_model.specs.Contents.{Content}
+use Rattle.wb_meaning.specs.State.{Value, number, State, Way, panics, is_cut, no_cleanup, Query, Process, ends, stops, asks, notes, and_then, on_plain_end, then_do, require, with_some, unless, set_heap, set_local, pointer_in, number_in, local_of}
+use Rattle.wb_heap_model.specs.Pointers.{null}
+use Rattle.wb_meaning.specs.Operands.{number_of, held_by, fields_of, raw_words_of, units_of, with_cell, with_fields, with_pointer, set_field, set_pointer, set_row}
+use Rattle.wb_meaning.specs.Attempts.{resized}
+use Rattle.wb_renaming.specs.SameButNumbers.{AllBeside}
+use Rattle.wb_renaming.proofs.SameNumbers.{set-beside, BothSome, neither, both_some, get-beside, unwrap-beside}
 use Rattle.wb_placings.proofs.Partners.{PointerPairs, Stands, Partners, ArePartners, after_answer, answer-extends, Extends, IsSameContent, same_words, same_fields, same_units, same_none, IsSameCell, IsSameItem, IsSameValue, same_pointer, same_number, same_buffer, same_view, IsSameFrame, IsSameWay, same_plain, same_return, same_leave, items-later, frame-later}
 use Rattle.wb_placings.proofs.RowLemmas.{found-pointer}
 use Rattle.wb_placings.proofs.SameRows.{rows-changed}

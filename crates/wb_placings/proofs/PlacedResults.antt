@@ -2,33 +2,34 @@
 use Rattle.std.proofs.Common.{◌≡◌, ◌≢◌, ℕ, ℤ, ◌+◌, Bool, true, false, not, ◌&&◌, ◌||◌, List, [], ◌∷◌, ◌++◌, length, map, refl, sym, ap, ◌∙◌, subst, arith, cond, Option, Some, None}
 use Rattle.std.specs.Prelude.{nat_lt}
 use Rattle.std.proofs.lemmas.Bool.{false≢true}
-use Rattle.wb_model.specs.declared.limits.TheConstants.{CEILING}
-use Rattle.wb_model.specs.declared.heap.Answer.{Answer}
-use Rattle.wb_model.specs.declared.heap.Answer.TheVariants.{Granted, Simulated, Refused}
-use Rattle.wb_model.specs.declared.heap.Attempt.{Attempt}
-use Rattle.wb_model.specs.declared.heap.Header.{Header}
-use Rattle.wb_model.specs.declared.heap.Rule.TheVariants.{Set}
-use Rattle.wb_model.specs.declared.heap.Shape.{Shape}
-use Rattle.wb_model.specs.declared.run.Outcome.{Outcome}
-use Rattle.wb_model.specs.declared.run.Outcome.TheVariants.{Ended, Cut}
-use Rattle.wb_model.specs.declared.run.Why.TheVariants.{Ceiling}
-use Rattle.wb_model.specs.declared.script.Script.{Script}
-use Rattle.wb_model.specs.declared.size.Rise.{Rise}
-use Rattle.wb_model.specs.heap.Heap.{cells_of_all_levels}
-use Rattle.wb_model.specs.heap.Placement.{Placement, first_fit, placement_of}
-use Rattle.wb_model.specs.heap.Row.{headers}
-use Rattle.wb_model.specs.heap.Rules.{Request, answer_to, simulates, unless_refused}
-use Rattle.wb_model.specs.heap.Space.{Space, space_of}
-use Rattle.wb_model.specs.meaning.State.{State, Way, is_cut, Query, heap_note, available_note, compress_note, Process, ends, stops, asks, notes}
-use Rattle.wb_model.specs.runs.Agreement.{IsSameButNotes}
-use Rattle.wb_model.specs.runs.Account.{stopped, Account, Settled, settled, on_answer, recorded, noted, next_number, trace_line}
-use Rattle.wb_model.specs.runs.Run.{before, is_bad_outcome, leak_of, left_by, outcome_of, process, result_of}
-use Rattle.wb_model.specs.runs.Rises.{rises_with}
-use Rattle.wb_model.specs.runs.SameButNumbers.{AllBeside, none_beside, one_beside}
-use Rattle.wb_model.specs.runs.Sets.{AreAllSetsFine, IsSet, set_run}
-use Rattle.wb_model.specs.runs.Sweeps.{is_cut_outcome, is_fine}
-use Rattle.wb_model.proofs.runs.AccountLemmas.{recorded-trace}
-use Rattle.wb_model.proofs.renaming.SameNumbers.{ap_two, append-beside}
+use Rattle.wb_basics.specs.declared.limits.TheConstants.{CEILING}
+use Rattle.wb_heap_model.specs.declared.heap.Answer.{Answer}
+use Rattle.wb_heap_model.specs.declared.heap.Answer.TheVariants.{Granted, Simulated, Refused}
+use Rattle.wb_heap_model.specs.declared.heap.Attempt.{Attempt}
+use Rattle.wb_heap_model.specs.declared.heap.Header.{Header}
+use Rattle.wb_heap_model.specs.declared.heap.Rule.TheVariants.{Set}
+use Rattle.wb_heap_model.specs.declared.heap.Shape.{Shape}
+use Rattle.wb_meaning.specs.declared.run.Outcome.{Outcome}
+use Rattle.wb_meaning.specs.declared.run.Outcome.TheVariants.{Ended, Cut}
+use Rattle.wb_meaning.specs.declared.run.Why.TheVariants.{Ceiling}
+use Rattle.wb_tree.specs.declared.script.Script.{Script}
+use Rattle.wb_heap_model.specs.declared.size.Rise.{Rise}
+use Rattle.wb_heap_model.specs.Heap.{cells_of_all_levels}
+use Rattle.wb_heap_model.specs.Placement.{Placement, first_fit, placement_of}
+use Rattle.wb_heap_model.specs.Row.{headers}
+use Rattle.wb_heap_model.specs.Rules.{Request, answer_to, simulates, unless_refused}
+use Rattle.wb_heap_model.specs.Space.{Space, space_of}
+use Rattle.wb_meaning.specs.State.{State, Way, is_cut, Query, heap_note, available_note, compress_note, Process, ends, stops, asks, notes}
+use Rattle.wb_meaning.specs.Agreement.{IsSameButNotes}
+use Rattle.wb_meaning.specs.Account.{stopped, Account, Settled, settled, on_answer, recorded, noted, next_number}
+use Rattle.wb_heap_model.specs.Reported.{trace_line, leak_of}
+use Rattle.wb_meaning.specs.Run.{before, is_bad_outcome, left_by, outcome_of, process, result_of}
+use Rattle.wb_heap_model.specs.Rises.{rises_with}
+use Rattle.wb_renaming.specs.SameButNumbers.{AllBeside, none_beside, one_beside}
+use Rattle.wb_runs.specs.Sets.{AreAllSetsFine, IsSet, set_run}
+use Rattle.wb_runs.specs.Sweeps.{is_cut_outcome, is_fine}
+use Rattle.wb_meaning.proofs.AccountLemmas.{recorded-trace}
+use Rattle.wb_renaming.proofs.SameNumbers.{ap_two, append-beside}
 use Rattle.wb_placings.specs.PlacedRuns.{answer_under, settled_under, no_space, placed_run, IsSameAttempt, IsSameButPlaces}
 use Rattle.wb_placings.proofs.Partners.{PointerPairs, Partners, after_answer, IsSameWay, same_plain, same_return, same_leave}
 use Rattle.wb_placings.proofs.PlacedHeaps.{all_levels-counted}

@@ -2,20 +2,22 @@
 use Rattle.std.proofs.Common.{◌≡◌, ℕ, ℤ, zero, suc, ◌+◌, ◌-◌, ◌+ℤ◌, true, List, [], ◌∷◌, ◌++◌, length, take, replicate, refl, sym, ap, ◌∙◌, subst, Option}
 use Rattle.std.specs.Prelude.{nat_le, int_lt, pos, slice_get, slice_set}
 use Rattle.std.specs.Fmt.{signed_decimal}
-use Rattle.wb_model.specs.declared.heap.Item.{Item}
-use Rattle.wb_model.specs.declared.heap.Panic.{Panic}
-use Rattle.wb_model.specs.declared.limits.TheConstants.{LARGEST_REQUEST, MOST_TURNS, MOST_UNITS}
-use Rattle.wb_model.specs.declared.script.Number.{Number}
-use Rattle.wb_model.specs.declared.script.Number.TheVariants.{Variable}
-use Rattle.wb_model.specs.declared.script.Refusal.TheVariants.{GivesNull}
-use Rattle.wb_model.specs.declared.script.Script.{Script}
-use Rattle.wb_model.specs.declared.script.Statement.TheOpen.{Statement-F}
-use Rattle.wb_model.specs.heap.Rules.{Setting, never, next, each}
-use Rattle.wb_model.specs.meaning.Operands.{number_of, within, not_negative}
-use Rattle.wb_model.specs.meaning.State.{words, number, State, leaves, Process, and_then, null, with_some}
-use Rattle.wb_model.specs.meaning.Statements.{all, done, drop_newest, newest, item_pointer, index_in, in_range, at_least_one, plain, set_setting, new_object, realloc_text, Context, Meaning, Layer, trapped, statement}
-use Rattle.wb_model.specs.runs.SameButNumbers.{AllBeside, none_beside, one_beside}
-use Rattle.wb_model.proofs.renaming.SameNumbers.{ap_two, length-beside, take-beside, BothSome, get-beside}
+use Rattle.wb_heap_model.specs.declared.heap.Item.{Item}
+use Rattle.wb_heap_model.specs.declared.heap.Panic.{Panic}
+use Rattle.wb_basics.specs.declared.limits.TheConstants.{LARGEST_REQUEST, MOST_TURNS, MOST_UNITS}
+use Rattle.wb_tree.specs.declared.script.Number.{Number}
+use Rattle.wb_tree.specs.declared.script.Number.TheVariants.{Variable}
+use Rattle.wb_tree.specs.declared.script.Refusal.TheVariants.{GivesNull}
+use Rattle.wb_tree.specs.declared.script.Script.{Script}
+use Rattle.wb_tree.specs.declared.script.Statement.TheOpen.{Statement-F}
+use Rattle.wb_heap_model.specs.Rules.{Setting, never, next, each}
+use Rattle.wb_meaning.specs.Operands.{number_of, within, not_negative}
+use Rattle.wb_heap_model.specs.Contents.{words}
+use Rattle.wb_meaning.specs.State.{number, State, leaves, Process, and_then, with_some}
+use Rattle.wb_heap_model.specs.Pointers.{null, newest, item_pointer}
+use Rattle.wb_meaning.specs.Statements.{all, done, drop_newest, index_in, in_range, at_least_one, plain, set_setting, new_object, realloc_text, Context, Meaning, Layer, trapped, statement}
+use Rattle.wb_renaming.specs.SameButNumbers.{AllBeside, none_beside, one_beside}
+use Rattle.wb_renaming.proofs.SameNumbers.{ap_two, length-beside, take-beside, BothSome, get-beside}
 use Rattle.wb_placings.proofs.Partners.{PointerPairs, Stands, Partners, ArePartners, IsSameContent, same_words, same_fields, same_units, IsSameItem, same_free, same_delete, same_call, IsSameValue, same_pointer, same_number, IsSameWay, same_plain, same_return, same_leave, same_statements, same_turns, same_items}
 use Rattle.wb_placings.proofs.PlacedHeaps.{IsSameHeap, mark-same, mark_end-same, all_levels-passed, level-passed, mark_end-passed}
 use Rattle.wb_placings.proofs.PlacedProcesses.{IsBeside, GoesAlike, both_end, both_note, if_found, is_object, AreFound, cell_at-found, units-same, number-same, set_heap-beside, set_local-beside, changed_cell-beside, set_pointer-beside, GoesOn, and_then-alike, require-alike, with_some-alike, given-same, with_same-alike, unless-alike, with_cell-alike, with_pointer-alike}

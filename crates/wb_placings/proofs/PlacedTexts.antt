@@ -2,22 +2,24 @@
 use Rattle.std.proofs.Common.{◌≡◌, ℕ, ℤ, ◌+◌, ◌-◌, Bool, true, false, not, List, [], drop, refl, sym, ap, ◌∙◌, subst, cond, Option, Some, None, Result, Ok, Err}
 use Rattle.std.specs.Prelude.{nat_eq}
 use Rattle.std.proofs.lemmas.Bool.{eqb-true, eq-eqb, and_parts, and_from, false≢true}
-use Rattle.wb_model.specs.declared.heap.Panic.{Panic}
-use Rattle.wb_model.specs.declared.heap.Ptr.{Ptr}
-use Rattle.wb_model.specs.declared.script.Readable.{Readable}
-use Rattle.wb_model.specs.declared.script.Readable.TheVariants.{Of, ViewOf, Quoted}
-use Rattle.wb_model.specs.declared.script.Writable.{Writable}
-use Rattle.wb_model.specs.declared.script.Writable.TheVariants.{OwnBuffer, InCell}
-use Rattle.wb_model.specs.declared.text.Base.{Base}
-use Rattle.wb_model.specs.declared.text.Base.TheVariants as B
-use Rattle.wb_model.specs.declared.text.View.{View}
-use Rattle.wb_model.specs.heap.Heap.{is_cleanup}
-use Rattle.wb_model.specs.heap.Row.{Cell, cell_at}
-use Rattle.wb_model.specs.meaning.Reading.{Source, whole, part, base_of, position_of, view_in, buffer_text, max_in, max_units, set_units, set_text, is_same_base, is_same_pointer, with_writable, with_readable, with_text_cell, with_base, with_units, with_room, write, write_view}
-use Rattle.wb_model.specs.meaning.State.{Content, Value, State, goes_on, Process, ends, local_of}
-use Rattle.wb_model.specs.meaning.Statements.{class_of, is_null, of_script, release, released, with_class, with_words}
-use Rattle.wb_model.specs.meaning.Texts.{Edited, Part, exactly}
-use Rattle.wb_model.proofs.renaming.SameNumbers.{ap_two}
+use Rattle.wb_heap_model.specs.declared.heap.Panic.{Panic}
+use Rattle.wb_heap_model.specs.declared.heap.Ptr.{Ptr}
+use Rattle.wb_tree.specs.declared.script.Readable.{Readable}
+use Rattle.wb_tree.specs.declared.script.Readable.TheVariants.{Of, ViewOf, Quoted}
+use Rattle.wb_tree.specs.declared.script.Writable.{Writable}
+use Rattle.wb_tree.specs.declared.script.Writable.TheVariants.{OwnBuffer, InCell}
+use Rattle.wb_heap_model.specs.declared.text.Base.{Base}
+use Rattle.wb_heap_model.specs.declared.text.Base.TheVariants as B
+use Rattle.wb_heap_model.specs.declared.text.View.{View}
+use Rattle.wb_heap_model.specs.Heap.{is_cleanup}
+use Rattle.wb_heap_model.specs.Row.{Cell, cell_at}
+use Rattle.wb_meaning.specs.Reading.{Source, whole, part, base_of, position_of, view_in, buffer_text, max_in, set_units, set_text, is_same_base, with_writable, with_readable, with_text_cell, with_base, with_units, with_room, write, write_view}
+use Rattle.wb_heap_model.specs.Texts.{max_units, Edited, Part, exactly}
+use Rattle.wb_heap_model.specs.Pointers.{is_same_pointer, is_null}
+use Rattle.wb_heap_model.specs.Contents.{Content, class_of}
+use Rattle.wb_meaning.specs.State.{Value, State, goes_on, Process, ends, local_of}
+use Rattle.wb_meaning.specs.Statements.{of_script, release, released, with_class, with_words}
+use Rattle.wb_renaming.proofs.SameNumbers.{ap_two}
 use Rattle.wb_placings.proofs.Partners.{PointerPairs, Stands, Partners, IsSameContent, same_words, same_fields, same_units, same_none, IsSameBase, same_nothing, same_literal, same_local, same_cell, IsSameView, IsSameValue, same_pointer, same_number, same_buffer, same_view, same_plain}
 use Rattle.wb_placings.proofs.SameRows.{rows-without}
 use Rattle.wb_placings.proofs.PlacedHeaps.{with_rows}

@@ -3,15 +3,15 @@ use Rattle.std.proofs.Common.{◌≡◌, ◌≢◌, ℕ, suc, ◌+◌, ◌-◌, 
 use Rattle.std.specs.Prelude.{nat_eq, nat_lt}
 use Rattle.std.proofs.lemmas.List.Elements.{All-cons, All-nil, All-filter, All-head, All-tail}
 use Rattle.std.proofs.lemmas.List.Kept.{AllPairs-cons, AllPairs-filter}
-use Rattle.wb_model.specs.declared.heap.Header.{Header}
-use Rattle.wb_model.specs.declared.heap.Kind.{Kind}
-use Rattle.wb_model.specs.declared.heap.Ptr.{Ptr}
-use Rattle.wb_model.specs.heap.Heap.{is_cleanup, lower, lowered}
-use Rattle.wb_model.specs.heap.Row.{Cell, headers, pointer_to, is_at, cell_at, inserted, without, changed}
-use Rattle.wb_model.specs.meaning.State.{Content}
-use Rattle.wb_model.proofs.heaps.Rows.{headers-without, headers-changed, All-inserted, numbered-inserted}
-use Rattle.wb_model.proofs.heaps.Reallocations.{not_at-number, pointer-at, found-head, others-apart, without-absent}
-use Rattle.wb_model.proofs.heaps.ReallocatedHeaps.{others-numbered}
+use Rattle.wb_heap_model.specs.declared.heap.Header.{Header}
+use Rattle.wb_heap_model.specs.declared.heap.Kind.{Kind}
+use Rattle.wb_heap_model.specs.declared.heap.Ptr.{Ptr}
+use Rattle.wb_heap_model.specs.Heap.{is_cleanup, lower, lowered}
+use Rattle.wb_heap_model.specs.Row.{Cell, headers, pointer_to, is_at, cell_at, inserted, without, changed}
+use Rattle.wb_heap_model.specs.Contents.{Content}
+use Rattle.wb_heap_model.proofs.Rows.{headers-without, headers-changed, All-inserted, numbered-inserted}
+use Rattle.wb_heap_model.proofs.Reallocations.{not_at-number, pointer-at, found-head, others-apart, without-absent}
+use Rattle.wb_heap_model.proofs.ReallocatedHeaps.{others-numbered}
 
 -- each cell has the number of an attempt made, and no two have one number
 pub record IsNumbered (made : ℕ) (row : List (Cell Content)) : Type 0 where

@@ -3,16 +3,16 @@
 use Rattle.std.proofs.Common.{◌≡◌, ◌≢◌, ℕ, ◌+◌, ◌≤◌, Bool, true, false, not, ◌&&◌, List, [], ◌∷◌, ◌-◌, inl, inr, refl, sym, ap, ◌∙◌, subst, arith, cond, Option, Some, None}
 use Rattle.std.specs.Prelude.{nat_eq}
 use Rattle.std.proofs.lemmas.Bool.{false≢true}
-use Rattle.wb_model.specs.declared.heap.Answer.{Answer}
-use Rattle.wb_model.specs.declared.heap.Answer.TheVariants.{Granted, Simulated, Refused}
-use Rattle.wb_model.specs.declared.heap.Kind.{Kind}
-use Rattle.wb_model.specs.declared.heap.Ptr.{Ptr}
-use Rattle.wb_model.specs.heap.Heap.{is_cleanup, lowered}
-use Rattle.wb_model.specs.heap.Row.{Cell, headers, pointer_to, is_at, cell_at, inserted, without, changed, end_of, IsSpacedFrom}
-use Rattle.wb_model.specs.meaning.State.{Content}
-use Rattle.wb_model.proofs.heaps.Rows.{headers-without, headers-changed, spaced-filter}
-use Rattle.wb_model.proofs.heaps.Reallocations.{at-number, at-own, pointer-at, cell_at-inserted, cell_at-inserted_other}
-use Rattle.wb_model.proofs.renaming.SameNumbers.{ap_two, cond-beside}
+use Rattle.wb_heap_model.specs.declared.heap.Answer.{Answer}
+use Rattle.wb_heap_model.specs.declared.heap.Answer.TheVariants.{Granted, Simulated, Refused}
+use Rattle.wb_heap_model.specs.declared.heap.Kind.{Kind}
+use Rattle.wb_heap_model.specs.declared.heap.Ptr.{Ptr}
+use Rattle.wb_heap_model.specs.Heap.{is_cleanup, lowered}
+use Rattle.wb_heap_model.specs.Row.{Cell, headers, pointer_to, is_at, cell_at, inserted, without, changed, end_of, IsSpacedFrom}
+use Rattle.wb_heap_model.specs.Contents.{Content}
+use Rattle.wb_heap_model.proofs.Rows.{headers-without, headers-changed, spaced-filter}
+use Rattle.wb_heap_model.proofs.Reallocations.{at-number, at-own, pointer-at, cell_at-inserted, cell_at-inserted_other}
+use Rattle.wb_renaming.proofs.SameNumbers.{ap_two, cond-beside}
 use Rattle.wb_placings.proofs.Partners.{PointerPairs, IsListed, Stands, Partners, ArePartners, after_answer, IsSameHeader, IsSameContent, IsSameCell, cell-later}
 use Rattle.wb_placings.proofs.RowLemmas.{IsNumbered, Lacks, found-at, found-pointer, lacking-none, found-without_other, found-without_own, with_content, found-changed_own, found-changed_other, with_lower, found-lowered, lost-lowered, count, one_if, count-inserted, count-without, count-changed, before_lower, count-lowered, numbered-later, lacks-next, numbered-without, numbered-changed, numbered-with, numbered-lowered}
 

@@ -1,18 +1,18 @@
 -- The run of a script in a heap that chooses the places of cells in whatever way, and when two runs are the same but for places.
 use Rattle.std.specs.Prelude.{◌≡◌, ℕ, List, ◌||◌, if◌then◌else◌}
-use Rattle.wb_model.specs.declared.heap.Answer.{Answer}
-use Rattle.wb_model.specs.declared.heap.Answer.TheVariants.{Granted, Simulated}
-use Rattle.wb_model.specs.declared.heap.Attempt.{Attempt}
-use Rattle.wb_model.specs.declared.heap.Rule.TheVariants as rules
-use Rattle.wb_model.specs.declared.run.RunResult.{RunResult}
-use Rattle.wb_model.specs.declared.script.Script.{Script}
-use Rattle.wb_model.specs.heap.Placement.{Placement}
-use Rattle.wb_model.specs.heap.Rules.{Request, simulates}
-use Rattle.wb_model.specs.heap.Space.{Space}
-use Rattle.wb_model.specs.meaning.State.{Process, ends, stops, asks, notes}
-use Rattle.wb_model.specs.runs.Account.{over, stopped, Account, Settled, noted, recorded, next_number}
-use Rattle.wb_model.specs.runs.Run.{before, process, result_of}
-use Rattle.wb_model.specs.runs.SameButNumbers.{AllBeside}
+use Rattle.wb_heap_model.specs.declared.heap.Answer.{Answer}
+use Rattle.wb_heap_model.specs.declared.heap.Answer.TheVariants.{Granted, Simulated}
+use Rattle.wb_heap_model.specs.declared.heap.Attempt.{Attempt}
+use Rattle.wb_heap_model.specs.declared.heap.Rule.TheVariants as rules
+use Rattle.wb_meaning.specs.declared.run.RunResult.{RunResult}
+use Rattle.wb_tree.specs.declared.script.Script.{Script}
+use Rattle.wb_heap_model.specs.Placement.{Placement}
+use Rattle.wb_heap_model.specs.Rules.{Request, simulates}
+use Rattle.wb_heap_model.specs.Space.{Space}
+use Rattle.wb_meaning.specs.State.{Process, ends, stops, asks, notes}
+use Rattle.wb_meaning.specs.Account.{over, stopped, Account, Settled, noted, recorded, next_number}
+use Rattle.wb_meaning.specs.Run.{before, process, result_of}
+use Rattle.wb_renaming.specs.SameButNumbers.{AllBeside}
 
 -- The answer to an attempt. It is made to fail if the script's own setting or the set says so, and else it is granted, wherever its cell
 -- ends: a placing may put cells past the ceiling, and that cuts no run.

@@ -2,14 +2,14 @@
 //! that grows stays. Each law is the contract of a function that does nothing, so that the gate proves it.
 
 ghost use Rattle.std.specs.Prelude.{◌≡◌, ◌≢◌, ℕ, List, true};
-ghost use Rattle.wb_model.specs.heap.Placement.{placement_of, Placement};
-ghost use Rattle.wb_model.specs.runs.Agreement.{IsSameButNotes};
-ghost use Rattle.wb_model.specs.runs.Sets.{set_run, AreAllSetsFine, IsSet};
-ghost use Rattle.wb_model.specs.runs.Sweeps.{is_fine};
-ghost use Rattle.wb_model.specs.declared.heap.Shape.{Shape};
-ghost use Rattle.wb_model.specs.declared.run.Outcome.TheVariants.{Cut};
-ghost use Rattle.wb_model.specs.declared.run.Why.TheVariants.{Ceiling};
-ghost use Rattle.wb_model.specs.declared.script.Script.{Script};
+ghost use Rattle.wb_heap_model.specs.Placement.{placement_of, Placement};
+ghost use Rattle.wb_meaning.specs.Agreement.{IsSameButNotes};
+ghost use Rattle.wb_runs.specs.Sets.{set_run, AreAllSetsFine, IsSet};
+ghost use Rattle.wb_runs.specs.Sweeps.{is_fine};
+ghost use Rattle.wb_heap_model.specs.declared.heap.Shape.{Shape};
+ghost use Rattle.wb_meaning.specs.declared.run.Outcome.TheVariants.{Cut};
+ghost use Rattle.wb_meaning.specs.declared.run.Why.TheVariants.{Ceiling};
+ghost use Rattle.wb_tree.specs.declared.script.Script.{Script};
 ghost use Rattle.wb_placings.specs.PlacedRuns.{placed_run, IsSameButPlaces};
 
 /// If the ceiling doesn't cut it, the run in a heap of any shape is, except for notes, the placed run with this heap's own choice of

@@ -1,20 +1,20 @@
 -- Every search has a report, since it has an answer.
 use Rattle.std.proofs.Common.{◌≡◌, ◌≢◌, ℕ, ◌⊎◌, inl, inr, Bool, true, false, List, ◌++◌, refl, ap}
-use Rattle.wb_model.specs.declared.failures.Failing.TheVariants.{Number}
-use Rattle.wb_model.specs.declared.failures.Failures.{Failures}
-use Rattle.wb_model.specs.declared.failures.Failures.TheVariants.{Single}
-use Rattle.wb_model.specs.declared.heap.Shape.{Shape}
-use Rattle.wb_model.specs.declared.part.Part.{Part}
-use Rattle.wb_model.specs.declared.run.Outcome.{Outcome}
-use Rattle.wb_model.specs.declared.run.Outcome.TheVariants.{Cut}
-use Rattle.wb_model.specs.declared.run.RunResult.{RunResult}
-use Rattle.wb_model.specs.declared.run.Why.{Why}
-use Rattle.wb_model.specs.declared.run.Why.TheVariants.{Ceiling}
-use Rattle.wb_model.specs.declared.script.Script.{Script}
-use Rattle.wb_model.specs.runs.Parts as parts
-use Rattle.wb_model.specs.runs.SetAnswers as sets
-use Rattle.wb_model.specs.runs.Sweeps.{failing_at, is_cut_outcome, runs_of}
-use Rattle.wb_model.proofs.runs.SameRuns.{past_the_last}
+use Rattle.wb_runs.specs.declared.failures.Failing.TheVariants.{Number}
+use Rattle.wb_runs.specs.declared.failures.Failures.{Failures}
+use Rattle.wb_runs.specs.declared.failures.Failures.TheVariants.{Single}
+use Rattle.wb_heap_model.specs.declared.heap.Shape.{Shape}
+use Rattle.wb_runs.specs.declared.part.Part.{Part}
+use Rattle.wb_meaning.specs.declared.run.Outcome.{Outcome}
+use Rattle.wb_meaning.specs.declared.run.Outcome.TheVariants.{Cut}
+use Rattle.wb_meaning.specs.declared.run.RunResult.{RunResult}
+use Rattle.wb_meaning.specs.declared.run.Why.{Why}
+use Rattle.wb_meaning.specs.declared.run.Why.TheVariants.{Ceiling}
+use Rattle.wb_tree.specs.declared.script.Script.{Script}
+use Rattle.wb_runs.specs.Parts as parts
+use Rattle.wb_runs.specs.SetAnswers as sets
+use Rattle.wb_runs.specs.Sweeps.{failing_at, is_cut_outcome, runs_of}
+use Rattle.wb_runs.proofs.SameRuns.{past_the_last}
 use Rattle.wb_answers.specs.Answered.{HasAnswer, HasAnswerIn, HasEverySetAnswer, HasEverySetAnswerIn, HasLeastBadOf, HasSetAnswer, HasSetAnswerIn}
 use Rattle.wb_answers.proofs.Judged.{cut-or-not}
 use Rattle.wb_answers.proofs.LengthsAnswered.{bad-number}

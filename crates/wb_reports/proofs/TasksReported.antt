@@ -1,20 +1,20 @@
 -- Every task has a report on a script, and every command on bytes that spell one or have a fault.
 use Rattle.std.proofs.Common.{◌≡◌, ◌≢◌, ℕ, ◌⊎◌, inl, inr, true, false, List, ◌++◌, None, refl, ap, subst}
-use Rattle.wb_model.specs.declared.failures.Failing.TheVariants.{Number}
-use Rattle.wb_model.specs.declared.fault.ScriptFault.{ScriptFault}
-use Rattle.wb_model.specs.declared.fault.ScriptFault.TheVariants.{NoMemory}
-use Rattle.wb_model.specs.declared.heap.Rule.TheVariants.{Unlimited}
-use Rattle.wb_model.specs.declared.heap.Shape.{Shape}
-use Rattle.wb_model.specs.declared.lengths.LengthRange.{LengthRange}
-use Rattle.wb_model.specs.declared.run.Outcome.TheVariants.{Cut}
-use Rattle.wb_model.specs.declared.run.RunResult.{RunResult}
-use Rattle.wb_model.specs.declared.run.Why.{Why}
-use Rattle.wb_model.specs.declared.run.Why.TheVariants.{Ceiling}
-use Rattle.wb_model.specs.declared.script.Script.{Script}
-use Rattle.wb_model.specs.language.Scripts.{IsFaultOf, IsScriptOf}
-use Rattle.wb_model.specs.runs.Lengths.{IsLengthTable}
-use Rattle.wb_model.specs.runs.Run.{required, rises, run}
-use Rattle.wb_model.specs.runs.Sweeps.{is_cut_outcome}
+use Rattle.wb_runs.specs.declared.failures.Failing.TheVariants.{Number}
+use Rattle.wb_language.specs.declared.fault.ScriptFault.{ScriptFault}
+use Rattle.wb_language.specs.declared.fault.ScriptFault.TheVariants.{NoMemory}
+use Rattle.wb_heap_model.specs.declared.heap.Rule.TheVariants.{Unlimited}
+use Rattle.wb_heap_model.specs.declared.heap.Shape.{Shape}
+use Rattle.wb_runs.specs.declared.lengths.LengthRange.{LengthRange}
+use Rattle.wb_meaning.specs.declared.run.Outcome.TheVariants.{Cut}
+use Rattle.wb_meaning.specs.declared.run.RunResult.{RunResult}
+use Rattle.wb_meaning.specs.declared.run.Why.{Why}
+use Rattle.wb_meaning.specs.declared.run.Why.TheVariants.{Ceiling}
+use Rattle.wb_tree.specs.declared.script.Script.{Script}
+use Rattle.wb_language.specs.Scripts.{IsFaultOf, IsScriptOf}
+use Rattle.wb_runs.specs.Lengths.{IsLengthTable}
+use Rattle.wb_meaning.specs.Run.{required, rises, run}
+use Rattle.wb_runs.specs.Sweeps.{is_cut_outcome}
 use Rattle.wb_answers.specs.Answered.{AnyCutOrNone, HasLeastBadLength}
 use Rattle.wb_answers.proofs.Judged.{cut-or-not}
 use Rattle.wb_answers.proofs.LengthsAnswered.{bad-length, cut-length, heap-length, length-table}

@@ -2,9 +2,9 @@
 
 ghost use Rattle.std.specs.Prelude.{ℕ, List};
 ghost use Rattle.wb_command_line.specs.declared.command.Command.{Command};
-ghost use Rattle.wb_model.specs.declared.fault.ScriptFault.{ScriptFault};
-ghost use Rattle.wb_model.specs.declared.script.Script.{Script};
-ghost use Rattle.wb_model.specs.language.Scripts.{IsFaultOf, IsScriptOf};
+ghost use Rattle.wb_language.specs.declared.fault.ScriptFault.{ScriptFault};
+ghost use Rattle.wb_tree.specs.declared.script.Script.{Script};
+ghost use Rattle.wb_language.specs.Scripts.{IsFaultOf, IsScriptOf};
 ghost use Rattle.wb_reports.specs.AnyReport.{AnyReport};
 
 /// Every command has a report on bytes that spell a script, and on bytes that have a fault.

@@ -1,13 +1,13 @@
 -- How many live cells there are, and their lengths together, over what is done to rows.
 use Rattle.std.proofs.Common.{◌≡◌, ◌≢◌, ℕ, suc, ◌+◌, ◌*◌, ◌≤◌, Bool, true, false, not, cond, List, [], ◌∷◌, length, AllPairs, Some, refl, sym, ◌∙◌, ap, arith}
 use Rattle.std.specs.Prelude.{nat_lt}
-use Rattle.wb_model.specs.declared.heap.Ptr.{Ptr}
-use Rattle.wb_model.specs.heap.Row.{Cell, headers, is_at, cell_at, inserted, without, IsSpacedFrom, total_length, changed}
-use Rattle.wb_model.specs.heap.LimitedHeap.{LimitedHeap, IsSoundHeap}
-use Rattle.wb_model.specs.cells.CellRow.{with_level}
-use Rattle.wb_model.proofs.heaps.FreeRuns.{total_length-cons, free_runs-are}
-use Rattle.wb_model.proofs.heaps.LimitedHeaps.{top_of-committed}
-use Rattle.wb_model.proofs.heaps.Reallocations.{without-absent, others-apart}
+use Rattle.wb_heap_model.specs.declared.heap.Ptr.{Ptr}
+use Rattle.wb_heap_model.specs.Row.{Cell, headers, is_at, cell_at, inserted, without, IsSpacedFrom, total_length, changed}
+use Rattle.wb_heap_model.specs.LimitedHeap.{LimitedHeap, IsSoundHeap}
+use Rattle.wb_heap_model.specs.CellRow.{with_level}
+use Rattle.wb_heap_model.proofs.FreeRuns.{total_length-cons, free_runs-are}
+use Rattle.wb_heap_model.proofs.LimitedHeaps.{top_of-committed}
+use Rattle.wb_heap_model.proofs.Reallocations.{without-absent, others-apart}
 
 -- a release lowers the count by one, and the total by the cell's length
 pub record AreLess (row rest : List (Cell (List ℕ))) (length_less : ℕ) : Type 0 where

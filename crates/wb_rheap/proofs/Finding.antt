@@ -1,12 +1,12 @@
 -- Where a request goes, and what a pointer names.
 use Rattle.std.proofs.Common.{◌≡◌, ℕ, suc, ◌+◌, ◌*◌, ◌⊎◌, inl, inr, Bool, true, false, cond, List, [], ◌∷◌, length, All, Some, IfSome, option_map, refl, sym, arith}
 use Rattle.std.specs.Prelude.{nat_le, Any}
-use Rattle.wb_model.specs.declared.heap.Header.{Header}
-use Rattle.wb_model.specs.declared.heap.Ptr.{Ptr}
-use Rattle.wb_model.specs.cells.CellRow.{IsGap, content_or_nil, payload_of}
-use Rattle.wb_model.specs.heap.LimitedHeap.{LimitedHeap, IsCellLength, IsSoundHeap, IsFilled, place_in}
-use Rattle.wb_model.specs.heap.Row.{Cell, headers, end_of, usable_of, is_at, cell_at, place_from}
-use Rattle.wb_model.proofs.heaps.LimitedHeaps.{place_in-least}
+use Rattle.wb_heap_model.specs.declared.heap.Header.{Header}
+use Rattle.wb_heap_model.specs.declared.heap.Ptr.{Ptr}
+use Rattle.wb_heap_model.specs.CellRow.{IsGap, content_or_nil, payload_of}
+use Rattle.wb_heap_model.specs.LimitedHeap.{LimitedHeap, IsCellLength, IsSoundHeap, IsFilled, place_in}
+use Rattle.wb_heap_model.specs.Row.{Cell, headers, end_of, usable_of, is_at, cell_at, place_from}
+use Rattle.wb_heap_model.proofs.LimitedHeaps.{place_in-least}
 
 -- the place of a request is where it is looked for, or right after a cell
 place_from-begins : (row : List Header) (at length : ℕ) → (place_from at row length ≡ at) ⊎ Any (λ h. end_of h ≡ place_from at row length) row

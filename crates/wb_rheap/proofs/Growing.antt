@@ -2,15 +2,15 @@
 use Rattle.std.proofs.Common.{cond, All, IfSome, ◌≡◌, ◌≢◌, ℕ, ◌+◌, ◌-◌, ◌*◌, ◌/◌, ◌%◌, ◌≤◌, ◌<◌, Bool, true, false, List, length, Option, Some, None, option_map, Result, Ok, Err, OnOk, IsSomeAnd, refl, sym, ◌∙◌, ap, subst, arith}
 use Rattle.std.specs.Prelude.{not, ◌&&◌, nat_eq, nat_le, nat_lt}
 use Rattle.std.proofs.lemmas.Bool.{leb-true, leb-false, le-leb, lt-leb, lt-ltb, le-ltb, and_from, and_left, and_right, cond-true, cond-false, false_from_ne_true}
-use Rattle.wb_model.specs.declared.heap.Header.{Header}
-use Rattle.wb_model.specs.declared.heap.Ptr.{Ptr}
-use Rattle.wb_model.specs.cells.CellRow.{FitsInPlace, payload_of, resized_words, with_length, content_or_nil, room_after, IsGap}
-use Rattle.wb_model.specs.heap.Placement.{fits_in_place}
-use Rattle.wb_model.specs.heap.LimitedHeap.{LimitedHeap, IsSoundHeap, IsCellLength, place_in, place_to_grow, committed_grown, grown_cell, heap_grown, heap_shortened, heap_reallocated, reallocated_pointer, grown_pointer, IsFilled}
-use Rattle.wb_model.specs.heap.Row.{Cell, IsRow, IsLeastPlace, headers, cell_at, end_of, inserted, without, pointer_to, usable_of}
-use Rattle.wb_model.proofs.heaps.LimitedHeaps.{place_in-least}
-use Rattle.wb_model.proofs.heaps.Reallocations.{IsFoundFrom, found-from, found-head, pointer-at, found-all, fits-room, fits-words, fits-shorter, words-fit, has_room, with_length-inserted}
-use Rattle.wb_model.proofs.heaps.ReallocatedHeaps.{place_to_grow-is}
+use Rattle.wb_heap_model.specs.declared.heap.Header.{Header}
+use Rattle.wb_heap_model.specs.declared.heap.Ptr.{Ptr}
+use Rattle.wb_heap_model.specs.CellRow.{FitsInPlace, payload_of, resized_words, with_length, content_or_nil, room_after, IsGap}
+use Rattle.wb_heap_model.specs.Placement.{fits_in_place}
+use Rattle.wb_heap_model.specs.LimitedHeap.{LimitedHeap, IsSoundHeap, IsCellLength, place_in, place_to_grow, committed_grown, grown_cell, heap_grown, heap_shortened, heap_reallocated, reallocated_pointer, grown_pointer, IsFilled}
+use Rattle.wb_heap_model.specs.Row.{Cell, IsRow, IsLeastPlace, headers, cell_at, end_of, inserted, without, pointer_to, usable_of}
+use Rattle.wb_heap_model.proofs.LimitedHeaps.{place_in-least}
+use Rattle.wb_heap_model.proofs.Reallocations.{IsFoundFrom, found-from, found-head, pointer-at, found-all, fits-room, fits-words, fits-shorter, words-fit, has_room, with_length-inserted}
+use Rattle.wb_heap_model.proofs.ReallocatedHeaps.{place_to_grow-is}
 use Rattle.wb_rheap.proofs.Finding.{place_in-gap, payload-filled}
 
 -- the header of a live cell, and the cell

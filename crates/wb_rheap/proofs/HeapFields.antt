@@ -1,14 +1,14 @@
 -- What each call leaves of the heap's fields.
 use Rattle.std.proofs.Common.{◌≡◌, ◌≢◌, ℕ, ◌+◌, ◌-◌, ◌≤◌, ◌<◌, ◌++◌, List, length, take, drop, slice_set, max, Option, Some, None, option_map, All, refl, sym, ◌∙◌, ap, subst, arith}
-use Rattle.wb_model.specs.declared.heap.Header.{Header}
-use Rattle.wb_model.specs.declared.heap.Kind.{Kind}
-use Rattle.wb_model.specs.declared.heap.Ptr.{Ptr}
-use Rattle.wb_model.specs.cells.CellRow.{CellRow, payload_of, with_payload, with_level}
-use Rattle.wb_model.specs.heap.LimitedHeap.{LimitedHeap, IsCellLength, IsSoundHeap, place_in, fresh_cell, committed_with, compressed_length, heap_with}
-use Rattle.wb_model.specs.heap.Row.{Cell, headers, cell_at, inserted, without, total_length}
-use Rattle.wb_model.proofs.heaps.LimitedHeaps.{IsSoundHeap-heap_with, IsSoundHeap-heap_without, IsSoundHeap-heap_changed, IsSoundHeap-heap_compressed}
-use Rattle.wb_model.proofs.heaps.ReallocatedHeaps.{IsSoundHeap-heap_leveled}
-use Rattle.wb_model.proofs.heaps.Rows.{headers-changed}
+use Rattle.wb_heap_model.specs.declared.heap.Header.{Header}
+use Rattle.wb_heap_model.specs.declared.heap.Kind.{Kind}
+use Rattle.wb_heap_model.specs.declared.heap.Ptr.{Ptr}
+use Rattle.wb_heap_model.specs.CellRow.{CellRow, payload_of, with_payload, with_level}
+use Rattle.wb_heap_model.specs.LimitedHeap.{LimitedHeap, IsCellLength, IsSoundHeap, place_in, fresh_cell, committed_with, compressed_length, heap_with}
+use Rattle.wb_heap_model.specs.Row.{Cell, headers, cell_at, inserted, without, total_length}
+use Rattle.wb_heap_model.proofs.LimitedHeaps.{IsSoundHeap-heap_with, IsSoundHeap-heap_without, IsSoundHeap-heap_changed, IsSoundHeap-heap_compressed}
+use Rattle.wb_heap_model.proofs.ReallocatedHeaps.{IsSoundHeap-heap_leveled}
+use Rattle.wb_heap_model.proofs.Rows.{headers-changed}
 use Rattle.wb_rheap.specs.declared.heap.Heap.TheInside.{Inside}
 use Rattle.wb_rheap.specs.Heap.{heap_of, IsKept}
 use Rattle.wb_rheap.proofs.Counters.{AreLess, without-less, inserted-more, length-changed, length-leveled, total-leveled}

@@ -1,11 +1,11 @@
 -- A cell that moves: a cell of zeros is taken, words are copied to it, and the old cell goes.
 use Rattle.std.proofs.Common.{◌≡◌, ◌≢◌, ℕ, ◌-◌, ◌/◌, ◌≤◌, ◌++◌, List, length, take, drop, false, All, Option, Some, None, IsSome, refl, sym, ◌∙◌, ap, subst}
-use Rattle.wb_model.specs.declared.heap.Header.{Header}
-use Rattle.wb_model.specs.declared.heap.Ptr.{Ptr}
-use Rattle.wb_model.specs.cells.CellRow.{CellRow, content_or_nil, payload_of, with_payload, resized_words}
-use Rattle.wb_model.specs.heap.LimitedHeap.{zero_words}
-use Rattle.wb_model.specs.heap.Row.{Cell, headers, cell_at, is_at, inserted, without, pointer_to, IsSpacedFrom}
-use Rattle.wb_model.proofs.heaps.Reallocations.{at-own, at-number, not_at-number, found-all, found-from, found-head, cell_at-inserted, cell_at-inserted_other, changed-inserted, without-inserted, copied-resized}
+use Rattle.wb_heap_model.specs.declared.heap.Header.{Header}
+use Rattle.wb_heap_model.specs.declared.heap.Ptr.{Ptr}
+use Rattle.wb_heap_model.specs.CellRow.{CellRow, content_or_nil, payload_of, with_payload, resized_words}
+use Rattle.wb_heap_model.specs.LimitedHeap.{zero_words}
+use Rattle.wb_heap_model.specs.Row.{Cell, headers, cell_at, is_at, inserted, without, pointer_to, IsSpacedFrom}
+use Rattle.wb_heap_model.proofs.Reallocations.{at-own, at-number, not_at-number, found-all, found-from, found-head, cell_at-inserted, cell_at-inserted_other, changed-inserted, without-inserted, copied-resized}
 
 -- the cell that a live pointer names
 pub live-cell : (p : Ptr) (row : List (Cell (List ℕ))) → IsSome (cell_at p row) → (c : Cell (List ℕ)) × (cell_at p row ≡ Some c)

@@ -1,14 +1,14 @@
 -- Numbers stay below a bound, whatever a call of the heap makes of the row.
 use Rattle.std.proofs.Common.{◌≡◌, ℕ, ◌<◌, All, Bool, true, false, cond, List, Option, Some, None, Result, Ok, Err, IsSomeAnd, refl, subst, sym, arith}
 use Rattle.std.specs.Prelude.{OnOk, OnErr, nat_eq}
-use Rattle.wb_model.specs.declared.heap.Kind.{Kind}
-use Rattle.wb_model.specs.declared.heap.Ptr.{Ptr}
-use Rattle.wb_model.specs.heap.LimitedHeap.{LimitedHeap, heap_with, heap_without, heap_changed, heap_leveled, heap_reallocated, place_to_grow}
-use Rattle.wb_model.specs.heap.Row.{Cell, headers, cell_at}
-use Rattle.wb_model.proofs.heaps.LimitedHeaps.{All-heap_with, All-heap_without}
-use Rattle.wb_model.proofs.heaps.Reallocations.{found-all, found-head}
-use Rattle.wb_model.proofs.heaps.ReallocatedHeaps.{All-heap_reallocated, All-headers_leveled}
-use Rattle.wb_model.proofs.heaps.Rows.{headers-changed}
+use Rattle.wb_heap_model.specs.declared.heap.Kind.{Kind}
+use Rattle.wb_heap_model.specs.declared.heap.Ptr.{Ptr}
+use Rattle.wb_heap_model.specs.LimitedHeap.{LimitedHeap, heap_with, heap_without, heap_changed, heap_leveled, heap_reallocated, place_to_grow}
+use Rattle.wb_heap_model.specs.Row.{Cell, headers, cell_at}
+use Rattle.wb_heap_model.proofs.LimitedHeaps.{All-heap_with, All-heap_without}
+use Rattle.wb_heap_model.proofs.Reallocations.{found-all, found-head}
+use Rattle.wb_heap_model.proofs.ReallocatedHeaps.{All-heap_reallocated, All-headers_leveled}
+use Rattle.wb_heap_model.proofs.Rows.{headers-changed}
 
 abbrev pub AreBelow : LimitedHeap → ℕ → Type 0
 AreBelow heap n = All (λ h. h.number < n) (headers heap.row)

@@ -1,11 +1,11 @@
 -- What a cell that becomes longer or shorter leaves of the heap's fields.
 use Rattle.std.proofs.Common.{◌≡◌, ◌≢◌, ℕ, ◌+◌, ◌-◌, ◌≤◌, ◌<◌, List, length, max, All, Some, refl, sym, ◌∙◌, ap, subst, arith}
-use Rattle.wb_model.specs.declared.heap.Header.{Header}
-use Rattle.wb_model.specs.cells.CellRow.{CellRow, with_length, resized_cell}
-use Rattle.wb_model.specs.heap.LimitedHeap.{LimitedHeap, IsCellLength, IsSoundHeap, heap_grown, heap_shortened, grown_cell, committed_grown, place_to_grow}
-use Rattle.wb_model.specs.heap.Row.{Cell, headers, cell_at, inserted, without, pointer_to, total_length}
-use Rattle.wb_model.proofs.heaps.Reallocations.{with_length-inserted}
-use Rattle.wb_model.proofs.heaps.ReallocatedHeaps.{IsSoundHeap-heap_grown, IsSoundHeap-heap_shortened}
+use Rattle.wb_heap_model.specs.declared.heap.Header.{Header}
+use Rattle.wb_heap_model.specs.CellRow.{CellRow, with_length, resized_cell}
+use Rattle.wb_heap_model.specs.LimitedHeap.{LimitedHeap, IsCellLength, IsSoundHeap, heap_grown, heap_shortened, grown_cell, committed_grown, place_to_grow}
+use Rattle.wb_heap_model.specs.Row.{Cell, headers, cell_at, inserted, without, pointer_to, total_length}
+use Rattle.wb_heap_model.proofs.Reallocations.{with_length-inserted}
+use Rattle.wb_heap_model.proofs.ReallocatedHeaps.{IsSoundHeap-heap_grown, IsSoundHeap-heap_shortened}
 use Rattle.wb_rheap.specs.declared.heap.Heap.TheInside.{Inside}
 use Rattle.wb_rheap.specs.Heap.{heap_of, IsKept}
 use Rattle.wb_rheap.proofs.Counters.{AreLess, without-less, inserted-more}

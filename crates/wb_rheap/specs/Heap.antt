@@ -1,7 +1,7 @@
 -- What contracts see of the heap, from what it holds, and what it keeps beside its cells.
 use Rattle.std.specs.Prelude.{◌≡◌, length}
-use Rattle.wb_model.specs.heap.Row.{headers, total_length}
-use Rattle.wb_model.specs.heap.LimitedHeap.{LimitedHeap, IsSoundHeap}
+use Rattle.wb_heap_model.specs.Row.{headers, total_length}
+use Rattle.wb_heap_model.specs.LimitedHeap.{LimitedHeap, IsSoundHeap}
 use Rattle.wb_rheap.specs.declared.heap.Heap.TheInside.{Inside}
 
 -- the cells hold memory for the greatest committed length so far

@@ -1,6 +1,6 @@
 //! Why the heap refuses a call.
 
-use wb_model::memory::NoMemory;
+use wb_basics::memory::NoMemory;
 
 /// Why a call of the heap was refused. A refused call leaves the heap as it was.
 #[derive(Clone, Copy, Debug, PartialEq, Eq)]

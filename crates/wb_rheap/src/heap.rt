@@ -3,22 +3,22 @@
 
 ghost use Rattle.std.specs.Prelude.{◌≡◌, ◌≢◌, ◌+◌, ◌*◌, ◌<◌, ◌≤◌, ◌↔◌, false, length, take, sum, All, IfOk, IfErr};
 ghost use Rattle.std.specs.Prelude.{IfSome, OnOk, OnErr, Some, None, option_map};
-ghost use Rattle.wb_model.specs.cells.CellRow.{payload_of};
-ghost use Rattle.wb_model.specs.heap.LimitedHeap.{IsCellLength, IsLiveBelow, IsSoundHeap, empty_heap, place_in};
-ghost use Rattle.wb_model.specs.heap.LimitedHeap.{committed_with, heap_with, heap_without, heap_compressed};
-ghost use Rattle.wb_model.specs.heap.LimitedHeap.{reclaimed_from, runs_in, next_live_of};
-ghost use Rattle.wb_model.specs.heap.Row.{IsLeastPlace, cell_at, headers, total_length, usable_of};
-ghost use Rattle.wb_model.specs.heap.Space.{is_shape, longest};
+ghost use Rattle.wb_heap_model.specs.CellRow.{payload_of};
+ghost use Rattle.wb_heap_model.specs.LimitedHeap.{IsCellLength, IsLiveBelow, IsSoundHeap, empty_heap, place_in};
+ghost use Rattle.wb_heap_model.specs.LimitedHeap.{committed_with, heap_with, heap_without, heap_compressed};
+ghost use Rattle.wb_heap_model.specs.LimitedHeap.{reclaimed_from, runs_in, next_live_of};
+ghost use Rattle.wb_heap_model.specs.Row.{IsLeastPlace, cell_at, headers, total_length, usable_of};
+ghost use Rattle.wb_heap_model.specs.Space.{is_shape, longest};
 ghost use Rattle.wb_rheap.specs.Refusals.{RefusesOnly};
 
 use crate::fault::HeapFault;
 use crate::{room, space};
 use std::alloc::Global;
 use std::marker::Model;
+use wb_basics::limits::CEILING;
+use wb_basics::memory::NoMemory;
 use wb_cells::Cells;
-use wb_model::heap::{Header, Kind, Ptr, Shape};
-use wb_model::limits::CEILING;
-use wb_model::memory::NoMemory;
+use wb_heap_model::heap::{Header, Kind, Ptr, Shape};
 
 /// A simulated heap: live cells with their payloads, and a limit that none of them passes.
 ///
@@ -38,7 +38,7 @@ pub struct Heap {
 }
 
 impl Model for Heap {
-    ghost use Rattle.wb_model.specs.heap.LimitedHeap.{LimitedHeap};
+    ghost use Rattle.wb_heap_model.specs.LimitedHeap.{LimitedHeap};
 
     ghost Value = { LimitedHeap };
 

@@ -5,7 +5,7 @@
 
 pub use fault::HeapFault;
 pub use heap::Heap;
-pub use wb_model::heap::{Header, Kind, Ptr, Shape};
+pub use wb_heap_model::heap::{Header, Kind, Ptr, Shape};
 
 pub mod fault;
 pub mod heap;

@@ -2,12 +2,12 @@
 
 ghost use Rattle.std.specs.Prelude.{◌≡◌, ◌≢◌, ◌+◌, ◌-◌, ◌/◌, ◌%◌, ◌<◌, ◌≤◌, All, Some, IsSome, option_map, length};
 ghost use Rattle.std.specs.Prelude.{nat_eq, if◌then◌else◌};
-ghost use Rattle.wb_model.specs.cells.CellRow.{FitsInPlace, IsGap, payload_of, resized_words};
-ghost use Rattle.wb_model.specs.heap.LimitedHeap.{IsFilled};
-ghost use Rattle.wb_model.specs.heap.Row.{IsRow, IsSpacedFrom, cell_at, headers, inserted, pointer_to, without};
+ghost use Rattle.wb_heap_model.specs.CellRow.{FitsInPlace, IsGap, payload_of, resized_words};
+ghost use Rattle.wb_heap_model.specs.LimitedHeap.{IsFilled};
+ghost use Rattle.wb_heap_model.specs.Row.{IsRow, IsSpacedFrom, cell_at, headers, inserted, pointer_to, without};
 
 use wb_cells::Cells;
-use wb_model::heap::{Header, Ptr};
+use wb_heap_model::heap::{Header, Ptr};
 
 /// Makes a live cell longer, at its own place or at another one, and returns the pointer that names it then. At its own place the cell
 /// keeps its number; at another one it takes `number`.

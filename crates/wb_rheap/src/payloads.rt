@@ -3,12 +3,12 @@
 ghost use Rattle.std.specs.Prelude.{◌≡◌, ◌+◌, ◌*◌, ◌<◌, ◌≤◌, ◌++◌, true, length, take, drop, replicate, slice_index};
 ghost use Rattle.std.specs.Prelude.{slice_set, IsSome};
 ghost use Rattle.wb_chunk.specs.Halves.{half_of, halves_from, with_half, with_halves};
-ghost use Rattle.wb_model.specs.cells.CellRow.{payload_of};
-ghost use Rattle.wb_model.specs.heap.LimitedHeap.{IsSoundHeap, heap_changed};
-ghost use Rattle.wb_model.specs.heap.Row.{cell_at};
+ghost use Rattle.wb_heap_model.specs.CellRow.{payload_of};
+ghost use Rattle.wb_heap_model.specs.LimitedHeap.{IsSoundHeap, heap_changed};
+ghost use Rattle.wb_heap_model.specs.Row.{cell_at};
 
 use crate::heap::Heap;
-use wb_model::heap::Ptr;
+use wb_heap_model::heap::Ptr;
 
 impl Heap {
     /// Returns word `i` of a payload.

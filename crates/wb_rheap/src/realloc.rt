@@ -3,18 +3,18 @@
 
 ghost use Rattle.std.specs.Prelude.{◌≡◌, ◌≢◌, ◌+◌, ◌<◌, ◌≤◌, ◌%◌, ◌↔◌, All, IfOk, IfErr, IfSome, IsOk, IsSome};
 ghost use Rattle.std.specs.Prelude.{IsSomeAnd, OnOk, OnErr, Some, None, option_map, not, ◌&&◌, true, false};
-ghost use Rattle.wb_model.specs.cells.CellRow.{FitsInPlace, payload_of};
-ghost use Rattle.wb_model.specs.heap.Placement.{fits_in_place};
-ghost use Rattle.wb_model.specs.heap.LimitedHeap.{IsCellLength, IsSoundHeap, heap_grown, heap_shortened, heap_leveled};
-ghost use Rattle.wb_model.specs.heap.LimitedHeap.{heap_reallocated, place_to_grow, committed_grown, grown_pointer};
-ghost use Rattle.wb_model.specs.heap.LimitedHeap.{reallocated_pointer};
-ghost use Rattle.wb_model.specs.heap.Row.{IsLeastPlace, cell_at, headers, pointer_to, usable_of};
+ghost use Rattle.wb_heap_model.specs.CellRow.{FitsInPlace, payload_of};
+ghost use Rattle.wb_heap_model.specs.Placement.{fits_in_place};
+ghost use Rattle.wb_heap_model.specs.LimitedHeap.{IsCellLength, IsSoundHeap, heap_grown, heap_shortened, heap_leveled};
+ghost use Rattle.wb_heap_model.specs.LimitedHeap.{heap_reallocated, place_to_grow, committed_grown, grown_pointer};
+ghost use Rattle.wb_heap_model.specs.LimitedHeap.{reallocated_pointer};
+ghost use Rattle.wb_heap_model.specs.Row.{IsLeastPlace, cell_at, headers, pointer_to, usable_of};
 ghost use Rattle.wb_rheap.specs.Refusals.{RefusesOnly};
 
 use crate::fault::HeapFault;
 use crate::heap::Heap;
 use crate::{moves, room};
-use wb_model::heap::{Header, Ptr};
+use wb_heap_model::heap::{Header, Ptr};
 
 impl Heap {
     /// Returns the place of a cell that grows to this length. It is the cell's own place if enough bytes after it are free, as they always

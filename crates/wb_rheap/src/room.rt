@@ -1,14 +1,14 @@
 //! The workbench's own memory that holds the simulated chunk.
 
 ghost use Rattle.std.specs.Prelude.{◌≡◌, ◌≤◌, ◌%◌, true, max, IfOk, OnOk, OnErr};
-ghost use Rattle.wb_model.specs.heap.Space.{is_shape, space_below, bound_below, committed_by};
+ghost use Rattle.wb_heap_model.specs.Space.{is_shape, space_below, bound_below, committed_by};
 ghost use Rattle.wb_rheap.specs.Refusals.{RefusesOnly};
 
 use crate::fault::HeapFault;
 use crate::space;
+use wb_basics::limits::CEILING;
 use wb_cells::Cells;
-use wb_model::heap::Shape;
-use wb_model::limits::CEILING;
+use wb_heap_model::heap::Shape;
 
 /// Checks that a cell with this end is within the limit, takes the workbench's memory for the committed length that the cell needs, and
 /// returns this length in bytes.

@@ -1,13 +1,13 @@
 //! The committed length of the chunk, and the longest free run below it, in bytes.
 
 ghost use Rattle.std.specs.Prelude.{◌≡◌, ◌≤◌, true, min};
-ghost use Rattle.wb_model.specs.heap.Row.{headers, top_of};
-ghost use Rattle.wb_model.specs.heap.Space.{is_shape, space_below, bound_below, round_up, committed_by, compressed_to};
-ghost use Rattle.wb_model.specs.heap.Space.{free_runs, longest};
+ghost use Rattle.wb_heap_model.specs.Row.{headers, top_of};
+ghost use Rattle.wb_heap_model.specs.Space.{is_shape, space_below, bound_below, round_up, committed_by, compressed_to};
+ghost use Rattle.wb_heap_model.specs.Space.{free_runs, longest};
 
+use wb_basics::limits::{CEILING, LARGEST_MINIMUM, LARGEST_STEP, SMALLEST_STEP};
 use wb_cells::Cells;
-use wb_model::heap::Shape;
-use wb_model::limits::{CEILING, LARGEST_MINIMUM, LARGEST_STEP, SMALLEST_STEP};
+use wb_heap_model::heap::Shape;
 
 /// Whether a heap may have this shape.
 pub fn may_have_shape(shape: Shape) -> bool

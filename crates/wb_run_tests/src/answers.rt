@@ -7,7 +7,7 @@ use crate::failing::SHAPE;
 use std::alloc::Global;
 use std::io::{self, ErrorKind, Read, Write};
 use std::test::Fail;
-use wb_model::heap::Rule;
+use wb_heap_model::heap::Rule;
 use workbench::answer::answer;
 use workbench::exit_status::READ_OR_WRITE_FAULT;
 use workbench::{Command, Silent, Task};

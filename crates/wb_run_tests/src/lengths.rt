@@ -1,8 +1,8 @@
 //! The first attempt that a heap of a given length denies, by a table of rises.
 
 use std::test::Fail;
-use wb_model::items::Items;
-use wb_model::size::Rise;
+use wb_basics::items::Items;
+use wb_heap_model::size::Rise;
 use wb_size::sizing::Sizing;
 
 /// Lengths in bytes, and the first attempt that a heap of that length denies, or `None` if it denies none.

@@ -3,10 +3,11 @@
 use arrayvec::ArrayVec;
 use std::alloc::{AllocError, Global};
 use std::test::Fail;
-use wb_model::heap::{Answer, Attempt, Panic};
-use wb_model::items::Items;
-use wb_model::printed_line::Line;
-use wb_model::run::{Leak, Leaks, Lines, Note, Notes, Outcome, RunResult, Trace, Why};
+use wb_basics::items::Items;
+use wb_basics::printed_line::Line;
+use wb_heap_model::heap::{Answer, Attempt, Panic};
+use wb_heap_model::reported::{Leak, Leaks, Note, Notes, Trace};
+use wb_meaning::run::{Lines, Outcome, RunResult, Why};
 use workbench::run_text::put_run;
 
 const TEXT: &[u8] = b"print hi

@@ -3,10 +3,10 @@
 use crate::failing::{FALLBACK, SETS, SETS_NONE, Wanted, are_answered, found_in, is_answered};
 use crate::rules::Refuses;
 use std::test::Fail;
-use wb_model::failures::{Failing, Failures};
-use wb_model::heap::Answer;
-use wb_model::heap::Answer::{Granted, Simulated};
-use wb_model::run::Why;
+use wb_heap_model::heap::Answer;
+use wb_heap_model::heap::Answer::{Granted, Simulated};
+use wb_meaning::run::Why;
+use wb_runs::failures::{Failing, Failures};
 use wb_sweep::fault::SweepFault;
 
 /// Scripts, rules, and how the attempts of the run are answered.

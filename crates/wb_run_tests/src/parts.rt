@@ -1,14 +1,14 @@
 //! Sweeps over a part of the numbers: those that find the least bad number, and those that list each.
 
 use std::test::Fail;
-use wb_model::failures::{Failing, Failures};
-use wb_model::heap::{Panic, Shape};
-use wb_model::limits::{CEILING, DEFAULT_BUDGET};
-use wb_model::number_ends::NumberEnd;
-use wb_model::part::Part;
-use wb_model::progress::Silent;
-use wb_model::run::Why;
-use wb_model::run_end::RunEnd;
+use wb_basics::limits::{CEILING, DEFAULT_BUDGET};
+use wb_heap_model::heap::{Panic, Shape};
+use wb_meaning::run::Why;
+use wb_runs::failures::{Failing, Failures};
+use wb_runs::number_ends::NumberEnd;
+use wb_runs::part::Part;
+use wb_runs::progress::Silent;
+use wb_runs::run_end::RunEnd;
 use wb_script::read;
 use wb_sweep::fault::SweepFault;
 use wb_sweep::{Listing, sweep_all, sweep_part};

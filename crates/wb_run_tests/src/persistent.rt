@@ -6,10 +6,10 @@ use crate::failing::{
 use crate::pairs::WAITS_FOR_ONE;
 use crate::rules::Refuses;
 use std::test::Fail;
-use wb_model::failures::{Failing, Failures};
-use wb_model::heap::Answer;
-use wb_model::heap::Answer::{Granted, Simulated};
-use wb_model::run::Why;
+use wb_heap_model::heap::Answer;
+use wb_heap_model::heap::Answer::{Granted, Simulated};
+use wb_meaning::run::Why;
+use wb_runs::failures::{Failing, Failures};
 use wb_sweep::fault::SweepFault;
 
 /// Scripts, rules, and how the attempts of the run are answered.

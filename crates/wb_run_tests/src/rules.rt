@@ -1,6 +1,6 @@
 //! Rules as the tests' tables name them. A static can't hold a [`Rule`], since a rule may own a list.
 
-use wb_model::heap::Rule;
+use wb_heap_model::heap::Rule;
 
 /// Which attempts are denied or made to fail.
 #[derive(Clone, Copy)]

@@ -4,9 +4,9 @@ ghost use Rattle.std.specs.Prelude.{◌≤◌};
 
 use std::alloc::Global;
 use std::test::Fail;
-use wb_model::failures::{Failing, Failures};
-use wb_model::heap::{Numbers, Shape};
-use wb_model::part::Part;
+use wb_heap_model::heap::{Numbers, Shape};
+use wb_runs::failures::{Failing, Failures};
+use wb_runs::part::Part;
 use wb_script::read;
 use wb_sweep::{sweep, sweep_sets};
 use workbench::Progress;

@@ -3,8 +3,8 @@
 use crate::failing::{FALLBACK, SETS, SETS_NONE, answers_of};
 use std::alloc::{AllocError, Global};
 use std::test::Fail;
-use wb_model::heap::Answer::{Granted, Simulated};
-use wb_model::heap::{Answer, Rule};
+use wb_heap_model::heap::Answer::{Granted, Simulated};
+use wb_heap_model::heap::{Answer, Rule};
 use workbench::{CommandFault, Task, command};
 
 /// Texts that are lists, and their numbers.

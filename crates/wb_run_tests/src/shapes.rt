@@ -1,11 +1,11 @@
 //! Calls with a shape that no heap has. No words of a command line spell such a shape.
 
 use std::test::Fail;
+use wb_heap_model::heap::{Rule, Shape};
 use wb_lengths::{lengths, lengths_within};
 use wb_machine::{RunFault, run};
-use wb_model::failures::Failures;
-use wb_model::heap::{Rule, Shape};
-use wb_model::progress::Silent;
+use wb_runs::failures::Failures;
+use wb_runs::progress::Silent;
 use wb_script::read;
 use wb_size::fault::SizeFault;
 use wb_size::measure::size;

@@ -1,8 +1,8 @@
 //! Tasks as the tests' tables name them.
 
 use crate::rules::Refuses;
-use wb_model::heap::Rule;
-use wb_model::part::Part;
+use wb_heap_model::heap::Rule;
+use wb_runs::part::Part;
 use workbench::{Search, Task};
 
 /// The task that a command must have.

@@ -3,8 +3,8 @@
 use crate::rules::Refuses;
 use std::alloc::Global;
 use std::test::Fail;
+use wb_heap_model::heap::Shape;
 use wb_machine::{Machine, Turn};
-use wb_model::heap::Shape;
 use wb_script::read;
 
 const SHAPE: Shape = Shape {

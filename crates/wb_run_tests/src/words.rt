@@ -4,9 +4,9 @@ use crate::rules::Refuses;
 use crate::tasks::Asks;
 use std::alloc::Global;
 use std::test::Fail;
-use wb_model::failures::Failures;
-use wb_model::heap::Shape;
-use wb_model::part::Part;
+use wb_heap_model::heap::Shape;
+use wb_runs::failures::Failures;
+use wb_runs::part::Part;
 use workbench::{Command, CommandFault, FileName, Search, command};
 
 /// The least length and the growth step of a heap, in bytes.

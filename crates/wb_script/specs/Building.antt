@@ -1,37 +1,38 @@
 -- What a tree in the making stands for, and which lines can be added to it.
 use Rattle.std.specs.Prelude.{◌≡◌, ℕ, zero, suc, ◌+◌, ◌-◌, List, [], ◌∷◌, ◌++◌, Bool, true, false, not, ◌&&◌, ◌||◌, nat_eq, nat_lt, nat_le, Option, Some, None, IsTrue, MatchOption, fold, length, map}
 use Rattle.std.specs.List.{list_any, flat_map}
-use Rattle.wb_model.specs.declared.limits.TheConstants.{LARGEST_BUFFER, MOST_CLASSES, MOST_FIELDS, MOST_EXTRA, MOST_LOCALS, MOST_PARAMETERS, MOST_PROCEDURES, DEEPEST_BLOCK}
-use Rattle.wb_model.specs.declared.script_lines.ItemKind.{ItemKind}
-use Rattle.wb_model.specs.declared.script_lines.ItemKind.TheVariants as item
-use Rattle.wb_model.specs.declared.script_lines.LineKind.{LineKind}
-use Rattle.wb_model.specs.declared.script_lines.LineKind.TheVariants as line_kind
-use Rattle.wb_model.specs.declared.script_lines.Referent.{Referent}
-use Rattle.wb_model.specs.declared.script_lines.Referent.TheVariants as referent
-use Rattle.wb_model.specs.declared.script_lines.Operand.{Operand}
-use Rattle.wb_model.specs.declared.script_lines.Operand.TheVariants.{Name, Size}
-use Rattle.wb_model.specs.declared.script_lines.ParameterType.{ParameterType}
-use Rattle.wb_model.specs.declared.script_lines.ParameterType.TheVariants as parameter_type
-use Rattle.wb_model.specs.declared.script_lines.Form.TheVariants.{Line}
-use Rattle.wb_model.specs.declared.script_lines.Role.{Role}
-use Rattle.wb_model.specs.declared.script_lines.Role.TheVariants.{Class, Field, Construct, Destroy, Procedure, Declaration, Loop, If, Else}
-use Rattle.wb_model.specs.declared.script.Condition.{Condition}
-use Rattle.wb_model.specs.declared.script.Condition.TheVariants.{IsNull, NotNull, Equal, Less}
-use Rattle.wb_model.specs.declared.script.Parameter as kinds
-use Rattle.wb_model.specs.declared.script.Parameter.TheVariants as parameter
-use Rattle.wb_model.specs.declared.script.Local.{Local}
-use Rattle.wb_model.specs.declared.script.Local.TheVariants.{OfPointer, OfNumber, OfBuffer, OfView}
-use Rattle.wb_model.specs.declared.script.StatementAt.{StatementAt}
-use Rattle.wb_model.specs.declared.script.Statement.{Statement}
-use Rattle.wb_model.specs.declared.script.Statement.TheViews.{out-Statement}
-use Rattle.wb_model.specs.language.Forms.{role_of_form}
-use Rattle.wb_model.specs.language.LineKinds.{role_of}
-use Rattle.wb_model.specs.language.Kinds.{ends_body, is_trap}
-use Rattle.wb_model.specs.language.Resolved.{class_in}
-use Rattle.wb_model.specs.language.Names.{with_one, item_kind_in, parameters_in, blocks_after}
-use Rattle.wb_model.specs.language.Passes.{first_bad, state_after}
-use Rattle.wb_model.specs.language.Sound.{Declared, Scope, is_condition, is_number, is_variable, is_nested, are_within, local_of_parameter}
-use Rattle.wb_model.specs.language.Trees.{Indexed, Marked, lines_of_statement, line, number_operand, variable_operand, condition_line, statement_lines, else_line, end_line}
+use Rattle.wb_basics.specs.declared.limits.TheConstants.{LARGEST_BUFFER, MOST_CLASSES, MOST_FIELDS, MOST_EXTRA, MOST_LOCALS, MOST_PARAMETERS, MOST_PROCEDURES, DEEPEST_BLOCK}
+use Rattle.wb_tree.specs.declared.script_lines.ItemKind.{ItemKind}
+use Rattle.wb_tree.specs.declared.script_lines.ItemKind.TheVariants as item
+use Rattle.wb_tree.specs.declared.script_lines.LineKind.{LineKind}
+use Rattle.wb_tree.specs.declared.script_lines.LineKind.TheVariants as line_kind
+use Rattle.wb_tree.specs.declared.script_lines.Referent.{Referent}
+use Rattle.wb_tree.specs.declared.script_lines.Referent.TheVariants as referent
+use Rattle.wb_tree.specs.declared.script_lines.Operand.{Operand}
+use Rattle.wb_tree.specs.declared.script_lines.Operand.TheVariants.{Name, Size}
+use Rattle.wb_tree.specs.declared.script_lines.ParameterType.{ParameterType}
+use Rattle.wb_tree.specs.declared.script_lines.ParameterType.TheVariants as parameter_type
+use Rattle.wb_tree.specs.declared.script_lines.Form.TheVariants.{Line}
+use Rattle.wb_tree.specs.declared.script_lines.Role.{Role}
+use Rattle.wb_tree.specs.declared.script_lines.Role.TheVariants.{Class, Field, Construct, Destroy, Procedure, Declaration, Loop, If, Else}
+use Rattle.wb_tree.specs.declared.script.Condition.{Condition}
+use Rattle.wb_tree.specs.declared.script.Condition.TheVariants.{IsNull, NotNull, Equal, Less}
+use Rattle.wb_tree.specs.declared.script.Parameter as kinds
+use Rattle.wb_tree.specs.declared.script.Parameter.TheVariants as parameter
+use Rattle.wb_tree.specs.declared.script.Local.{Local}
+use Rattle.wb_tree.specs.declared.script.Local.TheVariants.{OfPointer, OfNumber, OfBuffer, OfView}
+use Rattle.wb_tree.specs.declared.script.StatementAt.{StatementAt}
+use Rattle.wb_tree.specs.declared.script.Statement.{Statement}
+use Rattle.wb_tree.specs.declared.script.Statement.TheViews.{out-Statement}
+use Rattle.wb_language.specs.Forms.{role_of_form}
+use Rattle.wb_language.specs.LineKinds.{role_of}
+use Rattle.wb_language.specs.Kinds.{ends_body, is_trap}
+use Rattle.wb_language.specs.Resolved.{class_in}
+use Rattle.wb_language.specs.Names.{with_one, item_kind_in, parameters_in, blocks_after}
+use Rattle.wb_language.specs.Passes.{first_bad, state_after}
+use Rattle.wb_tree.specs.Sound.{Declared, Scope, is_condition, is_number, is_variable, is_nested, are_within, local_of_parameter}
+use Rattle.wb_language.specs.Trees.{Indexed, Marked, lines_of_statement, line, condition_line, statement_lines, else_line, end_line}
+use Rattle.wb_tree.specs.Spellings.{number_operand, variable_operand}
 use Rattle.wb_nesting.specs.declared.open.Open.{Open}
 use Rattle.wb_nesting.specs.declared.open.Open.TheVariants.{Declarations, Statements, Branch, Block}
 use Rattle.wb_script.specs.declared.tree.blocks.Head.{Head}

@@ -1,16 +1,16 @@
 -- What items lend that hold references to texts: the same with bytes in place of the references. And what the items of a script
 -- tell of its classes and procedures.
 use Rattle.std.specs.Prelude.{ℕ, List, None, length, map}
-use Rattle.wb_model.specs.declared.script_lines.ParameterType.{ParameterType}
-use Rattle.wb_model.specs.declared.script_lines.ParameterType.TheVariants as parameter_type
-use Rattle.wb_model.specs.declared.script.Parameter.{Parameter}
-use Rattle.wb_model.specs.declared.script.Parameter.TheVariants as parameter
-use Rattle.wb_model.specs.language.Forms.{renamed_parameter_type}
-use Rattle.wb_model.specs.language.Resolved.{class_named}
-use Rattle.wb_model.specs.declared.script_lines.ItemKind.TheVariants as kind
-use Rattle.wb_model.specs.language.Names.{Text, of_kind, count_among}
-use Rattle.wb_model.specs.language.Names as model
-use Rattle.wb_model.specs.language.Sound.{Declared}
+use Rattle.wb_tree.specs.declared.script_lines.ParameterType.{ParameterType}
+use Rattle.wb_tree.specs.declared.script_lines.ParameterType.TheVariants as parameter_type
+use Rattle.wb_tree.specs.declared.script.Parameter.{Parameter}
+use Rattle.wb_tree.specs.declared.script.Parameter.TheVariants as parameter
+use Rattle.wb_language.specs.Forms.{renamed_parameter_type}
+use Rattle.wb_language.specs.Resolved.{class_named}
+use Rattle.wb_tree.specs.declared.script_lines.ItemKind.TheVariants as kind
+use Rattle.wb_language.specs.Names.{Text, of_kind, count_among}
+use Rattle.wb_language.specs.Names as model
+use Rattle.wb_tree.specs.Sound.{Declared}
 use Rattle.wb_lines.specs.BytesOf.{bytes_of_text}
 use Rattle.wb_script.specs.declared.checks.items.Declaration.{Declaration}
 

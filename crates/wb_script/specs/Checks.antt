@@ -1,16 +1,16 @@
 -- What the lines so far are found to be.
 use Rattle.std.specs.Prelude.{◌≡◌, ◌<◌, ℕ, ◌+◌, ◌^◌, List, [], ◌∷◌, length, map, nat_lt, Bool, true, false, Option, Some, None, codes}
-use Rattle.wb_model.specs.declared.fault.ScriptFault.{ScriptFault}
-use Rattle.wb_model.specs.declared.fault.ScriptFault.TheVariants.{UnknownName, DoubleName, WrongKind, MayLeave, NoMain, TooMany}
-use Rattle.wb_model.specs.declared.script_lines.Form.{Form}
-use Rattle.wb_model.specs.declared.script_lines.Operand.{Operand}
-use Rattle.wb_model.specs.declared.script_lines.Operand.TheVariants.{Size}
-use Rattle.wb_model.specs.language.Names.{Text, Declaration, names_of, nothing_known, known_after, first_refused, declares_again, passes_limit, literals_of}
-use Rattle.wb_model.specs.language.Names as model
-use Rattle.wb_model.specs.language.Passes.{state_after}
-use Rattle.wb_model.specs.language.Kinds.{has_wrong_kind, may_leave}
-use Rattle.wb_model.specs.language.Resolved.{resolved_among, item_referent, uses_unknown}
-use Rattle.wb_model.specs.language.Scripts.{number_of_line, procedure_referent}
+use Rattle.wb_language.specs.declared.fault.ScriptFault.{ScriptFault}
+use Rattle.wb_language.specs.declared.fault.ScriptFault.TheVariants.{UnknownName, DoubleName, WrongKind, MayLeave, NoMain, TooMany}
+use Rattle.wb_tree.specs.declared.script_lines.Form.{Form}
+use Rattle.wb_tree.specs.declared.script_lines.Operand.{Operand}
+use Rattle.wb_tree.specs.declared.script_lines.Operand.TheVariants.{Size}
+use Rattle.wb_language.specs.Names.{Text, Declaration, names_of, nothing_known, known_after, first_refused, declares_again, passes_limit, literals_of}
+use Rattle.wb_language.specs.Names as model
+use Rattle.wb_language.specs.Passes.{state_after}
+use Rattle.wb_language.specs.Kinds.{has_wrong_kind, may_leave}
+use Rattle.wb_language.specs.Resolved.{resolved_among, item_referent, uses_unknown}
+use Rattle.wb_language.specs.Scripts.{number_of_line, procedure_referent}
 use Rattle.wb_lines.specs.BytesOf.{bytes_of_kind, bytes_of_texts}
 use Rattle.wb_script.specs.declared.checks.names_so_far.NamesSoFar.{NamesSoFar}
 use Rattle.wb_script.specs.declared.checks.Checked.{Checked}

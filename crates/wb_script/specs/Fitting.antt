@@ -1,24 +1,24 @@
 -- Which operands fit their lines, in a scope and among what the script declares.
 use Rattle.std.specs.Prelude.{◌≡◌, ℕ, List, [], ◌∷◌, Bool, true, false, ◌&&◌, if◌then◌else◌, nat_lt, is_some, Option, Some, None, IsTrue, MatchOption, length, slice_get}
-use Rattle.wb_model.specs.declared.script_lines.LineKind.{LineKind}
-use Rattle.wb_model.specs.declared.script_lines.LineKind.TheVariants as line_kind
-use Rattle.wb_model.specs.declared.script_lines.OperandPlace.{OperandPlace}
-use Rattle.wb_model.specs.declared.script_lines.OperandPlace.TheVariants as operand_place
-use Rattle.wb_model.specs.declared.script_lines.Referent.{Referent}
-use Rattle.wb_model.specs.declared.script_lines.Referent.TheVariants as referent
-use Rattle.wb_model.specs.declared.script_lines.Operand.{Operand}
-use Rattle.wb_model.specs.declared.script_lines.Operand.TheVariants.{Name, Field, Number, Size, Literal, Parameter, Keyword}
-use Rattle.wb_model.specs.declared.script_lines.ParameterType.{ParameterType}
-use Rattle.wb_model.specs.declared.script_lines.ParameterType.TheVariants.{OfClass}
-use Rattle.wb_model.specs.declared.script.Holder.TheVariants as H
-use Rattle.wb_model.specs.declared.script.Pointer.TheVariants as P
-use Rattle.wb_model.specs.declared.script.Parameter as model
-use Rattle.wb_model.specs.declared.script.Parameter.TheVariants as parameter
-use Rattle.wb_model.specs.declared.script.Number.TheVariants.{Constant}
-use Rattle.wb_model.specs.language.LineKinds.{operand_places_for, takes}
-use Rattle.wb_model.specs.language.Kinds.{operand_kind_of}
-use Rattle.wb_model.specs.language.Trees.{Spelled}
-use Rattle.wb_model.specs.language.Sound.{Scope, Declared, is_pointer, is_pointer_local, is_buffer_local, is_view, is_variable, is_number}
+use Rattle.wb_tree.specs.declared.script_lines.LineKind.{LineKind}
+use Rattle.wb_tree.specs.declared.script_lines.LineKind.TheVariants as line_kind
+use Rattle.wb_tree.specs.declared.script_lines.OperandPlace.{OperandPlace}
+use Rattle.wb_tree.specs.declared.script_lines.OperandPlace.TheVariants as operand_place
+use Rattle.wb_tree.specs.declared.script_lines.Referent.{Referent}
+use Rattle.wb_tree.specs.declared.script_lines.Referent.TheVariants as referent
+use Rattle.wb_tree.specs.declared.script_lines.Operand.{Operand}
+use Rattle.wb_tree.specs.declared.script_lines.Operand.TheVariants.{Name, Field, Number, Size, Literal, Parameter, Keyword}
+use Rattle.wb_tree.specs.declared.script_lines.ParameterType.{ParameterType}
+use Rattle.wb_tree.specs.declared.script_lines.ParameterType.TheVariants.{OfClass}
+use Rattle.wb_tree.specs.declared.script.Holder.TheVariants as H
+use Rattle.wb_tree.specs.declared.script.Pointer.TheVariants as P
+use Rattle.wb_tree.specs.declared.script.Parameter as model
+use Rattle.wb_tree.specs.declared.script.Parameter.TheVariants as parameter
+use Rattle.wb_tree.specs.declared.script.Number.TheVariants.{Constant}
+use Rattle.wb_language.specs.LineKinds.{operand_places_for, takes}
+use Rattle.wb_language.specs.Kinds.{operand_kind_of}
+use Rattle.wb_tree.specs.Spellings.{Spelled}
+use Rattle.wb_tree.specs.Sound.{Scope, Declared, is_pointer, is_pointer_local, is_buffer_local, is_view, is_variable, is_number}
 
 -- what a name stands for is there
 abbrev pub is_name_there : Scope → Referent → Bool

@@ -1,25 +1,26 @@
 -- What an open body and the whole tree in the making stand for, and which lines can be added to them.
 use Rattle.std.specs.Prelude.{◌≡◌, ℕ, suc, ◌+◌, List, [], ◌∷◌, ◌++◌, Bool, true, false, ◌&&◌, ◌<◌, ◌≤◌, nat_eq, nat_lt, nat_le, Option, Some, None, IsTrue, MatchOption, length, map}
 use Rattle.std.specs.List.{list_all, flat_map}
-use Rattle.wb_model.specs.declared.limits.TheConstants.{MOST_CLASSES, MOST_LOCALS, MOST_PARAMETERS, MOST_PROCEDURES, DEEPEST_BLOCK}
-use Rattle.wb_model.specs.declared.script_lines.LineKind.{LineKind}
-use Rattle.wb_model.specs.declared.script_lines.LineKind.TheVariants as line_kind
-use Rattle.wb_model.specs.declared.script_lines.Referent.{Referent}
-use Rattle.wb_model.specs.declared.script_lines.Referent.TheVariants as referent
-use Rattle.wb_model.specs.declared.script_lines.Operand.{Operand}
-use Rattle.wb_model.specs.declared.script_lines.Operand.TheVariants.{Name, Parameter}
-use Rattle.wb_model.specs.declared.script_lines.ParameterType.TheVariants as parameter_type
-use Rattle.wb_model.specs.declared.script_lines.Form.TheVariants.{Line}
-use Rattle.wb_model.specs.declared.script_lines.Role.TheVariants.{Declaration}
-use Rattle.wb_model.specs.declared.script.Body.{Body}
-use Rattle.wb_model.specs.declared.script.Class.{Class}
-use Rattle.wb_model.specs.declared.script.Parameter as kinds
-use Rattle.wb_model.specs.declared.script.Local.{Local}
-use Rattle.wb_model.specs.declared.script.StatementAt.{StatementAt}
-use Rattle.wb_model.specs.language.Forms.{role_of_form}
-use Rattle.wb_model.specs.language.Names.{parameter_type_of}
-use Rattle.wb_model.specs.language.Sound.{Declared, Scope, is_local, is_parameter, is_body, is_class_of, are_classes, is_procedure, is_operation, local_of_parameter, locals_of, scope_of, fields_declared, signatures_of}
-use Rattle.wb_model.specs.language.Trees.{its_parameters, Indexed, Marked, Lines, mark, counted, line, head_line, local_line, local_lines, field_lines, own_body_lines, class_head, end_line, body_lines, parameter_operand, each_from, lines_of_class, lines_of_procedure, lines_of_operation, in_order, all_lines}
+use Rattle.wb_basics.specs.declared.limits.TheConstants.{MOST_CLASSES, MOST_LOCALS, MOST_PARAMETERS, MOST_PROCEDURES, DEEPEST_BLOCK}
+use Rattle.wb_tree.specs.declared.script_lines.LineKind.{LineKind}
+use Rattle.wb_tree.specs.declared.script_lines.LineKind.TheVariants as line_kind
+use Rattle.wb_tree.specs.declared.script_lines.Referent.{Referent}
+use Rattle.wb_tree.specs.declared.script_lines.Referent.TheVariants as referent
+use Rattle.wb_tree.specs.declared.script_lines.Operand.{Operand}
+use Rattle.wb_tree.specs.declared.script_lines.Operand.TheVariants.{Name, Parameter}
+use Rattle.wb_tree.specs.declared.script_lines.ParameterType.TheVariants as parameter_type
+use Rattle.wb_tree.specs.declared.script_lines.Form.TheVariants.{Line}
+use Rattle.wb_tree.specs.declared.script_lines.Role.TheVariants.{Declaration}
+use Rattle.wb_tree.specs.declared.script.Body.{Body}
+use Rattle.wb_tree.specs.declared.script.Class.{Class}
+use Rattle.wb_tree.specs.declared.script.Parameter as kinds
+use Rattle.wb_tree.specs.declared.script.Local.{Local}
+use Rattle.wb_tree.specs.declared.script.StatementAt.{StatementAt}
+use Rattle.wb_language.specs.Forms.{role_of_form}
+use Rattle.wb_language.specs.Names.{parameter_type_of}
+use Rattle.wb_tree.specs.Sound.{Declared, Scope, is_local, is_parameter, is_body, is_class_of, are_classes, is_procedure, is_operation, local_of_parameter, locals_of, scope_of, fields_declared, signatures_of}
+use Rattle.wb_tree.specs.Spellings.{its_parameters}
+use Rattle.wb_language.specs.Trees.{Indexed, Marked, Lines, mark, counted, line, head_line, local_line, local_lines, field_lines, own_body_lines, class_head, end_line, body_lines, parameter_operand, each_from, lines_of_class, lines_of_procedure, lines_of_operation, in_order, all_lines}
 use Rattle.wb_nesting.specs.declared.open.Open.{Open}
 use Rattle.wb_nesting.specs.declared.open.Open.TheVariants.{Fields, Made, Destroyed}
 use Rattle.wb_script.specs.declared.tree.space.Space.{Space}

@@ -1,13 +1,13 @@
 -- What the forms of all lines say of a script: no fault, or the first.
 use Rattle.std.specs.Prelude.{◌≡◌, ℕ, ◌+◌, List, map}
-use Rattle.wb_model.specs.declared.fault.ScriptFault.{ScriptFault}
-use Rattle.wb_model.specs.declared.fault.ScriptFault.TheVariants.{Grammar}
-use Rattle.wb_model.specs.declared.script_lines.Form.{Form}
-use Rattle.wb_model.specs.declared.script_lines.Role.{Role}
-use Rattle.wb_model.specs.language.Forms.{role_of_form}
-use Rattle.wb_model.specs.language.Grammar.{IsGrammatical, IsFirstMisfit}
-use Rattle.wb_model.specs.language.Names.{Text}
-use Rattle.wb_model.specs.language.Scripts.{IsLinesFault}
+use Rattle.wb_language.specs.declared.fault.ScriptFault.{ScriptFault}
+use Rattle.wb_language.specs.declared.fault.ScriptFault.TheVariants.{Grammar}
+use Rattle.wb_tree.specs.declared.script_lines.Form.{Form}
+use Rattle.wb_tree.specs.declared.script_lines.Role.{Role}
+use Rattle.wb_language.specs.Forms.{role_of_form}
+use Rattle.wb_language.specs.Grammar.{IsGrammatical, IsFirstMisfit}
+use Rattle.wb_language.specs.Names.{Text}
+use Rattle.wb_language.specs.Scripts.{IsLinesFault}
 
 abbrev pub roles_of : List (Form Text) → List Role
 roles_of forms = map role_of_form forms

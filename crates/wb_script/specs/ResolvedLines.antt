@@ -1,10 +1,10 @@
 -- The lines of a script with what their names and literals stand for, as they are kept: a row for each line, and the operands of
 -- all lines in one list.
 use Rattle.std.specs.Prelude.{ℕ, ◌+◌, List, [], ◌∷◌, take, drop}
-use Rattle.wb_model.specs.declared.script_lines.Form.{Form}
-use Rattle.wb_model.specs.declared.script_lines.Form.TheVariants as form
-use Rattle.wb_model.specs.declared.script_lines.Operand.{Operand}
-use Rattle.wb_model.specs.declared.script_lines.Referent.{Referent}
+use Rattle.wb_tree.specs.declared.script_lines.Form.{Form}
+use Rattle.wb_tree.specs.declared.script_lines.Form.TheVariants as form
+use Rattle.wb_tree.specs.declared.script_lines.Operand.{Operand}
+use Rattle.wb_tree.specs.declared.script_lines.Referent.{Referent}
 use Rattle.wb_script.specs.declared.checks.resolved_lines.ResolvedLine.{ResolvedLine}
 use Rattle.wb_script.specs.declared.checks.resolved_lines.ResolvedLine.TheVariants as lent
 use Rattle.wb_script.specs.declared.checks.resolved_lines.Row.{Row}

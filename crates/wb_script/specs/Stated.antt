@@ -1,40 +1,40 @@
 -- The statement that a line of a body is, and what the first line of a block begins.
-use Rattle.std.specs.Prelude.{◌≡◌, ℕ, List, [], ◌∷◌, Bool, true, false, ◌&&◌, not, Option, Some, nat_lt, IsTrue, MatchOption, map}
+use Rattle.std.specs.Prelude.{◌≡◌, ℕ, List, [], ◌∷◌, Bool, true, false, ◌&&◌, not, Option, Some, nat_lt, IsTrue, MatchOption, map, slice_get}
 use Rattle.std.specs.Borrow.{Bor}
 use Rattle.std.specs.List.{list_any}
-use Rattle.wb_model.specs.declared.script_lines.LineKind.{LineKind}
-use Rattle.wb_model.specs.declared.script_lines.LineKind.TheVariants as line_kind
-use Rattle.wb_model.specs.declared.script_lines.Keyword.{Keyword}
-use Rattle.wb_model.specs.declared.script_lines.Role.{Role}
-use Rattle.wb_model.specs.declared.script_lines.Role.TheVariants.{Plain}
-use Rattle.wb_model.specs.declared.script_lines.OperandPlace.{OperandPlace}
-use Rattle.wb_model.specs.declared.script_lines.OperandPlace.TheVariants as operand_place
-use Rattle.wb_model.specs.declared.script_lines.Referent.{Referent}
-use Rattle.wb_model.specs.declared.script_lines.Operand.{Operand}
-use Rattle.wb_model.specs.declared.script_lines.ParameterType.{ParameterType}
-use Rattle.wb_model.specs.declared.script_lines.Operand.TheVariants.{Field}
-use Rattle.wb_model.specs.declared.script_lines.Form.TheVariants.{Line}
-use Rattle.wb_model.specs.declared.script.Parameter.{Parameter}
-use Rattle.wb_model.specs.declared.script.Argument.{Argument}
-use Rattle.wb_model.specs.declared.script.StatementAt.{StatementAt}
-use Rattle.wb_model.specs.declared.script.Statement.{Statement}
-use Rattle.wb_model.specs.declared.script.Statement.TheViews.{out-Statement}
-use Rattle.wb_model.specs.declared.script.Holder.{Holder}
-use Rattle.wb_model.specs.declared.script.Holder.TheVariants as H
-use Rattle.wb_model.specs.declared.script.Pointer.{Pointer}
-use Rattle.wb_model.specs.declared.script.Pointer.TheVariants.{Held}
-use Rattle.wb_model.specs.declared.script.Number.{Number}
-use Rattle.wb_model.specs.declared.script.Refusal.{Refusal}
-use Rattle.wb_model.specs.declared.script.Refusal.TheVariants.{GivesNull, Leaves}
-use Rattle.wb_model.specs.language.Forms.{renamed_parameter_type}
-use Rattle.wb_model.specs.language.LineKinds.{is_pointer_kind, role_of}
-use Rattle.wb_model.specs.language.Kinds.{is_trap, operand_kind_of_name}
-use Rattle.wb_model.specs.language.Names as names
-use Rattle.wb_model.specs.language.Names.{Text}
-use Rattle.wb_model.specs.language.Sound as model
-use Rattle.wb_model.specs.language.Sound.{Declared, is_pointer_local, is_pointer, is_target, is_number, is_statement, is_simple, is_nested, are_passed, is_call}
-use Rattle.wb_model.specs.language.Trees.{Spelled, all_spelled, argument_operand, holder_referent, keyword_operand, set_line_kind, pointer_operand, number_operand, procedure_operand, operation_operand, statement_line, lines_of_statement}
-use Rattle.std.specs.Prelude.{slice_get}
+use Rattle.wb_tree.specs.declared.script_lines.LineKind.{LineKind}
+use Rattle.wb_tree.specs.declared.script_lines.LineKind.TheVariants as line_kind
+use Rattle.wb_tree.specs.declared.script_lines.Keyword.{Keyword}
+use Rattle.wb_tree.specs.declared.script_lines.Role.{Role}
+use Rattle.wb_tree.specs.declared.script_lines.Role.TheVariants.{Plain}
+use Rattle.wb_tree.specs.declared.script_lines.OperandPlace.{OperandPlace}
+use Rattle.wb_tree.specs.declared.script_lines.OperandPlace.TheVariants as operand_place
+use Rattle.wb_tree.specs.declared.script_lines.Referent.{Referent}
+use Rattle.wb_tree.specs.declared.script_lines.Operand.{Operand}
+use Rattle.wb_tree.specs.declared.script_lines.ParameterType.{ParameterType}
+use Rattle.wb_tree.specs.declared.script_lines.Operand.TheVariants.{Field}
+use Rattle.wb_tree.specs.declared.script_lines.Form.TheVariants.{Line}
+use Rattle.wb_tree.specs.declared.script.Parameter.{Parameter}
+use Rattle.wb_tree.specs.declared.script.Argument.{Argument}
+use Rattle.wb_tree.specs.declared.script.StatementAt.{StatementAt}
+use Rattle.wb_tree.specs.declared.script.Statement.{Statement}
+use Rattle.wb_tree.specs.declared.script.Statement.TheViews.{out-Statement}
+use Rattle.wb_tree.specs.declared.script.Holder.{Holder}
+use Rattle.wb_tree.specs.declared.script.Holder.TheVariants as H
+use Rattle.wb_tree.specs.declared.script.Pointer.{Pointer}
+use Rattle.wb_tree.specs.declared.script.Pointer.TheVariants.{Held}
+use Rattle.wb_tree.specs.declared.script.Number.{Number}
+use Rattle.wb_tree.specs.declared.script.Refusal.{Refusal}
+use Rattle.wb_tree.specs.declared.script.Refusal.TheVariants.{GivesNull, Leaves}
+use Rattle.wb_language.specs.Forms.{renamed_parameter_type}
+use Rattle.wb_language.specs.LineKinds.{is_pointer_kind, role_of}
+use Rattle.wb_language.specs.Kinds.{is_trap, operand_kind_of_name}
+use Rattle.wb_language.specs.Names as names
+use Rattle.wb_language.specs.Names.{Text}
+use Rattle.wb_tree.specs.Sound as model
+use Rattle.wb_tree.specs.Sound.{Declared, is_pointer_local, is_pointer, is_target, is_number, is_statement, is_simple, is_nested, are_passed, is_call}
+use Rattle.wb_tree.specs.Spellings.{Spelled, argument_operand, holder_referent, keyword_operand, set_line_kind, pointer_operand, number_operand, procedure_operand, operation_operand}
+use Rattle.wb_language.specs.Trees.{all_spelled, statement_line, lines_of_statement}
 use Rattle.wb_script.specs.declared.tree.scope.Scope.{Scope}
 use Rattle.wb_script.specs.declared.tree.blocks.Head.{Head}
 use Rattle.wb_script.specs.declared.tree.blocks.OpenBlock.{OpenBlock}

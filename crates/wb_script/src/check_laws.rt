@@ -3,20 +3,20 @@
 //! function that does nothing, so that checking this crate proves it.
 
 ghost use Rattle.std.specs.Prelude.{ℕ, ◌<◌, List};
-ghost use Rattle.wb_model.specs.declared.fault.ScriptFault.{ScriptFault};
-ghost use Rattle.wb_model.specs.declared.fault.ScriptFault.TheVariants.{UnknownName, DoubleName};
-ghost use Rattle.wb_model.specs.declared.fault.ScriptFault.TheVariants.{WrongKind, MayLeave, TooMany};
-ghost use Rattle.wb_model.specs.declared.script.Script.{Script};
-ghost use Rattle.wb_model.specs.language.DeclaredAgain.{DeclaresAgain};
-ghost use Rattle.wb_model.specs.language.FaultOrder.{number_of_fault};
-ghost use Rattle.wb_model.specs.language.FirstLines.{IsFirstLine, IsOfNoLine};
-ghost use Rattle.wb_model.specs.language.Forms.{forms_of};
-ghost use Rattle.wb_model.specs.language.Lines.{lines_of};
-ghost use Rattle.wb_model.specs.language.MissedFields.{UsesUnknown};
-ghost use Rattle.wb_model.specs.language.PassedLimits.{PassesLimit};
-ghost use Rattle.wb_model.specs.language.QuietBodies.{MayLeaveThere};
-ghost use Rattle.wb_model.specs.language.Scripts.{IsScriptOf, IsFaultOf};
-ghost use Rattle.wb_model.specs.language.WrongSorts.{IsWrong};
+ghost use Rattle.wb_language.specs.declared.fault.ScriptFault.{ScriptFault};
+ghost use Rattle.wb_language.specs.declared.fault.ScriptFault.TheVariants.{UnknownName, DoubleName};
+ghost use Rattle.wb_language.specs.declared.fault.ScriptFault.TheVariants.{WrongKind, MayLeave, TooMany};
+ghost use Rattle.wb_tree.specs.declared.script.Script.{Script};
+ghost use Rattle.wb_language.specs.DeclaredAgain.{DeclaresAgain};
+ghost use Rattle.wb_language.specs.FaultOrder.{number_of_fault};
+ghost use Rattle.wb_language.specs.FirstLines.{IsFirstLine, IsOfNoLine};
+ghost use Rattle.wb_language.specs.Forms.{forms_of};
+ghost use Rattle.wb_language.specs.Lines.{lines_of};
+ghost use Rattle.wb_language.specs.MissedFields.{UsesUnknown};
+ghost use Rattle.wb_language.specs.PassedLimits.{PassesLimit};
+ghost use Rattle.wb_language.specs.QuietBodies.{MayLeaveThere};
+ghost use Rattle.wb_language.specs.Scripts.{IsScriptOf, IsFaultOf};
+ghost use Rattle.wb_language.specs.WrongSorts.{IsWrong};
 
 /// An unknown name is in the first line that uses a name which is declared nowhere in its space, or a field that the class
 /// of the pointer before it doesn't declare. A script has no such line.

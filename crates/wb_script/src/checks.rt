@@ -12,11 +12,11 @@ pub(crate) mod resolved_lines;
 pub(crate) mod tables;
 
 ghost use Rattle.std.specs.Prelude.{◌≡◌, ◌+◌, ◌<◌, ◌≤◌, [], ◌∷◌, ◌++◌, List, length, IfOk, OnOk};
-ghost use Rattle.wb_model.specs.declared.script_lines.Form as model;
-ghost use Rattle.wb_model.specs.language.Kinds.{has_wrong_kind, may_leave};
-ghost use Rattle.wb_model.specs.language.Names as space;
-ghost use Rattle.wb_model.specs.language.Names.{Text, declares_again, items_before, names_of, passes_limit};
-ghost use Rattle.wb_model.specs.language.Resolved.{uses_unknown, resolved_line};
+ghost use Rattle.wb_tree.specs.declared.script_lines.Form as model;
+ghost use Rattle.wb_language.specs.Kinds.{has_wrong_kind, may_leave};
+ghost use Rattle.wb_language.specs.Names as space;
+ghost use Rattle.wb_language.specs.Names.{Text, declares_again, items_before, names_of, passes_limit};
+ghost use Rattle.wb_language.specs.Resolved.{uses_unknown, resolved_line};
 ghost use Rattle.wb_lines.specs.BytesOf.{bytes_of_form, bytes_of_forms};
 ghost use Rattle.wb_script.specs.BytesOf.{bytes_of_items};
 ghost use Rattle.wb_script.specs.Checks.{known_in, or_here, AreChecked, IsFew};
@@ -30,8 +30,8 @@ use crate::checks::names::{declares_again, has_unknown};
 use crate::checks::names_so_far::NamesSoFar;
 use crate::checks::resolved_lines::{ResolvedLine, ResolvedLines};
 use std::alloc::{AllocError, Global};
-use wb_model::limits::LONGEST_SCRIPT;
-use wb_model::script_lines::Form;
+use wb_basics::limits::LONGEST_SCRIPT;
+use wb_tree::script_lines::Form;
 
 /// The number of the first line in which a check finds a fault, after one more line: `found` is that of the lines before, and `refused`
 /// says whether the check finds a fault in this line.

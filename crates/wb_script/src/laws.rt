@@ -1,13 +1,13 @@
 //! Laws about which bytes are scripts. Each law is the contract of a function that does nothing, so that checking this crate proves it.
 
 ghost use Rattle.std.specs.Prelude.{◌≡◌, ℕ, List, length};
-ghost use Rattle.wb_model.specs.declared.fault.ScriptFault.{ScriptFault};
-ghost use Rattle.wb_model.specs.declared.script.Script.{Script};
-ghost use Rattle.wb_model.specs.declared.fault.ScriptFault.TheVariants.{UnknownName};
-ghost use Rattle.wb_model.specs.language.Forms.{forms_of};
-ghost use Rattle.wb_model.specs.language.Lines.{lines_of};
-ghost use Rattle.wb_model.specs.language.Scripts.{IsScriptOf, IsFaultOf};
-ghost use Rattle.wb_model.specs.language.Undeclared.{UsesDeclaredUpTo, IsFirstUndeclaredLine};
+ghost use Rattle.wb_language.specs.declared.fault.ScriptFault.{ScriptFault};
+ghost use Rattle.wb_tree.specs.declared.script.Script.{Script};
+ghost use Rattle.wb_language.specs.declared.fault.ScriptFault.TheVariants.{UnknownName};
+ghost use Rattle.wb_language.specs.Forms.{forms_of};
+ghost use Rattle.wb_language.specs.Lines.{lines_of};
+ghost use Rattle.wb_language.specs.Scripts.{IsScriptOf, IsFaultOf};
+ghost use Rattle.wb_language.specs.Undeclared.{UsesDeclaredUpTo, IsFirstUndeclaredLine};
 
 /// Bytes spell at most one script.
 pub fn one_script()

@@ -11,5 +11,5 @@ mod reading;
 mod tree;
 
 pub use reading::read;
-pub use wb_model::fault::ScriptFault;
-pub use wb_model::script::Script;
+pub use wb_language::fault::ScriptFault;
+pub use wb_tree::script::Script;

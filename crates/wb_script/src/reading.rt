@@ -3,11 +3,11 @@
 ghost use Rattle.std.specs.Prelude.{◌≡◌, ◌≢◌, ◌≤◌, ◌<◌, ◌^◌, [], ◌∷◌, ◌++◌, length, map, slice_get, true, IsTrue, IfOk};
 ghost use Rattle.std.specs.Prelude.{IfErr, OnOk, MatchOption};
 ghost use Rattle.std.specs.List.{list_all};
-ghost use Rattle.wb_model.specs.language.Forms.{role_of_form};
-ghost use Rattle.wb_model.specs.language.Grammar.{IsGrammatical, IsFirstMisfit};
-ghost use Rattle.wb_model.specs.language.Scripts.{IsPlainText, IsScriptOf, IsFaultOf, IsTreeOf, IsLinesFault};
-ghost use Rattle.wb_model.specs.language.Sound.{is_script, is_sound_script, is_entry, is_literal_text};
-ghost use Rattle.wb_model.specs.language.Trees.{script_lines, counted_from};
+ghost use Rattle.wb_language.specs.Forms.{role_of_form};
+ghost use Rattle.wb_language.specs.Grammar.{IsGrammatical, IsFirstMisfit};
+ghost use Rattle.wb_language.specs.Scripts.{IsPlainText, IsScriptOf, IsFaultOf, IsTreeOf, IsLinesFault};
+ghost use Rattle.wb_tree.specs.Sound.{is_script, is_sound_script, is_entry, is_literal_text};
+ghost use Rattle.wb_language.specs.Trees.{script_lines, counted_from};
 ghost use Rattle.wb_script.specs.Building.{AllFit, counts_of};
 ghost use Rattle.wb_script.specs.Checks.{IsMain, IsFirstFault};
 ghost use Rattle.wb_lines.specs.BytesOf.{bytes_of_texts, bytes_of_forms};
@@ -21,16 +21,16 @@ use crate::checks::resolved_lines::ResolvedLines;
 use crate::checks::{FirstLines, checked_lines};
 use crate::tree::bodies_of;
 use std::alloc::{AllocError, Global};
+use wb_basics::items::{Chars, Items};
+use wb_basics::limits::LONGEST_SCRIPT;
+use wb_language::fault::ScriptFault;
 use wb_lines::bytes::{first_foreign_line, is_too_long};
 use wb_lines::forms::{forms, role};
 use wb_lines::lists::add;
 use wb_lines::segments::lines;
-use wb_model::fault::ScriptFault;
-use wb_model::items::Items;
-use wb_model::limits::LONGEST_SCRIPT;
-use wb_model::script::{Chars, Script};
-use wb_model::script_lines::{Form, Referent, Role};
 use wb_nesting::first_misfit;
+use wb_tree::script::Script;
+use wb_tree::script_lines::{Form, Referent, Role};
 
 fn roles<N>(alloc: Global, forms: &[Form<N>]) -> Result<Vec<Role>, AllocError>
     ensures { IfOk result (λ found. found.items ≡ map role_of_form forms.now) }

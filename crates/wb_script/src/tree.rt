@@ -15,12 +15,12 @@ mod text_statements;
 mod whole;
 
 ghost use Rattle.std.specs.Prelude.{◌≡◌, ◌≢◌, ◌≤◌, length, map, IfOk};
-ghost use Rattle.wb_model.specs.declared.limits.TheConstants.{LONGEST_SCRIPT};
-ghost use Rattle.wb_model.specs.declared.script_lines.Form.TheVariants.{Line, Unknown};
-ghost use Rattle.wb_model.specs.language.Forms.{role_of_form};
-ghost use Rattle.wb_model.specs.language.Grammar.{IsGrammatical};
-ghost use Rattle.wb_model.specs.language.Sound.{fields_declared, signatures_of};
-ghost use Rattle.wb_model.specs.language.Trees.{counted_from, all_lines};
+ghost use Rattle.wb_basics.specs.declared.limits.TheConstants.{LONGEST_SCRIPT};
+ghost use Rattle.wb_tree.specs.declared.script_lines.Form.TheVariants.{Line, Unknown};
+ghost use Rattle.wb_language.specs.Forms.{role_of_form};
+ghost use Rattle.wb_language.specs.Grammar.{IsGrammatical};
+ghost use Rattle.wb_tree.specs.Sound.{fields_declared, signatures_of};
+ghost use Rattle.wb_language.specs.Trees.{counted_from, all_lines};
 ghost use Rattle.wb_script.specs.Building.{AllFit, counts_of};
 ghost use Rattle.wb_script.specs.Growing.{AreSound, GrowsWhereFit, IsBelow, IsSound, OpensWhereFit, declared_in_space};
 ghost use Rattle.wb_script.specs.Growing.{if_added, in_body, items_in_order, outside};
@@ -36,9 +36,9 @@ use crate::tree::space::{Space, field_counts};
 use crate::tree::whole::{Building, Owner, Stage, WholeItems, finish_body};
 use std::alloc::{AllocError, Global};
 use std::mem::replace;
+use wb_basics::limits::LONGEST_SCRIPT;
 use wb_lines::line_kinds::role_of;
-use wb_model::limits::LONGEST_SCRIPT;
-use wb_model::script_lines::{LineKind, Operand, Referent, Role};
+use wb_tree::script_lines::{LineKind, Operand, Referent, Role};
 
 /// What the line with this number opens where nothing is open; `None` if the line is not allowed there.
 fn begin_item(

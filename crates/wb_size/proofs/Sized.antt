@@ -1,18 +1,18 @@
 -- What was found of the run without a limit is a sizing.
 use Rattle.std.proofs.Common.{◌≡◌, ◌≢◌, ℕ, ◌≤◌, arith, Option, Some, None, IsSome, refl, sym, ◌∙◌, ap, subst}
 use Rattle.std.specs.Prelude.{◌↔◌}
-use Rattle.wb_model.specs.declared.heap.Rule.TheVariants.{Unlimited}
-use Rattle.wb_model.specs.declared.heap.Shape.{Shape}
-use Rattle.wb_model.specs.declared.run.Outcome.TheVariants.{Cut}
-use Rattle.wb_model.specs.declared.run.RisesResult.{RisesResult}
-use Rattle.wb_model.specs.declared.run.Why.{Why}
-use Rattle.wb_model.specs.declared.run.Why.TheVariants.{Ceiling}
-use Rattle.wb_model.specs.declared.script.Script.{Script}
-use Rattle.wb_model.specs.runs.Run.{run, rises_result_of, required, rises, first_rise_above, refused_at}
-use Rattle.wb_model.specs.runs.Rises.{top_of_rises}
-use Rattle.wb_model.specs.runs.Sizes.{refused_first, IsTable}
-use Rattle.wb_model.proofs.runs.AccountLemmas.{top-highest}
-use Rattle.wb_model.proofs.runs.SizeLemmas.{limit_refuses_first, refused_at-none, limits_have_table}
+use Rattle.wb_heap_model.specs.declared.heap.Rule.TheVariants.{Unlimited}
+use Rattle.wb_heap_model.specs.declared.heap.Shape.{Shape}
+use Rattle.wb_meaning.specs.declared.run.Outcome.TheVariants.{Cut}
+use Rattle.wb_meaning.specs.declared.run.RisesResult.{RisesResult}
+use Rattle.wb_meaning.specs.declared.run.Why.{Why}
+use Rattle.wb_meaning.specs.declared.run.Why.TheVariants.{Ceiling}
+use Rattle.wb_tree.specs.declared.script.Script.{Script}
+use Rattle.wb_meaning.specs.Run.{run, rises_result_of, required, rises, first_rise_above, refused_at}
+use Rattle.wb_heap_model.specs.Rises.{top_of_rises}
+use Rattle.wb_runs.specs.Sizes.{refused_first, IsTable}
+use Rattle.wb_heap_model.proofs.KeptRises.{top-highest}
+use Rattle.wb_runs.proofs.SizeLemmas.{limit_refuses_first, refused_at-none, limits_have_table}
 use Rattle.wb_size.specs.declared.sizing.Sizing.{Sizing}
 use Rattle.wb_size.specs.Sizing.{refusal_in, IsSizing}
 

@@ -1,6 +1,6 @@
 -- What is said, beside the sizing, of the run that it was made by.
 use Rattle.std.specs.Prelude.{◌≡◌, length}
-use Rattle.wb_model.specs.declared.run.RunResult.{RunResult}
+use Rattle.wb_meaning.specs.declared.run.RunResult.{RunResult}
 use Rattle.wb_size.specs.declared.sized_run.SizedRun.{SizedRun}
 
 pub record IsOfRun (run_result : RunResult) (sized : SizedRun) : Type 0 where

@@ -1,12 +1,12 @@
 -- What a sizing says of a script: the length that it needs, and what each shorter heap refuses first.
 use Rattle.std.specs.Prelude.{◌≡◌, ◌≢◌, ℕ, ◌≤◌, ◌↔◌, Option, None}
-use Rattle.wb_model.specs.declared.heap.Rule.TheVariants.{Unlimited}
-use Rattle.wb_model.specs.declared.heap.Shape.{Shape}
-use Rattle.wb_model.specs.declared.run.Outcome.TheVariants.{Cut}
-use Rattle.wb_model.specs.declared.run.Why.{Why}
-use Rattle.wb_model.specs.declared.script.Script.{Script}
-use Rattle.wb_model.specs.runs.Run.{run, required, rises, first_rise_above}
-use Rattle.wb_model.specs.runs.Sizes.{refused_first, IsHeapLength}
+use Rattle.wb_heap_model.specs.declared.heap.Rule.TheVariants.{Unlimited}
+use Rattle.wb_heap_model.specs.declared.heap.Shape.{Shape}
+use Rattle.wb_meaning.specs.declared.run.Outcome.TheVariants.{Cut}
+use Rattle.wb_meaning.specs.declared.run.Why.{Why}
+use Rattle.wb_tree.specs.declared.script.Script.{Script}
+use Rattle.wb_meaning.specs.Run.{run, required, rises, first_rise_above}
+use Rattle.wb_runs.specs.Sizes.{refused_first, IsHeapLength}
 use Rattle.wb_size.specs.declared.sizing.Sizing.{Sizing}
 
 -- the attempt that a sizing names for a length

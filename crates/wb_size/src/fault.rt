@@ -1,8 +1,8 @@
 //! Why a script was not sized.
 
+use wb_basics::memory::NoMemory;
 use wb_machine::RunFault;
-use wb_model::memory::NoMemory;
-use wb_model::run::Why;
+use wb_meaning::run::Why;
 
 /// Why no length of heap that a script needs was found.
 #[derive(Clone, Copy, Debug, PartialEq, Eq)]

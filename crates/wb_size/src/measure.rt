@@ -1,23 +1,23 @@
 //! Sizing a script, by one run without a limit.
 
 ghost use Rattle.std.specs.Prelude.{◌≡◌, ◌≤◌, ◌↔◌, ℕ, false, IfOk, IsTrue};
-ghost use Rattle.wb_model.specs.runs.Run.{run};
-ghost use Rattle.wb_model.specs.language.Sound.{is_script};
-ghost use Rattle.wb_model.specs.heap.Space.{is_shape};
-ghost use Rattle.wb_model.specs.declared.heap.Rule.TheVariants.{Unlimited};
-ghost use Rattle.wb_model.specs.declared.run.Outcome.TheVariants as outcomes;
-ghost use Rattle.wb_model.specs.declared.run.Why.{Why};
+ghost use Rattle.wb_meaning.specs.Run.{run};
+ghost use Rattle.wb_tree.specs.Sound.{is_script};
+ghost use Rattle.wb_heap_model.specs.Space.{is_shape};
+ghost use Rattle.wb_heap_model.specs.declared.heap.Rule.TheVariants.{Unlimited};
+ghost use Rattle.wb_meaning.specs.declared.run.Outcome.TheVariants as outcomes;
+ghost use Rattle.wb_meaning.specs.declared.run.Why.{Why};
 ghost use Rattle.wb_size.specs.declared.fault.SizeFault.TheVariants.{BadShape, Cut};
 ghost use Rattle.wb_size.specs.Sizing.{IsSizing};
 
 use crate::fault::SizeFault;
 use crate::sizing::{Sizing, sizing_of};
 use std::alloc::Global;
+use wb_basics::limits::LARGEST_BUDGET;
+use wb_heap_model::heap::Shape;
 use wb_machine::run_rises;
-use wb_model::heap::Shape;
-use wb_model::limits::LARGEST_BUDGET;
-use wb_model::run::Outcome;
-use wb_model::script::Script;
+use wb_meaning::run::Outcome;
+use wb_tree::script::Script;
 
 /// Returns the least length of a heap that denies no attempt of a script, in bytes, and which attempt each shorter heap denies first.
 ///

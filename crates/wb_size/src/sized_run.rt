@@ -1,12 +1,12 @@
 //! Sizes a script by one run, and says how that run ended.
 
 ghost use Rattle.std.specs.Prelude.{◌≡◌, ◌≤◌, ◌↔◌, ℕ, false, IfOk, IsTrue};
-ghost use Rattle.wb_model.specs.runs.Run.{run};
-ghost use Rattle.wb_model.specs.language.Sound.{is_script};
-ghost use Rattle.wb_model.specs.heap.Space.{is_shape};
-ghost use Rattle.wb_model.specs.declared.heap.Rule.TheVariants.{Unlimited};
-ghost use Rattle.wb_model.specs.declared.run.Outcome.TheVariants as outcomes;
-ghost use Rattle.wb_model.specs.declared.run.Why.{Why};
+ghost use Rattle.wb_meaning.specs.Run.{run};
+ghost use Rattle.wb_tree.specs.Sound.{is_script};
+ghost use Rattle.wb_heap_model.specs.Space.{is_shape};
+ghost use Rattle.wb_heap_model.specs.declared.heap.Rule.TheVariants.{Unlimited};
+ghost use Rattle.wb_meaning.specs.declared.run.Outcome.TheVariants as outcomes;
+ghost use Rattle.wb_meaning.specs.declared.run.Why.{Why};
 ghost use Rattle.wb_size.specs.declared.fault.SizeFault.TheVariants.{BadShape, Cut};
 ghost use Rattle.wb_size.specs.SizedRun.{IsOfRun};
 ghost use Rattle.wb_size.specs.Sizing.{IsSizing};
@@ -14,11 +14,11 @@ ghost use Rattle.wb_size.specs.Sizing.{IsSizing};
 use crate::fault::SizeFault;
 use crate::sizing::{Sizing, sizing_of};
 use std::alloc::Global;
+use wb_basics::limits::LARGEST_BUDGET;
+use wb_heap_model::heap::Shape;
 use wb_machine::counted::run_rises_counted;
-use wb_model::heap::Shape;
-use wb_model::limits::LARGEST_BUDGET;
-use wb_model::run::{Outcome, RisesResult};
-use wb_model::script::Script;
+use wb_meaning::run::{Outcome, RisesResult};
+use wb_tree::script::Script;
 
 /// What a script needs, and how the run without a limit went.
 #[derive(Drop)]

@@ -1,10 +1,10 @@
 //! The length of heap that a script needs, and the table of the attempts that shorter heaps deny.
 
 ghost use Rattle.std.specs.Prelude.{◌≡◌};
-ghost use Rattle.wb_model.specs.runs.Rises.{top_of_rises};
+ghost use Rattle.wb_heap_model.specs.Rises.{top_of_rises};
 ghost use Rattle.wb_size.specs.Sizing.{refusal_in};
 
-use wb_model::size::{Rises, top_of_rises};
+use wb_heap_model::size::{Rises, top_of_rises};
 
 /// The least length of a heap that denies no attempt, in bytes, and the rises of the run without a limit.
 #[derive(Debug, Drop)]

@@ -1,26 +1,26 @@
 -- What is found among the sets that a search tries, as what is found of a part.
 use Rattle.std.proofs.Common.{◌≡◌, ℕ, ◌+◌, ◌≤◌, arith, Bool, true, false, List, [], ◌∷◌, length, refl, sym, ◌∙◌, ap, subst, inl, inr, max}
 use Rattle.std.proofs.lemmas.Bool.{cases_lt, false≢true, true≢false}
-use Rattle.wb_model.specs.declared.failures.Failures.TheVariants.{Single}
-use Rattle.wb_model.specs.declared.heap.Shape.{Shape}
-use Rattle.wb_model.specs.declared.part.Part.{Part}
-use Rattle.wb_model.specs.declared.run.RunResult.{RunResult}
-use Rattle.wb_model.specs.declared.script.Script.{Script}
-use Rattle.wb_model.specs.runs.EverySet.{AreAllSetsFineIn}
-use Rattle.wb_model.specs.runs.Parts.{last_attempt, IsNumberOf}
-use Rattle.wb_model.specs.runs.SetParts.{least_number, AreSetsFineIn, IsSetOf}
-use Rattle.wb_model.specs.runs.Sets.{set_comes_before, set_run, IsSet}
-use Rattle.wb_model.specs.runs.Sweeps.{is_fine}
-use Rattle.wb_model.proofs.runs.SetLemmas.{none-fails, past-last}
-use Rattle.wb_model.proofs.runs.SetOrder.{fewer-before}
-use Rattle.wb_model.proofs.runs.SweepLemmas.{fine_uncut}
+use Rattle.wb_runs.specs.declared.failures.Failures.TheVariants.{Single}
+use Rattle.wb_heap_model.specs.declared.heap.Shape.{Shape}
+use Rattle.wb_runs.specs.declared.part.Part.{Part}
+use Rattle.wb_meaning.specs.declared.run.RunResult.{RunResult}
+use Rattle.wb_tree.specs.declared.script.Script.{Script}
+use Rattle.wb_runs.specs.EverySet.{AreAllSetsFineIn}
+use Rattle.wb_runs.specs.Parts.{last_attempt, IsNumberOf}
+use Rattle.wb_runs.specs.SetParts.{least_number, AreSetsFineIn, IsSetOf}
+use Rattle.wb_runs.specs.Sets.{set_comes_before, set_run, IsSet}
+use Rattle.wb_runs.specs.Sweeps.{is_fine}
+use Rattle.wb_runs.proofs.SetLemmas.{none-fails, past-last}
+use Rattle.wb_runs.proofs.SetOrder.{fewer-before}
+use Rattle.wb_runs.proofs.SweepLemmas.{fine_uncut}
 use Rattle.wb_states.specs.Answers.{at_least_one, AreFineWhere, IsAnswer, IsLeastShownIn, IsWholeIf}
 use Rattle.wb_states.specs.declared.searching.Searched.{Searched}
 use Rattle.wb_states.specs.declared.searching.Searched.TheVariants as found
 use Rattle.wb_states.specs.declared.state.Shown.{Shown}
 use Rattle.wb_states.specs.Ground.{Ground, IsTriedSet}
 use Rattle.wb_states.specs.Many.{IsMetOf}
-use Rattle.wb_states.specs.Met.{AreManyStatesIn, AreWithin, AsksAfter, IsMetIn}
+use Rattle.wb_runs.specs.Met.{AreManyStatesIn, AreWithin, AsksAfter, IsMetIn}
 
 -- an answer that names a set is that answer where it is known that no single failure shows anything
 pub at-least-shown : (answer : Searched) (shown : Shown) → at_least_one answer ≡ found.Shown shown → answer ≡ found.Shown shown

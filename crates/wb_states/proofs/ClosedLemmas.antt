@@ -2,10 +2,10 @@
 use Rattle.std.proofs.Common.{◌≡◌, ℕ, zero, suc, ◌+◌, ◌<◌, ◌≤◌, inl, inr, arith, true, List, [], ◌∷◌, ◌++◌, length, append_assoc, refl, sym, ◌∙◌, ap, subst, Option, Some, None}
 use Rattle.std.specs.Prelude.{slice_get, IfSome}
 use Rattle.std.proofs.lemmas.Option.{slice_get_within}
-use Rattle.wb_model.specs.runs.Sets.{IsSet}
-use Rattle.wb_model.specs.runs.Sweeps.{is_fine}
-use Rattle.wb_model.proofs.runs.SetLemmas.{past-last}
-use Rattle.wb_model.proofs.runs.SweepLemmas.{fine_uncut}
+use Rattle.wb_runs.specs.Sets.{IsSet}
+use Rattle.wb_runs.specs.Sweeps.{is_fine}
+use Rattle.wb_runs.proofs.SetLemmas.{past-last}
+use Rattle.wb_runs.proofs.SweepLemmas.{fine_uncut}
 use Rattle.wb_states.specs.declared.closed.Bound.{Bound}
 use Rattle.wb_states.specs.declared.search.Search.{Search}
 use Rattle.wb_states.specs.declared.state.Edge.{Edge}

@@ -1,12 +1,12 @@
 -- What the end of a run says of the sets that go on from it.
 use Rattle.std.proofs.Common.{◌≡◌, ℕ, ◌≤◌, arith, Bool, List, [], ◌∷◌, ◌++◌, sym, ◌∙◌, ap, subst, inl, inr}
 use Rattle.wb_machine.specs.Seen.{whole_run_of, Seen}
-use Rattle.wb_model.specs.declared.heap.Rule.{Rule}
-use Rattle.wb_model.specs.declared.heap.Rule.TheVariants.{Set}
-use Rattle.wb_model.specs.declared.heap.Shape.{Shape}
-use Rattle.wb_model.specs.declared.script.Script.{Script}
-use Rattle.wb_model.specs.runs.Run.{run, whole_run}
-use Rattle.wb_model.specs.runs.Sets.{IsSet}
+use Rattle.wb_heap_model.specs.declared.heap.Rule.{Rule}
+use Rattle.wb_heap_model.specs.declared.heap.Rule.TheVariants.{Set}
+use Rattle.wb_heap_model.specs.declared.heap.Shape.{Shape}
+use Rattle.wb_tree.specs.declared.script.Script.{Script}
+use Rattle.wb_meaning.specs.Run.{run, whole_run}
+use Rattle.wb_runs.specs.Sets.{IsSet}
 use Rattle.wb_states.specs.Ground.{past, run_of, Ground, IsTriedSet}
 use Rattle.wb_states.specs.States.{IsNoneOrTried, IsRunUnder}
 

@@ -2,13 +2,13 @@
 use Rattle.std.proofs.Common.{◌≡◌, ℕ, zero, suc, ◌+◌, ◌<◌, ◌≤◌, arith, true, false, List, length, sym, ◌∙◌, ap, subst}
 use Rattle.wb_machine.specs.Seen.{Seen}
 use Rattle.wb_machine.specs.Turns.{IsSameRun}
-use Rattle.wb_model.specs.declared.heap.Rule.{Rule}
-use Rattle.wb_model.specs.declared.heap.Rule.TheVariants.{Set}
-use Rattle.wb_model.specs.declared.heap.Shape.{Shape}
-use Rattle.wb_model.specs.declared.script.Script.{Script}
-use Rattle.wb_model.specs.runs.Run.{run}
+use Rattle.wb_heap_model.specs.declared.heap.Rule.{Rule}
+use Rattle.wb_heap_model.specs.declared.heap.Rule.TheVariants.{Set}
+use Rattle.wb_heap_model.specs.declared.heap.Shape.{Shape}
+use Rattle.wb_tree.specs.declared.script.Script.{Script}
+use Rattle.wb_meaning.specs.Run.{run}
 use Rattle.wb_states.specs.Ground.{run_of, turns_of, Ground}
-use Rattle.wb_states.specs.Met.{AreWithin}
+use Rattle.wb_runs.specs.Met.{AreWithin}
 use Rattle.wb_states.specs.States.{IsAboutTo, IsRunUnder, IsUnderWay}
 
 module _ (g : Ground) (numbers : List ℕ) (m new : Seen) (about : IsAboutTo g numbers m) (same : IsSameRun m new) where

@@ -5,18 +5,18 @@ use Rattle.std.proofs.lemmas.Option.{slice_get_within}
 use Rattle.std.specs.Prelude.{slice_get, IfSome}
 use Rattle.wb_machine.specs.Seen.{seen_at_start, Seen}
 use Rattle.wb_machine.proofs.asking.Made.{asked_at_start}
-use Rattle.wb_model.specs.declared.heap.Rule.{Rule}
-use Rattle.wb_model.specs.declared.heap.Rule.TheVariants.{Set}
-use Rattle.wb_model.specs.runs.Rest.{SameSoFar}
-use Rattle.wb_model.specs.runs.Sets.{AscendsPast, IsSet}
-use Rattle.wb_model.proofs.runs.SetLemmas.{ascends-first}
+use Rattle.wb_heap_model.specs.declared.heap.Rule.{Rule}
+use Rattle.wb_heap_model.specs.declared.heap.Rule.TheVariants.{Set}
+use Rattle.wb_heap_model.specs.SameRules.{SameSoFar}
+use Rattle.wb_runs.specs.Sets.{AscendsPast, IsSet}
+use Rattle.wb_runs.proofs.SetLemmas.{ascends-first}
 use Rattle.wb_states.specs.declared.runs.Runs.{Runs}
 use Rattle.wb_states.specs.declared.search.Search.{Search}
 use Rattle.wb_states.specs.declared.state.Edge.{Edge}
 use Rattle.wb_states.specs.declared.state.Edge.TheVariants.{Untried}
 use Rattle.wb_states.specs.declared.state.State.{State}
 use Rattle.wb_states.specs.Ground.{past, run_of, turns_of, Ground, IsTriedSet}
-use Rattle.wb_states.specs.Met.{AreWithin}
+use Rattle.wb_runs.specs.Met.{AreWithin}
 use Rattle.wb_states.specs.States.{failing_next, ground_of, next_attempt, turns_at, AreOfOr, AreRunsOf, AreStates, BeginsAtTheStart, GoesOn, HasGrown, IsAboutTo, IsKept, IsRunOf, IsShown, IsSound, IsState}
 use Rattle.wb_states.proofs.MeetingLemmas.{same-before}
 use Rattle.wb_states.proofs.StateLemmas.{failed-next, granted-next}

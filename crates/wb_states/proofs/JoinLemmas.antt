@@ -4,20 +4,20 @@ use Rattle.std.specs.Prelude.{slice_get}
 use Rattle.std.proofs.lemmas.List.{length-append}
 use Rattle.std.proofs.lemmas.Option.{slice_get_within}
 use Rattle.wb_machine.specs.Seen.{Seen}
-use Rattle.wb_machine.specs.Turns.{MakesMore, MakesMoreThan}
-use Rattle.wb_model.specs.declared.heap.Rule.{Rule}
-use Rattle.wb_model.specs.declared.heap.Rule.TheVariants.{Set}
-use Rattle.wb_model.specs.declared.heap.Shape.{Shape}
-use Rattle.wb_model.specs.declared.script.Script.{Script}
-use Rattle.wb_model.specs.runs.Run.{run}
-use Rattle.wb_model.specs.runs.Sets.{AscendsPast, IsSet}
-use Rattle.wb_model.specs.runs.Parts.{IsNumberOf}
-use Rattle.wb_model.specs.runs.SetParts.{least_number}
+use Rattle.wb_machine.specs.Turns.{MakesMore}
+use Rattle.wb_heap_model.specs.declared.heap.Rule.{Rule}
+use Rattle.wb_heap_model.specs.declared.heap.Rule.TheVariants.{Set}
+use Rattle.wb_heap_model.specs.declared.heap.Shape.{Shape}
+use Rattle.wb_tree.specs.declared.script.Script.{Script}
+use Rattle.wb_meaning.specs.Run.{MakesMoreThan, run}
+use Rattle.wb_runs.specs.Sets.{AscendsPast, IsSet}
+use Rattle.wb_runs.specs.Parts.{IsNumberOf}
+use Rattle.wb_runs.specs.SetParts.{least_number}
 use Rattle.wb_states.specs.declared.runs.Runs.{Runs}
 use Rattle.wb_states.specs.declared.search.Search.{Search}
 use Rattle.wb_states.specs.declared.state.State.{State}
 use Rattle.wb_states.specs.Ground.{past, run_of, Ground, IsNoLater, IsTriedSet, Meets}
-use Rattle.wb_states.specs.Met.{AreWithin, AsksAfter}
+use Rattle.wb_runs.specs.Met.{AreWithin, AsksAfter}
 use Rattle.wb_states.specs.States.{ground_of, AreFailed, AreGranted, AreOfOr, AreRunsOf, AreStates, BeginsAtTheStart, Continues, HasGrown, IsJoined, IsNoneOrTried, IsRunOf, IsSound, IsState, IsUnderWay}
 use Rattle.wb_states.proofs.Lists.{get-appended, get-either, get-last}
 use Rattle.wb_states.proofs.PastNumbers.{past-ascends}

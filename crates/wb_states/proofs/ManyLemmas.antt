@@ -4,13 +4,13 @@ use Rattle.std.specs.Prelude.{slice_get}
 use Rattle.std.proofs.lemmas.Bool.{cases_order}
 use Rattle.std.proofs.lemmas.List.{length-map}
 use Rattle.std.proofs.lemmas.Option.{slice_get_within}
-use Rattle.wb_model.specs.runs.Sets.{set_comes_before}
-use Rattle.wb_model.proofs.runs.SetOrder.{before-itself, set-before-later}
+use Rattle.wb_runs.specs.Sets.{set_comes_before}
+use Rattle.wb_runs.proofs.SetOrder.{before-itself, set-before-later}
 use Rattle.wb_states.specs.declared.search.Search.{Search}
 use Rattle.wb_states.specs.declared.state.State.{State}
 use Rattle.wb_states.specs.Ground.{IsEarlier}
 use Rattle.wb_states.specs.Many.{AreInOrderBefore, IsInOrder, IsMetOf}
-use Rattle.wb_states.specs.Met.{AreMoreThan}
+use Rattle.wb_runs.specs.Met.{AreMoreThan}
 use Rattle.wb_states.specs.States.{ground_of, IsSound}
 use Rattle.wb_states.proofs.GrowLemmas.{found-at, same-state}
 use Rattle.wb_states.proofs.Lists.{get-mapped, get-some}

@@ -4,25 +4,25 @@ use Rattle.std.specs.Prelude.{nat_eq}
 use Rattle.std.proofs.lemmas.Bool.{eq-eqb, eqb-true, eqb-false, ne_eqb, true≢false}
 use Rattle.wb_machine.specs.Alike.{reached_by, whole_run_under, GoesOnLike}
 use Rattle.wb_machine.specs.Seen.{Seen}
-use Rattle.wb_model.specs.declared.heap.Answer.TheVariants.{Simulated}
-use Rattle.wb_model.specs.declared.heap.Rule.{Rule}
-use Rattle.wb_model.specs.declared.heap.Rule.TheVariants.{Set}
-use Rattle.wb_model.specs.declared.heap.Shape.{Shape}
-use Rattle.wb_model.specs.declared.run.Outcome.TheVariants.{Cut}
-use Rattle.wb_model.specs.declared.run.RunResult.{RunResult}
-use Rattle.wb_model.specs.declared.run.Why.TheVariants.{Budget}
-use Rattle.wb_model.specs.declared.script.Script.{Script}
-use Rattle.wb_model.specs.runs.Follows.{ComesToTheSame, RefusesAlike, RestsAgree}
-use Rattle.wb_model.specs.runs.Rest.{Fits, SameSoFar}
-use Rattle.wb_model.specs.runs.Run.{run, whole_run, WholeRun}
-use Rattle.wb_model.specs.runs.Sets.{AscendsPast, IsSet}
-use Rattle.wb_model.specs.runs.Sweeps.{is_cut_outcome, is_fine}
-use Rattle.wb_model.proofs.runs.PartAnswers.{fine_is_uncut}
-use Rattle.wb_model.proofs.renaming.SameTurned.{judged-same}
-use Rattle.wb_model.proofs.runs.SetLemmas.{ascends-weaker, is_in, not-before}
+use Rattle.wb_heap_model.specs.declared.heap.Answer.TheVariants.{Simulated}
+use Rattle.wb_heap_model.specs.declared.heap.Rule.{Rule}
+use Rattle.wb_heap_model.specs.declared.heap.Rule.TheVariants.{Set}
+use Rattle.wb_heap_model.specs.declared.heap.Shape.{Shape}
+use Rattle.wb_meaning.specs.declared.run.Outcome.TheVariants.{Cut}
+use Rattle.wb_meaning.specs.declared.run.RunResult.{RunResult}
+use Rattle.wb_meaning.specs.declared.run.Why.TheVariants.{Budget}
+use Rattle.wb_tree.specs.declared.script.Script.{Script}
+use Rattle.wb_renaming.specs.Follows.{ComesToTheSame, RefusesAlike, RestsAgree}
+use Rattle.wb_heap_model.specs.SameRules.{Fits, SameSoFar}
+use Rattle.wb_meaning.specs.Run.{run, whole_run, WholeRun}
+use Rattle.wb_runs.specs.Sets.{AscendsPast, IsSet}
+use Rattle.wb_runs.specs.Sweeps.{is_cut_outcome, is_fine}
+use Rattle.wb_runs.proofs.PartAnswers.{fine_is_uncut}
+use Rattle.wb_runs.proofs.SameJudged.{judged-same}
+use Rattle.wb_runs.proofs.SetLemmas.{ascends-weaker, is_in, not-before}
 use Rattle.wb_states.specs.declared.state.State.{State}
 use Rattle.wb_states.specs.Ground.{past, run_of, Ground, Meets}
-use Rattle.wb_states.specs.Met.{AreWithin}
+use Rattle.wb_runs.specs.Met.{AreWithin}
 use Rattle.wb_states.specs.States.{IsRunOf, IsUnderWay}
 
 -- ---- which attempts are in a set

@@ -2,8 +2,8 @@
 use Rattle.std.proofs.Common.{◌≡◌, ℕ, ◌+◌, ◌<◌, ◌≤◌, ◌⊎◌, inl, inr, arith, true, List, [], ◌∷◌, ◌++◌, length, refl, sym, ◌∙◌, ap, subst}
 use Rattle.std.proofs.lemmas.Bool.{cases_lt}
 use Rattle.std.proofs.lemmas.List.{length-append, length-map}
-use Rattle.wb_model.specs.runs.Sets.{has_lesser_number, set_comes_before}
-use Rattle.wb_model.proofs.runs.SetOrder.{before-by, fewer-before, lesser-before, lesser-by-first, lesser-by-later, lesser-first, set-before-later}
+use Rattle.wb_runs.specs.Sets.{has_lesser_number, set_comes_before}
+use Rattle.wb_runs.proofs.SetOrder.{before-by, fewer-before, lesser-before, lesser-by-first, lesser-by-later, lesser-first, set-before-later}
 use Rattle.wb_states.specs.declared.closed.Bound.{Bound}
 use Rattle.wb_states.specs.declared.closed.Bound.TheVariants.{All, AtMost, Before}
 use Rattle.wb_states.specs.Closed.{IsWithin}

@@ -2,8 +2,8 @@
 use Rattle.std.proofs.Common.{◌≡◌, ℕ, ◌+◌, ◌-◌, ◌<◌, ◌≤◌, ◌⊎◌, inl, inr, arith, List, [], ◌∷◌, ◌++◌, length, map, refl, sym, ◌∙◌, ap, subst, zero-add, add_assoc}
 use Rattle.std.proofs.lemmas.Bool.{cases_lt}
 use Rattle.std.specs.Prelude.{slice_index_or}
-use Rattle.wb_model.specs.runs.Sets.{AscendsPast, IsSet}
-use Rattle.wb_model.proofs.runs.SetLemmas.{ascends-last, ascends-weaker}
+use Rattle.wb_runs.specs.Sets.{AscendsPast, IsSet}
+use Rattle.wb_runs.proofs.SetLemmas.{ascends-last, ascends-weaker}
 use Rattle.wb_states.specs.Ground.{past}
 
 pub past-zero : (numbers : List ℕ) → past 0 numbers ≡ numbers

@@ -1,13 +1,13 @@
 -- What a search over states finds.
 use Rattle.std.specs.Prelude.{◌≡◌, ℕ, ◌+◌, ◌≤◌, Bool, List, length, true, false, max, IfSome}
-use Rattle.wb_model.specs.declared.failures.Failures.TheVariants.{Single}
-use Rattle.wb_model.specs.declared.heap.Shape.{Shape}
-use Rattle.wb_model.specs.declared.part.Part.{Part}
-use Rattle.wb_model.specs.declared.script.Script.{Script}
-use Rattle.wb_model.specs.runs.Parts.{last_attempt}
-use Rattle.wb_model.specs.runs.SetParts.{AreSetsFineInBefore, IsSetOf}
-use Rattle.wb_model.specs.runs.Sets.{set_comes_before, set_run}
-use Rattle.wb_model.specs.runs.Sweeps.{is_fine}
+use Rattle.wb_runs.specs.declared.failures.Failures.TheVariants.{Single}
+use Rattle.wb_heap_model.specs.declared.heap.Shape.{Shape}
+use Rattle.wb_runs.specs.declared.part.Part.{Part}
+use Rattle.wb_tree.specs.declared.script.Script.{Script}
+use Rattle.wb_runs.specs.Parts.{last_attempt}
+use Rattle.wb_runs.specs.SetParts.{AreSetsFineInBefore, IsSetOf}
+use Rattle.wb_runs.specs.Sets.{set_comes_before, set_run}
+use Rattle.wb_runs.specs.Sweeps.{is_fine}
 use Rattle.wb_states.specs.declared.searching.Looked.{Looked}
 use Rattle.wb_states.specs.declared.searching.Looked.TheVariants.{Known, GoesOn}
 use Rattle.wb_states.specs.declared.searching.Searched.{Searched}
@@ -15,7 +15,7 @@ use Rattle.wb_states.specs.declared.searching.Searched.TheVariants as found
 use Rattle.wb_states.specs.declared.state.Shown.{Shown}
 use Rattle.wb_states.specs.Ground.{run_of, Ground, IsTriedSet}
 use Rattle.wb_states.specs.Many.{IsMetOf}
-use Rattle.wb_states.specs.Met.{AreMoreThan}
+use Rattle.wb_runs.specs.Met.{AreMoreThan}
 use Rattle.wb_states.specs.States.{IsShown}
 
 -- the runs of the sets that are tried, and for which something holds, are neither bad nor cut

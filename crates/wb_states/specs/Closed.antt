@@ -1,7 +1,7 @@
 -- What is checked of the states that a search keeps, before an answer is given: that the sets which the answer is about are all followed, and that their
 -- runs take no more steps than the budget allows.
 use Rattle.std.specs.Prelude.{◌≡◌, ℕ, ◌+◌, ◌<◌, ◌≤◌, List, ◌++◌, length, true, Option, Some, None, slice_get, IfSome}
-use Rattle.wb_model.specs.runs.Sets.{set_comes_before, IsSet}
+use Rattle.wb_runs.specs.Sets.{set_comes_before, IsSet}
 use Rattle.wb_states.specs.declared.closed.Bound.{Bound}
 use Rattle.wb_states.specs.declared.closed.Bound.TheVariants.{All, AtMost, Before}
 use Rattle.wb_states.specs.declared.search.Search.{Search}

@@ -1,13 +1,13 @@
 -- What a search goes over: the sets of a part, in the runs of a script.
 use Rattle.std.specs.Prelude.{◌≡◌, ℕ, zero, suc, ◌+◌, ◌<◌, ◌≤◌, ◌⊎◌, List, ◌++◌, length, map, true, Bool, false}
-use Rattle.wb_model.specs.declared.heap.Shape.{Shape}
-use Rattle.wb_model.specs.declared.part.Part.{Part}
-use Rattle.wb_model.specs.declared.run.RunResult.{RunResult}
-use Rattle.wb_model.specs.declared.script.Script.{Script}
-use Rattle.wb_model.specs.runs.Parts.{IsNumberOf}
-use Rattle.wb_model.specs.runs.SetParts.{least_number}
-use Rattle.wb_model.specs.runs.Sets.{has_lesser_number, set_comes_before, set_run, IsSet}
-use Rattle.wb_model.specs.runs.Sweeps.{is_fine}
+use Rattle.wb_heap_model.specs.declared.heap.Shape.{Shape}
+use Rattle.wb_runs.specs.declared.part.Part.{Part}
+use Rattle.wb_meaning.specs.declared.run.RunResult.{RunResult}
+use Rattle.wb_tree.specs.declared.script.Script.{Script}
+use Rattle.wb_runs.specs.Parts.{IsNumberOf}
+use Rattle.wb_runs.specs.SetParts.{least_number}
+use Rattle.wb_runs.specs.Sets.{has_lesser_number, set_comes_before, set_run, IsSet}
+use Rattle.wb_runs.specs.Sweeps.{is_fine}
 
 pub record Ground : Type 0 where
   pub script : Script

@@ -2,5 +2,4 @@ pub mod Answers
 pub mod Closed
 pub mod Ground
 pub mod Many
-pub mod Met
 pub mod States

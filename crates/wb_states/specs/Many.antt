@@ -3,7 +3,7 @@
 use Rattle.std.specs.Prelude.{◌≡◌, ℕ, ◌+◌, ◌<◌, ◌≤◌, List, length, Some, slice_get}
 use Rattle.wb_states.specs.declared.state.State.{State}
 use Rattle.wb_states.specs.Ground.{Ground, IsEarlier}
-use Rattle.wb_states.specs.Met.{AreWithin, AsksAfter}
+use Rattle.wb_runs.specs.Met.{AreWithin, AsksAfter}
 use Rattle.wb_states.specs.States.{IsNoneOrTried}
 
 -- a state's set has at most so many attempts, and the state comes after the one that is listed before it

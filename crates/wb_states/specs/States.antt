@@ -2,11 +2,11 @@
 use Rattle.std.specs.Prelude.{◌≡◌, ◌≢◌, ℕ, ◌+◌, ◌<◌, ◌≤◌, ◌⊎◌, List, [], ◌∷◌, ◌++◌, length, true, false, Some, slice_get, nat_eq, IfSome}
 use Rattle.std.specs.HashMap.{get}
 use Rattle.wb_machine.specs.Seen.{Seen}
-use Rattle.wb_model.specs.declared.heap.Rule.TheVariants.{Set}
-use Rattle.wb_model.specs.runs.Sets.{IsSet}
-use Rattle.wb_model.specs.runs.Sweeps.{is_fine}
+use Rattle.wb_heap_model.specs.declared.heap.Rule.TheVariants.{Set}
+use Rattle.wb_runs.specs.Sets.{IsSet}
+use Rattle.wb_runs.specs.Sweeps.{is_fine}
 use Rattle.wb_states.specs.Ground.{run_of, turns_of, past, Ground, IsNoLater, IsTriedSet, Meets}
-use Rattle.wb_states.specs.Met.{AreWithin, AsksAfter}
+use Rattle.wb_runs.specs.Met.{AreWithin, AsksAfter}
 use Rattle.wb_states.specs.declared.runs.Runs.{Runs}
 use Rattle.wb_states.specs.declared.search.Search.{Search}
 use Rattle.wb_states.specs.declared.state.Edge.{Edge}

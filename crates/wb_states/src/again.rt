@@ -3,17 +3,17 @@
 
 ghost use Rattle.std.specs.Prelude.{◌≡◌, ℕ, ◌≤◌, ◌++◌, List, true, false, slice_get, Some, IfOk, IfSome, OnOk};
 ghost use Rattle.wb_machine.specs.Turns.{IsSameRun};
-ghost use Rattle.wb_model.specs.declared.heap.Rule.TheVariants as rules;
-ghost use Rattle.wb_model.specs.runs.Sets.{AscendsPast, IsSet};
+ghost use Rattle.wb_heap_model.specs.declared.heap.Rule.TheVariants as rules;
+ghost use Rattle.wb_runs.specs.Sets.{AscendsPast, IsSet};
 ghost use Rattle.wb_states.specs.States.{ground_of, IsOnTheWay, IsRunOf, IsSound, IsState};
 ghost use Rattle.wb_states.specs.declared.state.State.{State};
 
 use crate::search::Search;
 use crate::state::State;
 use crate::turns::go_past_attempt;
+use wb_basics::memory::NoMemory;
+use wb_heap_model::heap::{Numbers, Rule};
 use wb_machine::{Heap, Machine};
-use wb_model::heap::{Numbers, Rule};
-use wb_model::memory::NoMemory;
 
 /// Whether `set` begins with all numbers of `other`, and its further numbers are greater than `attempts`.
 fn goes_on_from(set: &Numbers, other: &Numbers, attempts: u32) -> bool

@@ -2,7 +2,7 @@
 //! budget allows each of these runs its steps.
 
 ghost use Rattle.std.specs.Prelude.{◌≡◌, ℕ, ◌≤◌, ◌^◌, List, true, slice_get, IfOk, Some};
-ghost use Rattle.wb_model.specs.runs.Sweeps.{is_fine};
+ghost use Rattle.wb_runs.specs.Sweeps.{is_fine};
 ghost use Rattle.wb_states.specs.Closed.{AreOutside, IsClosed, IsFollowed, IsStateClosed, IsWithin};
 ghost use Rattle.wb_states.specs.Ground.{run_of, Ground, IsTriedSet};
 ghost use Rattle.wb_states.specs.States.{failing_next, ground_of, next_attempt, turns_at, IsSound};
@@ -12,9 +12,9 @@ ghost use Rattle.wb_states.specs.declared.state.State.{State};
 use crate::order::comes_before;
 use crate::search::Search;
 use crate::state::{Edge, State};
-use wb_model::heap::Numbers;
-use wb_model::items::Items;
-use wb_model::memory::NoMemory;
+use wb_basics::items::Items;
+use wb_basics::memory::NoMemory;
+use wb_heap_model::heap::Numbers;
 
 /// The sets that an answer is about.
 #[derive(Debug, Drop)]

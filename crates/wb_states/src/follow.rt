@@ -1,19 +1,19 @@
 //! What a run comes to after its next attempt: a state that is kept, a new state, or its end. Which runs are followed is not decided here.
 
 ghost use Rattle.std.specs.Prelude.{◌≡◌, ℕ, ◌+◌, ◌≤◌, false, true, length, IfOk, OnOk};
-ghost use Rattle.wb_model.specs.runs.Sets.{IsSet};
-ghost use Rattle.wb_model.specs.runs.Sweeps.{is_fine};
+ghost use Rattle.wb_runs.specs.Sets.{IsSet};
+ghost use Rattle.wb_runs.specs.Sweeps.{is_fine};
 ghost use Rattle.wb_states.specs.Ground.{run_of, turns_of, IsTriedSet};
 ghost use Rattle.wb_states.specs.States.{ground_of, GoesOn, HasGrown, IsAboutTo, IsRunUnder, IsSound};
 
 use crate::search::Search;
 use crate::state::{Edge, Shown};
 use crate::turns::go_past_attempt;
+use wb_basics::memory::NoMemory;
+use wb_heap_model::heap::Numbers;
 use wb_machine::{Finished, Machine};
-use wb_model::heap::Numbers;
-use wb_model::memory::NoMemory;
-use wb_model::progress::Progress;
-use wb_model::run::{Outcome, RunResult};
+use wb_meaning::run::{Outcome, RunResult};
+use wb_runs::progress::Progress;
 
 /// Whether a run is neither bad nor cut. A run that only leaves is fine, and so is a run that gets no cleanup stack.
 fn is_fine(run_result: &RunResult) -> bool

@@ -2,9 +2,9 @@
 
 ghost use Rattle.std.specs.Prelude.{◌≡◌, ◌+◌, ◌<◌, ◌≤◌, ◌++◌, ◌∷◌, [], false, true, length, slice_get, Some, Ok, Err, IfOk, OnOk, IsTrue};
 ghost use Rattle.wb_machine.specs.declared.fault.RunFault.TheVariants as RunFault;
-ghost use Rattle.wb_model.specs.language.Sound.{is_script};
-ghost use Rattle.wb_model.specs.heap.Space.{is_shape};
-ghost use Rattle.wb_model.specs.runs.Sets.{set_run};
+ghost use Rattle.wb_tree.specs.Sound.{is_script};
+ghost use Rattle.wb_heap_model.specs.Space.{is_shape};
+ghost use Rattle.wb_runs.specs.Sets.{set_run};
 ghost use Rattle.wb_states.specs.Ground.{turns_of};
 ghost use Rattle.wb_states.specs.States.{failing_next, ground_of, next_attempt, turns_at, GoesOn, HasGrown};
 ghost use Rattle.wb_states.specs.States.{IsRunOf, IsSound, IsState};
@@ -15,14 +15,14 @@ use crate::search::Search;
 use crate::state::{Edge, State};
 use std::alloc::{AllocError, Global};
 use std::collections::HashMap;
+use wb_basics::items::Items;
+use wb_basics::limits::LARGEST_BUDGET;
+use wb_basics::memory::NoMemory;
+use wb_heap_model::heap::{Numbers, Rule, Shape};
 use wb_machine::{Machine, RunFault};
-use wb_model::heap::{Numbers, Rule, Shape};
-use wb_model::items::Items;
-use wb_model::limits::LARGEST_BUDGET;
-use wb_model::memory::NoMemory;
-use wb_model::part::Part;
-use wb_model::progress::Progress;
-use wb_model::script::Script;
+use wb_runs::part::Part;
+use wb_runs::progress::Progress;
+use wb_tree::script::Script;
 
 /// Which sets a search tries, and which states count as the same.
 #[derive(Clone, Copy, Debug)]

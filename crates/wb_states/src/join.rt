@@ -3,7 +3,7 @@
 
 ghost use Rattle.std.specs.Prelude.{◌≡◌, ℕ, ◌+◌, ◌<◌, ◌≤◌, [], ◌∷◌, ◌++◌, false, true, length, List, slice_get, Some, IfOk, IfSome, OnOk};
 ghost use Rattle.wb_machine.specs.Turns.{MakesMore};
-ghost use Rattle.wb_model.specs.runs.Sets.{IsSet};
+ghost use Rattle.wb_runs.specs.Sets.{IsSet};
 ghost use Rattle.wb_states.specs.Ground.{past, IsNoLater, IsTriedSet, Meets};
 ghost use Rattle.wb_states.specs.States.{ground_of, AreOfOr, Continues, GoesOn, HasGrown};
 ghost use Rattle.wb_states.specs.States.{IsNoneOrTried, IsSound, IsState, IsUnderWay};
@@ -14,10 +14,10 @@ use crate::order::is_no_later;
 use crate::search::Search;
 use crate::state::{Edge, State};
 use std::alloc::AllocError;
+use wb_basics::memory::NoMemory;
+use wb_heap_model::heap::Numbers;
 use wb_machine::Machine;
-use wb_model::heap::Numbers;
-use wb_model::memory::NoMemory;
-use wb_model::progress::Progress;
+use wb_runs::progress::Progress;
 
 impl<'a> Search<'a> {
     /// Whether all sets that go on from a state are tried. In a search over a part, they are if the state's own set isn't empty: it is

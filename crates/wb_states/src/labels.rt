@@ -5,8 +5,8 @@ use crate::closed::turns_taken;
 use crate::search::Search;
 use crate::state::{Edge, State};
 use std::alloc::{AllocError, Global};
-use wb_model::items::Items;
-use wb_model::memory::NoMemory;
+use wb_basics::items::Items;
+use wb_basics::memory::NoMemory;
 
 /// How many turns a state's own run has taken.
 fn own_turns(state: &State) -> u32 {

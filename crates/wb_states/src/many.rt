@@ -2,7 +2,7 @@
 
 ghost use Rattle.std.specs.Prelude.{◌≡◌, ◌<◌, length, true, slice_get, Some};
 ghost use Rattle.wb_states.specs.Many.{IsInOrder, IsMetOf};
-ghost use Rattle.wb_states.specs.Met.{AreMoreThan};
+ghost use Rattle.wb_runs.specs.Met.{AreMoreThan};
 ghost use Rattle.wb_states.specs.States.{ground_of, IsSound};
 ghost use Rattle.wb_states.specs.declared.state.State.{State};
 

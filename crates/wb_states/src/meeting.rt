@@ -6,8 +6,8 @@ ghost use Rattle.wb_states.specs.Ground.{Ground, Meets};
 ghost use Rattle.wb_states.specs.States.{IsRunOf, IsUnderWay};
 
 use crate::state::State;
+use wb_heap_model::heap::Numbers;
 use wb_machine::Machine;
-use wb_model::heap::Numbers;
 
 /// The first attempt that fails under only one of two sets; `None` if the sets are the same. Both ascend.
 fn first_apart(set: &[u32], other: &[u32]) -> Option<u32> {

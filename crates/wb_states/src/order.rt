@@ -2,10 +2,10 @@
 //! they first differ.
 
 ghost use Rattle.std.specs.Prelude.{◌≡◌, true};
-ghost use Rattle.wb_model.specs.runs.Sets.{has_lesser_number, set_comes_before};
+ghost use Rattle.wb_runs.specs.Sets.{has_lesser_number, set_comes_before};
 ghost use Rattle.wb_states.specs.Ground.{IsEarlier, IsNoLater};
 
-use wb_model::heap::Numbers;
+use wb_heap_model::heap::Numbers;
 
 /// Whether the first of two lists has the lesser number where they first differ.
 fn has_lesser(numbers: &[u32], others: &[u32]) -> bool

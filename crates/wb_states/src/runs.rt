@@ -7,8 +7,8 @@ ghost use Rattle.wb_states.specs.States.{AreOf, AreOfOr, IsKept};
 
 use std::alloc::{AllocError, Global};
 use std::collections::HashMap;
+use wb_basics::memory::NoMemory;
 use wb_machine::{Heap, Machine};
-use wb_model::memory::NoMemory;
 
 /// About how many bytes the runs of the newest states may take.
 const ROOM: u64 = 4 << 20;

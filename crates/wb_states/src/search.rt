@@ -3,10 +3,10 @@
 use crate::runs::Runs;
 use crate::state::{Edge, Shown, State};
 use std::collections::HashMap;
-use wb_model::heap::Shape;
-use wb_model::items::Items;
-use wb_model::part::Part;
-use wb_model::script::Script;
+use wb_basics::items::Items;
+use wb_heap_model::heap::Shape;
+use wb_runs::part::Part;
+use wb_tree::script::Script;
 
 /// The states that were met, in the order of their sets and attempts, and how runs go on from each.
 pub(crate) struct Search<'a> {

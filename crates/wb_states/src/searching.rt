@@ -1,19 +1,19 @@
 //! A search over states, by how many attempts fail, until an answer is known.
 
 ghost use Rattle.std.specs.Prelude.{◌≡◌, ℕ, ◌+◌, ◌^◌, ◌<◌, ◌≤◌, List, [], length, true, false, IfOk, IfSome, OnOk, IsTrue};
-ghost use Rattle.wb_model.specs.heap.Space.{is_shape};
-ghost use Rattle.wb_model.specs.language.Sound.{is_script};
-ghost use Rattle.wb_model.specs.runs.EverySet.{AreAllSetsFineIn};
-ghost use Rattle.wb_model.specs.runs.Parts.{last_attempt};
-ghost use Rattle.wb_model.specs.runs.SetParts.{AreSetsFineIn, IsNoSetIn};
-ghost use Rattle.wb_model.specs.runs.Sets.{set_run};
-ghost use Rattle.wb_model.specs.runs.Sweeps.{is_fine};
-ghost use Rattle.wb_model.specs.declared.failures.Failures.TheVariants.{Single};
+ghost use Rattle.wb_heap_model.specs.Space.{is_shape};
+ghost use Rattle.wb_tree.specs.Sound.{is_script};
+ghost use Rattle.wb_runs.specs.EverySet.{AreAllSetsFineIn};
+ghost use Rattle.wb_runs.specs.Parts.{last_attempt};
+ghost use Rattle.wb_runs.specs.SetParts.{AreSetsFineIn, IsNoSetIn};
+ghost use Rattle.wb_runs.specs.Sets.{set_run};
+ghost use Rattle.wb_runs.specs.Sweeps.{is_fine};
+ghost use Rattle.wb_runs.specs.declared.failures.Failures.TheVariants.{Single};
 ghost use Rattle.wb_states.specs.Answers.{at_least_one, IsAnswer, IsLeastShownIn, IsLookedTo};
 ghost use Rattle.wb_states.specs.Answers.{IsWholeIf};
 ghost use Rattle.wb_states.specs.Closed.{IsWithin};
 ghost use Rattle.wb_states.specs.Ground.{run_of, IsTriedSet};
-ghost use Rattle.wb_states.specs.Met.{AreManyStatesIn};
+ghost use Rattle.wb_runs.specs.Met.{AreManyStatesIn};
 ghost use Rattle.wb_states.specs.States.{ground_of, IsSound};
 ghost use Rattle.wb_states.specs.declared.searching.Searched.TheVariants as found;
 ghost use Rattle.wb_states.specs.declared.state.Shown.{Shown};
@@ -24,13 +24,13 @@ use crate::labels::{greatest_turns, met_turns};
 use crate::search::Search;
 use crate::state::Shown;
 use std::alloc::Global;
+use wb_basics::limits::LARGEST_BUDGET;
+use wb_basics::memory::NoMemory;
+use wb_heap_model::heap::Shape;
 use wb_machine::RunFault;
-use wb_model::heap::Shape;
-use wb_model::limits::LARGEST_BUDGET;
-use wb_model::memory::NoMemory;
-use wb_model::part::Part;
-use wb_model::progress::Progress;
-use wb_model::script::Script;
+use wb_runs::part::Part;
+use wb_runs::progress::Progress;
+use wb_tree::script::Script;
 
 /// What a search over states finds.
 #[derive(Debug, Drop)]

@@ -1,7 +1,7 @@
 //! The states that a search keeps, and how runs go on from them. How they are found is not decided here.
 
-use wb_model::heap::Numbers;
-use wb_model::run::RunResult;
+use wb_heap_model::heap::Numbers;
+use wb_meaning::run::RunResult;
 
 /// What a run has come to under a set of attempts that fail, before an attempt past all of them.
 #[derive(Drop)]

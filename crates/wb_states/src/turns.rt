@@ -2,10 +2,10 @@
 
 ghost use Rattle.std.specs.Prelude.{◌≡◌, ℕ, ◌+◌, ◌≤◌, false, true, length, None, Some, OnOk};
 ghost use Rattle.wb_machine.specs.Turns.{IsSameRun, MakesMore};
-ghost use Rattle.wb_model.specs.runs.Run.{run};
+ghost use Rattle.wb_meaning.specs.Run.{run};
 
+use wb_basics::memory::NoMemory;
 use wb_machine::{Machine, Turn};
-use wb_model::memory::NoMemory;
 
 /// Takes turns until the next turn asks for an attempt, and returns `None`. If the run ends first, returns how many attempts it made.
 fn go_to_attempt(machine: &mut Machine) -> Result<Option<u32>, NoMemory>

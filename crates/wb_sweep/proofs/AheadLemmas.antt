@@ -1,12 +1,12 @@
 -- A scout of a run that isn't cut, and one of a run that is fine besides.
 use Rattle.std.proofs.Common.{◌≡◌, ℕ, Bool, true, false, Option, Some, None, IfSome, refl, sym, ◌∙◌, subst}
 use Rattle.std.proofs.lemmas.Bool.{true≢false}
-use Rattle.wb_model.specs.declared.failures.Failures.{Failures}
-use Rattle.wb_model.specs.declared.heap.Shape.{Shape}
-use Rattle.wb_model.specs.declared.run.RunResult.{RunResult}
-use Rattle.wb_model.specs.declared.script.Script.{Script}
-use Rattle.wb_model.specs.runs.Sweeps.{is_fine, runs_of}
-use Rattle.wb_model.proofs.runs.PartAnswers.{fine_is_uncut}
+use Rattle.wb_runs.specs.declared.failures.Failures.{Failures}
+use Rattle.wb_heap_model.specs.declared.heap.Shape.{Shape}
+use Rattle.wb_meaning.specs.declared.run.RunResult.{RunResult}
+use Rattle.wb_tree.specs.declared.script.Script.{Script}
+use Rattle.wb_runs.specs.Sweeps.{is_fine, runs_of}
+use Rattle.wb_runs.proofs.PartAnswers.{fine_is_uncut}
 use Rattle.wb_sweep.specs.declared.followed.Forked.{Forked}
 use Rattle.wb_sweep.specs.declared.followed.Forked.TheVariants.{Met, Ran}
 use Rattle.wb_sweep.specs.declared.scout.Scout.{Scout}

@@ -1,11 +1,11 @@
 -- What holds of sets of at most so many attempts, said of those of any size; and which faults are cuts.
 use Rattle.std.proofs.Common.{◌≡◌, ℕ, inl, inr, arith, List}
-use Rattle.wb_model.specs.declared.heap.Shape.{Shape}
-use Rattle.wb_model.specs.declared.part.Part.{Part}
-use Rattle.wb_model.specs.declared.run.Why.{Why}
-use Rattle.wb_model.specs.declared.script.Script.{Script}
-use Rattle.wb_model.specs.runs.EverySet.{IsLeastSetCutIn}
-use Rattle.wb_model.specs.runs.SetParts.{IsSetCutIn}
+use Rattle.wb_heap_model.specs.declared.heap.Shape.{Shape}
+use Rattle.wb_runs.specs.declared.part.Part.{Part}
+use Rattle.wb_meaning.specs.declared.run.Why.{Why}
+use Rattle.wb_tree.specs.declared.script.Script.{Script}
+use Rattle.wb_runs.specs.EverySet.{IsLeastSetCutIn}
+use Rattle.wb_runs.specs.SetParts.{IsSetCutIn}
 use Rattle.wb_sweep.specs.declared.every_set_answer.EverySetFault.TheVariants.{Cut}
 use Rattle.wb_sweep.specs.declared.set_answer.SetFault.{SetFault}
 use Rattle.wb_sweep.specs.declared.set_answer.SetFault.TheVariants as of_some

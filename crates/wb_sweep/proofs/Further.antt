@@ -2,10 +2,10 @@
 use Rattle.std.proofs.Common.{◌≡◌, ◌+◌, ◌≤◌, ℕ, arith, inl, inr, Bool, true, false, refl, sym, ap, ◌∙◌, subst}
 use Rattle.std.proofs.lemmas.Bool.{cases_lt}
 use Rattle.wb_machine.specs.Seen.{Seen}
-use Rattle.wb_model.specs.declared.failures.Failures.{Failures}
-use Rattle.wb_model.specs.declared.heap.Shape.{Shape}
-use Rattle.wb_model.specs.declared.script.Script.{Script}
-use Rattle.wb_model.specs.runs.Sweeps.{is_fine, runs_of}
+use Rattle.wb_runs.specs.declared.failures.Failures.{Failures}
+use Rattle.wb_heap_model.specs.declared.heap.Shape.{Shape}
+use Rattle.wb_tree.specs.declared.script.Script.{Script}
+use Rattle.wb_runs.specs.Sweeps.{is_fine, runs_of}
 use Rattle.wb_sweep.specs.Beside.{next_run, runs_beside}
 use Rattle.wb_sweep.specs.Stretches.{AreFineFrom}
 

@@ -3,20 +3,20 @@ use Rattle.std.proofs.Common.{◌≡◌, ◌≢◌, ℕ, ◌+◌, ◌<◌, ◌�
 use Rattle.std.proofs.lemmas.Bool.{true≢false}
 use Rattle.wb_machine.specs.Alike.{reached_by, whole_run_under}
 use Rattle.wb_machine.specs.Seen.{Seen}
-use Rattle.wb_model.specs.declared.failures.Failures.{Failures}
-use Rattle.wb_model.specs.declared.failures.Failures.TheVariants.{Single, Every, Pairs, Persistent}
-use Rattle.wb_model.specs.declared.heap.Rule.{Rule}
-use Rattle.wb_model.specs.declared.heap.Shape.{Shape}
-use Rattle.wb_model.specs.declared.run.Outcome.TheVariants.{Cut}
-use Rattle.wb_model.specs.declared.run.RunResult.{RunResult}
-use Rattle.wb_model.specs.declared.run.Why.TheVariants.{Budget}
-use Rattle.wb_model.specs.declared.script.Script.{Script}
-use Rattle.wb_model.specs.runs.Follows.{ComesToTheSame, Reached, RefusesAlike, RestsAgree}
-use Rattle.wb_model.specs.runs.Run.{run, whole_run, WholeRun}
-use Rattle.wb_model.specs.runs.RunEnds.{end_of}
-use Rattle.wb_model.specs.runs.Sweeps.{is_cut_outcome, is_fine, rule_of}
-use Rattle.wb_model.proofs.renaming.FollowEither.{numbers-alike}
-use Rattle.wb_model.proofs.renaming.SameTurned.{end-same, judged-same}
+use Rattle.wb_runs.specs.declared.failures.Failures.{Failures}
+use Rattle.wb_runs.specs.declared.failures.Failures.TheVariants.{Single, Every, Pairs, Persistent}
+use Rattle.wb_heap_model.specs.declared.heap.Rule.{Rule}
+use Rattle.wb_heap_model.specs.declared.heap.Shape.{Shape}
+use Rattle.wb_meaning.specs.declared.run.Outcome.TheVariants.{Cut}
+use Rattle.wb_meaning.specs.declared.run.RunResult.{RunResult}
+use Rattle.wb_meaning.specs.declared.run.Why.TheVariants.{Budget}
+use Rattle.wb_tree.specs.declared.script.Script.{Script}
+use Rattle.wb_renaming.specs.Follows.{ComesToTheSame, Reached, RefusesAlike, RestsAgree}
+use Rattle.wb_meaning.specs.Run.{run, whole_run, WholeRun}
+use Rattle.wb_runs.specs.RunEnds.{end_of}
+use Rattle.wb_runs.specs.Sweeps.{is_cut_outcome, is_fine, rule_of}
+use Rattle.wb_renaming.proofs.FollowEither.{numbers-alike}
+use Rattle.wb_runs.proofs.SameJudged.{end-same, judged-same}
 use Rattle.wb_sweep.specs.declared.scout.Scout.{Scout}
 use Rattle.wb_sweep.specs.Beside.{runs_beside}
 use Rattle.wb_sweep.specs.Meetings.{EndsAlike, HasMet, IsAhead, last_failing}

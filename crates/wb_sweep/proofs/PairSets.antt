@@ -1,19 +1,19 @@
 -- What is found among the sets of at most two attempts, as pairs.
 use Rattle.std.proofs.Common.{◌≡◌, inl, inr, List, ℕ, zero, suc, refl, sym, subst, ◌∙◌, ap}
 use Rattle.std.proofs.lemmas.Bool.{true≢false}
-use Rattle.wb_model.specs.declared.failures.Failing.{Failing}
-use Rattle.wb_model.specs.declared.failures.Failing.TheVariants.{Number, Every, Pair, From}
-use Rattle.wb_model.specs.declared.failures.Failures.TheVariants.{Pairs}
-use Rattle.wb_model.specs.declared.heap.Shape.{Shape}
-use Rattle.wb_model.specs.declared.part.Part.{Part}
-use Rattle.wb_model.specs.declared.run.RunResult.{RunResult}
-use Rattle.wb_model.specs.declared.run.Why.{Why}
-use Rattle.wb_model.specs.declared.script.Script.{Script}
-use Rattle.wb_model.specs.runs.Parts.{last_attempt, IsCutIn, IsFoundIn, IsLeastCutIn, IsTried, IsUncut}
-use Rattle.wb_model.specs.runs.SetAnswers.{set_of, IsSetOfCut, IsSetOfFound}
-use Rattle.wb_model.specs.runs.SetParts.{IsLeastCutSetIn, IsSetFoundIn}
-use Rattle.wb_model.specs.runs.Sweeps.{is_cut_outcome}
-use Rattle.wb_model.proofs.runs.FewSets.{paired-cut, paired-found}
+use Rattle.wb_runs.specs.declared.failures.Failing.{Failing}
+use Rattle.wb_runs.specs.declared.failures.Failing.TheVariants.{Number, Every, Pair, From}
+use Rattle.wb_runs.specs.declared.failures.Failures.TheVariants.{Pairs}
+use Rattle.wb_heap_model.specs.declared.heap.Shape.{Shape}
+use Rattle.wb_runs.specs.declared.part.Part.{Part}
+use Rattle.wb_meaning.specs.declared.run.RunResult.{RunResult}
+use Rattle.wb_meaning.specs.declared.run.Why.{Why}
+use Rattle.wb_tree.specs.declared.script.Script.{Script}
+use Rattle.wb_runs.specs.Parts.{last_attempt, IsCutIn, IsFoundIn, IsLeastCutIn, IsTried, IsUncut}
+use Rattle.wb_runs.specs.SetAnswers.{set_of, IsSetOfCut, IsSetOfFound}
+use Rattle.wb_runs.specs.SetParts.{IsLeastCutSetIn, IsSetFoundIn}
+use Rattle.wb_runs.specs.Sweeps.{is_cut_outcome}
+use Rattle.wb_runs.proofs.FewSets.{paired-cut, paired-found}
 use Rattle.wb_sweep.specs.declared.fault.SweepFault.TheVariants.{Cut}
 use Rattle.wb_sweep.specs.declared.set_answer.SetFault.{SetFault}
 use Rattle.wb_sweep.specs.declared.set_answer.SetFault.TheVariants as of_sets

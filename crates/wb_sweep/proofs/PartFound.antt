@@ -2,20 +2,20 @@
 use Rattle.std.proofs.Common.{◌≡◌, ℕ, ◌+◌, ◌≤◌, inl, inr, arith, true, min, refl, sym, subst}
 use Rattle.std.proofs.Math.Nat.{min-eq_left, min-eq_right, min-le_left, min-le_right}
 use Rattle.std.proofs.lemmas.Bool.{cases_lt}
-use Rattle.wb_model.specs.declared.failures.Failing.{Failing}
-use Rattle.wb_model.specs.declared.failures.Failing.TheVariants.{Number, Pair}
-use Rattle.wb_model.specs.declared.failures.Failing.TheVariants as failings
-use Rattle.wb_model.specs.declared.failures.Failures.{Failures}
-use Rattle.wb_model.specs.declared.failures.Failures.TheVariants.{Single, Every, Persistent}
-use Rattle.wb_model.specs.declared.heap.Shape.{Shape}
-use Rattle.wb_model.specs.declared.part.Part.{Part}
-use Rattle.wb_model.specs.declared.run.RunResult.{RunResult}
-use Rattle.wb_model.specs.declared.run.Why.{Why}
-use Rattle.wb_model.specs.declared.script.Script.{Script}
-use Rattle.wb_model.specs.runs.Parts.{last_attempt, run_at, IsFoundIn, IsLeastCutIn, IsNoneIn, IsNumberOf, IsTried, IsUncut}
-use Rattle.wb_model.specs.runs.Sweeps.{failing_at, is_fine, runs_of}
-use Rattle.wb_model.specs.runs.Run.{is_bad}
-use Rattle.wb_model.proofs.runs.PartAnswers.{bad_is_uncut, before-number, tried-at}
+use Rattle.wb_runs.specs.declared.failures.Failing.{Failing}
+use Rattle.wb_runs.specs.declared.failures.Failing.TheVariants.{Number, Pair}
+use Rattle.wb_runs.specs.declared.failures.Failing.TheVariants as failings
+use Rattle.wb_runs.specs.declared.failures.Failures.{Failures}
+use Rattle.wb_runs.specs.declared.failures.Failures.TheVariants.{Single, Every, Persistent}
+use Rattle.wb_heap_model.specs.declared.heap.Shape.{Shape}
+use Rattle.wb_runs.specs.declared.part.Part.{Part}
+use Rattle.wb_meaning.specs.declared.run.RunResult.{RunResult}
+use Rattle.wb_meaning.specs.declared.run.Why.{Why}
+use Rattle.wb_tree.specs.declared.script.Script.{Script}
+use Rattle.wb_runs.specs.Parts.{last_attempt, run_at, IsFoundIn, IsLeastCutIn, IsNoneIn, IsNumberOf, IsTried, IsUncut}
+use Rattle.wb_runs.specs.Sweeps.{failing_at, is_fine, runs_of}
+use Rattle.wb_meaning.specs.Run.{is_bad}
+use Rattle.wb_runs.proofs.PartAnswers.{bad_is_uncut, before-number, tried-at}
 use Rattle.wb_sweep.specs.Stretches.{AreFineFrom, AreNumbersFine, IsCutFrom, IsFoundFrom}
 
 -- a number of a part is no greater than the last that is tried

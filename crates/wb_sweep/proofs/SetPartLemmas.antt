@@ -2,20 +2,20 @@
 -- those with fewer numbers.
 use Rattle.std.proofs.Common.{◌≡◌, ℕ, ◌+◌, ◌-◌, ◌<◌, ◌≤◌, inl, inr, arith, Bool, true, false, List, [], ◌∷◌, length, min, refl, sym, ◌∙◌, subst}
 use Rattle.std.proofs.lemmas.Bool.{cases_lt}
-use Rattle.wb_model.specs.declared.failures.Failures.TheVariants.{Single}
-use Rattle.wb_model.specs.declared.heap.Shape.{Shape}
-use Rattle.wb_model.specs.declared.part.Part.{Part}
-use Rattle.wb_model.specs.declared.run.RunResult.{RunResult}
-use Rattle.wb_model.specs.declared.run.Why.{Why}
-use Rattle.wb_model.specs.declared.script.Script.{Script}
-use Rattle.wb_model.specs.runs.Parts.{last_attempt, IsNumberOf, IsUncut}
-use Rattle.wb_model.specs.runs.SetParts.{AreSetsFineIn, AreSetsFineInBefore, IsLeastCutSetIn, IsSetCutIn, IsSetFoundIn, IsSetOf}
-use Rattle.wb_model.specs.runs.Sets.{AscendsPast, has_lesser_number, set_run}
-use Rattle.wb_model.specs.runs.Sweeps.{is_fine}
+use Rattle.wb_runs.specs.declared.failures.Failures.TheVariants.{Single}
+use Rattle.wb_heap_model.specs.declared.heap.Shape.{Shape}
+use Rattle.wb_runs.specs.declared.part.Part.{Part}
+use Rattle.wb_meaning.specs.declared.run.RunResult.{RunResult}
+use Rattle.wb_meaning.specs.declared.run.Why.{Why}
+use Rattle.wb_tree.specs.declared.script.Script.{Script}
+use Rattle.wb_runs.specs.Parts.{last_attempt, IsNumberOf, IsUncut}
+use Rattle.wb_runs.specs.SetParts.{AreSetsFineIn, AreSetsFineInBefore, IsLeastCutSetIn, IsSetCutIn, IsSetFoundIn, IsSetOf}
+use Rattle.wb_runs.specs.Sets.{AscendsPast, has_lesser_number, set_run}
+use Rattle.wb_runs.specs.Sweeps.{is_fine}
 use Rattle.wb_sweep.specs.declared.set_answer.FoundSet.{FoundSet}
 use Rattle.wb_sweep.specs.SetSearch.{AreFewerFineWith, IsCutWith, IsFoundWith, IsRest}
 use Rattle.wb_sweep.proofs.PartFound.{number-within, within-number}
-use Rattle.wb_model.proofs.runs.SetOrder.{before-by}
+use Rattle.wb_runs.proofs.SetOrder.{before-by}
 use Rattle.wb_sweep.proofs.SetSearchLemmas.{AreFineUpTo, lesser-fine}
 
 -- a run that has made fewer attempts than all isn't over

@@ -5,22 +5,22 @@ use Rattle.std.specs.List.{list_any}
 use Rattle.std.proofs.lemmas.Bool.{cases_lt, ne_eqb}
 use Rattle.std.proofs.lemmas.List.Folds.{list_any-append}
 use Rattle.wb_machine.specs.Seen.{Seen}
-use Rattle.wb_model.specs.declared.heap.Answer.TheVariants.{Simulated}
-use Rattle.wb_model.specs.declared.heap.Rule.TheVariants.{Set}
-use Rattle.wb_model.specs.declared.heap.Shape.{Shape}
-use Rattle.wb_model.specs.declared.run.Outcome.TheVariants.{Cut}
-use Rattle.wb_model.specs.declared.run.RunResult.{RunResult}
-use Rattle.wb_model.specs.declared.run.Why.{Why}
-use Rattle.wb_model.specs.declared.script.Script.{Script}
-use Rattle.wb_model.specs.runs.Rest.{SameSoFar}
-use Rattle.wb_model.specs.runs.Run.{is_bad}
-use Rattle.wb_model.specs.runs.Sets.{AscendsPast, has_lesser_number, set_run}
-use Rattle.wb_model.specs.runs.Sweeps.{is_fine}
-use Rattle.wb_model.proofs.runs.SetLemmas.{past-last}
-use Rattle.wb_model.proofs.runs.SweepLemmas.{fine_uncut}
+use Rattle.wb_heap_model.specs.declared.heap.Answer.TheVariants.{Simulated}
+use Rattle.wb_heap_model.specs.declared.heap.Rule.TheVariants.{Set}
+use Rattle.wb_heap_model.specs.declared.heap.Shape.{Shape}
+use Rattle.wb_meaning.specs.declared.run.Outcome.TheVariants.{Cut}
+use Rattle.wb_meaning.specs.declared.run.RunResult.{RunResult}
+use Rattle.wb_meaning.specs.declared.run.Why.{Why}
+use Rattle.wb_tree.specs.declared.script.Script.{Script}
+use Rattle.wb_heap_model.specs.SameRules.{SameSoFar}
+use Rattle.wb_meaning.specs.Run.{is_bad}
+use Rattle.wb_runs.specs.Sets.{AscendsPast, has_lesser_number, set_run}
+use Rattle.wb_runs.specs.Sweeps.{is_fine}
+use Rattle.wb_runs.proofs.SetLemmas.{past-last}
+use Rattle.wb_runs.proofs.SweepLemmas.{fine_uncut}
 use Rattle.wb_sweep.specs.declared.set_answer.FoundSet.{FoundSet}
 use Rattle.wb_sweep.specs.SetSearch.{AreFewerFine, AreFewerFineWith, AreFine, AreFineWith, IsBadSet, IsCutAfter, IsCutWith, IsFoundAfter, IsFoundWith, IsRest, IsRestWith}
-use Rattle.wb_model.proofs.runs.SetOrder.{lesser-first, none-is-lesser}
+use Rattle.wb_runs.proofs.SetOrder.{lesser-first, none-is-lesser}
 
 or_false : (b : Bool) → (b || false) ≡ b
 or_false true = refl

@@ -5,20 +5,20 @@ use Rattle.std.specs.List.{filter, range_with_len}
 use Rattle.std.proofs.lemmas.Bool.{cases_lt}
 use Rattle.std.proofs.lemmas.List.{map-append}
 use Rattle.std.proofs.lemmas.List.Elements.{filter-append}
-use Rattle.wb_model.specs.declared.failures.Failures.{Failures}
-use Rattle.wb_model.specs.declared.heap.Shape.{Shape}
-use Rattle.wb_model.specs.declared.number_ends.NumberEnd.{NumberEnd}
-use Rattle.wb_model.specs.declared.part.Part.{Part}
-use Rattle.wb_model.specs.declared.run.Outcome.{Outcome}
-use Rattle.wb_model.specs.declared.run.Outcome.TheVariants as outcomes
-use Rattle.wb_model.specs.declared.run.RunResult.{RunResult}
-use Rattle.wb_model.specs.declared.script.Script.{Script}
-use Rattle.wb_model.specs.runs.AllNumbers.{count_in, first_bad, number_end, unfine_in, unfine_numbers, IsLeastBadOf, IsNoBadOf}
-use Rattle.wb_model.specs.runs.Run.{is_bad}
-use Rattle.wb_model.specs.runs.RunEnds.{end_of, is_bad_end}
-use Rattle.wb_model.specs.runs.Sweeps.{failing_at, is_cut_outcome, is_fine, runs_of}
-use Rattle.wb_model.proofs.runs.FirstBad.{first-least, first-none}
-use Rattle.wb_model.proofs.runs.LengthTables.{bad-end}
+use Rattle.wb_runs.specs.declared.failures.Failures.{Failures}
+use Rattle.wb_heap_model.specs.declared.heap.Shape.{Shape}
+use Rattle.wb_runs.specs.declared.number_ends.NumberEnd.{NumberEnd}
+use Rattle.wb_runs.specs.declared.part.Part.{Part}
+use Rattle.wb_meaning.specs.declared.run.Outcome.{Outcome}
+use Rattle.wb_meaning.specs.declared.run.Outcome.TheVariants as outcomes
+use Rattle.wb_meaning.specs.declared.run.RunResult.{RunResult}
+use Rattle.wb_tree.specs.declared.script.Script.{Script}
+use Rattle.wb_runs.specs.AllNumbers.{count_in, first_bad, number_end, unfine_in, unfine_numbers, IsLeastBadOf, IsNoBadOf}
+use Rattle.wb_meaning.specs.Run.{is_bad}
+use Rattle.wb_runs.specs.RunEnds.{end_of, is_bad_end}
+use Rattle.wb_runs.specs.Sweeps.{failing_at, is_cut_outcome, is_fine, runs_of}
+use Rattle.wb_runs.proofs.FirstBad.{first-least, first-none}
+use Rattle.wb_runs.proofs.LengthTables.{bad-end}
 use Rattle.wb_sweep.specs.declared.found.Found.{Found}
 use Rattle.wb_sweep.specs.declared.found.Listing.{Listing}
 use Rattle.wb_sweep.specs.declared.found.Listing.TheVariants.{Unfine, Every}

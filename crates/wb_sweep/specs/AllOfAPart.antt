@@ -1,17 +1,17 @@
 -- What a sweep tells that looks at each number of a part: of those whose run leaks, panics or is cut, or of every one.
 use Rattle.std.specs.Prelude.{◌≡◌, ℕ, ◌<◌, List, [], ◌∷◌, Bool, true, if◌then◌else◌, not, Option, Some, None, IfSome, ◌||◌, length, map}
 use Rattle.std.specs.List.{filter, range_with_len}
-use Rattle.wb_model.specs.declared.failures.Failures.{Failures}
-use Rattle.wb_model.specs.declared.heap.Shape.{Shape}
-use Rattle.wb_model.specs.declared.number_ends.NumberEnd.{NumberEnd}
-use Rattle.wb_model.specs.declared.part.Part.{Part}
-use Rattle.wb_model.specs.declared.run.RunResult.{RunResult}
-use Rattle.wb_model.specs.declared.script.Script.{Script}
-use Rattle.wb_model.specs.runs.AllNumbers.{bad_count, count_in, first_bad, number_end, IsLeastBadOf, IsNoBadOf}
-use Rattle.wb_model.specs.runs.Parts.{last_attempt, IsUncut}
-use Rattle.wb_model.specs.declared.run_end.RunEnd.{RunEnd}
-use Rattle.wb_model.specs.runs.RunEnds.{end_of, is_bad_end, is_cut_end}
-use Rattle.wb_model.specs.runs.Sweeps.{failing_at, is_fine, runs_of}
+use Rattle.wb_runs.specs.declared.failures.Failures.{Failures}
+use Rattle.wb_heap_model.specs.declared.heap.Shape.{Shape}
+use Rattle.wb_runs.specs.declared.number_ends.NumberEnd.{NumberEnd}
+use Rattle.wb_runs.specs.declared.part.Part.{Part}
+use Rattle.wb_meaning.specs.declared.run.RunResult.{RunResult}
+use Rattle.wb_tree.specs.declared.script.Script.{Script}
+use Rattle.wb_runs.specs.AllNumbers.{bad_count, count_in, first_bad, number_end, IsLeastBadOf, IsNoBadOf}
+use Rattle.wb_runs.specs.Parts.{last_attempt, IsUncut}
+use Rattle.wb_runs.specs.declared.run_end.RunEnd.{RunEnd}
+use Rattle.wb_runs.specs.RunEnds.{end_of, is_bad_end, is_cut_end}
+use Rattle.wb_runs.specs.Sweeps.{failing_at, is_fine, runs_of}
 use Rattle.wb_sweep.specs.declared.found.AllNumbers.{AllNumbers}
 use Rattle.wb_sweep.specs.declared.found.Found.{Found}
 use Rattle.wb_sweep.specs.declared.found.Listing.{Listing}

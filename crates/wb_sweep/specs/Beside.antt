@@ -1,10 +1,10 @@
 -- The runs under the failures that a sweep tries, beside a run under way. What is tried as 0 is what a walk goes along.
 use Rattle.std.specs.Prelude.{ℕ, ◌+◌}
 use Rattle.wb_machine.specs.Seen.{Seen}
-use Rattle.wb_model.specs.declared.failures.Failing.{Failing}
-use Rattle.wb_model.specs.declared.failures.Failures.{Failures}
-use Rattle.wb_model.specs.declared.run.RunResult.{RunResult}
-use Rattle.wb_model.specs.runs.Sweeps.{failing_at, runs_of}
+use Rattle.wb_runs.specs.declared.failures.Failing.{Failing}
+use Rattle.wb_runs.specs.declared.failures.Failures.{Failures}
+use Rattle.wb_meaning.specs.declared.run.RunResult.{RunResult}
+use Rattle.wb_runs.specs.Sweeps.{failing_at, runs_of}
 
 -- those of the run's script, budget and shape
 abbrev pub runs_beside : Failures → Seen → ℕ → RunResult

@@ -1,11 +1,11 @@
 -- What a sweep over all sets says of those of a part, however many attempts they have: the least whose run is bad, or that none is.
 use Rattle.std.specs.Prelude.{◌≡◌, ℕ, ◌+◌, ◌≤◌, None, IfSome}
-use Rattle.wb_model.specs.declared.failures.Failures.TheVariants.{Single}
-use Rattle.wb_model.specs.declared.heap.Shape.{Shape}
-use Rattle.wb_model.specs.declared.part.Part.{Part}
-use Rattle.wb_model.specs.declared.script.Script.{Script}
-use Rattle.wb_model.specs.runs.EverySet.{IsLeastSetFoundIn, IsNoSetOfAnySizeIn}
-use Rattle.wb_model.specs.runs.Parts.{last_attempt}
+use Rattle.wb_runs.specs.declared.failures.Failures.TheVariants.{Single}
+use Rattle.wb_heap_model.specs.declared.heap.Shape.{Shape}
+use Rattle.wb_runs.specs.declared.part.Part.{Part}
+use Rattle.wb_tree.specs.declared.script.Script.{Script}
+use Rattle.wb_runs.specs.EverySet.{IsLeastSetFoundIn, IsNoSetOfAnySizeIn}
+use Rattle.wb_runs.specs.Parts.{last_attempt}
 use Rattle.wb_sweep.specs.declared.set_answer.SetSweep.{SetSweep}
 
 -- The sets of a part are spoken of, of any number of attempts. The run without failure makes at most one attempt more than the budget has steps.

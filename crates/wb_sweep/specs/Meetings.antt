@@ -2,15 +2,15 @@
 use Rattle.std.specs.Prelude.{◌≡◌, ℕ, ◌≤◌, Bool, true, false, Option, None, Some}
 use Rattle.wb_machine.specs.Alike.{GoesOnLike}
 use Rattle.wb_machine.specs.Seen.{Seen}
-use Rattle.wb_model.specs.declared.failures.Failures.{Failures}
-use Rattle.wb_model.specs.declared.failures.Failures.TheVariants.{Single, Every, Pairs, Persistent}
-use Rattle.wb_model.specs.declared.heap.Shape.{Shape}
-use Rattle.wb_model.specs.declared.run.Outcome.TheVariants.{Cut}
-use Rattle.wb_model.specs.declared.run.RunResult.{RunResult}
-use Rattle.wb_model.specs.declared.run.Why.TheVariants.{Budget}
-use Rattle.wb_model.specs.declared.script.Script.{Script}
-use Rattle.wb_model.specs.runs.RunEnds.{end_of}
-use Rattle.wb_model.specs.runs.Sweeps.{is_cut_outcome, is_fine, rule_of, runs_of}
+use Rattle.wb_runs.specs.declared.failures.Failures.{Failures}
+use Rattle.wb_runs.specs.declared.failures.Failures.TheVariants.{Single, Every, Pairs, Persistent}
+use Rattle.wb_heap_model.specs.declared.heap.Shape.{Shape}
+use Rattle.wb_meaning.specs.declared.run.Outcome.TheVariants.{Cut}
+use Rattle.wb_meaning.specs.declared.run.RunResult.{RunResult}
+use Rattle.wb_meaning.specs.declared.run.Why.TheVariants.{Budget}
+use Rattle.wb_tree.specs.declared.script.Script.{Script}
+use Rattle.wb_runs.specs.RunEnds.{end_of}
+use Rattle.wb_runs.specs.Sweeps.{is_cut_outcome, is_fine, rule_of, runs_of}
 use Rattle.wb_sweep.specs.declared.followed.Forked.{Forked}
 use Rattle.wb_sweep.specs.declared.followed.Forked.TheVariants.{Met, Ran}
 use Rattle.wb_sweep.specs.declared.scout.Meeting.{Meeting}

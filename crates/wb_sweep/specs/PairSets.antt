@@ -1,7 +1,7 @@
 -- Which failure the attempts of a set of at most two are, and a fault of a sweep over such sets.
 use Rattle.std.specs.Prelude.{ℕ, List, [], ◌∷◌}
-use Rattle.wb_model.specs.declared.failures.Failing.{Failing}
-use Rattle.wb_model.specs.declared.failures.Failing.TheVariants.{Number, Pair}
+use Rattle.wb_runs.specs.declared.failures.Failing.{Failing}
+use Rattle.wb_runs.specs.declared.failures.Failing.TheVariants.{Number, Pair}
 use Rattle.wb_sweep.specs.declared.fault.SweepFault.{SweepFault}
 use Rattle.wb_sweep.specs.declared.fault.SweepFault.TheVariants.{BadShape, Cut, NoMemory}
 use Rattle.wb_sweep.specs.declared.set_answer.SetFault.{SetFault}

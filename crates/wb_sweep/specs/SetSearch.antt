@@ -1,13 +1,13 @@
 -- What a search finds among the sets that begin with the same numbers.
 use Rattle.std.specs.Prelude.{◌≡◌, ℕ, ◌+◌, ◌<◌, ◌≤◌, List, ◌∷◌, ◌++◌, true, false, length}
 use Rattle.wb_machine.specs.Seen.{Seen}
-use Rattle.wb_model.specs.declared.heap.Rule.TheVariants.{Set}
-use Rattle.wb_model.specs.declared.run.Outcome.TheVariants.{Cut}
-use Rattle.wb_model.specs.declared.run.RunResult.{RunResult}
-use Rattle.wb_model.specs.declared.run.Why.{Why}
-use Rattle.wb_model.specs.runs.Run.{is_bad}
-use Rattle.wb_model.specs.runs.Sets.{AscendsPast, has_lesser_number}
-use Rattle.wb_model.specs.runs.Sweeps.{is_fine}
+use Rattle.wb_heap_model.specs.declared.heap.Rule.TheVariants.{Set}
+use Rattle.wb_meaning.specs.declared.run.Outcome.TheVariants.{Cut}
+use Rattle.wb_meaning.specs.declared.run.RunResult.{RunResult}
+use Rattle.wb_meaning.specs.declared.run.Why.{Why}
+use Rattle.wb_meaning.specs.Run.{is_bad}
+use Rattle.wb_runs.specs.Sets.{AscendsPast, has_lesser_number}
+use Rattle.wb_runs.specs.Sweeps.{is_fine}
 use Rattle.wb_sweep.specs.declared.set_answer.FoundSet.{FoundSet}
 
 -- what is found of a bad run

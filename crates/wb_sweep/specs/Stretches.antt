@@ -1,15 +1,15 @@
 -- What a walk finds among the numbers from one on up to a last one, and what is fine of a part.
 use Rattle.std.specs.Prelude.{◌≡◌, ℕ, ◌<◌, ◌≤◌, true}
-use Rattle.wb_model.specs.declared.failures.Failing.{Failing}
-use Rattle.wb_model.specs.declared.heap.Shape.{Shape}
-use Rattle.wb_model.specs.declared.part.Part.{Part}
-use Rattle.wb_model.specs.declared.run.Outcome.TheVariants.{Cut}
-use Rattle.wb_model.specs.declared.run.RunResult.{RunResult}
-use Rattle.wb_model.specs.declared.run.Why.{Why}
-use Rattle.wb_model.specs.declared.script.Script.{Script}
-use Rattle.wb_model.specs.runs.Parts.{IsNumberOf}
-use Rattle.wb_model.specs.runs.Run.{is_bad}
-use Rattle.wb_model.specs.runs.Sweeps.{is_fine, runs_under}
+use Rattle.wb_runs.specs.declared.failures.Failing.{Failing}
+use Rattle.wb_heap_model.specs.declared.heap.Shape.{Shape}
+use Rattle.wb_runs.specs.declared.part.Part.{Part}
+use Rattle.wb_meaning.specs.declared.run.Outcome.TheVariants.{Cut}
+use Rattle.wb_meaning.specs.declared.run.RunResult.{RunResult}
+use Rattle.wb_meaning.specs.declared.run.Why.{Why}
+use Rattle.wb_tree.specs.declared.script.Script.{Script}
+use Rattle.wb_runs.specs.Parts.{IsNumberOf}
+use Rattle.wb_meaning.specs.Run.{is_bad}
+use Rattle.wb_runs.specs.Sweeps.{is_fine, runs_under}
 
 -- the runs of the numbers from one on that are less than another are neither bad nor cut
 abbrev pub AreFineFrom : (ℕ → RunResult) → ℕ → ℕ → Type 0

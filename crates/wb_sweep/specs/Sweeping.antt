@@ -1,16 +1,16 @@
 -- What a sweep says of every failure: the least whose run is bad, or that none is.
 use Rattle.std.specs.Prelude.{◌≡◌, ℕ, ◌+◌, List, true, Some, None, IfSome, length, slice_get}
-use Rattle.wb_model.specs.declared.failures.Failing.{Failing}
-use Rattle.wb_model.specs.declared.failures.Failures.{Failures}
-use Rattle.wb_model.specs.declared.heap.Attempt.{Attempt}
-use Rattle.wb_model.specs.declared.heap.Shape.{Shape}
-use Rattle.wb_model.specs.declared.part.Part.{Part}
-use Rattle.wb_model.specs.declared.run.RunResult.{RunResult}
-use Rattle.wb_model.specs.declared.script.Script.{Script}
-use Rattle.wb_model.specs.runs.Parts.{last_attempt, IsFoundIn, IsNoneIn}
-use Rattle.wb_model.specs.runs.Run.{is_bad}
-use Rattle.wb_model.specs.runs.SweepAnswers.{IsFound, IsNoneFound}
-use Rattle.wb_model.specs.runs.Sweeps.{runs_of}
+use Rattle.wb_runs.specs.declared.failures.Failing.{Failing}
+use Rattle.wb_runs.specs.declared.failures.Failures.{Failures}
+use Rattle.wb_heap_model.specs.declared.heap.Attempt.{Attempt}
+use Rattle.wb_heap_model.specs.declared.heap.Shape.{Shape}
+use Rattle.wb_runs.specs.declared.part.Part.{Part}
+use Rattle.wb_meaning.specs.declared.run.RunResult.{RunResult}
+use Rattle.wb_tree.specs.declared.script.Script.{Script}
+use Rattle.wb_runs.specs.Parts.{last_attempt, IsFoundIn, IsNoneIn}
+use Rattle.wb_meaning.specs.Run.{is_bad}
+use Rattle.wb_runs.specs.SweepAnswers.{IsFound, IsNoneFound}
+use Rattle.wb_runs.specs.Sweeps.{runs_of}
 use Rattle.wb_sweep.specs.declared.found.Found.{Found}
 use Rattle.wb_sweep.specs.declared.found.Sweep.{Sweep}
 

@@ -1,15 +1,15 @@
 //! A sweep that tries each number of a part: how the run under each listed number ended, and the least number whose run leaks or panics.
 
 ghost use Rattle.std.specs.Prelude.{◌≡◌, ◌≢◌, ◌↔◌, ◌++◌, ◌+◌, ◌-◌, ◌<◌, ◌≤◌, true, false, IfOk, IfSome, IsTrue, OnOk};
-ghost use Rattle.wb_model.specs.language.Sound.{is_script};
-ghost use Rattle.wb_model.specs.heap.Space.{is_shape};
-ghost use Rattle.wb_model.specs.runs.AllNumbers.{bad_count, first_bad};
-ghost use Rattle.wb_model.specs.runs.Parts.{last_attempt, IsCutWithout};
-ghost use Rattle.wb_model.specs.runs.RunEnds.{end_of};
-ghost use Rattle.wb_model.specs.runs.Sweeps.{is_cut_outcome, rule_of, runs_of};
-ghost use Rattle.wb_model.specs.declared.run.Outcome.TheVariants as outcomes;
-ghost use Rattle.wb_model.specs.declared.run.RunResult.{RunResult};
-ghost use Rattle.wb_model.specs.declared.run.Why.{Why};
+ghost use Rattle.wb_tree.specs.Sound.{is_script};
+ghost use Rattle.wb_heap_model.specs.Space.{is_shape};
+ghost use Rattle.wb_runs.specs.AllNumbers.{bad_count, first_bad};
+ghost use Rattle.wb_runs.specs.Parts.{last_attempt, IsCutWithout};
+ghost use Rattle.wb_runs.specs.RunEnds.{end_of};
+ghost use Rattle.wb_runs.specs.Sweeps.{is_cut_outcome, rule_of, runs_of};
+ghost use Rattle.wb_meaning.specs.declared.run.Outcome.TheVariants as outcomes;
+ghost use Rattle.wb_meaning.specs.declared.run.RunResult.{RunResult};
+ghost use Rattle.wb_meaning.specs.declared.run.Why.{Why};
 ghost use Rattle.wb_sweep.specs.Meetings.{ForkedSays, IsAhead};
 ghost use Rattle.wb_sweep.specs.AllOfAPart.{is_listed_end, line_if_told, line_of, listed_in, listed_numbers};
 ghost use Rattle.wb_sweep.specs.AllOfAPart.{AreAllNumbers, IsFoundAsFirst};
@@ -20,18 +20,18 @@ use crate::found::{AllNumbers, Found, Listing};
 use crate::scout::{Meeting, Scout, scout_beside};
 use crate::walk::attempts_in;
 use std::alloc::Global;
+use wb_basics::items::Items;
+use wb_basics::limits::LARGEST_BUDGET;
+use wb_basics::memory::NoMemory;
+use wb_heap_model::heap::Shape;
 use wb_machine::{Heap, Machine, RunFault, run};
-use wb_model::failures::{Failing, Failures};
-use wb_model::heap::Shape;
-use wb_model::items::Items;
-use wb_model::limits::LARGEST_BUDGET;
-use wb_model::memory::NoMemory;
-use wb_model::number_ends::{NumberEnd, NumberEnds};
-use wb_model::part::Part;
-use wb_model::progress::Progress;
-use wb_model::run::{Outcome, RunResult, Why};
-use wb_model::run_end::RunEnd;
-use wb_model::script::Script;
+use wb_meaning::run::{Outcome, RunResult, Why};
+use wb_runs::failures::{Failing, Failures};
+use wb_runs::number_ends::{NumberEnd, NumberEnds};
+use wb_runs::part::Part;
+use wb_runs::progress::Progress;
+use wb_runs::run_end::RunEnd;
+use wb_tree::script::Script;
 
 /// Whether a number is listed if its run ended in this way.
 fn is_listed(listing: Listing, end: RunEnd) -> bool

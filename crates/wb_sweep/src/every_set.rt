@@ -1,16 +1,16 @@
 //! A sweep over all sets of attempts that fail together, however many they are.
 
 ghost use Rattle.std.specs.Prelude.{◌≡◌, ◌≢◌, ℕ, ◌+◌, ◌≤◌, ◌↔◌, List, None, true, false, IfOk, IfSome, IsTrue};
-ghost use Rattle.wb_model.specs.language.Sound.{is_script};
-ghost use Rattle.wb_model.specs.heap.Space.{is_shape};
-ghost use Rattle.wb_model.specs.runs.EverySet.{IsLeastSetCutIn, IsLeastSetFoundIn, IsNoSetOfAnySizeIn};
-ghost use Rattle.wb_model.specs.runs.Parts.{last_attempt, IsUncut};
-ghost use Rattle.wb_model.specs.runs.SetParts.{AreSetsFineIn, IsNoSetIn};
-ghost use Rattle.wb_model.specs.runs.Sweeps.{is_fine};
-ghost use Rattle.wb_model.specs.declared.failures.Failures.TheVariants.{Single};
-ghost use Rattle.wb_model.specs.declared.run.Outcome.TheVariants as outcomes;
-ghost use Rattle.wb_model.specs.declared.run.Why.{Why};
-ghost use Rattle.wb_states.specs.Met.{AreManyStatesIn};
+ghost use Rattle.wb_tree.specs.Sound.{is_script};
+ghost use Rattle.wb_heap_model.specs.Space.{is_shape};
+ghost use Rattle.wb_runs.specs.EverySet.{IsLeastSetCutIn, IsLeastSetFoundIn, IsNoSetOfAnySizeIn};
+ghost use Rattle.wb_runs.specs.Parts.{last_attempt, IsUncut};
+ghost use Rattle.wb_runs.specs.SetParts.{AreSetsFineIn, IsNoSetIn};
+ghost use Rattle.wb_runs.specs.Sweeps.{is_fine};
+ghost use Rattle.wb_runs.specs.declared.failures.Failures.TheVariants.{Single};
+ghost use Rattle.wb_meaning.specs.declared.run.Outcome.TheVariants as outcomes;
+ghost use Rattle.wb_meaning.specs.declared.run.Why.{Why};
+ghost use Rattle.wb_runs.specs.Met.{AreManyStatesIn};
 ghost use Rattle.wb_sweep.specs.EverySetSweeping.{IsEverySetSweepIn};
 ghost use Rattle.wb_sweep.specs.SetSearch.{IsBadSet};
 
@@ -19,13 +19,13 @@ use crate::set_answer::{FoundSet, SetSweep};
 use crate::set_sweep::find_least_set;
 use crate::sets::judge_set;
 use std::alloc::Global;
+use wb_basics::limits::LARGEST_BUDGET;
+use wb_heap_model::heap::Shape;
 use wb_machine::RunFault;
-use wb_model::heap::Shape;
-use wb_model::limits::LARGEST_BUDGET;
-use wb_model::part::Part;
-use wb_model::progress::Progress;
-use wb_model::script::Script;
+use wb_runs::part::Part;
+use wb_runs::progress::Progress;
 use wb_states::{Searched, Shown, search_states};
+use wb_tree::script::Script;
 
 /// Judges a set whose run is bad or cut: returns the set if its run is bad, and `Cut` if it is cut.
 fn judge_shown(shown: Shown) -> Result<Option<FoundSet>, EverySetFault>

@@ -1,9 +1,9 @@
 //! Why a sweep over all sets has no answer.
 
 use crate::set_answer::SetFault;
-use wb_model::heap::Numbers;
-use wb_model::memory::NoMemory;
-use wb_model::run::Why;
+use wb_basics::memory::NoMemory;
+use wb_heap_model::heap::Numbers;
+use wb_meaning::run::Why;
 
 /// Why a sweep over all sets has no answer.
 #[derive(Debug, Drop)]

@@ -1,9 +1,9 @@
 //! Why a sweep has no answer.
 
+use wb_basics::memory::NoMemory;
 use wb_machine::RunFault;
-use wb_model::failures::Failing;
-use wb_model::memory::NoMemory;
-use wb_model::run::Why;
+use wb_meaning::run::Why;
+use wb_runs::failures::Failing;
 
 /// Why a sweep has no answer.
 #[derive(Clone, Copy, Debug, PartialEq, Eq)]

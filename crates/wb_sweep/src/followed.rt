@@ -2,17 +2,17 @@
 
 ghost use Rattle.std.specs.Prelude.{◌≡◌, ◌+◌, None, false, IfOk, IfSome, OnOk};
 ghost use Rattle.wb_machine.specs.Turns.{IsSameRun};
-ghost use Rattle.wb_model.specs.runs.Sweeps.{rule_of};
+ghost use Rattle.wb_runs.specs.Sweeps.{rule_of};
 ghost use Rattle.wb_sweep.specs.Beside.{next_run, runs_beside};
 ghost use Rattle.wb_sweep.specs.Meetings.{is_met, FineSays, ForkedSays, IsAhead, IsScout};
 ghost use Rattle.wb_sweep.specs.Meetings.{MeetingSays};
 
 use crate::fork::{end_fork, fork_under};
 use crate::scout::{Meeting, Scout};
+use wb_basics::memory::NoMemory;
 use wb_machine::{Heap, Machine};
-use wb_model::failures::Failures;
-use wb_model::memory::NoMemory;
-use wb_model::run::RunResult;
+use wb_meaning::run::RunResult;
+use wb_runs::failures::Failures;
 
 /// What is known of a fork's run.
 #[derive(Debug, Drop)]

@@ -1,13 +1,13 @@
 //! Copies of a run that go on under another rule. Which rules a sweep tries is not decided here.
 
 ghost use Rattle.std.specs.Prelude.{◌≡◌, false, IfOk};
-ghost use Rattle.wb_model.specs.runs.Rest.{SameSoFar};
-ghost use Rattle.wb_model.specs.runs.Run.{run};
+ghost use Rattle.wb_heap_model.specs.SameRules.{SameSoFar};
+ghost use Rattle.wb_meaning.specs.Run.{run};
 
+use wb_basics::memory::NoMemory;
+use wb_heap_model::heap::Rule;
 use wb_machine::{Finished, Heap, Machine};
-use wb_model::heap::Rule;
-use wb_model::memory::NoMemory;
-use wb_model::run::RunResult;
+use wb_meaning::run::RunResult;
 
 /// A copy of a run under way that goes on under another rule. Of the attempts made so far, both rules make the same ones fail, and neither
 /// rule is a limit. The run itself stays as it is.

@@ -1,8 +1,8 @@
 //! What a sweep finds.
 
-use wb_model::failures::Failing;
-use wb_model::number_ends::NumberEnds;
-use wb_model::run::RunResult;
+use wb_meaning::run::RunResult;
+use wb_runs::failures::Failing;
+use wb_runs::number_ends::NumberEnds;
 
 /// The least failure whose run is bad, and that run.
 #[derive(Debug, Drop)]

@@ -2,14 +2,14 @@
 //! the states become too many.
 
 ghost use Rattle.std.specs.Prelude.{◌≡◌, ◌≢◌, ◌⊎◌, ℕ, ◌<◌, ◌≤◌, List, None, false, length, true, IfOk, IfSome, IsTrue};
-ghost use Rattle.wb_model.specs.language.Sound.{is_script};
-ghost use Rattle.wb_model.specs.heap.Space.{is_shape};
-ghost use Rattle.wb_model.specs.runs.Parts.{last_attempt};
-ghost use Rattle.wb_model.specs.runs.SetParts.{AreSetsFineIn, IsLeastCutSetIn, IsNoSetIn, IsSetFoundIn};
-ghost use Rattle.wb_model.specs.runs.Sweeps.{is_fine};
-ghost use Rattle.wb_model.specs.declared.failures.Failures.TheVariants.{Single};
-ghost use Rattle.wb_model.specs.declared.run.Outcome.TheVariants as outcomes;
-ghost use Rattle.wb_model.specs.declared.run.Why.{Why};
+ghost use Rattle.wb_tree.specs.Sound.{is_script};
+ghost use Rattle.wb_heap_model.specs.Space.{is_shape};
+ghost use Rattle.wb_runs.specs.Parts.{last_attempt};
+ghost use Rattle.wb_runs.specs.SetParts.{AreSetsFineIn, IsLeastCutSetIn, IsNoSetIn, IsSetFoundIn};
+ghost use Rattle.wb_runs.specs.Sweeps.{is_fine};
+ghost use Rattle.wb_runs.specs.declared.failures.Failures.TheVariants.{Single};
+ghost use Rattle.wb_meaning.specs.declared.run.Outcome.TheVariants as outcomes;
+ghost use Rattle.wb_meaning.specs.declared.run.Why.{Why};
 ghost use Rattle.wb_sweep.specs.SetSearch.{IsBadSet};
 
 use crate::set_answer::{FoundSet, SetFault};
@@ -17,12 +17,12 @@ use crate::set_walk::walk_sets;
 use crate::sets::judge_set;
 use crate::states_worth::states_worth;
 use std::alloc::Global;
-use wb_model::heap::Shape;
-use wb_model::limits::LARGEST_BUDGET;
-use wb_model::part::Part;
-use wb_model::progress::Progress;
-use wb_model::script::Script;
+use wb_basics::limits::LARGEST_BUDGET;
+use wb_heap_model::heap::Shape;
+use wb_runs::part::Part;
+use wb_runs::progress::Progress;
 use wb_states::{Searched, Shown, search_states};
+use wb_tree::script::Script;
 
 /// Judges a set whose run is bad or cut, in a search for sets of at most `most` numbers: returns the set if its run is bad, `Cut` if it is
 /// cut, and `None` if the set has more numbers.

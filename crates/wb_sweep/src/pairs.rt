@@ -1,12 +1,12 @@
 //! A sweep over pairs of attempts, once the run of each single failure is fine. It is a sweep over sets of at most two attempts.
 
 ghost use Rattle.std.specs.Prelude.{◌≡◌, ◌≤◌, None, false, IfOk, IfSome, IsTrue};
-ghost use Rattle.wb_model.specs.language.Sound.{is_script};
-ghost use Rattle.wb_model.specs.heap.Space.{is_shape};
-ghost use Rattle.wb_model.specs.runs.Parts.{last_attempt, IsFoundIn, IsLeastCutIn, IsNoneIn};
-ghost use Rattle.wb_model.specs.declared.failures.Failing.{Failing};
-ghost use Rattle.wb_model.specs.declared.failures.Failures.TheVariants.{Pairs, Single};
-ghost use Rattle.wb_model.specs.declared.run.Why.{Why};
+ghost use Rattle.wb_tree.specs.Sound.{is_script};
+ghost use Rattle.wb_heap_model.specs.Space.{is_shape};
+ghost use Rattle.wb_runs.specs.Parts.{last_attempt, IsFoundIn, IsLeastCutIn, IsNoneIn};
+ghost use Rattle.wb_runs.specs.declared.failures.Failing.{Failing};
+ghost use Rattle.wb_runs.specs.declared.failures.Failures.TheVariants.{Pairs, Single};
+ghost use Rattle.wb_meaning.specs.declared.run.Why.{Why};
 ghost use Rattle.wb_sweep.specs.PairSets.{failure_of, sweep_fault_of};
 
 use crate::fault::SweepFault;
@@ -14,12 +14,12 @@ use crate::found::Found;
 use crate::larger_sets::find_larger;
 use crate::set_answer::{FoundSet, SetFault};
 use std::alloc::Global;
-use wb_model::failures::Failing;
-use wb_model::heap::{Numbers, Shape};
-use wb_model::limits::LARGEST_BUDGET;
-use wb_model::part::Part;
-use wb_model::progress::Progress;
-use wb_model::script::Script;
+use wb_basics::limits::LARGEST_BUDGET;
+use wb_heap_model::heap::{Numbers, Shape};
+use wb_runs::failures::Failing;
+use wb_runs::part::Part;
+use wb_runs::progress::Progress;
+use wb_tree::script::Script;
 
 /// The failure that makes the attempts of a set fail, of which there are at most two.
 fn failure_of(numbers: &Numbers) -> Failing

@@ -1,26 +1,26 @@
 //! A sweep over all failures for which the run without failure is known: if that run is fine, it isn't made again.
 
 ghost use Rattle.std.specs.Prelude.{◌≡◌, ◌≢◌, ◌≤◌, ◌&&◌, not, IfOk, IsTrue};
-ghost use Rattle.wb_model.specs.language.Sound.{is_script};
-ghost use Rattle.wb_model.specs.heap.Space.{is_shape};
-ghost use Rattle.wb_model.specs.runs.Parts.{last_attempt};
-ghost use Rattle.wb_model.specs.runs.Run.{is_bad_outcome};
-ghost use Rattle.wb_model.specs.runs.SweepAnswers.{IsCutShort};
-ghost use Rattle.wb_model.specs.runs.Sweeps.{is_cut_outcome, runs_of};
-ghost use Rattle.wb_model.specs.declared.run.Why.{Why};
+ghost use Rattle.wb_tree.specs.Sound.{is_script};
+ghost use Rattle.wb_heap_model.specs.Space.{is_shape};
+ghost use Rattle.wb_runs.specs.Parts.{last_attempt};
+ghost use Rattle.wb_meaning.specs.Run.{is_bad_outcome};
+ghost use Rattle.wb_runs.specs.SweepAnswers.{IsCutShort};
+ghost use Rattle.wb_runs.specs.Sweeps.{is_cut_outcome, runs_of};
+ghost use Rattle.wb_meaning.specs.declared.run.Why.{Why};
 ghost use Rattle.wb_sweep.specs.Sweeping.{IsSweep};
 
 use crate::fault::SweepFault;
 use crate::found::Sweep;
 use crate::sweeping::{find_later, sweep};
 use std::alloc::Global;
-use wb_model::failures::{Failing, Failures};
-use wb_model::heap::Shape;
-use wb_model::limits::LARGEST_BUDGET;
-use wb_model::part::Part;
-use wb_model::progress::Progress;
-use wb_model::run::Outcome;
-use wb_model::script::Script;
+use wb_basics::limits::LARGEST_BUDGET;
+use wb_heap_model::heap::Shape;
+use wb_meaning::run::Outcome;
+use wb_runs::failures::{Failing, Failures};
+use wb_runs::part::Part;
+use wb_runs::progress::Progress;
+use wb_tree::script::Script;
 
 /// All numbers.
 const ALL: Part = Part {

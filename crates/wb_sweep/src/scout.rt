@@ -3,14 +3,14 @@
 
 ghost use Rattle.std.specs.Prelude.{◌≡◌, ◌≤◌, true, false, Some, IfOk, IfSome, OnOk};
 ghost use Rattle.wb_machine.specs.Turns.{IsSameRun};
-ghost use Rattle.wb_model.specs.runs.Sweeps.{rule_of};
+ghost use Rattle.wb_runs.specs.Sweeps.{rule_of};
 ghost use Rattle.wb_sweep.specs.Beside.{runs_beside};
 ghost use Rattle.wb_sweep.specs.Meetings.{last_failing, IsAhead, IsPastFailure, HasMet, MeetingSays};
 
 use crate::pace::Pace;
+use wb_basics::memory::NoMemory;
 use wb_machine::{Machine, Turn};
-use wb_model::failures::Failures;
-use wb_model::memory::NoMemory;
+use wb_runs::failures::Failures;
 
 /// How many times a scout goes ahead to meet one fork, at most.
 const MOST_TIMES: u32 = 5;

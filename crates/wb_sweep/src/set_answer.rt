@@ -1,9 +1,9 @@
 //! What a sweep over sets finds, and why it has no answer.
 
+use wb_basics::memory::NoMemory;
+use wb_heap_model::heap::Numbers;
 use wb_machine::RunFault;
-use wb_model::heap::Numbers;
-use wb_model::memory::NoMemory;
-use wb_model::run::{RunResult, Why};
+use wb_meaning::run::{RunResult, Why};
 
 /// The least set of attempts whose run is bad, and that run.
 #[derive(Debug, Drop)]

@@ -2,13 +2,13 @@
 //! greatest size.
 
 ghost use Rattle.std.specs.Prelude.{◌≡◌, ℕ, ◌+◌, ◌≤◌, ◌↔◌, List, false, IfOk, IsTrue};
-ghost use Rattle.wb_model.specs.language.Sound.{is_script};
-ghost use Rattle.wb_model.specs.heap.Space.{is_shape};
-ghost use Rattle.wb_model.specs.runs.Parts.{last_attempt};
-ghost use Rattle.wb_model.specs.runs.SetAnswers.{set_of};
-ghost use Rattle.wb_model.specs.runs.SetParts.{IsSetCutIn};
-ghost use Rattle.wb_model.specs.declared.failures.Failures.TheVariants.{Single};
-ghost use Rattle.wb_model.specs.declared.run.Why.{Why};
+ghost use Rattle.wb_tree.specs.Sound.{is_script};
+ghost use Rattle.wb_heap_model.specs.Space.{is_shape};
+ghost use Rattle.wb_runs.specs.Parts.{last_attempt};
+ghost use Rattle.wb_runs.specs.SetAnswers.{set_of};
+ghost use Rattle.wb_runs.specs.SetParts.{IsSetCutIn};
+ghost use Rattle.wb_runs.specs.declared.failures.Failures.TheVariants.{Single};
+ghost use Rattle.wb_meaning.specs.declared.run.Why.{Why};
 ghost use Rattle.wb_sweep.specs.SetSweeping.{IsSetSweepIn};
 
 use crate::fault::SweepFault;
@@ -17,13 +17,13 @@ use crate::larger_sets::find_larger;
 use crate::set_answer::{FoundSet, SetFault, SetSweep};
 use crate::sweeping::find_least;
 use std::alloc::Global;
-use wb_model::failures::{Failing, Failures};
-use wb_model::heap::{Numbers, Shape};
-use wb_model::limits::LARGEST_BUDGET;
-use wb_model::memory::NoMemory;
-use wb_model::part::Part;
-use wb_model::progress::Progress;
-use wb_model::script::Script;
+use wb_basics::limits::LARGEST_BUDGET;
+use wb_basics::memory::NoMemory;
+use wb_heap_model::heap::{Numbers, Shape};
+use wb_runs::failures::{Failing, Failures};
+use wb_runs::part::Part;
+use wb_runs::progress::Progress;
+use wb_tree::script::Script;
 
 /// The numbers of the attempts that fail under a single failure or a pair; empty for number 0.
 fn set_of(alloc: Global, at: Failing) -> Result<Numbers, NoMemory>

@@ -2,23 +2,23 @@
 //! up to a greatest size. The run without failure is followed once for each size.
 
 ghost use Rattle.std.specs.Prelude.{◌≡◌, ◌≢◌, ℕ, ◌+◌, ◌^◌, ◌<◌, ◌≤◌, List, [], None, false, IfOk, IfSome, IsTrue};
-ghost use Rattle.wb_model.specs.language.Sound.{is_script};
-ghost use Rattle.wb_model.specs.heap.Space.{is_shape};
-ghost use Rattle.wb_model.specs.runs.Parts.{last_attempt, IsUncut};
-ghost use Rattle.wb_model.specs.runs.SetParts.{AreSetsFineIn, IsLeastCutSetIn, IsSetFoundIn};
-ghost use Rattle.wb_model.specs.declared.failures.Failures.TheVariants.{Single};
-ghost use Rattle.wb_model.specs.declared.heap.Rule.TheVariants as rules;
-ghost use Rattle.wb_model.specs.declared.run.Why.{Why};
+ghost use Rattle.wb_tree.specs.Sound.{is_script};
+ghost use Rattle.wb_heap_model.specs.Space.{is_shape};
+ghost use Rattle.wb_runs.specs.Parts.{last_attempt, IsUncut};
+ghost use Rattle.wb_runs.specs.SetParts.{AreSetsFineIn, IsLeastCutSetIn, IsSetFoundIn};
+ghost use Rattle.wb_runs.specs.declared.failures.Failures.TheVariants.{Single};
+ghost use Rattle.wb_heap_model.specs.declared.heap.Rule.TheVariants as rules;
+ghost use Rattle.wb_meaning.specs.declared.run.Why.{Why};
 
 use crate::set_answer::{FoundSet, SetFault};
 use crate::sets::find_next;
 use std::alloc::Global;
+use wb_basics::limits::LARGEST_BUDGET;
+use wb_heap_model::heap::{Numbers, Rule, Shape};
 use wb_machine::Machine;
-use wb_model::heap::{Numbers, Rule, Shape};
-use wb_model::limits::LARGEST_BUDGET;
-use wb_model::part::Part;
-use wb_model::progress::Progress;
-use wb_model::script::Script;
+use wb_runs::part::Part;
+use wb_runs::progress::Progress;
+use wb_tree::script::Script;
 
 /// The least set of `fewer + 1` numbers whose run is bad, of the sets of a part that are tried; `None` if the run of each is fine. The runs
 /// of the sets of at most `fewer` numbers are known to be fine. The lead is at the start of the run without failure, which makes `last`

@@ -2,24 +2,24 @@
 //! of a set but the last fail. Which other sets are to be tried is not decided here.
 
 ghost use Rattle.std.specs.Prelude.{◌≡◌, ◌≢◌, ℕ, ◌+◌, ◌<◌, ◌≤◌, List, [], ◌∷◌, ◌++◌, None, false, length, true, IfErr, IfOk, IfSome};
-ghost use Rattle.wb_model.specs.runs.Run.{is_bad};
-ghost use Rattle.wb_model.specs.runs.Sets.{set_run, AscendsPast};
-ghost use Rattle.wb_model.specs.runs.Sweeps.{is_cut_outcome, is_fine};
-ghost use Rattle.wb_model.specs.declared.heap.Rule.TheVariants as rules;
-ghost use Rattle.wb_model.specs.declared.run.Outcome.TheVariants as outcomes;
-ghost use Rattle.wb_model.specs.declared.run.RunResult.{RunResult};
-ghost use Rattle.wb_model.specs.declared.run.Why.{Why};
+ghost use Rattle.wb_meaning.specs.Run.{is_bad};
+ghost use Rattle.wb_runs.specs.Sets.{set_run, AscendsPast};
+ghost use Rattle.wb_runs.specs.Sweeps.{is_cut_outcome, is_fine};
+ghost use Rattle.wb_heap_model.specs.declared.heap.Rule.TheVariants as rules;
+ghost use Rattle.wb_meaning.specs.declared.run.Outcome.TheVariants as outcomes;
+ghost use Rattle.wb_meaning.specs.declared.run.RunResult.{RunResult};
+ghost use Rattle.wb_meaning.specs.declared.run.Why.{Why};
 ghost use Rattle.wb_sweep.specs.SetSearch.{AreFewerFine, AreFewerFineWith, AreFine, AreFineWith};
 ghost use Rattle.wb_sweep.specs.SetSearch.{IsBadSet, IsCutAfter, IsCutWith, IsForkTo, IsFoundAfter, IsFoundWith};
 
 use crate::fork::{fork_under, result_under};
 use crate::set_answer::{FoundSet, SetFault};
 use crate::walk::attempts_in;
+use wb_basics::memory::NoMemory;
+use wb_heap_model::heap::{Numbers, Rule};
 use wb_machine::{Heap, Machine};
-use wb_model::heap::{Numbers, Rule};
-use wb_model::memory::NoMemory;
-use wb_model::progress::Progress;
-use wb_model::run::{Outcome, RunResult};
+use wb_meaning::run::{Outcome, RunResult};
+use wb_runs::progress::Progress;
 
 /// A copy of a set with one more number at its end.
 fn set_with(set: &Numbers, number: u32) -> Result<Numbers, NoMemory>

@@ -2,13 +2,13 @@
 
 ghost use Rattle.std.specs.Prelude.{◌≡◌, ◌≢◌, ◌+◌, ◌≤◌, ◌↔◌, None, false, true, IfErr, IfOk, IfSome};
 ghost use Rattle.std.specs.Prelude.{IsTrue};
-ghost use Rattle.wb_model.specs.language.Sound.{is_script};
-ghost use Rattle.wb_model.specs.heap.Space.{is_shape};
-ghost use Rattle.wb_model.specs.runs.Parts.{last_attempt, IsCutIn, IsFoundIn, IsLeastCutIn, IsNoneIn, IsUncut};
-ghost use Rattle.wb_model.specs.runs.SweepAnswers.{IsCutShort};
-ghost use Rattle.wb_model.specs.runs.Sweeps.{is_cut_outcome, is_fine, rule_of, runs_of};
-ghost use Rattle.wb_model.specs.declared.run.Outcome.TheVariants as outcomes;
-ghost use Rattle.wb_model.specs.declared.run.Why.{Why};
+ghost use Rattle.wb_tree.specs.Sound.{is_script};
+ghost use Rattle.wb_heap_model.specs.Space.{is_shape};
+ghost use Rattle.wb_runs.specs.Parts.{last_attempt, IsCutIn, IsFoundIn, IsLeastCutIn, IsNoneIn, IsUncut};
+ghost use Rattle.wb_runs.specs.SweepAnswers.{IsCutShort};
+ghost use Rattle.wb_runs.specs.Sweeps.{is_cut_outcome, is_fine, rule_of, runs_of};
+ghost use Rattle.wb_meaning.specs.declared.run.Outcome.TheVariants as outcomes;
+ghost use Rattle.wb_meaning.specs.declared.run.Why.{Why};
 ghost use Rattle.wb_sweep.specs.Meetings.{IsFineRun, IsScout};
 ghost use Rattle.wb_sweep.specs.Stretches.{AreNumbersFine};
 ghost use Rattle.wb_sweep.specs.Sweeping.{IsBadAt, IsSweep, IsSweepIn};
@@ -19,14 +19,14 @@ use crate::pairs::find_pair;
 use crate::scout::{Scout, scout_beside};
 use crate::walk::{attempts_in, find_among, judge_run};
 use std::alloc::Global;
+use wb_basics::limits::LARGEST_BUDGET;
+use wb_heap_model::heap::Shape;
 use wb_machine::{Machine, run};
-use wb_model::failures::{Failing, Failures};
-use wb_model::heap::Shape;
-use wb_model::limits::LARGEST_BUDGET;
-use wb_model::part::Part;
-use wb_model::progress::Progress;
-use wb_model::run::{Outcome, RunResult};
-use wb_model::script::Script;
+use wb_meaning::run::{Outcome, RunResult};
+use wb_runs::failures::{Failing, Failures};
+use wb_runs::part::Part;
+use wb_runs::progress::Progress;
+use wb_tree::script::Script;
 
 /// Judges the run without failure: returns it if it is bad and the part has number 0, `Cut` if it is cut, and otherwise `None`.
 fn judge_first(part: Part, at: Failing, first: RunResult) -> Result<Option<Found>, SweepFault>

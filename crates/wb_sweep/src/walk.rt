@@ -1,10 +1,10 @@
 //! A walk along a run, from which copies part under failures: each copy before the attempt that is the first to fail under its failure.
 
 ghost use Rattle.std.specs.Prelude.{◌≡◌, ◌≢◌, ◌⊎◌, ◌+◌, ◌≤◌, None, true, false, length, IfOk, IfErr, IfSome};
-ghost use Rattle.wb_model.specs.runs.Sweeps.{failing_at, is_cut_outcome, is_fine, rule_of};
-ghost use Rattle.wb_model.specs.declared.run.Outcome.TheVariants as outcomes;
-ghost use Rattle.wb_model.specs.declared.run.RunResult.{RunResult};
-ghost use Rattle.wb_model.specs.declared.run.Why.{Why};
+ghost use Rattle.wb_runs.specs.Sweeps.{failing_at, is_cut_outcome, is_fine, rule_of};
+ghost use Rattle.wb_meaning.specs.declared.run.Outcome.TheVariants as outcomes;
+ghost use Rattle.wb_meaning.specs.declared.run.RunResult.{RunResult};
+ghost use Rattle.wb_meaning.specs.declared.run.Why.{Why};
 ghost use Rattle.wb_sweep.specs.Beside.{next_failing, next_run, runs_beside};
 ghost use Rattle.wb_sweep.specs.Meetings.{FineSays, IsScout};
 ghost use Rattle.wb_sweep.specs.Stretches.{AreFineFrom, IsCutFrom, IsFoundFrom};
@@ -14,11 +14,11 @@ use crate::fault::SweepFault;
 use crate::followed::{Forked, follow_beside_fine};
 use crate::found::Found;
 use crate::scout::{Meeting, Scout};
+use wb_heap_model::heap::Attempt;
 use wb_machine::{Heap, Machine};
-use wb_model::failures::{Failing, Failures};
-use wb_model::heap::Attempt;
-use wb_model::progress::Progress;
-use wb_model::run::{Outcome, RunResult, Why};
+use wb_meaning::run::{Outcome, RunResult, Why};
+use wb_runs::failures::{Failing, Failures};
+use wb_runs::progress::Progress;
 
 /// Judges the run under a failure: returns the failure and the run if the run is bad, `Cut` if it is cut, and `None` if it is fine. A run
 /// that only leaves is fine, and so is a run that gets no cleanup stack.

@@ -1,13 +1,13 @@
 //! The buffer with a stated maximum length, TBuf.
 
 ghost use Rattle.std.specs.Prelude.{◌≡◌, ◌+◌, ◌-◌, ◌<◌, ◌≤◌, [], ◌++◌, length, take, drop, replicate, slice_index};
-ghost use Rattle.wb_model.specs.meaning.Texts.{AreUnits, IsBuffer, answer_of, at_most, delete_text, edited};
-ghost use Rattle.wb_model.specs.meaning.Texts.{insert_text, set_length_text};
+ghost use Rattle.wb_heap_model.specs.Texts.{AreUnits, IsBuffer, answer_of, at_most, delete_text, edited};
+ghost use Rattle.wb_heap_model.specs.Texts.{insert_text, set_length_text};
 
 use crate::units::{Units, append_units};
 use arrayvec::ArrayVec;
 use std::marker::Model;
-use wb_model::heap::Panic;
+use wb_heap_model::heap::Panic;
 
 /// A text with a stated maximum length, which is at most 256 units. It allocates no memory.
 ///
@@ -19,7 +19,7 @@ pub struct Buf {
 }
 
 impl Model for Buf {
-    ghost use Rattle.wb_model.specs.meaning.Texts.{Buffer, IsBuffer};
+    ghost use Rattle.wb_heap_model.specs.Texts.{Buffer, IsBuffer};
 
     ghost Value = { Buffer };
 

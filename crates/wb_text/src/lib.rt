@@ -9,6 +9,6 @@ pub mod units;
 
 pub use buf::Buf;
 pub use units::{Units, append_bytes, append_units};
-pub use wb_model::heap::Panic;
-pub use wb_model::script::Chars;
-pub use wb_model::text::{Base, View};
+pub use wb_basics::items::Chars;
+pub use wb_heap_model::heap::Panic;
+pub use wb_heap_model::text::{Base, View};

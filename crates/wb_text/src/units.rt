@@ -1,10 +1,10 @@
 //! Texts that can be read, unit by unit or as a whole.
 
 ghost use Rattle.std.specs.Prelude.{ℕ, ◌≡◌, ◌+◌, ◌<◌, ◌≤◌, ◌^◌, ◌++◌, List, length, slice_index};
-ghost use Rattle.wb_model.specs.meaning.Texts.{AreUnits};
+ghost use Rattle.wb_heap_model.specs.Texts.{AreUnits};
 
 use arrayvec::ArrayVec;
-use wb_model::script::Chars;
+use wb_basics::items::Chars;
 
 /// A text that can be read: a length, and the unit at each position below this length.
 pub trait Units {

@@ -1,20 +1,19 @@
 -- That all sets of some kind are fine, by computing. A set whose numbers go past the attempts that are made has the run of a part of it, so only
 -- sets of attempts that are made are tried.
-use Rattle.std.proofs.Common.{◌≡◌, ℕ, zero, suc, ◌+◌, ◌-◌, ◌<◌, ◌≤◌, ◌⊎◌, inl, inr, arith, Bool, true, false, List, [], ◌∷◌, ◌++◌, length}
-use Rattle.std.proofs.Common.{append_assoc, append-nil, refl, sym, ◌∙◌, ap, subst}
+use Rattle.std.proofs.Common.{◌≡◌, ℕ, zero, suc, ◌+◌, ◌-◌, ◌<◌, ◌≤◌, ◌⊎◌, inl, inr, arith, Bool, true, false, List, [], ◌∷◌, ◌++◌, length, append_assoc, append-nil, refl, sym, ◌∙◌, ap, subst}
 use Rattle.std.specs.Prelude.{nat_lt, not, ◌||◌, ◌&&◌}
 use Rattle.std.proofs.lemmas.Bool.{cases_lt, false≢true, le-ltb, lt-ltb, ltb-true}
 use Rattle.std.proofs.lemmas.List.{length-append}
-use Rattle.wb_model.specs.declared.heap.Shape.{Shape}
-use Rattle.wb_model.specs.declared.part.Part.{Part}
-use Rattle.wb_model.specs.declared.run.RunResult.{RunResult}
-use Rattle.wb_model.specs.declared.script.Script.{Script}
-use Rattle.wb_model.specs.runs.SetParts.{IsSetOf}
-use Rattle.wb_model.specs.runs.Sets.{has_lesser_number, set_comes_before, set_run, AreSetsFine, AreSetsFineBefore, AscendsPast}
-use Rattle.wb_model.specs.runs.Sweeps.{is_fine}
-use Rattle.wb_model.proofs.runs.SetLemmas.{past-last}
-use Rattle.wb_model.proofs.runs.SetOrder.{before-by, fewer-before}
-use Rattle.wb_model.proofs.runs.SweepLemmas.{fine_uncut}
+use Rattle.wb_heap_model.specs.declared.heap.Shape.{Shape}
+use Rattle.wb_runs.specs.declared.part.Part.{Part}
+use Rattle.wb_meaning.specs.declared.run.RunResult.{RunResult}
+use Rattle.wb_tree.specs.declared.script.Script.{Script}
+use Rattle.wb_runs.specs.SetParts.{IsSetOf}
+use Rattle.wb_runs.specs.Sets.{has_lesser_number, set_comes_before, set_run, AreSetsFine, AreSetsFineBefore, AscendsPast}
+use Rattle.wb_runs.specs.Sweeps.{is_fine}
+use Rattle.wb_runs.proofs.SetLemmas.{past-last}
+use Rattle.wb_runs.proofs.SetOrder.{before-by, fewer-before}
+use Rattle.wb_runs.proofs.SweepLemmas.{fine_uncut}
 
 -- of each of so many numbers past one
 abbrev pub each_past : (ℕ → Bool) → ℕ → ℕ → Bool

@@ -2,4 +2,9 @@ pub mod FineSets
 pub mod WorkedRuns
 pub mod WorkedOrder
 pub mod WorkedSweeps
+pub mod WorkedStates
 pub mod WorkedFaults
+pub mod WorkedCases
+pub mod PartExamples
+pub mod PersistentExamples
+pub mod PlacedExamples

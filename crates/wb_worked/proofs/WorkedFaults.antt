@@ -1,15 +1,13 @@
 -- Faults of bytes, by computing. That the lines are those of a script, whatever their names, is shown by its derivation in the grammar.
 use Rattle.std.proofs.Common.{◌≡◌, ℕ, arith, Bool, true, false, List, [], ◌∷◌, length, Option, Some, None, refl}
 use Rattle.std.proofs.lemmas.Bool.{false≢true, lt-ltb}
-use Rattle.wb_model.specs.declared.script_lines.Role.{Role}
-use Rattle.wb_model.specs.declared.script_lines.Role.TheVariants.{Class, Procedure}
-use Rattle.wb_model.specs.language.Grammar.{AreItems, AreStatements, IsBody}
-use Rattle.wb_model.specs.language.LineKinds.{line_kinds}
-use Rattle.wb_model.specs.language.Lines.{lines_of}
-use Rattle.wb_model.specs.language.Scripts.{IsGrammarLine, IsWellFormed}
-use Rattle.wb_worked.specs.WorkedFaults.{declared_twice, end_alone, leaves_in_operation, number_is_freed, text_too_large, undeclared, without_main}
-use Rattle.wb_worked.specs.WorkedFaults.{DeclaredTwice, EndAlone, ForeignByte, LeavesInOperation}
-use Rattle.wb_worked.specs.WorkedFaults.{NumberIsFreed, TextTooLarge, TooManyBytes, Undeclared, WithoutMain}
+use Rattle.wb_tree.specs.declared.script_lines.Role.{Role}
+use Rattle.wb_tree.specs.declared.script_lines.Role.TheVariants.{Class, Procedure}
+use Rattle.wb_language.specs.Grammar.{AreItems, AreStatements, IsBody}
+use Rattle.wb_language.specs.LineKinds.{line_kinds}
+use Rattle.wb_language.specs.Lines.{lines_of}
+use Rattle.wb_language.specs.Scripts.{IsGrammarLine, IsWellFormed}
+use Rattle.wb_worked.specs.WorkedFaults.{declared_twice, end_alone, leaves_in_operation, number_is_freed, text_too_large, undeclared, without_main, DeclaredTwice, EndAlone, ForeignByte, LeavesInOperation, NumberIsFreed, TextTooLarge, TooManyBytes, Undeclared, WithoutMain}
 
 pub too-many-bytes : TooManyBytes
 too-many-bytes bytes more = lt-ltb 65536 (length bytes) more

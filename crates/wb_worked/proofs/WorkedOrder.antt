@@ -1,7 +1,6 @@
 -- The order of sets, by computing.
 use Rattle.std.proofs.Common.{refl}
-use Rattle.wb_worked.specs.WorkedOrder.{EmptyFirst, OneNumber, FirstOfTwo, SecondOfTwo, FirstOfThree, SecondOfThree, ThirdOfThree, OneBeforeTwo}
-use Rattle.wb_worked.specs.WorkedOrder.{TwoBeforeThree, NotBeforeItself, NoNumberTells}
+use Rattle.wb_worked.specs.WorkedOrder.{EmptyFirst, OneNumber, FirstOfTwo, SecondOfTwo, FirstOfThree, SecondOfThree, ThirdOfThree, OneBeforeTwo, TwoBeforeThree, NotBeforeItself, NoNumberTells}
 
 pub empty-first : EmptyFirst
 empty-first = (refl, refl)

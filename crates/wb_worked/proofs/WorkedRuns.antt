@@ -1,8 +1,7 @@
 -- What runs under sets come to, by computing.
 use Rattle.std.proofs.Common.{refl, arith}
-use Rattle.wb_model.proofs.WorkedCases.Shorthands.{everything}
-use Rattle.wb_worked.specs.WorkedRuns.{NoneFails, OneFails, TwoFail, ThreeFail, FirstFails, UnmadeAlone, UnmadeAfterAnother, OneIsNumber, TwoArePair}
-use Rattle.wb_worked.specs.WorkedRuns.{PersistentIsSet, LimitIsSet, NumbersAscend}
+use Rattle.wb_worked.specs.Shorthands.{everything}
+use Rattle.wb_worked.specs.WorkedRuns.{NoneFails, OneFails, TwoFail, ThreeFail, FirstFails, UnmadeAlone, UnmadeAfterAnother, OneIsNumber, TwoArePair, PersistentIsSet, LimitIsSet, NumbersAscend}
 
 pub none-fails : NoneFails
 unfolding everything

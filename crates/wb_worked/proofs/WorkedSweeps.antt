@@ -1,11 +1,10 @@
 -- What sweeps over sets find, by computing.
 use Rattle.std.proofs.Common.{◌≡◌, arith, refl, true, false, [], ◌∷◌, length}
 use Rattle.std.proofs.lemmas.Bool.{false≢true, lt-ltb}
-use Rattle.wb_model.specs.runs.Sets.{AreSetsFine, AreSetsFineBefore}
-use Rattle.wb_model.proofs.WorkedCases.Shorthands.{everything}
+use Rattle.wb_runs.specs.Sets.{AreSetsFine, AreSetsFineBefore}
+use Rattle.wb_worked.specs.Shorthands.{everything}
 use Rattle.wb_worked.specs.WorkedScripts.{three_tries, two_tries_each, heap, from_to}
-use Rattle.wb_worked.specs.WorkedSweeps.{ThreeIsLeast, ThreeAreMade, LesserIsFine, LargerIsFine, TwoShowNothing, ThreeShowIt, NoneBelow, FoundAtThree}
-use Rattle.wb_worked.specs.WorkedSweeps.{NoPairAtThree, NonePast, FoundAtTwo, NoPairAtTwo, FoundFromThree, ShorterIsLess, WholeFindsShorter}
+use Rattle.wb_worked.specs.WorkedSweeps.{ThreeIsLeast, ThreeAreMade, LesserIsFine, LargerIsFine, TwoShowNothing, ThreeShowIt, NoneBelow, FoundAtThree, NoPairAtThree, NonePast, FoundAtTwo, NoPairAtTwo, FoundFromThree, ShorterIsLess, WholeFindsShorter}
 use Rattle.wb_worked.proofs.FineSets.{any_set, any-begins, at_most, few-begin, few-fine, fine-in-part, lesser_than, lesser-begin, lesser-fine}
 
 -- ---- the least bad set

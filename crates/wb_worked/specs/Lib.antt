@@ -1,3 +1,4 @@
+pub mod Shorthands
 pub mod WorkedScripts
 pub mod WorkedRuns
 pub mod WorkedOrder

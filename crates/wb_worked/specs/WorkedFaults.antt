@@ -1,8 +1,7 @@
 -- Bytes that spell no script, with a fault of each kind.
 use Rattle.std.specs.Prelude.{ℕ, ◌<◌, List, length, codes}
-use Rattle.wb_model.specs.declared.fault.ScriptFault.TheVariants.{TooLong, NotAscii, Grammar, UnknownName}
-use Rattle.wb_model.specs.declared.fault.ScriptFault.TheVariants.{DoubleName, WrongKind, MayLeave, NoMain, TooMany}
-use Rattle.wb_model.specs.language.Scripts.{IsFaultOf}
+use Rattle.wb_language.specs.declared.fault.ScriptFault.TheVariants.{TooLong, NotAscii, Grammar, UnknownName, DoubleName, WrongKind, MayLeave, NoMain, TooMany}
+use Rattle.wb_language.specs.Scripts.{IsFaultOf}
 
 -- more bytes than a script may have, whatever they are
 abbrev pub TooManyBytes : Type 0

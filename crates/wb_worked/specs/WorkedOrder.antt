@@ -1,6 +1,6 @@
 -- The order of sets, of one, two and three numbers.
 use Rattle.std.specs.Prelude.{◌≡◌, ℕ, List, [], ◌∷◌, true, false}
-use Rattle.wb_model.specs.runs.Sets.{has_lesser_number, set_comes_before}
+use Rattle.wb_runs.specs.Sets.{has_lesser_number, set_comes_before}
 
 -- the first of two sets comes before the second, and the second not before the first
 abbrev pub AreInOrder : List ℕ → List ℕ → Type 0

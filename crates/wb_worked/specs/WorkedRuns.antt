@@ -1,12 +1,12 @@
 -- What runs under sets come to, of `three_tries`. Attempts 4 and 5 of it are made only where those before them failed.
 use Rattle.std.specs.Prelude.{◌≡◌, ℕ, List, [], ◌∷◌}
-use Rattle.wb_model.specs.declared.heap.Answer.TheVariants.{Granted, Simulated}
-use Rattle.wb_model.specs.declared.heap.Rule.TheVariants as rules
-use Rattle.wb_model.specs.declared.run.Outcome.TheVariants.{NoCleanup}
-use Rattle.wb_model.specs.declared.run.RunResult.{RunResult}
-use Rattle.wb_model.specs.runs.Run.{run}
-use Rattle.wb_model.specs.runs.Sets.{refused_numbers, set_run, IsSet}
-use Rattle.wb_model.proofs.WorkedCases.Shorthands.{line, result}
+use Rattle.wb_heap_model.specs.declared.heap.Answer.TheVariants.{Granted, Simulated}
+use Rattle.wb_heap_model.specs.declared.heap.Rule.TheVariants as rules
+use Rattle.wb_meaning.specs.declared.run.Outcome.TheVariants.{NoCleanup}
+use Rattle.wb_meaning.specs.declared.run.RunResult.{RunResult}
+use Rattle.wb_meaning.specs.Run.{run}
+use Rattle.wb_runs.specs.Sets.{refused_numbers, set_run, IsSet}
+use Rattle.wb_worked.specs.Shorthands.{line, result}
 use Rattle.wb_worked.specs.WorkedScripts.{three_tries, heap, first, cell, ended_after, three_fail}
 
 -- the run of `three_tries` in which the attempts of a set fail

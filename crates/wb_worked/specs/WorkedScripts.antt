@@ -1,23 +1,23 @@
 -- Two small scripts, the heap in which they run, and the runs of them that leak.
 use Rattle.std.specs.Prelude.{ℕ, pos, negsuc, List, [], ◌∷◌, Some, None}
-use Rattle.wb_model.specs.declared.heap.Answer.{Answer}
-use Rattle.wb_model.specs.declared.heap.Answer.TheVariants.{Granted, Simulated}
-use Rattle.wb_model.specs.declared.heap.Attempt.{Attempt}
-use Rattle.wb_model.specs.declared.heap.Shape.{Shape}
-use Rattle.wb_model.specs.declared.part.Part.{Part}
-use Rattle.wb_model.specs.declared.run.Outcome.TheVariants.{Ended}
-use Rattle.wb_model.specs.declared.run.RunResult.{RunResult}
-use Rattle.wb_model.specs.declared.script.Condition.TheVariants.{IsNull}
-use Rattle.wb_model.specs.declared.script.Holder.TheVariants as H
-use Rattle.wb_model.specs.declared.script.Local.TheVariants.{OfPointer}
-use Rattle.wb_model.specs.declared.script.Number.TheVariants.{Constant}
-use Rattle.wb_model.specs.declared.script.Pointer.{Pointer}
-use Rattle.wb_model.specs.declared.script.Pointer.TheVariants.{Held}
-use Rattle.wb_model.specs.declared.script.Refusal.TheVariants.{GivesNull}
-use Rattle.wb_model.specs.declared.script.Script.{Script}
-use Rattle.wb_model.specs.declared.script.Statement.TheOpen.{Statement-F}
-use Rattle.wb_model.specs.declared.script.StatementAt.{StatementAt}
-use Rattle.wb_model.proofs.WorkedCases.Shorthands.{on, script, procedure, body, result, leak, shaped, line, part}
+use Rattle.wb_heap_model.specs.declared.heap.Answer.{Answer}
+use Rattle.wb_heap_model.specs.declared.heap.Answer.TheVariants.{Granted, Simulated}
+use Rattle.wb_heap_model.specs.declared.heap.Attempt.{Attempt}
+use Rattle.wb_heap_model.specs.declared.heap.Shape.{Shape}
+use Rattle.wb_runs.specs.declared.part.Part.{Part}
+use Rattle.wb_meaning.specs.declared.run.Outcome.TheVariants.{Ended}
+use Rattle.wb_meaning.specs.declared.run.RunResult.{RunResult}
+use Rattle.wb_tree.specs.declared.script.Condition.TheVariants.{IsNull}
+use Rattle.wb_tree.specs.declared.script.Holder.TheVariants as H
+use Rattle.wb_tree.specs.declared.script.Local.TheVariants.{OfPointer}
+use Rattle.wb_tree.specs.declared.script.Number.TheVariants.{Constant}
+use Rattle.wb_tree.specs.declared.script.Pointer.{Pointer}
+use Rattle.wb_tree.specs.declared.script.Pointer.TheVariants.{Held}
+use Rattle.wb_tree.specs.declared.script.Refusal.TheVariants.{GivesNull}
+use Rattle.wb_tree.specs.declared.script.Script.{Script}
+use Rattle.wb_tree.specs.declared.script.Statement.TheOpen.{Statement-F}
+use Rattle.wb_tree.specs.declared.script.StatementAt.{StatementAt}
+use Rattle.wb_worked.specs.Shorthands.{on, script, procedure, body, result, leak, shaped, line, part}
 
 abbrev pub heap : Shape
 heap = shaped 4096 4096

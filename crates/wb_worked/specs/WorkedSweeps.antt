@@ -1,11 +1,12 @@
 -- What sweeps over sets find, of both scripts: the least bad set of three, that fewer failures show nothing, and what parts find.
-use Rattle.std.specs.Prelude.{◌≡◌, [], ◌∷◌, true}
-use Rattle.wb_model.specs.runs.EverySet.{IsLeastSetFoundIn, IsNoSetOfAnySizeIn}
-use Rattle.wb_model.specs.runs.Run.{is_bad}
-use Rattle.wb_model.specs.runs.SetAnswers.{found, least_set_of}
-use Rattle.wb_model.specs.runs.SetParts.{IsNoSetIn, IsSetFoundIn}
-use Rattle.wb_model.specs.runs.Sets.{set_comes_before, AreMade, AreSetsFine, IsLeastBadSet}
-use Rattle.wb_model.specs.runs.Sweeps.{is_fine}
+use Rattle.std.specs.Prelude.{◌≡◌, ℕ, [], ◌∷◌, true}
+use Rattle.wb_runs.specs.EverySet.{IsLeastSetFoundIn, IsNoSetOfAnySizeIn}
+use Rattle.wb_meaning.specs.Run.{is_bad}
+use Rattle.wb_runs.specs.Met.{AreManyStatesIn, IsMetIn}
+use Rattle.wb_runs.specs.SetAnswers.{found, least_set_of}
+use Rattle.wb_runs.specs.SetParts.{IsNoSetIn, IsSetFoundIn}
+use Rattle.wb_runs.specs.Sets.{set_comes_before, AreMade, AreSetsFine, IsLeastBadSet}
+use Rattle.wb_runs.specs.Sweeps.{is_fine}
 use Rattle.wb_worked.specs.WorkedScripts.{three_tries, two_tries_each, heap, three_fail, second_fails, second_fails_later, from_to}
 use Rattle.wb_worked.specs.WorkedRuns.{under}
 
@@ -53,6 +54,20 @@ NoPairAtThree = IsNoSetIn (from_to 3 3) 2 three_tries 10000 heap
 -- From 4 on no set is tried, since the run without failure makes three attempts.
 abbrev pub NonePast : Type 0
 NonePast = IsNoSetOfAnySizeIn (from_to 4 9) three_tries 10000 heap
+
+-- ---- `set none to 1` and `cut states`, of a search over `three_tries` that may meet 4 states
+
+-- The runs of all sets of one attempt are fine.
+abbrev pub OneShowsNothing : Type 0
+OneShowsNothing = AreSetsFine three_tries 10000 heap 1
+
+-- Under sets of at most two attempts, which are tried of the part from 1 on, more than 4 states are met.
+abbrev pub MoreThanFourAreMet : Type 0
+MoreThanFourAreMet = AreManyStatesIn (from_to 1 9) 2 4 three_tries 10000 heap
+
+-- Attempt 4 isn't made under {2, 4}, so that set has no state of its own.
+abbrev pub UnmadeHasNoState : Type 0
+UnmadeHasNoState = (attempts : ℕ) → IsMetIn (from_to 1 9) 2 three_tries 10000 heap (2 ∷ 4 ∷ []) attempts → ⊥
 
 -- ---- parts of `two_tries_each`
 

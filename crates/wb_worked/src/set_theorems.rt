@@ -12,7 +12,9 @@ ghost use Rattle.wb_worked.specs.WorkedSweeps.{FoundAtThree, FoundAtTwo, FoundFr
 ghost use Rattle.wb_worked.specs.WorkedSweeps.{LargerIsFine, LesserIsFine, NoneBelow, NonePast};
 ghost use Rattle.wb_worked.specs.WorkedSweeps.{NoPairAtThree, NoPairAtTwo, ShorterIsLess};
 ghost use Rattle.wb_worked.specs.WorkedSweeps.{ThreeAreMade, ThreeIsLeast, ThreeShowIt};
-ghost use Rattle.wb_worked.specs.WorkedSweeps.{TwoShowNothing, WholeFindsShorter};
+ghost use Rattle.wb_worked.specs.WorkedSweeps.{MoreThanFourAreMet, OneShowsNothing};
+ghost use Rattle.wb_worked.specs.WorkedSweeps.{TwoShowNothing, UnmadeHasNoState};
+ghost use Rattle.wb_worked.specs.WorkedSweeps.{WholeFindsShorter};
 
 /// Under a set, exactly those of its attempts fail that the run makes.
 pub fn a_set_makes_its_attempts_fail()
@@ -53,6 +55,14 @@ pub fn three_failures_show_what_two_do_not()
     ensures larger { LargerIsFine }
     ensures none_to_two { TwoShowNothing }
     ensures not_to_three { ThreeShowIt }
+{}
+
+/// Where a search over sets ends with `set none to 1` and `cut states`, the sets of one attempt are fine, and more states are met under at
+/// most two than it may meet.
+pub fn more_states_are_met_than_are_allowed()
+    ensures fine { OneShowsNothing }
+    ensures many { MoreThanFourAreMet }
+    ensures unmade { UnmadeHasNoState }
 {}
 
 /// A sweep over a part finds the least bad set whose least number is in the part, and the lesser of what two parts find is what both

@@ -7,8 +7,8 @@ use Rattle.clap.specs.Takes.{flags_pass, walk_passes}
 use Rattle.clap.specs.Walk.{bundle_met, walked}
 use Rattle.clap.specs.declared.error.kind.ErrorKind.{ErrorKind}
 use Rattle.clap.specs.declared.error.kind.ErrorKind.TheVariants.{OutOfMemory, UnknownArgument}
-use Rattle.wb_model.specs.declared.failures.Failures.TheVariants.{Single}
-use Rattle.wb_model.specs.declared.heap.Rule.TheVariants.{Unlimited}
+use Rattle.wb_runs.specs.declared.failures.Failures.TheVariants.{Single}
+use Rattle.wb_heap_model.specs.declared.heap.Rule.TheVariants.{Unlimited}
 use Rattle.wb_command_line.specs.CommandLine.{command_line}
 use Rattle.wb_command_line.specs.Fault.{IsMislisted}
 use Rattle.wb_command_line.specs.Spelled.{IsSpelledBy}
@@ -16,8 +16,7 @@ use Rattle.wb_command_line.specs.declared.command.Command.{Command}
 use Rattle.wb_command_line.specs.declared.command.Search.TheVariants.{Least}
 use Rattle.wb_command_line.specs.declared.command.Task.TheVariants.{Run, Sweep}
 use Rattle.wb_command_line.proofs.WorkedWords.{command_with, run_with}
-use Rattle.wb_worked_words.specs.WorkedFaults.{no_list, no_multiple, reversed, unknown_option}
-use Rattle.wb_worked_words.specs.WorkedFaults.{NoList, NoMultiple, Reversed, SecondAlone, TwoRules, UnknownOption}
+use Rattle.wb_worked_words.specs.WorkedFaults.{no_list, no_multiple, reversed, unknown_option, NoList, NoMultiple, Reversed, SecondAlone, TwoRules, UnknownOption}
 
 not-of-memory : (kind : ErrorKind) → kind ≡ UnknownArgument → kind ≢ OutOfMemory
 not-of-memory kind is same = let clash : ◌≡◌ {A = ErrorKind} UnknownArgument OutOfMemory = sym is ∙ same in cc

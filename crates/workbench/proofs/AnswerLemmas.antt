@@ -2,16 +2,16 @@
 use Rattle.std.proofs.Common.{◌≡◌, ◌+◌, ◌<◌, ◌≤◌, ℕ, List, [], ◌∷◌, Bool, true, false, Option, Some, None, inl, inr, arith, length, take_all, le_refl, lit≤, sym, subst, cond}
 use Rattle.std.specs.Io.KnownBytes.{Appends}
 use Rattle.std.specs.List.{list_any}
-use Rattle.wb_model.specs.declared.run.Outcome.{Outcome}
-use Rattle.wb_model.specs.declared.run.Outcome.TheVariants.{Ended, Panicked, NoCleanup, Cut}
-use Rattle.wb_model.specs.declared.failures.Failures.{Failures}
-use Rattle.wb_model.specs.declared.heap.Shape.{Shape}
-use Rattle.wb_model.specs.declared.number_ends.NumberEnd.{NumberEnd}
-use Rattle.wb_model.specs.declared.part.Part.{Part}
-use Rattle.wb_model.specs.declared.script.Script.{Script}
-use Rattle.wb_model.specs.declared.limits.TheConstants.{LONGEST_SCRIPT}
-use Rattle.wb_model.specs.runs.Run.{run}
-use Rattle.wb_model.specs.runs.RunEnds.{is_cut_end}
+use Rattle.wb_meaning.specs.declared.run.Outcome.{Outcome}
+use Rattle.wb_meaning.specs.declared.run.Outcome.TheVariants.{Ended, Panicked, NoCleanup, Cut}
+use Rattle.wb_runs.specs.declared.failures.Failures.{Failures}
+use Rattle.wb_heap_model.specs.declared.heap.Shape.{Shape}
+use Rattle.wb_runs.specs.declared.number_ends.NumberEnd.{NumberEnd}
+use Rattle.wb_runs.specs.declared.part.Part.{Part}
+use Rattle.wb_tree.specs.declared.script.Script.{Script}
+use Rattle.wb_basics.specs.declared.limits.TheConstants.{LONGEST_SCRIPT}
+use Rattle.wb_meaning.specs.Run.{run}
+use Rattle.wb_runs.specs.RunEnds.{is_cut_end}
 use Rattle.wb_command_line.specs.declared.command.Command.{Command}
 use Rattle.wb_command_line.specs.declared.command.Search.{Search}
 use Rattle.wb_command_line.specs.declared.command.Search.TheVariants as S

@@ -1,18 +1,18 @@
 -- Reports are printable ASCII, since their lines are.
 use Rattle.std.proofs.Common.{ℕ, Bool, true, false, List, ◌++◌, inl, inr, refl, sym, subst, codes, decimal, All}
-use Rattle.wb_model.specs.declared.failures.Failing.TheVariants.{Number}
-use Rattle.wb_model.specs.declared.failures.Failures.{Failures}
-use Rattle.wb_model.specs.declared.heap.Rule.{Rule}
-use Rattle.wb_model.specs.declared.heap.Shape.{Shape}
-use Rattle.wb_model.specs.declared.heap.Rule.TheVariants.{Limit, Set}
-use Rattle.wb_model.specs.declared.part.Part.{Part}
-use Rattle.wb_model.specs.declared.run.RunResult.{RunResult}
-use Rattle.wb_model.specs.declared.script.Script.{Script}
-use Rattle.wb_model.specs.meaning.Printable.{ArePrintable}
-use Rattle.wb_model.specs.runs.Run.{run}
-use Rattle.wb_model.specs.runs.Sweeps.{failing_at, rule_for}
-use Rattle.wb_model.proofs.runs.OnceFound.{found-run}
-use Rattle.wb_model.proofs.runs.ThroughoutLemmas.{run-prints}
+use Rattle.wb_runs.specs.declared.failures.Failing.TheVariants.{Number}
+use Rattle.wb_runs.specs.declared.failures.Failures.{Failures}
+use Rattle.wb_heap_model.specs.declared.heap.Rule.{Rule}
+use Rattle.wb_heap_model.specs.declared.heap.Shape.{Shape}
+use Rattle.wb_heap_model.specs.declared.heap.Rule.TheVariants.{Limit, Set}
+use Rattle.wb_runs.specs.declared.part.Part.{Part}
+use Rattle.wb_meaning.specs.declared.run.RunResult.{RunResult}
+use Rattle.wb_tree.specs.declared.script.Script.{Script}
+use Rattle.wb_meaning.specs.Printable.{ArePrintable}
+use Rattle.wb_meaning.specs.Run.{run}
+use Rattle.wb_runs.specs.Sweeps.{failing_at, rule_for}
+use Rattle.wb_runs.proofs.OnceFound.{found-run}
+use Rattle.wb_meaning.proofs.ThroughoutLemmas.{run-prints}
 use Rattle.wb_command_line.specs.declared.command.Command.{Command}
 use Rattle.wb_command_line.specs.declared.command.Search.{Search}
 use Rattle.wb_command_line.specs.declared.command.Search.TheVariants as S

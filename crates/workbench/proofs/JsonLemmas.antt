@@ -7,14 +7,14 @@ use Rattle.serde_json.specs.Written.{has_float, items_have_float}
 use Rattle.wb_command_line.specs.declared.command.Search.TheVariants as S
 use Rattle.wb_command_line.specs.declared.command.Task.{Task}
 use Rattle.wb_command_line.specs.declared.command.Task.TheVariants as T
-use Rattle.wb_model.specs.declared.failures.Failing.TheVariants.{Number, Pair}
-use Rattle.wb_model.specs.declared.failures.Failing.TheVariants as failings
-use Rattle.wb_model.specs.declared.failures.Failures.{Failures}
-use Rattle.wb_model.specs.declared.failures.Failures.TheVariants.{Single, Every, Pairs, Persistent}
-use Rattle.wb_model.specs.declared.lengths.LengthRange.{LengthRange}
-use Rattle.wb_model.specs.declared.number_ends.NumberEnd.{NumberEnd}
-use Rattle.wb_model.specs.declared.size.Rise.{Rise}
-use Rattle.wb_model.specs.language.Lines.{ends_line, lines_of, onto_first, pieces_from, quoted_after}
+use Rattle.wb_runs.specs.declared.failures.Failing.TheVariants.{Number, Pair}
+use Rattle.wb_runs.specs.declared.failures.Failing.TheVariants as failings
+use Rattle.wb_runs.specs.declared.failures.Failures.{Failures}
+use Rattle.wb_runs.specs.declared.failures.Failures.TheVariants.{Single, Every, Pairs, Persistent}
+use Rattle.wb_runs.specs.declared.lengths.LengthRange.{LengthRange}
+use Rattle.wb_runs.specs.declared.number_ends.NumberEnd.{NumberEnd}
+use Rattle.wb_heap_model.specs.declared.size.Rise.{Rise}
+use Rattle.wb_language.specs.Lines.{ends_line, lines_of, onto_first, pieces_from, quoted_after}
 use Rattle.workbench.specs.declared.report_values.FailingNumber.{FailingNumber}
 use Rattle.workbench.specs.declared.report_values.FailingNumber.TheVariants.{At, Length, Never, Set}
 use Rattle.workbench.specs.declared.report_values.ReportValues.{ReportValues}

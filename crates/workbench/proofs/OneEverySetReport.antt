@@ -1,12 +1,12 @@
 -- Of a sweep over all sets that isn't cut by its states the report is one, and so is that of each command.
 use Rattle.std.proofs.Common.{◌≡◌, ◌∙◌, inl, inr, ℕ, Bool, List, ◌++◌, None, Some, refl, sym, ap, subst}
-use Rattle.wb_model.specs.declared.failures.Failures.TheVariants.{Single}
-use Rattle.wb_model.specs.declared.heap.Shape.{Shape}
-use Rattle.wb_model.specs.declared.part.Part.{Part}
-use Rattle.wb_model.specs.declared.script.Script.{Script}
-use Rattle.wb_model.specs.runs.EverySet.{IsEverySetAnswerIn}
-use Rattle.wb_model.specs.runs.SetAnswers.{SetAnswer, found, cut, none}
-use Rattle.wb_model.proofs.runs.EverySetAnswers.{once-of-every-set}
+use Rattle.wb_runs.specs.declared.failures.Failures.TheVariants.{Single}
+use Rattle.wb_heap_model.specs.declared.heap.Shape.{Shape}
+use Rattle.wb_runs.specs.declared.part.Part.{Part}
+use Rattle.wb_tree.specs.declared.script.Script.{Script}
+use Rattle.wb_runs.specs.EverySet.{IsEverySetAnswerIn}
+use Rattle.wb_runs.specs.SetAnswers.{SetAnswer, found, cut, none}
+use Rattle.wb_runs.proofs.EverySetAnswers.{once-of-every-set}
 use Rattle.wb_command_line.specs.Spelled.{whole}
 use Rattle.wb_command_line.specs.declared.command.Command.{Command}
 use Rattle.wb_command_line.specs.declared.command.Search.{Search}

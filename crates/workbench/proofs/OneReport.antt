@@ -2,27 +2,27 @@
 use Rattle.std.proofs.Common.{◌≡◌, ◌⊎◌, inl, inr, ℕ, ◌<◌, List, ◌++◌, sym, ◌∙◌, ap, subst, Bool, true, false, None, le_refl}
 use Rattle.std.specs.Prelude.{IsSome}
 use Rattle.std.proofs.lemmas.Bool.{cases_order, false≢true}
-use Rattle.wb_model.specs.declared.failures.Failing.TheVariants.{Number}
-use Rattle.wb_model.specs.declared.failures.Failures.{Failures}
-use Rattle.wb_model.specs.declared.number_ends.NumberEnd.{NumberEnd}
-use Rattle.wb_model.specs.declared.part.Part.{Part}
-use Rattle.wb_model.specs.declared.heap.Shape.{Shape}
-use Rattle.wb_model.specs.declared.run.Outcome.{Outcome}
-use Rattle.wb_model.specs.declared.run.Outcome.TheVariants.{Cut}
-use Rattle.wb_model.specs.declared.run.Why.{Why}
-use Rattle.wb_model.specs.declared.script.Script.{Script}
-use Rattle.wb_model.specs.declared.size.Rise.{Rise}
-use Rattle.wb_model.specs.runs.Parts.{IsNoneIn}
-use Rattle.wb_model.specs.runs.Sizes.{IsHeapLength}
-use Rattle.wb_model.specs.runs.SweepAnswers.{IsNoneFound}
-use Rattle.wb_model.specs.runs.Sweeps.{failing_at}
-use Rattle.wb_model.specs.declared.lengths.LengthRange.{LengthRange}
-use Rattle.wb_model.specs.declared.limits.TheConstants.{CEILING}
-use Rattle.wb_model.specs.runs.Lengths.{end_in, IsLengthTable}
-use Rattle.wb_model.proofs.runs.LengthAnswers.{bad-length-some, once-bad-length}
-use Rattle.wb_model.proofs.runs.LengthTables.{one-table}
-use Rattle.wb_model.proofs.runs.OnceFound.{cut-some, found-some, found-uncut, once-cut, once-found}
-use Rattle.wb_model.proofs.runs.OnceInPart.{cut_or_uncut, cut-some-in, found-some-in, found-uncut-in, least-bad-some, once-cut-in, once-found-in, once-least-bad}
+use Rattle.wb_runs.specs.declared.failures.Failing.TheVariants.{Number}
+use Rattle.wb_runs.specs.declared.failures.Failures.{Failures}
+use Rattle.wb_runs.specs.declared.number_ends.NumberEnd.{NumberEnd}
+use Rattle.wb_runs.specs.declared.part.Part.{Part}
+use Rattle.wb_heap_model.specs.declared.heap.Shape.{Shape}
+use Rattle.wb_meaning.specs.declared.run.Outcome.{Outcome}
+use Rattle.wb_meaning.specs.declared.run.Outcome.TheVariants.{Cut}
+use Rattle.wb_meaning.specs.declared.run.Why.{Why}
+use Rattle.wb_tree.specs.declared.script.Script.{Script}
+use Rattle.wb_heap_model.specs.declared.size.Rise.{Rise}
+use Rattle.wb_runs.specs.Parts.{IsNoneIn}
+use Rattle.wb_runs.specs.Sizes.{IsHeapLength}
+use Rattle.wb_runs.specs.SweepAnswers.{IsNoneFound}
+use Rattle.wb_runs.specs.Sweeps.{failing_at}
+use Rattle.wb_runs.specs.declared.lengths.LengthRange.{LengthRange}
+use Rattle.wb_basics.specs.declared.limits.TheConstants.{CEILING}
+use Rattle.wb_runs.specs.Lengths.{end_in, IsLengthTable}
+use Rattle.wb_runs.proofs.LengthAnswers.{bad-length-some, once-bad-length}
+use Rattle.wb_runs.proofs.LengthTables.{one-table}
+use Rattle.wb_runs.proofs.OnceFound.{cut-some, found-some, found-uncut, once-cut, once-found}
+use Rattle.wb_runs.proofs.OnceInPart.{cut_or_uncut, cut-some-in, found-some-in, found-uncut-in, least-bad-some, once-cut-in, once-found-in, once-least-bad}
 use Rattle.wb_command_line.specs.declared.command.Command.{Command}
 use Rattle.wb_command_line.specs.declared.command.Search.{Search}
 use Rattle.wb_command_line.specs.declared.command.Search.TheVariants as S

@@ -2,21 +2,21 @@
 use Rattle.std.proofs.Common.{◌≡◌, ◌∙◌, ◌⊎◌, inl, inr, ℕ, ◌<◌, Bool, true, false, List, [], ◌∷◌, length, refl, sym, ap, ap₂}
 use Rattle.std.specs.Prelude.{◌||◌, nat_lt}
 use Rattle.std.proofs.lemmas.Bool.{cases_order, eq-eqb, lt-ltb, true≢false}
-use Rattle.wb_model.specs.declared.heap.Shape.{Shape}
-use Rattle.wb_model.specs.declared.part.Part.{Part}
-use Rattle.wb_model.specs.declared.run.Outcome.{Outcome}
-use Rattle.wb_model.specs.declared.run.Outcome.TheVariants.{Cut}
-use Rattle.wb_model.specs.declared.run.RunResult.{RunResult}
-use Rattle.wb_model.specs.declared.run.Why.{Why}
-use Rattle.wb_model.specs.declared.script.Script.{Script}
-use Rattle.wb_model.specs.declared.failures.Failures.TheVariants.{Single}
-use Rattle.wb_model.specs.runs.Parts.{last_attempt, IsUncut}
-use Rattle.wb_model.specs.runs.Run.{is_bad_outcome}
-use Rattle.wb_model.specs.runs.SetParts.{AreSetsFineInBefore, IsLeastCutSetIn, IsNoSetIn, IsSetCutIn, IsSetFoundIn, IsSetOf}
-use Rattle.wb_model.specs.runs.Sets.{has_lesser_number, set_comes_before, set_run}
-use Rattle.wb_model.specs.runs.Sweeps.{is_cut_outcome, is_fine}
-use Rattle.wb_model.proofs.runs.OnceFound.{bad-unfine, cut-unfine}
-use Rattle.wb_model.proofs.runs.SetLemmas.{none-fails}
+use Rattle.wb_heap_model.specs.declared.heap.Shape.{Shape}
+use Rattle.wb_runs.specs.declared.part.Part.{Part}
+use Rattle.wb_meaning.specs.declared.run.Outcome.{Outcome}
+use Rattle.wb_meaning.specs.declared.run.Outcome.TheVariants.{Cut}
+use Rattle.wb_meaning.specs.declared.run.RunResult.{RunResult}
+use Rattle.wb_meaning.specs.declared.run.Why.{Why}
+use Rattle.wb_tree.specs.declared.script.Script.{Script}
+use Rattle.wb_runs.specs.declared.failures.Failures.TheVariants.{Single}
+use Rattle.wb_runs.specs.Parts.{last_attempt, IsUncut}
+use Rattle.wb_meaning.specs.Run.{is_bad_outcome}
+use Rattle.wb_runs.specs.SetParts.{AreSetsFineInBefore, IsLeastCutSetIn, IsNoSetIn, IsSetCutIn, IsSetFoundIn, IsSetOf}
+use Rattle.wb_runs.specs.Sets.{has_lesser_number, set_comes_before, set_run}
+use Rattle.wb_runs.specs.Sweeps.{is_cut_outcome, is_fine}
+use Rattle.wb_runs.proofs.OnceFound.{bad-unfine, cut-unfine}
+use Rattle.wb_runs.proofs.SetLemmas.{none-fails}
 
 -- ---- of two sets one comes first, or they are the same
 

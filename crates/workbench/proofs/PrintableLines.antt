@@ -4,8 +4,8 @@ use Rattle.std.specs.Str.Lossy.{utf8_lossy}
 use Rattle.std.proofs.lemmas.List.Elements.{All-nil, All-cons, All-head, All-tail}
 use Rattle.std.proofs.lemmas.Str.{IsUtf8-from_ascii, utf8_lossy-IsUtf8}
 use Rattle.std.proofs.lemmas.Str.Ascii.{IsAscii-cons, IsAscii-nil}
-use Rattle.wb_model.specs.language.Lines.{ends_line, onto_first, pieces_from, quoted_after}
-use Rattle.wb_model.specs.meaning.Printable.{IsPrintable, ArePrintable}
+use Rattle.wb_language.specs.Lines.{ends_line, onto_first, pieces_from, quoted_after}
+use Rattle.wb_meaning.specs.Printable.{IsPrintable, ArePrintable}
 use Rattle.wb_command_line.specs.declared.command.Command.{Command}
 use Rattle.workbench.specs.declared.report_values.ReportValues.{ReportValues}
 use Rattle.workbench.specs.Ascii.{HasPrintableLines, IsPrintableText, IsTextByte}

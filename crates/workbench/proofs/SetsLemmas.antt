@@ -1,15 +1,15 @@
 -- From what a sweep over sets finds to the report of it.
 use Rattle.std.proofs.Common.{◌≡◌, ◌∙◌, ◌++◌, ◌+◌, ◌≤◌, ℕ, List, Option, Some, None, Result, Ok, Err, inl, inr, refl, ap, subst}
 use Rattle.std.specs.Prelude.{IfOk}
-use Rattle.wb_model.specs.declared.failures.Failures.TheVariants.{Single}
-use Rattle.wb_model.specs.declared.heap.Shape.{Shape}
-use Rattle.wb_model.specs.declared.limits.TheConstants.{LARGEST_BUDGET}
-use Rattle.wb_model.specs.declared.memory.NoMemory.{NoMemory}
-use Rattle.wb_model.specs.declared.part.Part.{Part}
-use Rattle.wb_model.specs.declared.run.Why.{Why}
-use Rattle.wb_model.specs.declared.script.Script.{Script}
-use Rattle.wb_model.specs.runs.Parts.{last_attempt}
-use Rattle.wb_model.specs.runs.SetParts.{IsSetCutIn}
+use Rattle.wb_runs.specs.declared.failures.Failures.TheVariants.{Single}
+use Rattle.wb_heap_model.specs.declared.heap.Shape.{Shape}
+use Rattle.wb_basics.specs.declared.limits.TheConstants.{LARGEST_BUDGET}
+use Rattle.wb_basics.specs.declared.memory.NoMemory.{NoMemory}
+use Rattle.wb_runs.specs.declared.part.Part.{Part}
+use Rattle.wb_meaning.specs.declared.run.Why.{Why}
+use Rattle.wb_tree.specs.declared.script.Script.{Script}
+use Rattle.wb_runs.specs.Parts.{last_attempt}
+use Rattle.wb_runs.specs.SetParts.{IsSetCutIn}
 use Rattle.wb_sweep.specs.declared.set_answer.FoundSet.{FoundSet}
 use Rattle.wb_sweep.specs.declared.set_answer.SetSweep.{SetSweep}
 use Rattle.wb_sweep.specs.SetSweeping.{IsSetSweepIn}

@@ -2,19 +2,19 @@
 use Rattle.std.proofs.Common.{◌≡◌, ◌+◌, ◌≤◌, arith, Bool, true, false, ℕ, List, refl, le_refl}
 use Rattle.std.specs.Prelude.{nat_eq}
 use Rattle.std.proofs.lemmas.Bool.{and_parts, eqb-true}
-use Rattle.wb_model.specs.declared.failures.Failures.TheVariants.{Single}
-use Rattle.wb_model.specs.declared.heap.Shape.{Shape}
-use Rattle.wb_model.specs.declared.limits.TheConstants.{CEILING, LARGEST_BUDGET}
-use Rattle.wb_model.specs.declared.part.Part.{Part}
-use Rattle.wb_model.specs.declared.run.RunResult.{RunResult}
-use Rattle.wb_model.specs.declared.run.Why.{Why}
-use Rattle.wb_model.specs.declared.script.Script.{Script}
-use Rattle.wb_model.specs.runs.EverySet.{IsLeastSetCutIn, IsLeastSetFoundIn, IsNoSetOfAnySizeIn}
-use Rattle.wb_model.specs.runs.Parts.{last_attempt}
-use Rattle.wb_model.specs.runs.SetParts.{IsNoSetIn, IsSetCutIn, IsSetFoundIn}
-use Rattle.wb_model.specs.runs.Sets.{set_run}
-use Rattle.wb_model.proofs.runs.EverySetAnswers.{whole-every-cut, whole-every-found, whole-every-none}
-use Rattle.wb_model.proofs.runs.SetPartAnswers.{whole-set-cut, whole-set-found, whole-set-none}
+use Rattle.wb_runs.specs.declared.failures.Failures.TheVariants.{Single}
+use Rattle.wb_heap_model.specs.declared.heap.Shape.{Shape}
+use Rattle.wb_basics.specs.declared.limits.TheConstants.{CEILING, LARGEST_BUDGET}
+use Rattle.wb_runs.specs.declared.part.Part.{Part}
+use Rattle.wb_meaning.specs.declared.run.RunResult.{RunResult}
+use Rattle.wb_meaning.specs.declared.run.Why.{Why}
+use Rattle.wb_tree.specs.declared.script.Script.{Script}
+use Rattle.wb_runs.specs.EverySet.{IsLeastSetCutIn, IsLeastSetFoundIn, IsNoSetOfAnySizeIn}
+use Rattle.wb_runs.specs.Parts.{last_attempt}
+use Rattle.wb_runs.specs.SetParts.{IsNoSetIn, IsSetCutIn, IsSetFoundIn}
+use Rattle.wb_runs.specs.Sets.{set_run}
+use Rattle.wb_runs.proofs.EverySetAnswers.{whole-every-cut, whole-every-found, whole-every-none}
+use Rattle.wb_runs.proofs.SetPartAnswers.{whole-set-cut, whole-set-found, whole-set-none}
 use Rattle.workbench.specs.EverySetReport.{IsLeastSetCutOver, IsLeastSetFoundOver, IsNoSetOfAnySizeOver}
 use Rattle.workbench.specs.PartReport.{is_whole}
 use Rattle.workbench.specs.SetsReport.{IsNoSetOver, IsSetCutOver, IsSetFoundOver}

@@ -4,9 +4,9 @@ use Rattle.std.specs.Fmt.{digits}
 use Rattle.serde_json.proofs.OnLiterals.{serde_json_on_literals}
 use Rattle.wb_command_line.specs.declared.command.Search.TheVariants as S
 use Rattle.wb_command_line.specs.declared.command.Task.TheVariants as T
-use Rattle.wb_model.specs.declared.heap.Answer.TheVariants.{Granted, Simulated}
-use Rattle.wb_model.specs.declared.run.Outcome.TheVariants.{Ended}
-use Rattle.wb_model.specs.declared.run.RunResult.{RunResult}
+use Rattle.wb_heap_model.specs.declared.heap.Answer.TheVariants.{Granted, Simulated}
+use Rattle.wb_meaning.specs.declared.run.Outcome.TheVariants.{Ended}
+use Rattle.wb_meaning.specs.declared.run.RunResult.{RunResult}
 use Rattle.wb_command_line.specs.Spelled.{whole}
 use Rattle.workbench.specs.declared.report_values.FailingNumber.TheVariants.{Never}
 use Rattle.workbench.specs.EverySetReport.{every_set_text, many_states_text}

@@ -4,10 +4,10 @@ use Rattle.std.specs.Fmt.{digits}
 use Rattle.serde_json.proofs.OnLiterals.{serde_json_on_literals}
 use Rattle.wb_command_line.specs.declared.command.Search.TheVariants as S
 use Rattle.wb_command_line.specs.declared.command.Task.TheVariants as T
-use Rattle.wb_model.specs.declared.heap.Answer.TheVariants.{Granted, Simulated}
-use Rattle.wb_model.specs.declared.run.Outcome.TheVariants.{Ended}
-use Rattle.wb_model.specs.declared.run.RunResult.{RunResult}
-use Rattle.wb_model.specs.declared.run.Why.TheVariants.{Budget, Ceiling}
+use Rattle.wb_heap_model.specs.declared.heap.Answer.TheVariants.{Granted, Simulated}
+use Rattle.wb_meaning.specs.declared.run.Outcome.TheVariants.{Ended}
+use Rattle.wb_meaning.specs.declared.run.RunResult.{RunResult}
+use Rattle.wb_meaning.specs.declared.run.Why.TheVariants.{Budget, Ceiling}
 use Rattle.wb_command_line.specs.Spelled.{whole}
 use Rattle.workbench.specs.declared.report_values.FailingNumber.TheVariants.{Never}
 use Rattle.workbench.specs.JsonReport.{json_text, common_members, report_object}

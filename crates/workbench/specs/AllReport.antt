@@ -4,19 +4,19 @@ use Rattle.std.specs.Prelude.{◌≡◌, ◌⊎◌, ℕ, ◌<◌, List, ◌++◌
 use Rattle.std.specs.Fmt.{decimal}
 use Rattle.std.specs.List.{flat_map, list_any}
 use Rattle.std.specs.Option.{option_map_or}
-use Rattle.wb_model.specs.declared.failures.Failures.{Failures}
-use Rattle.wb_model.specs.declared.failures.Failures.TheVariants.{Single, Every, Pairs, Persistent}
-use Rattle.wb_model.specs.declared.heap.Shape.{Shape}
-use Rattle.wb_model.specs.declared.number_ends.NumberEnd.{NumberEnd}
-use Rattle.wb_model.specs.declared.part.Part.{Part}
-use Rattle.wb_model.specs.declared.run.Outcome.TheVariants.{Cut}
-use Rattle.wb_model.specs.declared.run.RunResult.{RunResult}
-use Rattle.wb_model.specs.declared.run.Why.{Why}
-use Rattle.wb_model.specs.declared.script.Script.{Script}
-use Rattle.wb_model.specs.runs.AllNumbers.{IsLeastBadOf, IsNoBadOf, bad_count}
-use Rattle.wb_model.specs.runs.Parts.{IsUncut}
-use Rattle.wb_model.specs.runs.RunEnds.{is_cut_end}
-use Rattle.wb_model.specs.runs.Sweeps.{failing_at, runs_of}
+use Rattle.wb_runs.specs.declared.failures.Failures.{Failures}
+use Rattle.wb_runs.specs.declared.failures.Failures.TheVariants.{Single, Every, Pairs, Persistent}
+use Rattle.wb_heap_model.specs.declared.heap.Shape.{Shape}
+use Rattle.wb_runs.specs.declared.number_ends.NumberEnd.{NumberEnd}
+use Rattle.wb_runs.specs.declared.part.Part.{Part}
+use Rattle.wb_meaning.specs.declared.run.Outcome.TheVariants.{Cut}
+use Rattle.wb_meaning.specs.declared.run.RunResult.{RunResult}
+use Rattle.wb_meaning.specs.declared.run.Why.{Why}
+use Rattle.wb_tree.specs.declared.script.Script.{Script}
+use Rattle.wb_runs.specs.AllNumbers.{IsLeastBadOf, IsNoBadOf, bad_count}
+use Rattle.wb_runs.specs.Parts.{IsUncut}
+use Rattle.wb_runs.specs.RunEnds.{is_cut_end}
+use Rattle.wb_runs.specs.Sweeps.{failing_at, runs_of}
 use Rattle.wb_sweep.specs.AllOfAPart.{listed_in}
 use Rattle.wb_sweep.specs.declared.found.AllNumbers.{AllNumbers}
 use Rattle.wb_sweep.specs.declared.found.Listing.{Listing}

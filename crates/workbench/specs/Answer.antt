@@ -4,7 +4,7 @@ use Rattle.std.specs.Io.KnownBytes.{Appends}
 use Rattle.workbench.specs.declared.answer.Answered.{Answered}
 use Rattle.workbench.specs.declared.answer.ReportFault.{ReportFault}
 use Rattle.workbench.specs.declared.answer.ReportFault.TheVariants.{Read}
-use Rattle.wb_model.specs.declared.limits.TheConstants.{LONGEST_SCRIPT}
+use Rattle.wb_basics.specs.declared.limits.TheConstants.{LONGEST_SCRIPT}
 use Rattle.wb_command_line.specs.declared.command.Command.{Command}
 use Rattle.workbench.specs.declared.findings.Findings.{Findings}
 use Rattle.workbench.specs.declared.report_values.ReportValues.{ReportValues}

@@ -1,7 +1,7 @@
 -- Texts whose lines are printable ASCII.
 use Rattle.std.specs.Prelude.{◌≡◌, ◌⊎◌, ℕ, List, All}
-use Rattle.wb_model.specs.language.Lines.{lines_of}
-use Rattle.wb_model.specs.meaning.Printable.{IsPrintable, ArePrintable}
+use Rattle.wb_language.specs.Lines.{lines_of}
+use Rattle.wb_meaning.specs.Printable.{IsPrintable, ArePrintable}
 
 -- a printable byte, or the line feed that ends a line
 abbrev pub IsTextByte : ℕ → Type 0

@@ -1,12 +1,12 @@
 -- How a run ended, in words.
 use Rattle.std.specs.Prelude.{ℕ, ◌-◌, List, ◌++◌, false, codes, length, replicate}
 use Rattle.std.specs.Fmt.{decimal, digits, signed_decimal}
-use Rattle.wb_model.specs.declared.heap.Panic.{Panic}
-use Rattle.wb_model.specs.declared.heap.Panic.TheVariants.{User, Alloc, Workbench}
-use Rattle.wb_model.specs.declared.run.Why.{Why}
-use Rattle.wb_model.specs.declared.run.Why.TheVariants.{Budget, Ceiling}
-use Rattle.wb_model.specs.declared.run_end.RunEnd.{RunEnd}
-use Rattle.wb_model.specs.declared.run_end.RunEnd.TheVariants.{NoCleanup, Panicked, Leaked, Left, Plain, Cut}
+use Rattle.wb_heap_model.specs.declared.heap.Panic.{Panic}
+use Rattle.wb_heap_model.specs.declared.heap.Panic.TheVariants.{User, Alloc, Workbench}
+use Rattle.wb_meaning.specs.declared.run.Why.{Why}
+use Rattle.wb_meaning.specs.declared.run.Why.TheVariants.{Budget, Ceiling}
+use Rattle.wb_runs.specs.declared.run_end.RunEnd.{RunEnd}
+use Rattle.wb_runs.specs.declared.run_end.RunEnd.TheVariants.{NoCleanup, Panicked, Leaked, Left, Plain, Cut}
 
 -- eight lower-case hexadecimal digits, of a number below 2 ^ 32
 abbrev pub eight_digits : ℕ → List ℕ

@@ -1,17 +1,17 @@
 -- What `--sets` says, as lines and as values, and what that means of runs: the least set of attempts, however many, whose simulated failure
--- in one run leaks or panics, of all sets (`wb_model`, `specs/runs/Sets.antt`) or of those of a part (`EverySet.antt`). A set is spoken of as
+-- in one run leaks or panics, of all sets (`wb_runs`, `specs/Sets.antt`) or of those of a part (`EverySet.antt`). A set is spoken of as
 -- `--failures` does. Where more states were met than were allowed, it is said of which sets the runs are known.
 use Rattle.std.specs.Prelude.{◌≡◌, ◌⊎◌, ◌+◌, ◌≤◌, ℕ, List, ◌++◌, Bool, false, true, codes}
 use Rattle.std.specs.Option.{option_map_or}
-use Rattle.wb_model.specs.declared.failures.Failures.TheVariants.{Single}
-use Rattle.wb_model.specs.declared.heap.Shape.{Shape}
-use Rattle.wb_model.specs.declared.part.Part.{Part}
-use Rattle.wb_model.specs.declared.run.RunResult.{RunResult}
-use Rattle.wb_model.specs.declared.run.Why.{Why}
-use Rattle.wb_model.specs.declared.script.Script.{Script}
-use Rattle.wb_model.specs.runs.EverySet.{IsLeastSetCutIn, IsLeastSetFoundIn, IsNoSetOfAnySizeIn}
-use Rattle.wb_model.specs.runs.Sets.{AreAllSetsFine, IsLeastBadSet, IsLeastCutSet}
-use Rattle.wb_states.specs.Met.{AreManyStatesIn}
+use Rattle.wb_runs.specs.declared.failures.Failures.TheVariants.{Single}
+use Rattle.wb_heap_model.specs.declared.heap.Shape.{Shape}
+use Rattle.wb_runs.specs.declared.part.Part.{Part}
+use Rattle.wb_meaning.specs.declared.run.RunResult.{RunResult}
+use Rattle.wb_meaning.specs.declared.run.Why.{Why}
+use Rattle.wb_tree.specs.declared.script.Script.{Script}
+use Rattle.wb_runs.specs.EverySet.{IsLeastSetCutIn, IsLeastSetFoundIn, IsNoSetOfAnySizeIn}
+use Rattle.wb_runs.specs.Sets.{AreAllSetsFine, IsLeastBadSet, IsLeastCutSet}
+use Rattle.wb_runs.specs.Met.{AreManyStatesIn}
 use Rattle.wb_sweep.specs.declared.set_answer.SetSweep.{SetSweep}
 use Rattle.wb_command_line.specs.declared.command.Search.{Search}
 use Rattle.wb_command_line.specs.declared.command.Search.TheVariants.{EverySet}

@@ -2,11 +2,11 @@
 use Rattle.std.specs.Prelude.{◌≡◌, ◌⊎◌, ℕ, List, ◌++◌, codes, Option, Some, None}
 use Rattle.std.specs.Fmt.{decimal}
 use Rattle.std.specs.List.{flat_map}
-use Rattle.wb_model.specs.declared.heap.Shape.{Shape}
-use Rattle.wb_model.specs.declared.lengths.LengthRange.{LengthRange}
-use Rattle.wb_model.specs.declared.run.RunResult.{RunResult}
-use Rattle.wb_model.specs.declared.script.Script.{Script}
-use Rattle.wb_model.specs.runs.Lengths.{IsLeastBadLength, IsLengthTable, IsNoBadLength}
+use Rattle.wb_heap_model.specs.declared.heap.Shape.{Shape}
+use Rattle.wb_runs.specs.declared.lengths.LengthRange.{LengthRange}
+use Rattle.wb_meaning.specs.declared.run.RunResult.{RunResult}
+use Rattle.wb_tree.specs.declared.script.Script.{Script}
+use Rattle.wb_runs.specs.Lengths.{IsLeastBadLength, IsLengthTable, IsNoBadLength}
 use Rattle.wb_lengths.specs.declared.all_lengths.BadLength.{BadLength}
 use Rattle.wb_lengths.specs.Lengths.{IsCutNowhere, IsCutSomewhere}
 use Rattle.workbench.specs.declared.report_values.FailingNumber.TheVariants.{Length, Never}

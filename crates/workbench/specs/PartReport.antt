@@ -1,15 +1,15 @@
 -- What `sweep --from I --to J` says, as lines and as values, and what that means of runs. What is printed is as of a sweep over all
--- numbers; what is found is the least of those that are tried (`wb_model`, `specs/runs/Parts.antt`).
+-- numbers; what is found is the least of those that are tried (`wb_runs`, `specs/Parts.antt`).
 use Rattle.std.specs.Prelude.{◌≡◌, ◌⊎◌, ℕ, ◌&&◌, Bool, true, false, List, ◌++◌, nat_eq}
-use Rattle.wb_model.specs.declared.failures.Failing.{Failing}
-use Rattle.wb_model.specs.declared.failures.Failures.{Failures}
-use Rattle.wb_model.specs.declared.heap.Shape.{Shape}
-use Rattle.wb_model.specs.declared.limits.TheConstants.{CEILING}
-use Rattle.wb_model.specs.declared.part.Part.{Part}
-use Rattle.wb_model.specs.declared.run.RunResult.{RunResult}
-use Rattle.wb_model.specs.declared.run.Why.{Why}
-use Rattle.wb_model.specs.declared.script.Script.{Script}
-use Rattle.wb_model.specs.runs.Parts.{IsCutIn, IsFoundIn, IsNoneIn}
+use Rattle.wb_runs.specs.declared.failures.Failing.{Failing}
+use Rattle.wb_runs.specs.declared.failures.Failures.{Failures}
+use Rattle.wb_heap_model.specs.declared.heap.Shape.{Shape}
+use Rattle.wb_basics.specs.declared.limits.TheConstants.{CEILING}
+use Rattle.wb_runs.specs.declared.part.Part.{Part}
+use Rattle.wb_meaning.specs.declared.run.RunResult.{RunResult}
+use Rattle.wb_meaning.specs.declared.run.Why.{Why}
+use Rattle.wb_tree.specs.declared.script.Script.{Script}
+use Rattle.wb_runs.specs.Parts.{IsCutIn, IsFoundIn, IsNoneIn}
 use Rattle.workbench.specs.declared.report_values.FailingNumber.TheVariants.{At, Never}
 use Rattle.workbench.specs.declared.report_values.ReportValues.{ReportValues}
 use Rattle.workbench.specs.ReportValues.{cut_values, sweep_values}
@@ -54,7 +54,7 @@ abbrev pub is_whole : Part → Bool
 is_whole part = nat_eq part.from 0 && nat_eq part.to CEILING
 
 -- the report of a sweep: of all failures, or of a part of them. A part that is the whole is answered as if none were named; that both
--- come to the same is a law of `wb_model`
+-- come to the same is a law of `wb_runs`
 abbrev pub IsReportOver : Bool → Failures → Part → Script → ℕ → Shape → List ℕ → ReportValues → ℕ → Type 0
 IsReportOver true failures part script budget shape text values status = IsSweepReport failures script budget shape text values status
 IsReportOver false failures part script budget shape text values status = IsPartReport failures part script budget shape text values status

@@ -1,12 +1,12 @@
 -- What a report says as values, beside its lines: of a run, of a size, of a sweep, of the search through all lengths.
 use Rattle.std.specs.Prelude.{ℕ, List, [], ◌∷◌, Option, Some, None, length}
 use Rattle.std.specs.Option.{option_map_or}
-use Rattle.wb_model.specs.declared.failures.Failing.{Failing}
-use Rattle.wb_model.specs.declared.failures.Failing.TheVariants.{Number}
-use Rattle.wb_model.specs.declared.lengths.LengthRange.{LengthRange}
-use Rattle.wb_model.specs.declared.number_ends.NumberEnd.{NumberEnd}
-use Rattle.wb_model.specs.declared.run.RunResult.{RunResult}
-use Rattle.wb_model.specs.declared.size.Rise.{Rise}
+use Rattle.wb_runs.specs.declared.failures.Failing.{Failing}
+use Rattle.wb_runs.specs.declared.failures.Failing.TheVariants.{Number}
+use Rattle.wb_runs.specs.declared.lengths.LengthRange.{LengthRange}
+use Rattle.wb_runs.specs.declared.number_ends.NumberEnd.{NumberEnd}
+use Rattle.wb_meaning.specs.declared.run.RunResult.{RunResult}
+use Rattle.wb_heap_model.specs.declared.size.Rise.{Rise}
 use Rattle.workbench.specs.declared.report_values.FailingNumber.{FailingNumber}
 use Rattle.workbench.specs.declared.report_values.FailingNumber.TheVariants.{At, Length, Never, Set}
 use Rattle.workbench.specs.declared.report_values.ReportValues.{ReportValues}

@@ -1,9 +1,9 @@
 -- The rises of a trace, in words: the granted lines that end past every granted line before them.
 use Rattle.std.specs.Prelude.{◌≡◌, ◌↔◌, ℕ, ◌<◌, List, Some, slice_get}
-use Rattle.wb_model.specs.declared.heap.Answer.TheVariants.{Granted}
-use Rattle.wb_model.specs.declared.heap.Attempt.{Attempt}
-use Rattle.wb_model.specs.declared.size.Rise.{Rise}
-use Rattle.wb_model.specs.runs.Traces.{end_of_attempt}
+use Rattle.wb_heap_model.specs.declared.heap.Answer.TheVariants.{Granted}
+use Rattle.wb_heap_model.specs.declared.heap.Attempt.{Attempt}
+use Rattle.wb_heap_model.specs.declared.size.Rise.{Rise}
+use Rattle.wb_heap_model.specs.Reported.{end_of_attempt}
 
 -- a granted line has this number and this end, which is past 0 and past the end of every granted line before
 pub record IsRiseOf (trace : List Attempt) (rise : Rise) : Type 0 where

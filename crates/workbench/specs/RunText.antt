@@ -2,15 +2,15 @@
 use Rattle.std.specs.Prelude.{ℕ, ℤ, List, [], ◌∷◌, ◌++◌, Option, Some, None, length, codes}
 use Rattle.std.specs.List.{flat_map}
 use Rattle.std.specs.Fmt.{decimal, signed_decimal}
-use Rattle.wb_model.specs.declared.heap.Answer.{Answer}
-use Rattle.wb_model.specs.declared.heap.Answer.TheVariants.{Granted, Simulated, Refused}
-use Rattle.wb_model.specs.declared.heap.Attempt.{Attempt}
-use Rattle.wb_model.specs.declared.run.Leak.{Leak}
-use Rattle.wb_model.specs.declared.run.Note.{Note}
-use Rattle.wb_model.specs.declared.run.Note.TheVariants.{Heap, Available, Compress}
-use Rattle.wb_model.specs.declared.run.Outcome.{Outcome}
-use Rattle.wb_model.specs.declared.run.Outcome.TheVariants.{Ended, Panicked, NoCleanup, Cut}
-use Rattle.wb_model.specs.declared.run.RunResult.{RunResult}
+use Rattle.wb_heap_model.specs.declared.heap.Answer.{Answer}
+use Rattle.wb_heap_model.specs.declared.heap.Answer.TheVariants.{Granted, Simulated, Refused}
+use Rattle.wb_heap_model.specs.declared.heap.Attempt.{Attempt}
+use Rattle.wb_heap_model.specs.declared.reported.Leak.{Leak}
+use Rattle.wb_heap_model.specs.declared.reported.Note.{Note}
+use Rattle.wb_heap_model.specs.declared.reported.Note.TheVariants.{Heap, Available, Compress}
+use Rattle.wb_meaning.specs.declared.run.Outcome.{Outcome}
+use Rattle.wb_meaning.specs.declared.run.Outcome.TheVariants.{Ended, Panicked, NoCleanup, Cut}
+use Rattle.wb_meaning.specs.declared.run.RunResult.{RunResult}
 use Rattle.workbench.specs.EndWords.{cut_words, panic_words}
 
 -- a line with the line feed that ends it

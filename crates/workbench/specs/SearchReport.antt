@@ -1,8 +1,8 @@
 -- Which report `sweep` and `check` have, by what they search for.
 use Rattle.std.specs.Prelude.{◌≡◌, ◌⊎◌, ℕ, List, ◌++◌}
-use Rattle.wb_model.specs.declared.heap.Shape.{Shape}
-use Rattle.wb_model.specs.declared.part.Part.{Part}
-use Rattle.wb_model.specs.declared.script.Script.{Script}
+use Rattle.wb_heap_model.specs.declared.heap.Shape.{Shape}
+use Rattle.wb_runs.specs.declared.part.Part.{Part}
+use Rattle.wb_tree.specs.declared.script.Script.{Script}
 use Rattle.wb_command_line.specs.Spelled.{whole}
 use Rattle.wb_command_line.specs.declared.command.Search.{Search}
 use Rattle.wb_command_line.specs.declared.command.Search.TheVariants.{Least, All, Ends, Sets, EverySet}

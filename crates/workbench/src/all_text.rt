@@ -7,9 +7,9 @@ use crate::appending::or_no_memory;
 use crate::end_text::put_end_words;
 use crate::run_text::put_run;
 use std::io::Write;
-use wb_model::failures::Failures;
-use wb_model::memory::NoMemory;
-use wb_model::number_ends::NumberEnd;
+use wb_basics::memory::NoMemory;
+use wb_runs::failures::Failures;
+use wb_runs::number_ends::NumberEnd;
 use wb_sweep::AllNumbers;
 
 /// Appends the number of attempts of the run without failure, a line for each number that is listed, the count of listed numbers whose run

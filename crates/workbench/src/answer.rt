@@ -10,7 +10,7 @@ ghost use Rattle.workbench.specs.Answer.{is_read_fault};
 ghost use Rattle.wb_command_line.specs.Command.{is_answerable};
 ghost use Rattle.workbench.specs.Ascii.{HasPrintableLines};
 ghost use Rattle.workbench.specs.JsonReport.{laid_out};
-ghost use Rattle.wb_model.specs.declared.limits.TheConstants.{LONGEST_SCRIPT};
+ghost use Rattle.wb_basics.specs.declared.limits.TheConstants.{LONGEST_SCRIPT};
 ghost use Rattle.workbench.specs.Report.{no_memory};
 ghost use Rattle.wb_streams.specs.Streams.{AppendsFirst, Reads, TakesAtMost, Writes};
 
@@ -20,8 +20,8 @@ use crate::json_report::json_text;
 use crate::report::{Report, report_on};
 use crate::report_values::ReportValues;
 use std::alloc::{AllocError, Global};
+use wb_basics::memory::NoMemory;
 use wb_command_line::command::Command;
-use wb_model::memory::NoMemory;
 use wb_streams::streams::{Sink, Source, StreamFault, read_some, write_some};
 use wb_sweep::Progress;
 

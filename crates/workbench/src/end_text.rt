@@ -5,10 +5,10 @@ ghost use Rattle.workbench.specs.EndWords.{cut_words, end_words, panic_words};
 
 use crate::appending::or_no_memory;
 use std::io::Write;
-use wb_model::heap::Panic;
-use wb_model::memory::NoMemory;
-use wb_model::run::Why;
-use wb_model::run_end::RunEnd;
+use wb_basics::memory::NoMemory;
+use wb_heap_model::heap::Panic;
+use wb_meaning::run::Why;
+use wb_runs::run_end::RunEnd;
 
 /// Appends the words for how a run ended.
 pub fn put_end_words(text: &mut Vec<u8>, end: RunEnd) -> Result<(), NoMemory>

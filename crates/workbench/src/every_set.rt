@@ -1,9 +1,9 @@
 //! The report of a sweep over all sets of attempts: the text, its values, and the exit status. Nothing is read or written here.
 
 ghost use Rattle.std.specs.Prelude.{◌≡◌, ◌≤◌, IfOk, IsTrue};
-ghost use Rattle.wb_model.specs.language.Sound.{is_script};
-ghost use Rattle.wb_model.specs.heap.Space.{is_shape};
-ghost use Rattle.wb_model.specs.declared.failures.Failures.TheVariants.{Single};
+ghost use Rattle.wb_tree.specs.Sound.{is_script};
+ghost use Rattle.wb_heap_model.specs.Space.{is_shape};
+ghost use Rattle.wb_runs.specs.declared.failures.Failures.TheVariants.{Single};
 ghost use Rattle.workbench.specs.EverySetReport.{IsEverySetReport, every_set_text, many_states_text};
 ghost use Rattle.workbench.specs.ReportValues.{many_states_values};
 ghost use Rattle.workbench.specs.SetsReport.{swept_status, swept_values};
@@ -15,13 +15,13 @@ use crate::report::Report;
 use crate::report_values::ReportValues;
 use crate::sets::{cut_set_report, report_with};
 use std::alloc::{AllocError, Global};
+use wb_basics::limits::LARGEST_BUDGET;
+use wb_basics::memory::NoMemory;
+use wb_heap_model::heap::{Rule, Shape};
 use wb_machine::RunFault;
-use wb_model::heap::{Rule, Shape};
-use wb_model::limits::LARGEST_BUDGET;
-use wb_model::memory::NoMemory;
-use wb_model::part::Part;
-use wb_model::script::Script;
+use wb_runs::part::Part;
 use wb_sweep::{EverySetFault, Progress, SetSweep, sweep_every_set};
+use wb_tree::script::Script;
 
 /// The report of a sweep over the sets of attempts, of any size, whose least number is in the part: the least set whose run leaks or
 /// panics, or that there is none; the line of a run that was cut; or the lines of a search that met more than `states` states.

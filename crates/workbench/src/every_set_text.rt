@@ -6,7 +6,7 @@ ghost use Rattle.workbench.specs.EverySetReport.{every_set_text, many_states_tex
 use crate::appending::or_no_memory;
 use crate::sets_text::put_found_set;
 use std::io::Write;
-use wb_model::memory::NoMemory;
+use wb_basics::memory::NoMemory;
 use wb_sweep::SetSweep;
 
 /// Appends the number of attempts of the run without failure, and then the set that was found and its run, or a line that there is no such

@@ -1,9 +1,9 @@
 //! What a report was made of, for the code that explains or draws it. No report depends on these findings.
 
-use wb_model::failures::Failing;
-use wb_model::heap::Numbers;
-use wb_model::lengths::LengthTable;
-use wb_model::number_ends::NumberEnds;
+use wb_heap_model::heap::Numbers;
+use wb_runs::failures::Failing;
+use wb_runs::lengths::LengthTable;
+use wb_runs::number_ends::NumberEnds;
 use wb_size::Rises;
 
 /// What a report was made of.

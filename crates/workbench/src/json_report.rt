@@ -2,8 +2,8 @@
 
 ghost use Rattle.std.specs.Prelude.{◌≡◌, ◌≢◌, ◌∷◌, ◌<◌, [], length, IfOk, OnOk, map};
 ghost use Rattle.serde_json.specs.View.{members_view, view};
-ghost use Rattle.wb_model.specs.language.Lines.{lines_of};
-ghost use Rattle.wb_model.specs.meaning.Printable.{ArePrintable};
+ghost use Rattle.wb_language.specs.Lines.{lines_of};
+ghost use Rattle.wb_meaning.specs.Printable.{ArePrintable};
 ghost use Rattle.workbench.specs.Ascii.{HasPrintableLines};
 ghost use Rattle.workbench.specs.JsonReport.{common_members, count, count_or_null, count_pair, failing_number};
 ghost use Rattle.workbench.specs.JsonReport.{failing_value, failures_kind, failures_version};
@@ -17,14 +17,14 @@ use crate::report::Report;
 use crate::report_values::FailingNumber;
 use serde_json::{Map, Value, put};
 use std::alloc::{AllocError, Global};
+use wb_basics::memory::NoMemory;
 use wb_command_line::command::{Search, Task};
+use wb_heap_model::heap::Numbers;
+use wb_heap_model::size::Rise;
 use wb_lengths::{LengthRange, LengthTable};
-use wb_model::failures::{Failing, Failures};
-use wb_model::heap::Numbers;
-use wb_model::memory::NoMemory;
-use wb_model::number_ends::{NumberEnd, NumberEnds};
-use wb_model::run_end::RunEnd;
-use wb_model::size::Rise;
+use wb_runs::failures::{Failing, Failures};
+use wb_runs::number_ends::{NumberEnd, NumberEnds};
+use wb_runs::run_end::RunEnd;
 use wb_size::Rises;
 
 /// The version of the JSON form of a report, unless the report has `LATER_VERSION`.

@@ -7,8 +7,8 @@ use crate::appending::or_no_memory;
 use crate::end_text::put_end_words;
 use crate::run_text::put_run;
 use std::io::Write;
+use wb_basics::memory::NoMemory;
 use wb_lengths::{BadLength, LengthFindings, LengthRange, LengthTable};
-use wb_model::memory::NoMemory;
 
 /// Appends the table, and then the least length whose run leaks or panics and that run, or a line that there is no such length.
 pub fn put_lengths(text: &mut Vec<u8>, found: &LengthFindings) -> Result<(), NoMemory>

@@ -27,13 +27,13 @@ mod sets;
 mod sets_text;
 mod tasks;
 
+pub use wb_basics::memory::NoMemory;
 pub use wb_command_line::command::{Command, CommandFault, Search, Task};
 pub use wb_command_line::command_line::command;
 pub use wb_command_line::file_name::FileName;
-pub use wb_model::failures::Failures;
-pub use wb_model::heap::{Rule, Shape};
-pub use wb_model::memory::NoMemory;
-pub use wb_model::part::Part;
-pub use wb_model::run::RunResult;
+pub use wb_heap_model::heap::{Rule, Shape};
+pub use wb_meaning::run::RunResult;
+pub use wb_runs::failures::Failures;
+pub use wb_runs::part::Part;
 pub use wb_streams::{Sink, Source, StreamFault};
 pub use wb_sweep::{Progress, Silent};

@@ -6,7 +6,7 @@ ghost use Rattle.std.specs.Fmt.{decimal};
 
 use itoa::write_digits;
 use std::marker::Model;
-use wb_model::memory::NoMemory;
+use wb_basics::memory::NoMemory;
 
 /// The length of the longest line in bytes, with its line feed: the line of an attempt that was made to fail and whose three numbers have
 /// ten digits each.

@@ -9,10 +9,10 @@ use crate::appending::or_no_memory;
 use crate::line::Line;
 use crate::run_text::put_run;
 use std::io::Write;
-use wb_model::failures::{Failing, Failures};
-use wb_model::memory::NoMemory;
-use wb_model::run::Why;
-use wb_model::size::Rise;
+use wb_basics::memory::NoMemory;
+use wb_heap_model::size::Rise;
+use wb_meaning::run::Why;
+use wb_runs::failures::{Failing, Failures};
 use wb_size::Sizing;
 use wb_sweep::Sweep;
 

@@ -2,8 +2,8 @@
 //! is read or written here.
 
 ghost use Rattle.std.specs.Prelude.{◌≡◌, ◌≤◌, IfOk, IsTrue};
-ghost use Rattle.wb_model.specs.language.Sound.{is_script};
-ghost use Rattle.wb_model.specs.heap.Space.{is_shape};
+ghost use Rattle.wb_tree.specs.Sound.{is_script};
+ghost use Rattle.wb_heap_model.specs.Space.{is_shape};
 ghost use Rattle.workbench.specs.AllReport.{IsListReport, fine_status, told_status, told_text, told_values};
 ghost use Rattle.workbench.specs.PartReport.{IsPartReport, IsReportOver, is_whole};
 
@@ -14,14 +14,14 @@ use crate::report::Report;
 use crate::report_values::{FailingNumber, ReportValues};
 use crate::tasks::{cut_report, sweep_report};
 use std::alloc::{AllocError, Global};
-use wb_model::failures::Failures;
-use wb_model::heap::Shape;
-use wb_model::limits::{CEILING, LARGEST_BUDGET};
-use wb_model::memory::NoMemory;
-use wb_model::number_ends::NumberEnd;
-use wb_model::part::Part;
-use wb_model::script::Script;
+use wb_basics::limits::{CEILING, LARGEST_BUDGET};
+use wb_basics::memory::NoMemory;
+use wb_heap_model::heap::Shape;
+use wb_runs::failures::Failures;
+use wb_runs::number_ends::NumberEnd;
+use wb_runs::part::Part;
 use wb_sweep::{AllNumbers, Listing, Progress, SweepFault, sweep_all, sweep_part};
+use wb_tree::script::Script;
 
 /// The report of a sweep over those of these failures that the part has: the least whose run leaks or panics, or that there is none; or the
 /// line of a run that was cut.

@@ -12,9 +12,9 @@ use crate::report_values::ReportValues;
 use crate::tasks::carry_out;
 use std::alloc::{AllocError, Global};
 use std::io::Write;
+use wb_basics::memory::NoMemory;
 use wb_command_line::command::Command;
-use wb_model::fault::ScriptFault;
-use wb_model::memory::NoMemory;
+use wb_language::fault::ScriptFault;
 use wb_sweep::Progress;
 
 /// A report as lines, its values, and the exit status that goes with it.

@@ -6,11 +6,11 @@ ghost use Rattle.workbench.specs.ReportValues.{all_values, both_values, cut_valu
 ghost use Rattle.workbench.specs.ReportValues.{cut_set_values, many_states_values, no_values, run_values, set_values};
 ghost use Rattle.workbench.specs.ReportValues.{single_of, size_values, sweep_values};
 
-use wb_model::failures::Failing;
-use wb_model::heap::Numbers;
-use wb_model::lengths::LengthTable;
-use wb_model::number_ends::NumberEnds;
-use wb_model::run::RunResult;
+use wb_heap_model::heap::Numbers;
+use wb_meaning::run::RunResult;
+use wb_runs::failures::Failing;
+use wb_runs::lengths::LengthTable;
+use wb_runs::number_ends::NumberEnds;
 use wb_size::{Rises, Sizing};
 
 /// The least failure, or the least length of heap, whose run leaks or panics, of those that were tried.

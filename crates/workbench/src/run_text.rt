@@ -11,9 +11,10 @@ use crate::appending::or_no_memory;
 use crate::end_text::{put_cut_words, put_panic_words};
 use crate::line::Line;
 use std::io::Write;
-use wb_model::heap::{Answer, Attempt, Panic};
-use wb_model::memory::NoMemory;
-use wb_model::run::{Leak, Leaks, Lines, Note, Notes, Outcome, RunResult, Trace, Why};
+use wb_basics::memory::NoMemory;
+use wb_heap_model::heap::{Answer, Attempt, Panic};
+use wb_heap_model::reported::{Leak, Leaks, Note, Notes, Trace};
+use wb_meaning::run::{Lines, Outcome, RunResult, Why};
 
 /// Appends the text of a run.
 pub fn put_run(text: &mut Vec<u8>, run: &RunResult) -> Result<(), NoMemory>

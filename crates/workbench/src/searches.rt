@@ -2,8 +2,8 @@
 //! searches are in `tasks`, `parts`, `sets` and `every_set`. Nothing is read or written here.
 
 ghost use Rattle.std.specs.Prelude.{◌≡◌, ◌≤◌, IfOk, IsTrue};
-ghost use Rattle.wb_model.specs.language.Sound.{is_script};
-ghost use Rattle.wb_model.specs.heap.Space.{is_shape};
+ghost use Rattle.wb_tree.specs.Sound.{is_script};
+ghost use Rattle.wb_heap_model.specs.Space.{is_shape};
 ghost use Rattle.wb_command_line.specs.Command.{is_search_in_range};
 ghost use Rattle.workbench.specs.SearchReport.{IsCheckReport, IsSearchReport};
 
@@ -15,16 +15,16 @@ use crate::report_values::ReportValues;
 use crate::sets::sets_report;
 use crate::tasks::{report_of_size, report_of_size_fault, report_of_sweep, size_report};
 use std::alloc::Global;
+use wb_basics::limits::LARGEST_BUDGET;
+use wb_basics::memory::NoMemory;
 use wb_command_line::command::Search;
-use wb_model::failures::Failures;
-use wb_model::heap::Shape;
-use wb_model::limits::LARGEST_BUDGET;
-use wb_model::memory::NoMemory;
-use wb_model::part::Part;
-use wb_model::script::Script;
+use wb_heap_model::heap::Shape;
+use wb_runs::failures::Failures;
+use wb_runs::part::Part;
 use wb_size::sized_run::{SizedRun, size_by_run};
 use wb_sweep::run_known::sweep_beside_known;
 use wb_sweep::{Listing, Progress};
+use wb_tree::script::Script;
 
 /// The report of a search among the failures of a part.
 pub fn search_report<P: Progress>(

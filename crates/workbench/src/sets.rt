@@ -1,8 +1,8 @@
 //! The report of a sweep over sets of attempts: the text, its values, and the exit status. Nothing is read or written here.
 
 ghost use Rattle.std.specs.Prelude.{◌≡◌, ◌≤◌, IfOk, IsTrue};
-ghost use Rattle.wb_model.specs.language.Sound.{is_script};
-ghost use Rattle.wb_model.specs.heap.Space.{is_shape};
+ghost use Rattle.wb_tree.specs.Sound.{is_script};
+ghost use Rattle.wb_heap_model.specs.Space.{is_shape};
 ghost use Rattle.workbench.specs.ReportValues.{cut_set_values};
 ghost use Rattle.workbench.specs.SetsReport.{IsSetsReport, cut_set_line, sets_text, swept_status, swept_values};
 
@@ -11,13 +11,13 @@ use crate::report::Report;
 use crate::report_values::{FailingNumber, ReportValues};
 use crate::sets_text::{put_cut_set, put_sets};
 use std::alloc::{AllocError, Global};
-use wb_model::heap::{Numbers, Shape};
-use wb_model::limits::LARGEST_BUDGET;
-use wb_model::memory::NoMemory;
-use wb_model::part::Part;
-use wb_model::run::Why;
-use wb_model::script::Script;
+use wb_basics::limits::LARGEST_BUDGET;
+use wb_basics::memory::NoMemory;
+use wb_heap_model::heap::{Numbers, Shape};
+use wb_meaning::run::Why;
+use wb_runs::part::Part;
 use wb_sweep::{FoundSet, Progress, SetFault, SetSweep, sweep_sets};
+use wb_tree::script::Script;
 
 /// The report of a sweep over the sets of at most `most` attempts whose least number is in the part: the least set whose run leaks or
 /// panics, or that there is none; or the line of a run that was cut. `Part::WHOLE` has the number of each attempt that a run can make, and

@@ -10,10 +10,10 @@ use crate::numbers_text::{put_cut_at, put_failing};
 use crate::report_values::single_of;
 use crate::run_text::put_run;
 use std::io::Write;
-use wb_model::failures::Failing;
-use wb_model::heap::Numbers;
-use wb_model::memory::NoMemory;
-use wb_model::run::Why;
+use wb_basics::memory::NoMemory;
+use wb_heap_model::heap::Numbers;
+use wb_meaning::run::Why;
+use wb_runs::failures::Failing;
 use wb_sweep::{FoundSet, SetSweep};
 
 /// Appends the number of attempts of the run without failure, and then the set that was found and its run, or a line that there is no such

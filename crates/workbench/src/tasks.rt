@@ -2,12 +2,12 @@
 //! distinguishes what `sweep` and `check` search for.
 
 ghost use Rattle.std.specs.Prelude.{◌≡◌, ◌≢◌, ◌≤◌, ℕ, IfOk, IsTrue, if◌then◌else◌};
-ghost use Rattle.wb_model.specs.declared.failures.Failing.TheVariants.{Number};
-ghost use Rattle.wb_model.specs.declared.run.Why.{Why};
-ghost use Rattle.wb_model.specs.runs.Run.{run};
-ghost use Rattle.wb_model.specs.language.Sound.{is_script};
-ghost use Rattle.wb_model.specs.heap.Space.{is_shape};
-ghost use Rattle.wb_model.specs.runs.SweepAnswers.{IsCutShort};
+ghost use Rattle.wb_runs.specs.declared.failures.Failing.TheVariants.{Number};
+ghost use Rattle.wb_meaning.specs.declared.run.Why.{Why};
+ghost use Rattle.wb_meaning.specs.Run.{run};
+ghost use Rattle.wb_tree.specs.Sound.{is_script};
+ghost use Rattle.wb_heap_model.specs.Space.{is_shape};
+ghost use Rattle.wb_runs.specs.SweepAnswers.{IsCutShort};
 ghost use Rattle.wb_sweep.specs.Sweeping.{IsSweep};
 ghost use Rattle.wb_command_line.specs.Command.{is_answerable};
 ghost use Rattle.workbench.specs.LengthsReport.{IsLengthsReport};
@@ -24,18 +24,18 @@ use crate::report_values::{FailingNumber, ReportValues};
 use crate::run_text::put_run;
 use crate::searches::{check_report, search_report};
 use std::alloc::{AllocError, Global};
+use wb_basics::limits::LARGEST_BUDGET;
+use wb_basics::memory::NoMemory;
 use wb_command_line::command::{Command, Task};
+use wb_heap_model::heap::{Rule, Shape};
 use wb_lengths::lengths;
 use wb_machine::RunFault;
-use wb_model::failures::{Failing, Failures};
-use wb_model::heap::{Rule, Shape};
-use wb_model::limits::LARGEST_BUDGET;
-use wb_model::memory::NoMemory;
-use wb_model::run::Outcome;
-use wb_model::script::Script;
+use wb_meaning::run::Outcome;
+use wb_runs::failures::{Failing, Failures};
 use wb_size::sizing::Sizing;
 use wb_size::{SizeFault, size};
 use wb_sweep::{Progress, Sweep, SweepFault, sweep};
+use wb_tree::script::Script;
 
 /// Returns the report of the command's task on a script. The only error is that memory ran out. `progress` is notified of how far a sweep,
 /// or the search through all lengths, has come.

@@ -11,7 +11,7 @@ use crate::command_line::number_help::NumberHelp;
 use crate::command_line::parser::{NumberOption, with_argument, with_numbers};
 use clap::{Arg, ArgAction, ArgMatches};
 use std::alloc::{AllocError, Global};
-use wb_model::limits::CEILING;
+use wb_basics::limits::CEILING;
 
 /// The default of `--follow-steps`: how many of the first steps are followed, and how many of the last; or how many before an attempt, and
 /// how many after it.

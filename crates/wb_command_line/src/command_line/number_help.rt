@@ -10,7 +10,7 @@ use super::sets::{DEFAULT_STATES, LEAST_STATES, MOST_STATES, MOST_TOGETHER};
 use clap::builder::ValueParser;
 use clap::value_parser;
 use std::alloc::{AllocError, Global};
-use wb_model::limits::{
+use wb_basics::limits::{
     CEILING, DEFAULT_BUDGET, DEFAULT_MINIMUM, DEFAULT_STEP, LARGEST_BUDGET, LARGEST_MINIMUM,
     LARGEST_STEP, SMALLEST_STEP,
 };

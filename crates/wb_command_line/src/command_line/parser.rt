@@ -15,7 +15,7 @@ use crate::command_line::number_help::{NumberHelp, between};
 use crate::command_line::set_list::set_argument;
 use clap::{Arg, ArgAction};
 use std::alloc::{AllocError, Global};
-use wb_model::limits::{CEILING, LARGEST_BUDGET, LARGEST_MINIMUM, LARGEST_STEP, SMALLEST_STEP};
+use wb_basics::limits::{CEILING, LARGEST_BUDGET, LARGEST_MINIMUM, LARGEST_STEP, SMALLEST_STEP};
 
 /// Which options a subcommand has, beside those that all subcommands have.
 #[derive(Clone, Copy)]

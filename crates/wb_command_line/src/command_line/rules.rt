@@ -14,8 +14,8 @@ use crate::command::{CommandFault, Task};
 use crate::command_line::set_list::set_in;
 use clap::ArgMatches;
 use std::alloc::Global;
-use wb_model::heap::{Numbers, Rule};
-use wb_model::limits::CEILING;
+use wb_basics::limits::CEILING;
+use wb_heap_model::heap::{Numbers, Rule};
 
 /// Returns the rule that the options of `run` spell. The errors are `Usage`, `Both`, `Also` and `NoMemory`.
 pub(super) fn rule_in(alloc: Global, options: &ArgMatches) -> Result<Rule, CommandFault>

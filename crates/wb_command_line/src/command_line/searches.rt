@@ -13,7 +13,7 @@ ghost use Rattle.wb_command_line.specs.Subcommands.{search_by, search_listed, se
 use crate::command::{CommandFault, Search};
 use crate::command_line::sets::{MOST_STATES, MOST_TOGETHER, most_in, states_in};
 use clap::ArgMatches;
-use wb_model::failures::Failures;
+use wb_runs::failures::Failures;
 
 /// Returns what the options of `sweep` and `check` ask to search for. The only error is `Both`.
 pub(super) fn search_in(options: &ArgMatches) -> Result<Search, CommandFault>

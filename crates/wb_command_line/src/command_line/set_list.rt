@@ -13,8 +13,8 @@ use crate::command::CommandFault;
 use clap::error::{Error, ErrorKind};
 use clap::{Arg, ArgMatches};
 use std::alloc::{AllocError, Global};
-use wb_model::heap::Numbers;
-use wb_model::limits::CEILING;
+use wb_basics::limits::CEILING;
+use wb_heap_model::heap::Numbers;
 
 /// How many numbers a list may have at most.
 pub(super) const MOST_NUMBERS: usize = 256;

@@ -3,8 +3,8 @@
 use crate::runs::rates::{put_first, put_rate};
 use crate::runs::script_page::{ScriptPage, Written};
 use crate::runs::sets::{put_by_rule, put_set};
+use wb_heap_model::heap::Rule;
 use wb_history::WatchedRun;
-use wb_model::heap::Rule;
 
 /// Says which lines made the attempts that failed because of the rule, if the rule may make any fail, and where the run went on after each,
 /// unless that is the line of its panic.

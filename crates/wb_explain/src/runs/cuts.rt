@@ -2,9 +2,9 @@
 
 use crate::runs::counts::Many;
 use crate::runs::script_page::{ScriptPage, Written};
+use wb_basics::limits::{CEILING, LARGEST_BUDGET};
 use wb_history::WatchedRun;
-use wb_model::limits::{CEILING, LARGEST_BUDGET};
-use wb_model::run::Why;
+use wb_meaning::run::Why;
 
 /// Says where a run was cut, and what to do.
 pub fn put_cut(page: &mut ScriptPage<'_>, why: Why, run: &WatchedRun<'_>) -> Written {

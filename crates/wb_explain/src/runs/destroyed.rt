@@ -1,8 +1,8 @@
 //! What panics mean that the destruction of an item or an object raises, and what to look for.
 
 use crate::runs::panics::Meaning;
+use wb_heap_model::heap::Panic;
 use wb_history::End;
-use wb_model::heap::Panic;
 
 /// What a panic means that an item of the cleanup stack raised when it was destroyed, and what to look for. `end` is how the life of the
 /// item's cell ended; `None` if it didn't, or if that isn't known.

@@ -3,8 +3,8 @@
 use crate::runs::counts::Many;
 use std::fmt;
 use std::fmt::{Display, Formatter, Write};
-use wb_model::heap::Panic;
-use wb_model::run_end::RunEnd;
+use wb_heap_model::heap::Panic;
+use wb_runs::run_end::RunEnd;
 
 /// A panic as the report names it.
 #[derive(Clone, Copy)]

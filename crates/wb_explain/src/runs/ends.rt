@@ -18,10 +18,10 @@ use crate::runs::pointers::{cure_of, is_out_of_order, put_fault};
 use crate::runs::script_page::{ScriptPage, Written};
 use crate::runs::sentences::put_values;
 use crate::runs::told::put_life;
+use wb_heap_model::heap::{Panic, Rule};
 use wb_history::{Ended, Life, Meant, PointerState, Values, WatchedRun};
 use wb_machine::{Raised, Raiser};
-use wb_model::heap::{Panic, Rule};
-use wb_model::run::Outcome;
+use wb_meaning::run::Outcome;
 
 /// Says what a run found: first which attempts failed, if the rule was to make any fail, and then how the run ended.
 pub fn put_findings(page: &mut ScriptPage<'_>, run: &WatchedRun<'_>) -> Written {

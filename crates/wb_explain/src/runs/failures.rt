@@ -3,9 +3,9 @@
 use crate::runs::blame::panicked_at;
 use crate::runs::counts::article_of;
 use crate::runs::script_page::{ScriptPage, Written};
+use wb_heap_model::heap::Attempt;
 use wb_history::{AttemptMade, Maker, WatchedRun};
-use wb_model::heap::Attempt;
-use wb_model::run::Outcome;
+use wb_meaning::run::Outcome;
 
 /// Where a run went on after an attempt that failed, as far as messages say it.
 #[derive(Clone, Copy, Debug, PartialEq, Eq)]

@@ -6,9 +6,9 @@ use crate::runs::panics::Meaning;
 use crate::runs::script_page::{ScriptPage, Written};
 use std::fmt;
 use std::fmt::{Display, Formatter, Write};
+use wb_heap_model::heap::Answer;
 use wb_history::{Counted, OpenMark, WatchedRun};
-use wb_model::heap::Answer;
-use wb_model::script::Statement;
+use wb_tree::script::Statement;
 
 /// The most cells and attempts that are told of.
 const MOST_ROWS: usize = 20;

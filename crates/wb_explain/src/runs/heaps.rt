@@ -10,7 +10,7 @@ use crate::runs::spread::{Spread, lengths_of};
 use crate::runs::stories::{Stories, Story, stories_of};
 use std::alloc::Global;
 use wb_history::Attempts;
-use wb_model::lengths::LengthRange;
+use wb_runs::lengths::LengthRange;
 
 /// Returns the greatest length of a heap in which the run leaks or panics, in bytes; `None` if there is none.
 pub fn greatest_bad(ranges: &[LengthRange]) -> Option<u32> {

@@ -5,9 +5,9 @@ use crate::runs::counts::{Many, of_one_or_more};
 use crate::runs::panics::Meaning;
 use crate::runs::paths::AfterLine;
 use crate::runs::script_page::{ScriptPage, Written};
+use wb_heap_model::heap::Panic;
 use wb_history::{BodyKind, ItemOnStack, Origin, WatchedRun};
 use wb_machine::{Raised, Raiser};
-use wb_model::heap::Panic;
 
 /// The most items that are told of.
 const MOST_ITEMS: usize = 5;

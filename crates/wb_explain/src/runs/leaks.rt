@@ -3,10 +3,10 @@
 use crate::runs::paths::{AfterLine, before_name, put_path};
 use crate::runs::pointers::cure_of_failed;
 use crate::runs::script_page::{ScriptPage, Written};
+use wb_heap_model::heap::{Kind, Ptr};
+use wb_heap_model::reported::Leak;
 use wb_history::{BodyKind, By, End, Ended, Held, Leave, Life, ShortLine, WatchedRun};
-use wb_model::heap::{Kind, Ptr};
-use wb_model::run::Leak;
-use wb_model::script::{Holder, Pointer, Statement};
+use wb_tree::script::{Holder, Pointer, Statement};
 
 /// The most leaks that are listed one by one.
 const MOST_LEAKS: usize = 20;

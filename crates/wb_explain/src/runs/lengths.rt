@@ -1,8 +1,8 @@
 //! What is said of the table of lengths: which line makes each attempt that a shorter heap refuses first.
 
 use crate::runs::script_page::ScriptPage;
+use wb_heap_model::size::Rise;
 use wb_history::Attempts;
-use wb_model::size::Rise;
 
 /// How many rows of a table are shown at its beginning and at its end, if it is too long to be shown whole.
 const FIRST_ROWS: usize = 10;

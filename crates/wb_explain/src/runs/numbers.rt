@@ -6,9 +6,9 @@ use crate::runs::number_lists::{MOST_NUMBERS, put_list};
 use crate::runs::script_page::{ScriptPage, Written};
 use std::alloc::{AllocError, Global};
 use wb_history::Attempts;
-use wb_model::failures::Failures;
-use wb_model::number_ends::NumberEnd;
-use wb_model::run_end::RunEnd;
+use wb_runs::failures::Failures;
+use wb_runs::number_ends::NumberEnd;
+use wb_runs::run_end::RunEnd;
 
 /// The most groups that are told.
 const MOST_GROUPS: usize = 20;

@@ -1,8 +1,8 @@
 //! What panics mean, in Symbian's words, and what to look for, by the statement that raised them.
 
+use wb_heap_model::heap::Panic;
 use wb_history::Counted;
-use wb_model::heap::Panic;
-use wb_model::script::Statement;
+use wb_tree::script::Statement;
 
 /// What was wrong, and what to look for; empty where there is no more to say.
 pub type Meaning = (&'static str, &'static str);

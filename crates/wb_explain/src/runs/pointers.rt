@@ -7,7 +7,7 @@ use wb_history::{
     AttemptMade, BodyKind, By, End, Ended, Life, PointerFault, PointerState, WatchedRun,
     is_same_field, is_same_pointer, target_of,
 };
-use wb_model::script::Statement;
+use wb_tree::script::Statement;
 
 /// The name of the pointer, as the line has it. If the word is a field and the pointer is the one to the field's object, the part before
 /// the dot.

@@ -1,7 +1,7 @@
 //! Which attempt a heap of some length refuses first: in the run in the longest heap, the first attempt that ends past that length.
 
+use wb_basics::limits::CEILING;
 use wb_history::AttemptMade;
-use wb_model::limits::CEILING;
 
 /// An attempt, and the line that made it; the line is 0 for the first attempt, which no line makes.
 #[derive(Clone, Copy, Debug, PartialEq, Eq)]

@@ -2,8 +2,8 @@
 
 use std::fmt;
 use std::fmt::{Display, Formatter, Write};
-use wb_model::heap::{Rule, Shape};
-use wb_model::limits::{DEFAULT_BUDGET, DEFAULT_MINIMUM, DEFAULT_STEP};
+use wb_basics::limits::{DEFAULT_BUDGET, DEFAULT_MINIMUM, DEFAULT_STEP};
+use wb_heap_model::heap::{Rule, Shape};
 
 /// The options that say how runs are made, each with a blank before it. An option that has its default is left out.
 #[derive(Clone, Copy)]

@@ -2,8 +2,8 @@
 
 use std::fmt;
 use std::fmt::{Display, Formatter, Write};
-use wb_model::lengths::LengthRange;
-use wb_model::limits::CEILING;
+use wb_basics::limits::CEILING;
+use wb_runs::lengths::LengthRange;
 
 /// Lengths, in bytes, of which there is at least one.
 #[derive(Clone, Copy, Debug, PartialEq, Eq)]

@@ -5,8 +5,8 @@ use crate::runs::refusals::{Refusals, Refused};
 use crate::runs::script_page::Written;
 use crate::runs::spread::{Spread, lengths_of};
 use std::alloc::{AllocError, Global};
-use wb_model::lengths::LengthRange;
-use wb_model::run_end::RunEnd;
+use wb_runs::lengths::LengthRange;
+use wb_runs::run_end::RunEnd;
 
 /// The most stories that are told.
 const MOST_STORIES: usize = 20;

@@ -6,8 +6,8 @@ use crate::runs::number_lists::put_list;
 use crate::runs::script_page::ScriptPage;
 use crate::runs::shell_words::ShellOptions;
 use crate::runs::spread::lengths_of;
-use wb_model::lengths::LengthRange;
-use wb_model::run_end::RunEnd;
+use wb_runs::lengths::LengthRange;
+use wb_runs::run_end::RunEnd;
 
 /// A further question that a check tries unasked.
 #[derive(Clone, Copy, Debug, PartialEq, Eq)]

@@ -3,10 +3,10 @@
 
 use crate::runs::script_page::{ScriptPage, Written};
 use crate::runs::spread::{Spread, lengths_of};
+use wb_heap_model::heap::Answer;
 use wb_history::Attempts;
-use wb_model::heap::Answer;
-use wb_model::lengths::LengthRange;
-use wb_model::run_end::RunEnd;
+use wb_runs::lengths::LengthRange;
+use wb_runs::run_end::RunEnd;
 
 /// Returns the greatest length of heap in which the run does better than in one that is longer by a byte; `None` if there is none. Of
 /// several it is the least.

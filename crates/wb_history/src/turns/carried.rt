@@ -7,9 +7,9 @@ use crate::statements::{Ahead, NULL};
 use crate::traps::OpenTrap;
 use crate::turns::{Deletion, History};
 use std::alloc::AllocError;
+use wb_heap_model::heap::{Attempt, Ptr};
 use wb_machine::Machine;
-use wb_model::heap::{Attempt, Ptr};
-use wb_model::script::Statement;
+use wb_tree::script::Statement;
 
 impl<'a> History<'a> {
     /// Sees a statement that was carried out.

@@ -7,9 +7,9 @@ use crate::moments::ShortLine;
 use crate::statements::{Ahead, NULL};
 use crate::turns::{Deletion, History};
 use std::alloc::AllocError;
+use wb_heap_model::heap::{Answer, Attempt, Header, Kind, Ptr};
 use wb_machine::Machine;
-use wb_model::heap::{Answer, Attempt, Header, Kind, Ptr};
-use wb_model::run::Outcome;
+use wb_meaning::run::Outcome;
 
 impl<'a> History<'a> {
     /// Sees the cell that an attempt was granted: a new one, one that moved, or one that has grown at its place. Returns its pointer;

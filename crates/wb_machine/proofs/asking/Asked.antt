@@ -2,31 +2,33 @@
 use Rattle.std.proofs.Common.{◌≡◌, ℕ, ℤ, ◌+◌, ◌*◌, ◌≤◌, length-append, Bool, true, false, cond, List, [], ◌∷◌, ◌++◌, refl, ap, ◌∙◌, sym, Option, Some, None, option_map, length}
 use Rattle.std.specs.Prelude.{not, nat_eq, nat_le, ◌&&◌}
 use Rattle.std.proofs.lemmas.Bool.{eq-eqb}
-use Rattle.wb_model.specs.declared.limits.TheConstants.{LARGEST_REQUEST, MOST_UNITS}
-use Rattle.wb_model.specs.declared.heap.TheConstants.Panic.{BAD_CELL, WRONG_KIND, NULL_OR_STALE, NUMBER_OUT_OF_RANGE, SHORTER_THAN_TEXT}
-use Rattle.wb_model.specs.declared.heap.Item.{Item}
-use Rattle.wb_model.specs.declared.heap.Item.TheVariants as I
-use Rattle.wb_model.specs.declared.heap.Kind.{Kind}
-use Rattle.wb_model.specs.declared.heap.Kind.TheVariants.{Raw, Object, Text, Cleanup}
-use Rattle.wb_model.specs.declared.heap.Panic.{Panic}
-use Rattle.wb_model.specs.declared.heap.Ptr.{Ptr}
-use Rattle.wb_model.specs.declared.script.Pointer.{Pointer}
-use Rattle.wb_model.specs.declared.script.Refusal.{Refusal}
-use Rattle.wb_model.specs.declared.script.Refusal.TheVariants.{GivesNull}
-use Rattle.wb_model.specs.declared.script.Script.{Script}
-use Rattle.wb_model.specs.declared.script.Statement.TheOpen.{Statement-F}
-use Rattle.wb_model.specs.heap.Row.{Cell, cell_at}
-use Rattle.wb_model.specs.cells.Spelling.{read_as}
-use Rattle.wb_model.specs.meaning.State.{Content, units, State, Process, with_some, require}
-use Rattle.wb_model.specs.meaning.Operands.{within, number_of, units_of, with_cell, with_pointer}
-use Rattle.wb_model.specs.meaning.Attempts.{after_growth, attempt, allocate, grow_if, push, reallocate, reallocate_longer}
-use Rattle.wb_model.specs.meaning.Statements.{Layer, Context, is_null, is_raw, alloc_raw, realloc_of, realloc_raw, realloc_text, new_object, given_to, statement}
-use Rattle.wb_model.specs.declared.heap.Header.{Header}
-use Rattle.wb_model.specs.heap.Debug.{Debug}
-use Rattle.wb_model.specs.cells.TextCells.{IsTextAt, text_in}
+use Rattle.wb_basics.specs.declared.limits.TheConstants.{LARGEST_REQUEST, MOST_UNITS}
+use Rattle.wb_heap_model.specs.declared.heap.TheConstants.Panic.{BAD_CELL, WRONG_KIND, NULL_OR_STALE, NUMBER_OUT_OF_RANGE, SHORTER_THAN_TEXT}
+use Rattle.wb_heap_model.specs.declared.heap.Item.{Item}
+use Rattle.wb_heap_model.specs.declared.heap.Item.TheVariants as I
+use Rattle.wb_heap_model.specs.declared.heap.Kind.{Kind}
+use Rattle.wb_heap_model.specs.declared.heap.Kind.TheVariants.{Raw, Object, Text, Cleanup}
+use Rattle.wb_heap_model.specs.declared.heap.Panic.{Panic}
+use Rattle.wb_heap_model.specs.declared.heap.Ptr.{Ptr}
+use Rattle.wb_tree.specs.declared.script.Pointer.{Pointer}
+use Rattle.wb_tree.specs.declared.script.Refusal.{Refusal}
+use Rattle.wb_tree.specs.declared.script.Refusal.TheVariants.{GivesNull}
+use Rattle.wb_tree.specs.declared.script.Script.{Script}
+use Rattle.wb_tree.specs.declared.script.Statement.TheOpen.{Statement-F}
+use Rattle.wb_heap_model.specs.Row.{Cell, cell_at}
+use Rattle.wb_heap_model.specs.Spelling.{read_as}
+use Rattle.wb_heap_model.specs.Contents.{Content, units}
+use Rattle.wb_meaning.specs.State.{State, Process, with_some, require}
+use Rattle.wb_meaning.specs.Operands.{within, number_of, units_of, with_cell, with_pointer}
+use Rattle.wb_meaning.specs.Attempts.{after_growth, attempt, allocate, grow_if, push, reallocate, reallocate_longer}
+use Rattle.wb_meaning.specs.Statements.{Layer, Context, is_raw, alloc_raw, realloc_of, realloc_raw, realloc_text, new_object, given_to, statement}
+use Rattle.wb_heap_model.specs.Pointers.{is_null}
+use Rattle.wb_heap_model.specs.declared.heap.Header.{Header}
+use Rattle.wb_heap_model.specs.Debug.{Debug}
+use Rattle.wb_heap_model.specs.TextCells.{IsTextAt, text_in}
 use Rattle.wb_machine.specs.TextInvariant.{AreTexts}
 use Rattle.wb_machine.proofs.kept.TextInvariant.{is_text_at}
-use Rattle.wb_model.specs.meaning.Meaning.{meaning_of}
+use Rattle.wb_meaning.specs.Meaning.{meaning_of}
 use Rattle.wb_machine.specs.declared.pieces.PendingPiece.TheVariants.{Object}
 use Rattle.wb_machine.specs.RunState.{RunState, field_count, read_cell, state_of}
 use Rattle.wb_machine.specs.Effects.{pointer_read, number_read}

@@ -2,19 +2,19 @@
 use Rattle.std.proofs.Common.{◌≡◌, ℕ, zero, suc, ◌+◌, ◌-◌, ◌<◌, ◌⊎◌, inl, inr, length-append, Bool, true, false, List, [], ◌∷◌, ◌++◌, refl, ap, ◌∙◌, sym, subst, arith, Option, Some, None, length}
 use Rattle.std.specs.Prelude.{nat_lt, slice_get}
 use Rattle.std.proofs.lemmas.Bool.{lt-ltb, le-ltb}
-use Rattle.wb_model.specs.declared.heap.Kind.TheVariants.{Object}
-use Rattle.wb_model.specs.declared.heap.Ptr.{Ptr}
-use Rattle.wb_model.specs.declared.script.StatementAt.{StatementAt}
-use Rattle.wb_model.specs.declared.script.Script.{Script}
-use Rattle.wb_model.specs.declared.script.Statement.TheViews.{out-Statement}
-use Rattle.wb_model.specs.meaning.State.{State, goes_on, Process, and_then}
-use Rattle.wb_model.specs.meaning.Statements.{all, turns, destroy_items, destroy_object, Meaning, statement}
-use Rattle.wb_model.specs.meaning.Meaning.{begun, begun_if, meaning_of}
-use Rattle.wb_model.specs.runs.Rest.{Pending, doing, resume}
-use Rattle.wb_model.proofs.meaning.EachStatement.{statement-alike}
-use Rattle.wb_model.proofs.meaning.AlikePieces.{between}
-use Rattle.wb_model.proofs.meaning.MeaningLemmas.{anything}
-use Rattle.wb_model.proofs.meaning.ResumeLemmas.{resume-all, resume-turns}
+use Rattle.wb_heap_model.specs.declared.heap.Kind.TheVariants.{Object}
+use Rattle.wb_heap_model.specs.declared.heap.Ptr.{Ptr}
+use Rattle.wb_tree.specs.declared.script.StatementAt.{StatementAt}
+use Rattle.wb_tree.specs.declared.script.Script.{Script}
+use Rattle.wb_tree.specs.declared.script.Statement.TheViews.{out-Statement}
+use Rattle.wb_meaning.specs.State.{State, goes_on, Process, and_then}
+use Rattle.wb_meaning.specs.Statements.{all, turns, destroy_items, destroy_object, Meaning, statement}
+use Rattle.wb_meaning.specs.Meaning.{begun, begun_if, meaning_of}
+use Rattle.wb_meaning.specs.Rest.{Pending, doing, resume}
+use Rattle.wb_meaning.proofs.EachStatement.{statement-alike}
+use Rattle.wb_meaning.proofs.AlikePieces.{between}
+use Rattle.wb_meaning.proofs.MeaningLemmas.{anything}
+use Rattle.wb_meaning.proofs.ResumeLemmas.{resume-all, resume-turns}
 use Rattle.wb_machine.specs.declared.pieces.Ending.{Ending}
 use Rattle.wb_machine.specs.declared.pieces.Ending.TheVariants.{GoesOn, Returns, Leaves, Panics, Cut, NoCleanup}
 use Rattle.wb_machine.specs.declared.pieces.PendingPiece.{PendingPiece}

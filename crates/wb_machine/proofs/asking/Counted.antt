@@ -1,17 +1,17 @@
 -- A turn makes an attempt exactly where one is asked for: under a budget that ends with its step, what was left before it makes the attempts that it leaves.
 use Rattle.std.proofs.Common.{◌≡◌, ℕ, ◌+◌, ◌<◌, ◌≤◌, ◌⊎◌, inl, inr, Bool, true, false, List, refl, ap, ◌∙◌, sym, subst, arith, Option, Some, None}
 use Rattle.std.proofs.lemmas.Bool.{eq-eqb}
-use Rattle.wb_model.specs.declared.heap.Answer.{Answer}
-use Rattle.wb_model.specs.declared.heap.Rule.{Rule}
-use Rattle.wb_model.specs.declared.run.Outcome.TheVariants as outcomes
-use Rattle.wb_model.specs.declared.run.Why.TheVariants.{Budget, Ceiling}
-use Rattle.wb_model.specs.declared.script.Script.{Script}
-use Rattle.wb_model.specs.runs.Account.{Account, Settled, stopped, next_number, noted, recorded, on_answer, settled}
-use Rattle.wb_model.specs.runs.Rest.{resume, left_to_do, rest}
-use Rattle.wb_model.specs.heap.Rules.{Request, answer_to}
-use Rattle.wb_model.specs.runs.Run.{WholeRun, outcome_of, whole_of}
-use Rattle.wb_model.specs.heap.Space.{Space, space_of}
-use Rattle.wb_model.specs.meaning.State.{Query, heap_note, available_note, compress_note, goes_on, is_cut, State, Process, ends, stops, asks, notes}
+use Rattle.wb_heap_model.specs.declared.heap.Answer.{Answer}
+use Rattle.wb_heap_model.specs.declared.heap.Rule.{Rule}
+use Rattle.wb_meaning.specs.declared.run.Outcome.TheVariants as outcomes
+use Rattle.wb_meaning.specs.declared.run.Why.TheVariants.{Budget, Ceiling}
+use Rattle.wb_tree.specs.declared.script.Script.{Script}
+use Rattle.wb_meaning.specs.Account.{Account, Settled, stopped, next_number, noted, recorded, on_answer, settled}
+use Rattle.wb_meaning.specs.Rest.{resume, left_to_do, rest}
+use Rattle.wb_heap_model.specs.Rules.{Request, answer_to}
+use Rattle.wb_meaning.specs.Run.{WholeRun, outcome_of, whole_of}
+use Rattle.wb_heap_model.specs.Space.{Space, space_of}
+use Rattle.wb_meaning.specs.State.{Query, heap_note, available_note, compress_note, goes_on, is_cut, State, Process, ends, stops, asks, notes}
 use Rattle.wb_machine.specs.declared.pieces.Ending.{Ending}
 use Rattle.wb_machine.specs.declared.pieces.Ending.TheVariants.{GoesOn, Returns, Leaves, Panics, Cut, NoCleanup}
 use Rattle.wb_machine.specs.declared.pieces.PendingPiece.{PendingPiece}

@@ -2,21 +2,23 @@
 use Rattle.std.proofs.Common.{◌≡◌, ℕ, zero, suc, ◌+◌, ◌<◌, ◌≤◌, Bool, true, false, List, [], ◌∷◌, refl, sym, subst, arith, Option, Some, None}
 use Rattle.std.specs.Prelude.{nat_lt}
 use Rattle.std.proofs.lemmas.Bool.{ltb-true, ne_eqb}
-use Rattle.wb_model.specs.declared.heap.Ptr.{Ptr}
-use Rattle.wb_model.specs.declared.heap.Panic.{Panic}
-use Rattle.wb_model.specs.declared.script.Script.{Script}
-use Rattle.wb_model.specs.declared.script.Statement.TheViews.{out-Statement}
-use Rattle.wb_model.specs.heap.Row.{Cell, cell_at}
-use Rattle.wb_model.specs.meaning.State.{Content, State, Way, goes_on, returns, leaves, Process, ends, stops, asks, notes, and_then, on_plain_end, then_do, require}
-use Rattle.wb_model.specs.meaning.Statements.{Todo, all, turns, destroy_items, destroy_object, Context, Meaning, done, of_script, released, release, is_null, plain, trapped}
-use Rattle.wb_model.specs.meaning.Meaning.{begun, begun_if, piece, meaning_of}
-use Rattle.wb_model.specs.runs.Run.{main_trapped}
-use Rattle.wb_model.specs.runs.Rest.{Pending, doing, catching, caught, calling, main_catching, main_caught, Afterwards, nothing_more, gives_to, releases, after_frame, resumed, resume}
-use Rattle.wb_model.proofs.meaning.AlikeLemmas.{Fine, Keeps, Alike, AlikeAll, and_then-alike, then_do-alike, with_some-alike, with_class-alike, release-alike}
-use Rattle.wb_model.proofs.meaning.AlikeFrames.{plain-alike, in_frame-alike, destroyed_item-alike}
-use Rattle.wb_model.proofs.meaning.EachStatement.{statement-alike}
-use Rattle.wb_model.proofs.meaning.AlikePieces.{between, shows_weaker, meaning_within-alike}
-use Rattle.wb_model.proofs.meaning.MeaningLemmas.{anything, meaning_of-unfolds}
+use Rattle.wb_heap_model.specs.declared.heap.Ptr.{Ptr}
+use Rattle.wb_heap_model.specs.declared.heap.Panic.{Panic}
+use Rattle.wb_tree.specs.declared.script.Script.{Script}
+use Rattle.wb_tree.specs.declared.script.Statement.TheViews.{out-Statement}
+use Rattle.wb_heap_model.specs.Row.{Cell, cell_at}
+use Rattle.wb_heap_model.specs.Contents.{Content}
+use Rattle.wb_meaning.specs.State.{State, Way, goes_on, returns, leaves, Process, ends, stops, asks, notes, and_then, on_plain_end, then_do, require}
+use Rattle.wb_meaning.specs.Statements.{Todo, all, turns, destroy_items, destroy_object, Context, Meaning, done, of_script, released, release, plain, trapped}
+use Rattle.wb_heap_model.specs.Pointers.{is_null}
+use Rattle.wb_meaning.specs.Meaning.{begun, begun_if, piece, meaning_of}
+use Rattle.wb_meaning.specs.Run.{main_trapped}
+use Rattle.wb_meaning.specs.Rest.{Pending, doing, catching, caught, calling, main_catching, main_caught, Afterwards, nothing_more, gives_to, releases, after_frame, resumed, resume}
+use Rattle.wb_meaning.proofs.AlikeLemmas.{Fine, Keeps, Alike, AlikeAll, and_then-alike, then_do-alike, with_some-alike, with_class-alike, release-alike}
+use Rattle.wb_meaning.proofs.AlikeFrames.{plain-alike, in_frame-alike, destroyed_item-alike}
+use Rattle.wb_meaning.proofs.EachStatement.{statement-alike}
+use Rattle.wb_meaning.proofs.AlikePieces.{between, shows_weaker, meaning_within-alike}
+use Rattle.wb_meaning.proofs.MeaningLemmas.{anything, meaning_of-unfolds}
 use Rattle.wb_machine.specs.Asks.{asks_at}
 
 -- a process asks for nothing before more than a number of steps were counted

@@ -1,22 +1,21 @@
 -- An attempt that a run asks for is made, unless the ceiling cuts the run there.
 use Rattle.std.proofs.Common.{◌≡◌, ℕ, ◌+◌, ◌<◌, ◌≤◌, ◌⊎◌, inl, inr, arith, Bool, true, false, refl, sym, ◌∙◌, ap, subst, Option, Some, None}
-use Rattle.wb_model.specs.declared.heap.Answer.{Answer}
-use Rattle.wb_model.specs.declared.heap.Rule.{Rule}
-use Rattle.wb_model.specs.declared.heap.Shape.{Shape}
-use Rattle.wb_model.specs.declared.run.Outcome.TheVariants.{Cut}
-use Rattle.wb_model.specs.declared.run.Why.TheVariants.{Ceiling}
-use Rattle.wb_model.specs.declared.script.Script.{Script}
-use Rattle.wb_model.specs.heap.Placement.{placement_of}
-use Rattle.wb_model.specs.heap.Rules.{answer_to}
-use Rattle.wb_model.specs.heap.Space.{Space, space_of}
-use Rattle.wb_model.specs.meaning.Attempts.{allocate, attempt}
-use Rattle.wb_model.specs.meaning.State.{Process, Query, asks, available_note, compress_note, ends, heap_note, is_cut, notes, stops}
-use Rattle.wb_model.specs.runs.Account.{Account, End, Settled, next_number, noted, on_answer, recorded, settled, stopped}
-use Rattle.wb_model.specs.runs.Rest.{Progress, going, has_stopped, left_to_do, not_begun, rest, resume}
-use Rattle.wb_model.specs.runs.Run.{WholeRun, before, outcome_of, process, run, whole_of, whole_run}
-use Rattle.wb_model.proofs.runs.AccountLemmas.{whole-attempts, whole-with_rises}
+use Rattle.wb_heap_model.specs.declared.heap.Answer.{Answer}
+use Rattle.wb_heap_model.specs.declared.heap.Rule.{Rule}
+use Rattle.wb_heap_model.specs.declared.heap.Shape.{Shape}
+use Rattle.wb_meaning.specs.declared.run.Outcome.TheVariants.{Cut}
+use Rattle.wb_meaning.specs.declared.run.Why.TheVariants.{Ceiling}
+use Rattle.wb_tree.specs.declared.script.Script.{Script}
+use Rattle.wb_heap_model.specs.Placement.{placement_of}
+use Rattle.wb_heap_model.specs.Rules.{answer_to}
+use Rattle.wb_heap_model.specs.Space.{Space, space_of}
+use Rattle.wb_meaning.specs.Attempts.{allocate, attempt}
+use Rattle.wb_meaning.specs.State.{Process, Query, asks, available_note, compress_note, ends, heap_note, is_cut, notes, stops}
+use Rattle.wb_meaning.specs.Account.{Account, End, Settled, next_number, noted, on_answer, recorded, settled, stopped}
+use Rattle.wb_meaning.specs.Rest.{Progress, going, has_stopped, left_to_do, not_begun, rest, resume}
+use Rattle.wb_meaning.specs.Run.{MakesMoreThan, WholeRun, before, outcome_of, process, run, whole_of, whole_run}
+use Rattle.wb_meaning.proofs.AccountLemmas.{whole-attempts, whole-with_rises}
 use Rattle.wb_machine.specs.Asks.{asks_at, asks_next}
-use Rattle.wb_machine.specs.Turns.{MakesMoreThan}
 
 -- ---- what a process asks for first
 

@@ -1,8 +1,8 @@
 -- The attempt that a machine asks for next is made in its run, unless the ceiling cuts the run there.
 use Rattle.std.proofs.Common.{◌≡◌, true, false, inl, refl, subst}
-use Rattle.wb_model.specs.declared.heap.Rule.{Rule}
-use Rattle.wb_model.specs.heap.Debug.{keeps_rises}
-use Rattle.wb_model.specs.runs.Run.{whole_run}
+use Rattle.wb_heap_model.specs.declared.heap.Rule.{Rule}
+use Rattle.wb_heap_model.specs.Debug.{keeps_rises}
+use Rattle.wb_meaning.specs.Run.{whole_run}
 use Rattle.wb_machine.specs.Asks.{asks_next}
 use Rattle.wb_machine.specs.RunState.{account_of}
 use Rattle.wb_machine.specs.Seen.{Seen}

@@ -1,41 +1,44 @@
 -- Where what is left of a run adds no rise to those that are kept, the attempt that is asked for next is none.
 use Rattle.std.proofs.Common.{◌≡◌, ℕ, ℤ, ◌+◌, ◌-◌, ◌*◌, ◌≤◌, length-append, Bool, true, false, cond, List, [], ◌∷◌, ◌++◌, refl, ap, ◌∙◌, sym, subst, arith, Option, Some, None, IfSome, IsSome, option_map, length, replicate}
 use Rattle.std.specs.Prelude.{nat_eq, nat_le, nat_lt, ◌&&◌}
-use Rattle.wb_model.specs.declared.limits.TheConstants.{LARGEST_REQUEST, MOST_UNITS}
-use Rattle.wb_model.specs.declared.heap.TheConstants.Panic.{BAD_CELL, WRONG_KIND, NULL_OR_STALE, NUMBER_OUT_OF_RANGE, SHORTER_THAN_TEXT}
-use Rattle.wb_model.specs.declared.heap.Answer.{Answer}
-use Rattle.wb_model.specs.declared.heap.Attempt.{Attempt}
-use Rattle.wb_model.specs.declared.heap.Item.{Item}
-use Rattle.wb_model.specs.declared.heap.Item.TheVariants as I
-use Rattle.wb_model.specs.declared.heap.Kind.{Kind}
-use Rattle.wb_model.specs.declared.heap.Kind.TheVariants.{Raw, Object, Text, Cleanup}
-use Rattle.wb_model.specs.declared.heap.Ptr.{Ptr}
-use Rattle.wb_model.specs.declared.heap.Rule.{Rule}
-use Rattle.wb_model.specs.declared.run.Why.TheVariants.{Ceiling}
-use Rattle.wb_model.specs.declared.script.Pointer.{Pointer}
-use Rattle.wb_model.specs.declared.script.Refusal.{Refusal}
-use Rattle.wb_model.specs.declared.script.Refusal.TheVariants.{GivesNull}
-use Rattle.wb_model.specs.declared.script.Script.{Script}
-use Rattle.wb_model.specs.declared.script.Statement.TheOpen.{Statement-F}
-use Rattle.wb_model.specs.declared.size.Rise.{Rise}
-use Rattle.wb_model.specs.cells.CellRow.{resized_words}
-use Rattle.wb_model.specs.cells.Spelling.{read_as}
-use Rattle.wb_model.specs.cells.TextCells.{text_in}
-use Rattle.wb_model.specs.heap.Debug.{answer_in, longer_made, made_by, number_of_next, realloc_made, shorter_made}
-use Rattle.wb_model.specs.heap.Heap.{AfterAnswer, after_alloc, after_realloc, alloc_request, realloc_request}
-use Rattle.wb_model.specs.heap.LimitedHeap.{zero_words}
-use Rattle.wb_model.specs.heap.Placement.{place_to_grow_to, place_to_put}
-use Rattle.wb_model.specs.heap.Row.{Cell, cell_at, cell_length}
-use Rattle.wb_model.specs.heap.Rules.{Request, answer_to}
-use Rattle.wb_model.specs.heap.Space.{Space, space_of}
-use Rattle.wb_model.specs.meaning.Attempts.{after_growth, allocate, attempt, grow_if, push, reallocate, reallocate_longer, resized}
-use Rattle.wb_model.specs.meaning.Bodies.{class_at}
-use Rattle.wb_model.specs.meaning.Operands.{number_of, units_of, with_cell, with_pointer, within}
-use Rattle.wb_model.specs.meaning.State.{Content, Process, Query, State, Way, and_then, asks, available_note, compress_note, ends, fields, heap_note, is_cut, notes, null, require, set_heap, stops, units, with_some}
-use Rattle.wb_model.specs.meaning.Statements.{Context, Layer, Meaning, alloc_raw, fresh_words, given_to, is_null, is_raw, new_object, payload_of_object, realloc_of, realloc_raw, realloc_text, statement}
-use Rattle.wb_model.specs.runs.Account.{Account, next_number, noted, on_answer, recorded, settled, stopped, trace_line}
-use Rattle.wb_model.specs.runs.Rest.{left_to_do, rest}
-use Rattle.wb_model.specs.runs.Rises.{end_of_line, rise_of, rises_with, top_of_rises}
+use Rattle.wb_basics.specs.declared.limits.TheConstants.{LARGEST_REQUEST, MOST_UNITS}
+use Rattle.wb_heap_model.specs.declared.heap.TheConstants.Panic.{BAD_CELL, WRONG_KIND, NULL_OR_STALE, NUMBER_OUT_OF_RANGE, SHORTER_THAN_TEXT}
+use Rattle.wb_heap_model.specs.declared.heap.Answer.{Answer}
+use Rattle.wb_heap_model.specs.declared.heap.Attempt.{Attempt}
+use Rattle.wb_heap_model.specs.declared.heap.Item.{Item}
+use Rattle.wb_heap_model.specs.declared.heap.Item.TheVariants as I
+use Rattle.wb_heap_model.specs.declared.heap.Kind.{Kind}
+use Rattle.wb_heap_model.specs.declared.heap.Kind.TheVariants.{Raw, Object, Text, Cleanup}
+use Rattle.wb_heap_model.specs.declared.heap.Ptr.{Ptr}
+use Rattle.wb_heap_model.specs.declared.heap.Rule.{Rule}
+use Rattle.wb_meaning.specs.declared.run.Why.TheVariants.{Ceiling}
+use Rattle.wb_tree.specs.declared.script.Pointer.{Pointer}
+use Rattle.wb_tree.specs.declared.script.Refusal.{Refusal}
+use Rattle.wb_tree.specs.declared.script.Refusal.TheVariants.{GivesNull}
+use Rattle.wb_tree.specs.declared.script.Script.{Script}
+use Rattle.wb_tree.specs.declared.script.Statement.TheOpen.{Statement-F}
+use Rattle.wb_heap_model.specs.declared.size.Rise.{Rise}
+use Rattle.wb_heap_model.specs.CellRow.{resized_words}
+use Rattle.wb_heap_model.specs.Spelling.{read_as}
+use Rattle.wb_heap_model.specs.TextCells.{text_in}
+use Rattle.wb_heap_model.specs.Debug.{answer_in, longer_made, made_by, number_of_next, realloc_made, shorter_made}
+use Rattle.wb_heap_model.specs.Heap.{AfterAnswer, after_alloc, after_realloc, alloc_request, realloc_request}
+use Rattle.wb_heap_model.specs.LimitedHeap.{zero_words}
+use Rattle.wb_heap_model.specs.Placement.{place_to_grow_to, place_to_put}
+use Rattle.wb_heap_model.specs.Row.{Cell, cell_at, cell_length}
+use Rattle.wb_heap_model.specs.Rules.{Request, answer_to}
+use Rattle.wb_heap_model.specs.Space.{Space, space_of}
+use Rattle.wb_meaning.specs.Attempts.{after_growth, allocate, attempt, grow_if, push, reallocate, reallocate_longer, resized}
+use Rattle.wb_tree.specs.Bodies.{class_at, payload_of_object}
+use Rattle.wb_meaning.specs.Operands.{number_of, units_of, with_cell, with_pointer, within}
+use Rattle.wb_heap_model.specs.Contents.{Content, fields, units}
+use Rattle.wb_meaning.specs.State.{Process, Query, State, Way, and_then, asks, available_note, compress_note, ends, heap_note, is_cut, notes, require, set_heap, stops, with_some}
+use Rattle.wb_heap_model.specs.Pointers.{null, is_null}
+use Rattle.wb_meaning.specs.Statements.{Context, Layer, Meaning, alloc_raw, fresh_words, given_to, is_raw, new_object, realloc_of, realloc_raw, realloc_text, statement}
+use Rattle.wb_meaning.specs.Account.{Account, next_number, noted, on_answer, recorded, settled, stopped}
+use Rattle.wb_heap_model.specs.Reported.{trace_line}
+use Rattle.wb_meaning.specs.Rest.{left_to_do, rest}
+use Rattle.wb_heap_model.specs.Rises.{end_of_line, rise_of, rises_with, top_of_rises}
 use Rattle.wb_cleanup.specs.Pushes.{remade}
 use Rattle.wb_objects.specs.Objects.{new_words}
 use Rattle.wb_machine.specs.AttemptRises.{AsksForNoRise, alloc_rises, cell_rises, new_rises, push_rises, raw_rises, realloc_rises, realloc_text_rises, statement_rises, text_rises}

@@ -1,36 +1,38 @@
 -- Which statements ask for no attempt before a further step is counted: all but those that allocate, reallocate or push.
 use Rattle.std.proofs.Common.{◌≡◌, ℕ, ℤ, ◌+◌, ◌-◌, ◌≤◌, Bool, true, false, List, [], ◌∷◌, ◌++◌, map, length, refl, Option, Some, None, Result, Ok, Err, arith}
-use Rattle.wb_model.specs.declared.heap.Ptr.{Ptr}
-use Rattle.wb_model.specs.declared.heap.Panic.{Panic}
-use Rattle.wb_model.specs.declared.heap.TheConstants.Panic.{POP_BELOW_TRAP}
-use Rattle.wb_model.specs.declared.heap.Item.{Item}
-use Rattle.wb_model.specs.declared.heap.Item.TheVariants as I
-use Rattle.wb_model.specs.declared.text.Base.{Base}
-use Rattle.wb_model.specs.declared.text.Base.TheVariants as B
-use Rattle.wb_model.specs.declared.script.Pointer.{Pointer}
-use Rattle.wb_model.specs.declared.script.Pointer.TheVariants.{Held, Field}
-use Rattle.wb_model.specs.declared.script.Writable.{Writable}
-use Rattle.wb_model.specs.declared.script.Writable.TheVariants.{OwnBuffer, InCell}
-use Rattle.wb_model.specs.declared.script.Readable.{Readable}
-use Rattle.wb_model.specs.declared.script.Readable.TheVariants.{Of, ViewOf, Quoted}
-use Rattle.wb_model.specs.declared.script.Condition.{Condition}
-use Rattle.wb_model.specs.declared.script.Condition.TheVariants.{IsNull, NotNull, Equal, Less}
-use Rattle.wb_model.specs.declared.script.Argument.{Argument}
-use Rattle.wb_model.specs.declared.script.Argument.TheVariants.{Passed, Given}
-use Rattle.wb_model.specs.declared.script.Body.{Body}
-use Rattle.wb_model.specs.declared.script.Script.{Script}
-use Rattle.wb_model.specs.declared.script.Statement.TheOpen.{Statement-F}
-use Rattle.wb_model.specs.heap.Row.{Cell, cell_at}
-use Rattle.wb_model.specs.meaning.Texts.{Edited, Part}
-use Rattle.wb_model.specs.meaning.State.{Content, Value, null, initial, pointer, number, set_local, State, Way, goes_on, returns, leaves, Process, on_plain_end, then_do, require, with_some, unless}
-use Rattle.wb_model.specs.meaning.Operands.{with_cell, with_fields, with_pointer}
-use Rattle.wb_model.specs.meaning.Reading.{Source, whole, part, with_writable, with_readable, with_base, with_units, with_room, with_text_cell, write, write_view}
-use Rattle.wb_model.specs.meaning.Statements.{with_words, all, Context, Layer, done, of_script, released, release, is_null, in_frame, plain, with_arguments, with_condition, leave_if, trapped, destroy_items, destroy_object, newest, drop_newest, with_class, destroyed_item, destroyed_object, statement}
-use Rattle.wb_model.specs.meaning.Bodies.{procedure_at, operation_at}
-use Rattle.wb_model.proofs.meaning.AlikeLemmas.{Fine, then_do-alike, with_some-alike, with_class-alike, release-alike}
-use Rattle.wb_model.proofs.meaning.AlikeFrames.{plain-alike, in_frame-alike, destroyed_item-alike}
-use Rattle.wb_model.proofs.meaning.AlikePieces.{between}
-use Rattle.wb_model.proofs.meaning.MeaningLemmas.{anything}
+use Rattle.wb_heap_model.specs.declared.heap.Ptr.{Ptr}
+use Rattle.wb_heap_model.specs.declared.heap.Panic.{Panic}
+use Rattle.wb_heap_model.specs.declared.heap.TheConstants.Panic.{POP_BELOW_TRAP}
+use Rattle.wb_heap_model.specs.declared.heap.Item.{Item}
+use Rattle.wb_heap_model.specs.declared.heap.Item.TheVariants as I
+use Rattle.wb_heap_model.specs.declared.text.Base.{Base}
+use Rattle.wb_heap_model.specs.declared.text.Base.TheVariants as B
+use Rattle.wb_tree.specs.declared.script.Pointer.{Pointer}
+use Rattle.wb_tree.specs.declared.script.Pointer.TheVariants.{Held, Field}
+use Rattle.wb_tree.specs.declared.script.Writable.{Writable}
+use Rattle.wb_tree.specs.declared.script.Writable.TheVariants.{OwnBuffer, InCell}
+use Rattle.wb_tree.specs.declared.script.Readable.{Readable}
+use Rattle.wb_tree.specs.declared.script.Readable.TheVariants.{Of, ViewOf, Quoted}
+use Rattle.wb_tree.specs.declared.script.Condition.{Condition}
+use Rattle.wb_tree.specs.declared.script.Condition.TheVariants.{IsNull, NotNull, Equal, Less}
+use Rattle.wb_tree.specs.declared.script.Argument.{Argument}
+use Rattle.wb_tree.specs.declared.script.Argument.TheVariants.{Passed, Given}
+use Rattle.wb_tree.specs.declared.script.Body.{Body}
+use Rattle.wb_tree.specs.declared.script.Script.{Script}
+use Rattle.wb_tree.specs.declared.script.Statement.TheOpen.{Statement-F}
+use Rattle.wb_heap_model.specs.Row.{Cell, cell_at}
+use Rattle.wb_heap_model.specs.Texts.{Edited, Part}
+use Rattle.wb_heap_model.specs.Contents.{Content}
+use Rattle.wb_meaning.specs.State.{Value, initial, pointer, number, set_local, State, Way, goes_on, returns, leaves, Process, on_plain_end, then_do, require, with_some, unless}
+use Rattle.wb_heap_model.specs.Pointers.{null, is_null, newest}
+use Rattle.wb_meaning.specs.Operands.{with_cell, with_fields, with_pointer}
+use Rattle.wb_meaning.specs.Reading.{Source, whole, part, with_writable, with_readable, with_base, with_units, with_room, with_text_cell, write, write_view}
+use Rattle.wb_meaning.specs.Statements.{with_words, all, Context, Layer, done, of_script, released, release, in_frame, plain, with_arguments, with_condition, leave_if, trapped, destroy_items, destroy_object, drop_newest, with_class, destroyed_item, destroyed_object, statement}
+use Rattle.wb_tree.specs.Bodies.{procedure_at, operation_at}
+use Rattle.wb_meaning.proofs.AlikeLemmas.{Fine, then_do-alike, with_some-alike, with_class-alike, release-alike}
+use Rattle.wb_meaning.proofs.AlikeFrames.{plain-alike, in_frame-alike, destroyed_item-alike}
+use Rattle.wb_meaning.proofs.AlikePieces.{between}
+use Rattle.wb_meaning.proofs.MeaningLemmas.{anything}
 use Rattle.wb_machine.proofs.turns.Destructions.{object_destroyed}
 use Rattle.wb_machine.proofs.asking.Later.{IsLater, Onward, onward_all, later_higher, later_then, meaning_later, meant, destroyed_onward}
 

@@ -1,6 +1,6 @@
 -- What asks for no attempt and counts no step.
 use Rattle.std.proofs.Common.{◌≤◌, is_some, refl, ap, ◌∙◌, sym, subst, arith}
-use Rattle.wb_model.specs.declared.heap.Ptr.{Ptr}
+use Rattle.wb_heap_model.specs.declared.heap.Ptr.{Ptr}
 use Rattle.wb_machine.specs.RunState.{RunState}
 use Rattle.wb_machine.specs.Effects.{stepped}
 use Rattle.wb_machine.specs.Owed.{Stays, KeepsSteps, IsSameButFrames, IsQuiet}

@@ -2,18 +2,18 @@
 use Rattle.std.proofs.Common.{◌≡◌, ℕ, ◌+◌, ◌-◌, ◌<◌, ◌⊎◌, inl, inr, Bool, true, false, List, [], ◌∷◌, ◌++◌, refl, ap, ◌∙◌, sym, subst, arith, Option, Some, None, length}
 use Rattle.std.specs.Prelude.{min, nat_lt, not, slice_get}
 use Rattle.std.proofs.lemmas.Bool.{lt-ltb, ltb-true, ltb-false}
-use Rattle.wb_model.specs.declared.heap.Panic.{Panic}
-use Rattle.wb_model.specs.declared.heap.Rule.{Rule}
-use Rattle.wb_model.specs.declared.script.Script.{Script}
-use Rattle.wb_model.specs.declared.script.StatementAt.{StatementAt}
-use Rattle.wb_model.specs.declared.script.Statement.TheViews.{out-Statement}
-use Rattle.wb_model.specs.heap.Debug.{keeps_rises}
-use Rattle.wb_model.specs.meaning.State.{and_then}
-use Rattle.wb_model.specs.meaning.Statements.{all, statement}
-use Rattle.wb_model.specs.meaning.Meaning.{begun, begun_if, meaning_of}
-use Rattle.wb_model.specs.runs.Rest.{doing, resume}
-use Rattle.wb_model.specs.runs.Run.{WholeRun, whole_of}
-use Rattle.wb_model.proofs.meaning.ResumeLemmas.{resume-all}
+use Rattle.wb_heap_model.specs.declared.heap.Panic.{Panic}
+use Rattle.wb_heap_model.specs.declared.heap.Rule.{Rule}
+use Rattle.wb_tree.specs.declared.script.Script.{Script}
+use Rattle.wb_tree.specs.declared.script.StatementAt.{StatementAt}
+use Rattle.wb_tree.specs.declared.script.Statement.TheViews.{out-Statement}
+use Rattle.wb_heap_model.specs.Debug.{keeps_rises}
+use Rattle.wb_meaning.specs.State.{and_then}
+use Rattle.wb_meaning.specs.Statements.{all, statement}
+use Rattle.wb_meaning.specs.Meaning.{begun, begun_if, meaning_of}
+use Rattle.wb_meaning.specs.Rest.{doing, resume}
+use Rattle.wb_meaning.specs.Run.{WholeRun, whole_of}
+use Rattle.wb_meaning.proofs.ResumeLemmas.{resume-all}
 use Rattle.wb_machine.specs.declared.pieces.Context.{Context}
 use Rattle.wb_machine.specs.declared.pieces.Ending.{Ending}
 use Rattle.wb_machine.specs.declared.pieces.Ending.TheVariants.{GoesOn}

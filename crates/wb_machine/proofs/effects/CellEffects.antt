@@ -1,31 +1,33 @@
 -- Statements that allocate and release cells come to what they mean.
 use Rattle.std.proofs.Common.{◌≡◌, ℕ, Bool, true, false, List, refl, ap, ◌∙◌, sym, arith, cond, Option, Some, None, []}
 use Rattle.std.specs.Prelude.{option_map}
-use Rattle.wb_model.specs.declared.limits.TheConstants.{LARGEST_REQUEST}
-use Rattle.wb_model.specs.declared.heap.TheConstants.Panic.{BAD_CELL, NUMBER_OUT_OF_RANGE}
-use Rattle.wb_model.specs.declared.heap.Ptr.{Ptr}
-use Rattle.wb_model.specs.declared.heap.Rule.{Rule}
-use Rattle.wb_model.specs.declared.heap.Kind.TheVariants.{Raw}
-use Rattle.wb_model.specs.declared.heap.Answer.{Answer}
-use Rattle.wb_model.specs.declared.heap.Gave.{Gave}
-use Rattle.wb_model.specs.declared.heap.Gave.TheVariants.{Granted, Denied, Ceiling}
-use Rattle.wb_model.specs.declared.script.Script.{Script}
-use Rattle.wb_model.specs.declared.script.Holder.TheVariants as H
-use Rattle.wb_model.specs.declared.script.Pointer.{Pointer}
-use Rattle.wb_model.specs.declared.script.Pointer.TheVariants as P
-use Rattle.wb_model.specs.declared.script.Number.{Number}
-use Rattle.wb_model.specs.declared.script.Refusal.{Refusal}
-use Rattle.wb_model.specs.declared.script.Refusal.TheVariants.{GivesNull, Leaves}
-use Rattle.wb_model.specs.declared.script.Statement.TheOpen.{Statement-F}
-use Rattle.wb_model.specs.heap.Row.{Cell, cell_at, without}
-use Rattle.wb_model.specs.heap.Rules.{Request, answer_to}
-use Rattle.wb_model.specs.heap.Heap.{is_cleanup, AfterAnswer, alloc_request, after_alloc}
-use Rattle.wb_model.specs.heap.LimitedHeap.{zero_words}
-use Rattle.wb_model.specs.meaning.State.{Content, State, goes_on, ends, and_then, with_some}
-use Rattle.wb_model.specs.meaning.Operands.{number_of, set_row, within}
-use Rattle.wb_model.specs.meaning.Statements.{statement, given_to, alloc_raw, of_script, released, release, is_null, done, fresh_words}
-use Rattle.wb_model.specs.heap.Debug.{Debug, Made, number_of_next, made_by, answer_in, alloc_made, with_row}
-use Rattle.wb_model.specs.runs.Rest.{Fits}
+use Rattle.wb_basics.specs.declared.limits.TheConstants.{LARGEST_REQUEST}
+use Rattle.wb_heap_model.specs.declared.heap.TheConstants.Panic.{BAD_CELL, NUMBER_OUT_OF_RANGE}
+use Rattle.wb_heap_model.specs.declared.heap.Ptr.{Ptr}
+use Rattle.wb_heap_model.specs.declared.heap.Rule.{Rule}
+use Rattle.wb_heap_model.specs.declared.heap.Kind.TheVariants.{Raw}
+use Rattle.wb_heap_model.specs.declared.heap.Answer.{Answer}
+use Rattle.wb_heap_model.specs.declared.heap.Gave.{Gave}
+use Rattle.wb_heap_model.specs.declared.heap.Gave.TheVariants.{Granted, Denied, Ceiling}
+use Rattle.wb_tree.specs.declared.script.Script.{Script}
+use Rattle.wb_tree.specs.declared.script.Holder.TheVariants as H
+use Rattle.wb_tree.specs.declared.script.Pointer.{Pointer}
+use Rattle.wb_tree.specs.declared.script.Pointer.TheVariants as P
+use Rattle.wb_tree.specs.declared.script.Number.{Number}
+use Rattle.wb_tree.specs.declared.script.Refusal.{Refusal}
+use Rattle.wb_tree.specs.declared.script.Refusal.TheVariants.{GivesNull, Leaves}
+use Rattle.wb_tree.specs.declared.script.Statement.TheOpen.{Statement-F}
+use Rattle.wb_heap_model.specs.Row.{Cell, cell_at, without}
+use Rattle.wb_heap_model.specs.Rules.{Request, answer_to}
+use Rattle.wb_heap_model.specs.Heap.{is_cleanup, AfterAnswer, alloc_request, after_alloc}
+use Rattle.wb_heap_model.specs.LimitedHeap.{zero_words}
+use Rattle.wb_heap_model.specs.Contents.{Content}
+use Rattle.wb_meaning.specs.State.{State, goes_on, ends, and_then, with_some}
+use Rattle.wb_meaning.specs.Operands.{number_of, set_row, within}
+use Rattle.wb_meaning.specs.Statements.{statement, given_to, alloc_raw, of_script, released, release, done, fresh_words}
+use Rattle.wb_heap_model.specs.Pointers.{is_null}
+use Rattle.wb_heap_model.specs.Debug.{Debug, Made, number_of_next, made_by, answer_in, alloc_made, with_row}
+use Rattle.wb_heap_model.specs.SameRules.{Fits}
 use Rattle.wb_machine.specs.RunState.{RunState, field_count, read_cell, state_of, with_debug}
 use Rattle.wb_machine.specs.Flow.{flow, ended_by, is_stop, FitsStep}
 use Rattle.wb_machine.specs.PointerOperands.{operands_refusal}

@@ -2,33 +2,34 @@
 use Rattle.std.proofs.Common.{◌≡◌, ℕ, ◌+◌, ◌*◌, Bool, true, false, List, [], ◌∷◌, ◌++◌, length, length-append, refl, ap, ◌∙◌, sym, subst, arith, cond, Option, Some, None}
 use Rattle.std.specs.Prelude.{nat_eq, nat_le, nat_lt, option_map}
 use Rattle.std.proofs.lemmas.Bool.{lt-ltb}
-use Rattle.wb_model.specs.declared.heap.TheConstants.{KERR_NO_MEMORY}
-use Rattle.wb_model.specs.declared.heap.TheConstants.Panic.{NUMBER_OUT_OF_RANGE, POP_BELOW_TRAP, ANOTHER_ITEM_ON_TOP, NULL_OR_STALE}
-use Rattle.wb_model.specs.declared.heap.Ptr.{Ptr}
-use Rattle.wb_model.specs.declared.heap.Item.{Item}
-use Rattle.wb_model.specs.declared.heap.Item.TheVariants as I
-use Rattle.wb_model.specs.declared.heap.Rule.{Rule}
-use Rattle.wb_model.specs.declared.heap.Kind.{Kind}
-use Rattle.wb_model.specs.declared.heap.Kind.TheVariants.{Cleanup}
-use Rattle.wb_model.specs.declared.heap.Kind.TheVariants as K
-use Rattle.wb_model.specs.declared.heap.Answer.{Answer}
-use Rattle.wb_model.specs.declared.heap.Gave.TheVariants as G
-use Rattle.wb_model.specs.declared.script.Script.{Script}
-use Rattle.wb_model.specs.declared.script.Pointer.{Pointer}
-use Rattle.wb_model.specs.declared.script.Number.{Number}
-use Rattle.wb_model.specs.declared.script.Statement.TheOpen.{Statement-F}
-use Rattle.wb_model.specs.heap.Row.{Cell, cell_at, cell_length}
-use Rattle.wb_model.specs.cells.CellRow.{resized_words, with_payload}
-use Rattle.wb_model.specs.heap.Rules.{Request}
-use Rattle.wb_model.specs.heap.Heap.{AfterAnswer, after_realloc, realloc_request}
-use Rattle.wb_model.specs.meaning.State.{Content, State, Way, goes_on, leaves, Process, ends, and_then, require, with_some}
-use Rattle.wb_model.specs.meaning.Operands.{not_negative, with_cell}
-use Rattle.wb_model.specs.meaning.Attempts.{after_growth, grow_if, push, reallocate, reallocate_longer}
-use Rattle.wb_model.specs.meaning.Reading.{is_same_pointer}
-use Rattle.wb_model.specs.meaning.Statements.{done, drop_newest, has_above, item_pointer, newest, statement}
-use Rattle.wb_model.specs.heap.Debug.{Debug, Made, answer_in, debug_changed, gave_of, longer_made, made_by, number_of_next, shorter_made}
-use Rattle.wb_model.specs.runs.Rest.{Fits}
-use Rattle.wb_model.proofs.heaps.TextCellsHeap.{found-changed}
+use Rattle.wb_heap_model.specs.declared.heap.TheConstants.{KERR_NO_MEMORY}
+use Rattle.wb_heap_model.specs.declared.heap.TheConstants.Panic.{NUMBER_OUT_OF_RANGE, POP_BELOW_TRAP, ANOTHER_ITEM_ON_TOP, NULL_OR_STALE}
+use Rattle.wb_heap_model.specs.declared.heap.Ptr.{Ptr}
+use Rattle.wb_heap_model.specs.declared.heap.Item.{Item}
+use Rattle.wb_heap_model.specs.declared.heap.Item.TheVariants as I
+use Rattle.wb_heap_model.specs.declared.heap.Rule.{Rule}
+use Rattle.wb_heap_model.specs.declared.heap.Kind.{Kind}
+use Rattle.wb_heap_model.specs.declared.heap.Kind.TheVariants.{Cleanup}
+use Rattle.wb_heap_model.specs.declared.heap.Kind.TheVariants as K
+use Rattle.wb_heap_model.specs.declared.heap.Answer.{Answer}
+use Rattle.wb_heap_model.specs.declared.heap.Gave.TheVariants as G
+use Rattle.wb_tree.specs.declared.script.Script.{Script}
+use Rattle.wb_tree.specs.declared.script.Pointer.{Pointer}
+use Rattle.wb_tree.specs.declared.script.Number.{Number}
+use Rattle.wb_tree.specs.declared.script.Statement.TheOpen.{Statement-F}
+use Rattle.wb_heap_model.specs.Row.{Cell, cell_at, cell_length}
+use Rattle.wb_heap_model.specs.CellRow.{resized_words, with_payload}
+use Rattle.wb_heap_model.specs.Rules.{Request}
+use Rattle.wb_heap_model.specs.Heap.{AfterAnswer, after_realloc, realloc_request}
+use Rattle.wb_heap_model.specs.Contents.{Content}
+use Rattle.wb_meaning.specs.State.{State, Way, goes_on, leaves, Process, ends, and_then, require, with_some}
+use Rattle.wb_meaning.specs.Operands.{not_negative, with_cell}
+use Rattle.wb_meaning.specs.Attempts.{after_growth, grow_if, push, reallocate, reallocate_longer}
+use Rattle.wb_heap_model.specs.Pointers.{is_same_pointer, item_pointer, newest}
+use Rattle.wb_meaning.specs.Statements.{done, drop_newest, has_above, statement}
+use Rattle.wb_heap_model.specs.Debug.{Debug, Made, answer_in, debug_changed, gave_of, longer_made, made_by, number_of_next, shorter_made}
+use Rattle.wb_heap_model.specs.SameRules.{Fits}
+use Rattle.wb_heap_model.proofs.TextCellsHeap.{found-changed}
 use Rattle.wb_cleanup.specs.Pushes.{remade}
 use Rattle.wb_cleanup.specs.Stacks.{refusal_of_top}
 use Rattle.wb_machine.specs.RunState.{RunState, read_cell, read_row, state_of, with_debug}

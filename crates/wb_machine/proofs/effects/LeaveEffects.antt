@@ -1,17 +1,18 @@
 -- Statements that leave or end a body come to what they mean, and what an `if` asks is what it asks of the definitions.
 use Rattle.std.proofs.Common.{◌≡◌, ℤ, pos, Bool, true, false, not, refl, ap, ◌∙◌, sym, None, []}
 use Rattle.std.specs.Prelude.{◌&&◌, int_le, int_lt}
-use Rattle.wb_model.specs.declared.heap.TheConstants.{KERR_NO_MEMORY}
-use Rattle.wb_model.specs.declared.heap.Rule.{Rule}
-use Rattle.wb_model.specs.declared.script.Script.{Script}
-use Rattle.wb_model.specs.declared.script.Pointer.{Pointer}
-use Rattle.wb_model.specs.declared.script.Number.{Number}
-use Rattle.wb_model.specs.declared.script.Condition.{Condition}
-use Rattle.wb_model.specs.declared.script.Condition.TheVariants.{IsNull, NotNull, Equal, Less}
-use Rattle.wb_model.specs.declared.script.Statement.TheOpen.{Statement-F}
-use Rattle.wb_model.specs.meaning.State.{returns, leaves, Process, ends, null, and_then}
-use Rattle.wb_model.specs.meaning.Operands.{number_of}
-use Rattle.wb_model.specs.meaning.Statements.{statement, is_null, leave_if, with_condition}
+use Rattle.wb_heap_model.specs.declared.heap.TheConstants.{KERR_NO_MEMORY}
+use Rattle.wb_heap_model.specs.declared.heap.Rule.{Rule}
+use Rattle.wb_tree.specs.declared.script.Script.{Script}
+use Rattle.wb_tree.specs.declared.script.Pointer.{Pointer}
+use Rattle.wb_tree.specs.declared.script.Number.{Number}
+use Rattle.wb_tree.specs.declared.script.Condition.{Condition}
+use Rattle.wb_tree.specs.declared.script.Condition.TheVariants.{IsNull, NotNull, Equal, Less}
+use Rattle.wb_tree.specs.declared.script.Statement.TheOpen.{Statement-F}
+use Rattle.wb_meaning.specs.State.{returns, leaves, Process, ends, and_then}
+use Rattle.wb_heap_model.specs.Pointers.{null, is_null}
+use Rattle.wb_meaning.specs.Operands.{number_of}
+use Rattle.wb_meaning.specs.Statements.{statement, leave_if, with_condition}
 use Rattle.wb_machine.specs.RunState.{RunState, state_of}
 use Rattle.wb_machine.specs.Flow.{flow}
 use Rattle.wb_machine.specs.PointerOperands.{operands_refusal, first_refusal, of_condition}

@@ -1,15 +1,15 @@
 -- What is printed and noted comes to what it means.
 use Rattle.std.proofs.Common.{◌≡◌, ℕ, ◌-◌, [], ◌∷◌, ◌++◌, length, ap, ◌∙◌, sym, None}
 use Rattle.std.specs.Fmt.{signed_decimal}
-use Rattle.wb_model.specs.declared.run.Note.TheVariants.{Compress}
-use Rattle.wb_model.specs.declared.script.Script.{Script}
-use Rattle.wb_model.specs.declared.script.Number.{Number}
-use Rattle.wb_model.specs.declared.script.Statement.TheOpen.{Statement-F}
-use Rattle.wb_model.specs.heap.Row.{headers, top_of, total_length}
-use Rattle.wb_model.specs.heap.Space.{space_of, space_below, bound_below, compressed_to}
-use Rattle.wb_model.specs.meaning.State.{heap_note, available_note, compress_note, goes_on, and_then}
-use Rattle.wb_model.specs.meaning.Statements.{statement, print_line}
-use Rattle.wb_model.specs.runs.Account.{settled, noted}
+use Rattle.wb_heap_model.specs.declared.reported.Note.TheVariants.{Compress}
+use Rattle.wb_tree.specs.declared.script.Script.{Script}
+use Rattle.wb_tree.specs.declared.script.Number.{Number}
+use Rattle.wb_tree.specs.declared.script.Statement.TheOpen.{Statement-F}
+use Rattle.wb_heap_model.specs.Row.{headers, top_of, total_length}
+use Rattle.wb_heap_model.specs.Space.{space_of, space_below, bound_below, compressed_to}
+use Rattle.wb_meaning.specs.State.{heap_note, available_note, compress_note, goes_on, and_then}
+use Rattle.wb_meaning.specs.Statements.{statement, print_line}
+use Rattle.wb_meaning.specs.Account.{settled, noted}
 use Rattle.wb_machine.specs.RunState.{RunState, state_of, account_of}
 use Rattle.wb_machine.specs.Flow.{flow}
 use Rattle.wb_machine.specs.PointerOperands.{operands_refusal}

@@ -1,20 +1,21 @@
 -- Marks, checks and settings of failures come to what they mean.
 use Rattle.std.proofs.Common.{◌≡◌, ℕ, List, refl, ap, ◌∙◌, sym, Option, Some, None}
 use Rattle.std.specs.Prelude.{nat_eq, if◌then◌else◌}
-use Rattle.wb_model.specs.declared.heap.TheConstants.Panic.{NUMBER_OUT_OF_RANGE, NO_OPEN_MARK}
-use Rattle.wb_model.specs.declared.heap.Header.{Header}
-use Rattle.wb_model.specs.declared.heap.Panic.{Panic}
-use Rattle.wb_model.specs.declared.heap.Rule.{Rule}
-use Rattle.wb_model.specs.declared.script.Script.{Script}
-use Rattle.wb_model.specs.declared.script.Number.{Number}
-use Rattle.wb_model.specs.declared.script.Statement.TheOpen.{Statement-F}
-use Rattle.wb_model.specs.heap.Row.{Cell, headers}
-use Rattle.wb_model.specs.heap.Rules.{Setting, never, next, each}
-use Rattle.wb_model.specs.heap.Heap.{after_mark_end, mark_end_refusal, checked, cells_of_level, cells_of_all_levels}
-use Rattle.wb_model.specs.meaning.State.{Content, goes_on, ends, and_then, with_some, unless, set_heap}
-use Rattle.wb_model.specs.meaning.Operands.{not_negative}
-use Rattle.wb_model.specs.meaning.Statements.{statement, done, set_setting, at_least_one}
-use Rattle.wb_model.specs.heap.Debug.{check_refusal, check_all_refusal, with_setting}
+use Rattle.wb_heap_model.specs.declared.heap.TheConstants.Panic.{NUMBER_OUT_OF_RANGE, NO_OPEN_MARK}
+use Rattle.wb_heap_model.specs.declared.heap.Header.{Header}
+use Rattle.wb_heap_model.specs.declared.heap.Panic.{Panic}
+use Rattle.wb_heap_model.specs.declared.heap.Rule.{Rule}
+use Rattle.wb_tree.specs.declared.script.Script.{Script}
+use Rattle.wb_tree.specs.declared.script.Number.{Number}
+use Rattle.wb_tree.specs.declared.script.Statement.TheOpen.{Statement-F}
+use Rattle.wb_heap_model.specs.Row.{Cell, headers}
+use Rattle.wb_heap_model.specs.Rules.{Setting, never, next, each}
+use Rattle.wb_heap_model.specs.Heap.{after_mark_end, mark_end_refusal, checked, cells_of_level, cells_of_all_levels}
+use Rattle.wb_heap_model.specs.Contents.{Content}
+use Rattle.wb_meaning.specs.State.{goes_on, ends, and_then, with_some, unless, set_heap}
+use Rattle.wb_meaning.specs.Operands.{not_negative}
+use Rattle.wb_meaning.specs.Statements.{statement, done, set_setting, at_least_one}
+use Rattle.wb_heap_model.specs.Debug.{check_refusal, check_all_refusal, with_setting}
 use Rattle.wb_machine.specs.RunState.{RunState, read_row, state_of, with_debug}
 use Rattle.wb_machine.specs.Flow.{flow}
 use Rattle.wb_machine.specs.PointerOperands.{operands_refusal}

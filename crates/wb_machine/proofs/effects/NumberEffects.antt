@@ -1,14 +1,15 @@
 -- Statements that set locals come to what they mean.
 use Rattle.std.proofs.Common.{◌≡◌, ℕ, ℤ, ◌+ℤ◌, Bool, true, false, refl, ap, ◌∙◌, sym, cond, None, [], ◌∷◌}
-use Rattle.wb_model.specs.declared.heap.TheConstants.Panic.{NUMBER_OUT_OF_RANGE}
-use Rattle.wb_model.specs.declared.heap.Rule.{Rule}
-use Rattle.wb_model.specs.declared.script.Script.{Script}
-use Rattle.wb_model.specs.declared.script.Pointer.{Pointer}
-use Rattle.wb_model.specs.declared.script.Number.{Number}
-use Rattle.wb_model.specs.declared.script.Statement.TheOpen.{Statement-F}
-use Rattle.wb_model.specs.meaning.State.{number, State, goes_on, and_then, require, set_local, number_in, null}
-use Rattle.wb_model.specs.meaning.Operands.{set_pointer, with_pointer}
-use Rattle.wb_model.specs.meaning.Statements.{statement, done, in_range}
+use Rattle.wb_heap_model.specs.declared.heap.TheConstants.Panic.{NUMBER_OUT_OF_RANGE}
+use Rattle.wb_heap_model.specs.declared.heap.Rule.{Rule}
+use Rattle.wb_tree.specs.declared.script.Script.{Script}
+use Rattle.wb_tree.specs.declared.script.Pointer.{Pointer}
+use Rattle.wb_tree.specs.declared.script.Number.{Number}
+use Rattle.wb_tree.specs.declared.script.Statement.TheOpen.{Statement-F}
+use Rattle.wb_meaning.specs.State.{number, State, goes_on, and_then, require, set_local, number_in}
+use Rattle.wb_heap_model.specs.Pointers.{null}
+use Rattle.wb_meaning.specs.Operands.{set_pointer, with_pointer}
+use Rattle.wb_meaning.specs.Statements.{statement, done, in_range}
 use Rattle.wb_machine.specs.RunState.{RunState, state_of, value_in}
 use Rattle.wb_machine.specs.Flow.{flow}
 use Rattle.wb_machine.specs.PointerOperands.{operands_refusal}

@@ -3,21 +3,23 @@ use Rattle.std.proofs.Common.{◌≡◌, ℕ, ◌+◌, ◌-◌, ◌*◌, ◌/◌
 use Rattle.std.specs.Prelude.{nat_lt}
 use Rattle.std.proofs.lemmas.Bool.{ltb-true}
 use Rattle.std.proofs.lemmas.List.{length-map}
-use Rattle.wb_model.specs.declared.heap.Item.TheVariants as I
-use Rattle.wb_model.specs.declared.heap.Kind.TheVariants.{Object}
-use Rattle.wb_model.specs.declared.script.Class.{Class}
-use Rattle.wb_model.specs.declared.script.Pointer.{Pointer}
-use Rattle.wb_model.specs.declared.script.Refusal.{Refusal}
-use Rattle.wb_model.specs.declared.script.Script.{Script}
-use Rattle.wb_model.specs.declared.script.Statement.TheOpen.{Statement-F}
-use Rattle.wb_model.specs.meaning.Attempts.{push}
-use Rattle.wb_model.specs.meaning.Bodies.{class_at}
-use Rattle.wb_model.specs.heap.Debug.{Made, answer_in}
-use Rattle.wb_model.specs.heap.Heap.{alloc_request, after_alloc}
-use Rattle.wb_model.specs.runs.Rest.{Fits}
-use Rattle.wb_model.specs.language.Sound.{is_statement, is_target}
-use Rattle.wb_model.specs.meaning.State.{and_then, fields, null}
-use Rattle.wb_model.specs.meaning.Statements.{Layer, given_to, new_object, payload_of_object, statement}
+use Rattle.wb_heap_model.specs.declared.heap.Item.TheVariants as I
+use Rattle.wb_heap_model.specs.declared.heap.Kind.TheVariants.{Object}
+use Rattle.wb_tree.specs.declared.script.Class.{Class}
+use Rattle.wb_tree.specs.declared.script.Pointer.{Pointer}
+use Rattle.wb_tree.specs.declared.script.Refusal.{Refusal}
+use Rattle.wb_tree.specs.declared.script.Script.{Script}
+use Rattle.wb_tree.specs.declared.script.Statement.TheOpen.{Statement-F}
+use Rattle.wb_meaning.specs.Attempts.{push}
+use Rattle.wb_tree.specs.Bodies.{class_at, payload_of_object}
+use Rattle.wb_heap_model.specs.Debug.{Made, answer_in}
+use Rattle.wb_heap_model.specs.Heap.{alloc_request, after_alloc}
+use Rattle.wb_heap_model.specs.SameRules.{Fits}
+use Rattle.wb_tree.specs.Sound.{is_statement, is_target}
+use Rattle.wb_meaning.specs.State.{and_then}
+use Rattle.wb_heap_model.specs.Contents.{fields}
+use Rattle.wb_heap_model.specs.Pointers.{null}
+use Rattle.wb_meaning.specs.Statements.{Layer, given_to, new_object, statement}
 use Rattle.wb_objects.specs.Objects.{new_words, object_made}
 use Rattle.wb_objects.proofs.Made.{new-fields}
 use Rattle.wb_machine.specs.RunState.{RunState, state_of, with_debug}

@@ -1,15 +1,15 @@
 -- A new object leaves texts and the cleanup stack as they are, and what no turn changes.
 use Rattle.std.proofs.Common.{◌≡◌, ℕ, List, length, refl, Option, Some, None, Result, OnOk, OnErr}
-use Rattle.wb_model.specs.declared.heap.Answer.{Answer}
-use Rattle.wb_model.specs.declared.heap.Answer.TheVariants.{Granted, Simulated, Refused}
-use Rattle.wb_model.specs.declared.heap.Kind.TheVariants.{Object}
-use Rattle.wb_model.specs.declared.script.Class.{Class}
-use Rattle.wb_model.specs.heap.Row.{Cell, cell_at}
-use Rattle.wb_model.specs.heap.Rules.{Request}
-use Rattle.wb_model.specs.heap.Heap.{alloc_request, after_alloc, new_cell}
-use Rattle.wb_model.specs.meaning.Statements.{payload_of_object}
-use Rattle.wb_model.specs.heap.Debug.{Debug, IsSoundDebug, answer_in, made_by, number_of_next}
-use Rattle.wb_model.proofs.heaps.Reallocations.{cell_at-inserted_other, not_at-number}
+use Rattle.wb_heap_model.specs.declared.heap.Answer.{Answer}
+use Rattle.wb_heap_model.specs.declared.heap.Answer.TheVariants.{Granted, Simulated, Refused}
+use Rattle.wb_heap_model.specs.declared.heap.Kind.TheVariants.{Object}
+use Rattle.wb_tree.specs.declared.script.Class.{Class}
+use Rattle.wb_heap_model.specs.Row.{Cell, cell_at}
+use Rattle.wb_heap_model.specs.Rules.{Request}
+use Rattle.wb_heap_model.specs.Heap.{alloc_request, after_alloc, new_cell}
+use Rattle.wb_tree.specs.Bodies.{payload_of_object}
+use Rattle.wb_heap_model.specs.Debug.{Debug, IsSoundDebug, answer_in, made_by, number_of_next}
+use Rattle.wb_heap_model.proofs.Reallocations.{cell_at-inserted_other, not_at-number}
 use Rattle.wb_cleanup.specs.declared.cleanup.Cleanup.{Cleanup}
 use Rattle.wb_cleanup.specs.Stacks.{IsStack, cell_of}
 use Rattle.wb_cleanup.proofs.HeapBesideStack.{old-number}

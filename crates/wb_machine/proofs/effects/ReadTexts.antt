@@ -2,30 +2,31 @@
 use Rattle.std.proofs.Common.{◌≡◌, ℕ, ◌-◌, List, ◌++◌, length, true, refl, ap, ◌∙◌, sym, arith, cond, Option, Some, None, take, drop, replicate}
 use Rattle.std.specs.Prelude.{option_map}
 use Rattle.std.proofs.lemmas.List.{take_all, append-nil}
-use Rattle.wb_model.specs.declared.heap.TheConstants.Panic.{NULL_OR_STALE, WRONG_KIND}
-use Rattle.wb_model.specs.declared.heap.Kind.{Kind}
-use Rattle.wb_model.specs.declared.heap.Kind.TheVariants.{Raw, Object, Text, Cleanup}
-use Rattle.wb_model.specs.declared.heap.Ptr.{Ptr}
-use Rattle.wb_model.specs.declared.script.Script.{Script}
-use Rattle.wb_model.specs.declared.script.Writable.{Writable}
-use Rattle.wb_model.specs.declared.script.Writable.TheVariants.{OwnBuffer, InCell}
-use Rattle.wb_model.specs.declared.script.Readable.{Readable}
-use Rattle.wb_model.specs.declared.script.Readable.TheVariants.{Of, ViewOf, Quoted}
-use Rattle.wb_model.specs.declared.text.Base.{Base}
-use Rattle.wb_model.specs.declared.text.Base.TheVariants as B
-use Rattle.wb_model.specs.declared.text.View.{View}
-use Rattle.wb_model.specs.heap.Row.{Cell, cell_at, usable_of}
-use Rattle.wb_model.specs.cells.CellRow.{content_or_nil}
-use Rattle.wb_model.specs.cells.Spelling.{read_as}
-use Rattle.wb_model.specs.meaning.State.{Content, Value, pointer, number, buffer, view, State, Process, with_some}
-use Rattle.wb_model.specs.meaning.Operands.{with_cell, units_of}
-use Rattle.wb_model.specs.meaning.Texts.{units_of_part}
-use Rattle.wb_model.specs.cells.TextCells.{text_in, text_at, usable_or_none}
-use Rattle.wb_model.specs.meaning.Reading.{Source, whole, part, base_of, position_of, view_in, max_units, with_writable, with_readable, with_text_cell, with_base, with_units, with_room}
+use Rattle.wb_heap_model.specs.declared.heap.TheConstants.Panic.{NULL_OR_STALE, WRONG_KIND}
+use Rattle.wb_heap_model.specs.declared.heap.Kind.{Kind}
+use Rattle.wb_heap_model.specs.declared.heap.Kind.TheVariants.{Raw, Object, Text, Cleanup}
+use Rattle.wb_heap_model.specs.declared.heap.Ptr.{Ptr}
+use Rattle.wb_tree.specs.declared.script.Script.{Script}
+use Rattle.wb_tree.specs.declared.script.Writable.{Writable}
+use Rattle.wb_tree.specs.declared.script.Writable.TheVariants.{OwnBuffer, InCell}
+use Rattle.wb_tree.specs.declared.script.Readable.{Readable}
+use Rattle.wb_tree.specs.declared.script.Readable.TheVariants.{Of, ViewOf, Quoted}
+use Rattle.wb_heap_model.specs.declared.text.Base.{Base}
+use Rattle.wb_heap_model.specs.declared.text.Base.TheVariants as B
+use Rattle.wb_heap_model.specs.declared.text.View.{View}
+use Rattle.wb_heap_model.specs.Row.{Cell, cell_at, usable_of}
+use Rattle.wb_heap_model.specs.CellRow.{content_or_nil}
+use Rattle.wb_heap_model.specs.Spelling.{read_as}
+use Rattle.wb_heap_model.specs.Contents.{Content}
+use Rattle.wb_meaning.specs.State.{Value, pointer, number, buffer, view, State, Process, with_some}
+use Rattle.wb_meaning.specs.Operands.{with_cell, units_of}
+use Rattle.wb_heap_model.specs.Texts.{units_of_part, max_units}
+use Rattle.wb_heap_model.specs.TextCells.{text_in, text_at, usable_or_none}
+use Rattle.wb_meaning.specs.Reading.{Source, whole, part, base_of, position_of, view_in, with_writable, with_readable, with_text_cell, with_base, with_units, with_room}
 use Rattle.wb_machine.specs.RunState.{RunState, field_count, read_cell, state_of, value_in}
 use Rattle.wb_machine.specs.LocalValues.{window_in}
 use Rattle.wb_machine.specs.TextOperands.{base_named, is_text, text_refusal, base_refusal, base_text, base_max, is_writable_base, window_units, whole_of, window_read}
-use Rattle.wb_model.proofs.heaps.TextCells.{length-exactly}
+use Rattle.wb_heap_model.proofs.TextCells.{length-exactly}
 use Rattle.wb_machine.proofs.kept.Rows.{read_cell_at}
 use Rattle.wb_machine.specs.PointerOperands.{first_refusal, of_writable, of_readable}
 pub use Rattle.wb_machine.proofs.effects.PointerOperands.{through}

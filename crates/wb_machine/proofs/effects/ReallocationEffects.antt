@@ -1,26 +1,27 @@
 -- Reallocations come to what they mean.
 use Rattle.std.proofs.Common.{◌≡◌, ℕ, ℤ, Bool, true, false, List, refl, ap, ◌∙◌, sym, cond, Option, Some, None, [], ◌∷◌}
 use Rattle.std.specs.Prelude.{nat_lt, option_map}
-use Rattle.wb_model.specs.declared.limits.TheConstants.{LARGEST_REQUEST}
-use Rattle.wb_model.specs.declared.heap.TheConstants.Panic.{NUMBER_OUT_OF_RANGE, BAD_CELL, WRONG_KIND}
-use Rattle.wb_model.specs.declared.heap.Ptr.{Ptr}
-use Rattle.wb_model.specs.declared.heap.Rule.{Rule}
-use Rattle.wb_model.specs.declared.heap.Kind.{Kind}
-use Rattle.wb_model.specs.declared.heap.Kind.TheVariants.{Raw, Object, Text, Cleanup}
-use Rattle.wb_model.specs.declared.script.Script.{Script}
-use Rattle.wb_model.specs.declared.script.Pointer.{Pointer}
-use Rattle.wb_model.specs.declared.script.Number.{Number}
-use Rattle.wb_model.specs.declared.script.Refusal.{Refusal}
-use Rattle.wb_model.specs.declared.script.Statement.TheOpen.{Statement-F}
-use Rattle.wb_model.specs.heap.Row.{Cell, cell_at, cell_length}
-use Rattle.wb_model.specs.cells.CellRow.{resized_words}
-use Rattle.wb_model.specs.heap.Heap.{realloc_request, after_realloc}
-use Rattle.wb_model.specs.meaning.State.{and_then, require, with_some}
-use Rattle.wb_model.specs.meaning.Operands.{number_of, within, with_pointer}
-use Rattle.wb_model.specs.meaning.Attempts.{reallocate_longer, reallocate}
-use Rattle.wb_model.specs.meaning.Statements.{statement, given_to, is_null, is_raw, realloc_raw, realloc_of}
-use Rattle.wb_model.specs.heap.Debug.{Made, answer_in, longer_made, shorter_made}
-use Rattle.wb_model.specs.runs.Rest.{Fits}
+use Rattle.wb_basics.specs.declared.limits.TheConstants.{LARGEST_REQUEST}
+use Rattle.wb_heap_model.specs.declared.heap.TheConstants.Panic.{NUMBER_OUT_OF_RANGE, BAD_CELL, WRONG_KIND}
+use Rattle.wb_heap_model.specs.declared.heap.Ptr.{Ptr}
+use Rattle.wb_heap_model.specs.declared.heap.Rule.{Rule}
+use Rattle.wb_heap_model.specs.declared.heap.Kind.{Kind}
+use Rattle.wb_heap_model.specs.declared.heap.Kind.TheVariants.{Raw, Object, Text, Cleanup}
+use Rattle.wb_tree.specs.declared.script.Script.{Script}
+use Rattle.wb_tree.specs.declared.script.Pointer.{Pointer}
+use Rattle.wb_tree.specs.declared.script.Number.{Number}
+use Rattle.wb_tree.specs.declared.script.Refusal.{Refusal}
+use Rattle.wb_tree.specs.declared.script.Statement.TheOpen.{Statement-F}
+use Rattle.wb_heap_model.specs.Row.{Cell, cell_at, cell_length}
+use Rattle.wb_heap_model.specs.CellRow.{resized_words}
+use Rattle.wb_heap_model.specs.Heap.{realloc_request, after_realloc}
+use Rattle.wb_meaning.specs.State.{and_then, require, with_some}
+use Rattle.wb_meaning.specs.Operands.{number_of, within, with_pointer}
+use Rattle.wb_meaning.specs.Attempts.{reallocate_longer, reallocate}
+use Rattle.wb_meaning.specs.Statements.{statement, given_to, is_raw, realloc_raw, realloc_of}
+use Rattle.wb_heap_model.specs.Pointers.{is_null}
+use Rattle.wb_heap_model.specs.Debug.{Made, answer_in, longer_made, shorter_made}
+use Rattle.wb_heap_model.specs.SameRules.{Fits}
 use Rattle.wb_machine.specs.RunState.{RunState, read_cell, state_of, with_debug}
 use Rattle.wb_machine.specs.Flow.{FitsStep, flow}
 use Rattle.wb_machine.specs.PointerOperands.{operands_refusal}

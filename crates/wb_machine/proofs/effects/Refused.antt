@@ -1,20 +1,20 @@
 -- A statement that is refused for an operand means the panic, whatever follows.
 use Rattle.std.proofs.Common.{◌≡◌, Bool, List, [], ◌∷◌, ◌++◌, map, refl, ap, ◌∙◌, Some, None}
-use Rattle.wb_model.specs.declared.heap.Panic.{Panic}
-use Rattle.wb_model.specs.declared.heap.Ptr.{Ptr}
-use Rattle.wb_model.specs.declared.text.Base.{Base}
-use Rattle.wb_model.specs.declared.script.Script.{Script}
-use Rattle.wb_model.specs.declared.script.Pointer.{Pointer}
-use Rattle.wb_model.specs.declared.script.Writable.{Writable}
-use Rattle.wb_model.specs.declared.script.Readable.{Readable}
-use Rattle.wb_model.specs.declared.script.Condition.{Condition}
-use Rattle.wb_model.specs.declared.script.Argument.{Argument}
-use Rattle.wb_model.specs.declared.script.Argument.TheVariants.{Passed, Given}
-use Rattle.wb_model.specs.declared.script.Statement.TheOpen.{Statement-F}
-use Rattle.wb_model.specs.meaning.State.{Value, pointer, number, panics, Process, stops}
-use Rattle.wb_model.specs.meaning.Operands.{number_of, with_pointer}
-use Rattle.wb_model.specs.meaning.Reading.{Source, with_writable, with_readable}
-use Rattle.wb_model.specs.meaning.Statements.{Layer, Meaning, Context, with_arguments, with_condition, statement}
+use Rattle.wb_heap_model.specs.declared.heap.Panic.{Panic}
+use Rattle.wb_heap_model.specs.declared.heap.Ptr.{Ptr}
+use Rattle.wb_heap_model.specs.declared.text.Base.{Base}
+use Rattle.wb_tree.specs.declared.script.Script.{Script}
+use Rattle.wb_tree.specs.declared.script.Pointer.{Pointer}
+use Rattle.wb_tree.specs.declared.script.Writable.{Writable}
+use Rattle.wb_tree.specs.declared.script.Readable.{Readable}
+use Rattle.wb_tree.specs.declared.script.Condition.{Condition}
+use Rattle.wb_tree.specs.declared.script.Argument.{Argument}
+use Rattle.wb_tree.specs.declared.script.Argument.TheVariants.{Passed, Given}
+use Rattle.wb_tree.specs.declared.script.Statement.TheOpen.{Statement-F}
+use Rattle.wb_meaning.specs.State.{Value, pointer, number, panics, Process, stops}
+use Rattle.wb_meaning.specs.Operands.{number_of, with_pointer}
+use Rattle.wb_meaning.specs.Reading.{Source, with_writable, with_readable}
+use Rattle.wb_meaning.specs.Statements.{Layer, Meaning, Context, with_arguments, with_condition, statement}
 use Rattle.wb_machine.specs.RunState.{RunState, state_of}
 use Rattle.wb_machine.specs.LocalValues.{passed}
 use Rattle.wb_machine.specs.PointerOperands.{pointer_read, pointer_refusal, first_refusal, of_arguments, of_writable, of_readable, of_condition, operands_refusal}

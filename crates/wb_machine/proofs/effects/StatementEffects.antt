@@ -1,12 +1,12 @@
 -- What was carried out comes to what a statement means: the frame of each proof, and number operands.
 use Rattle.std.proofs.Common.{◌≡◌, ℕ, refl, ap, ◌∙◌, sym, subst, None}
-use Rattle.wb_model.specs.declared.heap.Rule.{Rule}
-use Rattle.wb_model.specs.declared.script.Script.{Script}
-use Rattle.wb_model.specs.declared.script.Number.{Number}
-use Rattle.wb_model.specs.declared.script.Number.TheVariants as N
-use Rattle.wb_model.specs.meaning.State.{Process, and_then}
-use Rattle.wb_model.specs.meaning.Operands.{number_of}
-use Rattle.wb_model.specs.meaning.Statements.{Layer, statement}
+use Rattle.wb_heap_model.specs.declared.heap.Rule.{Rule}
+use Rattle.wb_tree.specs.declared.script.Script.{Script}
+use Rattle.wb_tree.specs.declared.script.Number.{Number}
+use Rattle.wb_tree.specs.declared.script.Number.TheVariants as N
+use Rattle.wb_meaning.specs.State.{Process, and_then}
+use Rattle.wb_meaning.specs.Operands.{number_of}
+use Rattle.wb_meaning.specs.Statements.{Layer, statement}
 use Rattle.wb_machine.specs.declared.pieces.Ending.{Ending}
 use Rattle.wb_machine.specs.RunState.{RunState, state_of}
 use Rattle.wb_machine.specs.Flow.{flow, ended_by, IsSameFlow, FitsStep, IsCarriedAnywhere, IsCarriedOut}

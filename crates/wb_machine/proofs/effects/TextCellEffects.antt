@@ -2,30 +2,31 @@
 use Rattle.std.proofs.Common.{◌≡◌, ℕ, ℤ, ◌+◌, ◌-◌, ◌*◌, ◌/◌, ◌≤◌, Bool, true, false, List, [], length, refl, ap, ◌∙◌, sym, arith, cond, Option, Some, None, ◌∷◌}
 use Rattle.std.specs.Prelude.{nat_le, nat_lt, option_map}
 use Rattle.std.proofs.lemmas.Bool.{leb-true}
-use Rattle.wb_model.specs.declared.limits.TheConstants.{MOST_UNITS}
-use Rattle.wb_model.specs.declared.heap.TheConstants.Panic.{NUMBER_OUT_OF_RANGE, SHORTER_THAN_TEXT, NULL_OR_STALE, WRONG_KIND}
-use Rattle.wb_model.specs.declared.heap.Rule.{Rule}
-use Rattle.wb_model.specs.declared.heap.Kind.{Kind}
-use Rattle.wb_model.specs.declared.heap.Kind.TheVariants.{Raw, Object, Text, Cleanup}
-use Rattle.wb_model.specs.declared.script.Script.{Script}
-use Rattle.wb_model.specs.declared.script.Pointer.{Pointer}
-use Rattle.wb_model.specs.declared.script.Number.{Number}
-use Rattle.wb_model.specs.declared.script.Refusal.{Refusal}
-use Rattle.wb_model.specs.declared.script.Refusal.TheVariants.{GivesNull}
-use Rattle.wb_model.specs.declared.script.Statement.TheOpen.{Statement-F}
-use Rattle.wb_model.specs.heap.Row.{Cell, cell_at, cell_length}
-use Rattle.wb_model.specs.cells.CellRow.{resized_words}
-use Rattle.wb_model.specs.heap.Heap.{alloc_request, after_alloc}
-use Rattle.wb_model.specs.heap.LimitedHeap.{zero_words}
-use Rattle.wb_model.specs.cells.Spelling.{read_as}
-use Rattle.wb_model.specs.meaning.State.{Content, units, State, Process, and_then, require, with_some}
-use Rattle.wb_model.specs.meaning.Operands.{number_of, within, units_of, with_cell, with_pointer}
-use Rattle.wb_model.specs.meaning.Attempts.{allocate, reallocate}
-use Rattle.wb_model.specs.meaning.Statements.{statement, given_to, realloc_text}
-use Rattle.wb_model.specs.heap.Debug.{Made, answer_in, alloc_made, realloc_made}
-use Rattle.wb_model.specs.cells.TextCells.{IsText, text_in}
-use Rattle.wb_model.proofs.heaps.TextCells.{text-read, zeros-text, resized-text}
-use Rattle.wb_model.specs.runs.Rest.{Fits}
+use Rattle.wb_basics.specs.declared.limits.TheConstants.{MOST_UNITS}
+use Rattle.wb_heap_model.specs.declared.heap.TheConstants.Panic.{NUMBER_OUT_OF_RANGE, SHORTER_THAN_TEXT, NULL_OR_STALE, WRONG_KIND}
+use Rattle.wb_heap_model.specs.declared.heap.Rule.{Rule}
+use Rattle.wb_heap_model.specs.declared.heap.Kind.{Kind}
+use Rattle.wb_heap_model.specs.declared.heap.Kind.TheVariants.{Raw, Object, Text, Cleanup}
+use Rattle.wb_tree.specs.declared.script.Script.{Script}
+use Rattle.wb_tree.specs.declared.script.Pointer.{Pointer}
+use Rattle.wb_tree.specs.declared.script.Number.{Number}
+use Rattle.wb_tree.specs.declared.script.Refusal.{Refusal}
+use Rattle.wb_tree.specs.declared.script.Refusal.TheVariants.{GivesNull}
+use Rattle.wb_tree.specs.declared.script.Statement.TheOpen.{Statement-F}
+use Rattle.wb_heap_model.specs.Row.{Cell, cell_at, cell_length}
+use Rattle.wb_heap_model.specs.CellRow.{resized_words}
+use Rattle.wb_heap_model.specs.Heap.{alloc_request, after_alloc}
+use Rattle.wb_heap_model.specs.LimitedHeap.{zero_words}
+use Rattle.wb_heap_model.specs.Spelling.{read_as}
+use Rattle.wb_heap_model.specs.Contents.{Content, units}
+use Rattle.wb_meaning.specs.State.{State, Process, and_then, require, with_some}
+use Rattle.wb_meaning.specs.Operands.{number_of, within, units_of, with_cell, with_pointer}
+use Rattle.wb_meaning.specs.Attempts.{allocate, reallocate}
+use Rattle.wb_meaning.specs.Statements.{statement, given_to, realloc_text}
+use Rattle.wb_heap_model.specs.Debug.{Made, answer_in, alloc_made, realloc_made}
+use Rattle.wb_heap_model.specs.TextCells.{IsText, text_in}
+use Rattle.wb_heap_model.proofs.TextCells.{text-read, zeros-text, resized-text}
+use Rattle.wb_heap_model.specs.SameRules.{Fits}
 use Rattle.wb_machine.specs.RunState.{RunState, field_count, read_cell, state_of, with_debug}
 use Rattle.wb_machine.specs.Flow.{flow}
 use Rattle.wb_machine.specs.PointerOperands.{operands_refusal}

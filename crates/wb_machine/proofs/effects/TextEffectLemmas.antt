@@ -1,28 +1,29 @@
 -- Statements that change texts come to what they mean.
 use Rattle.std.proofs.Common.{◌≡◌, ℕ, List, [], ◌∷◌, length, Bool, true, false, refl, ap, ◌∙◌, sym, subst, cond, Option, Some, None, Ok, Err}
 use Rattle.std.specs.Prelude.{not}
-use Rattle.wb_model.specs.declared.heap.TheConstants.Panic.{NUMBER_OUT_OF_RANGE}
-use Rattle.wb_model.specs.declared.heap.Kind.{Kind}
-use Rattle.wb_model.specs.declared.heap.Kind.TheVariants.{Raw, Object, Text, Cleanup}
-use Rattle.wb_model.specs.declared.heap.Panic.{Panic}
-use Rattle.wb_model.specs.declared.heap.Ptr.{Ptr}
-use Rattle.wb_model.specs.declared.heap.Rule.{Rule}
-use Rattle.wb_model.specs.declared.script.Script.{Script}
-use Rattle.wb_model.specs.declared.script.Number.{Number}
-use Rattle.wb_model.specs.declared.script.Writable.{Writable}
-use Rattle.wb_model.specs.declared.script.Readable.{Readable}
-use Rattle.wb_model.specs.declared.script.Statement.TheOpen.{Statement-F}
-use Rattle.wb_model.specs.declared.text.Base.{Base}
-use Rattle.wb_model.specs.declared.text.Base.TheVariants as B
-use Rattle.wb_model.specs.heap.Row.{Cell, is_at, cell_at, changed}
-use Rattle.wb_model.specs.cells.CellRow.{content_or_nil, payload_of, with_payload}
-use Rattle.wb_model.specs.cells.Spelling.{read_as}
-use Rattle.wb_model.specs.meaning.State.{Content, units, State, panics, goes_on, Process, ends, stops, and_then, with_some, require}
-use Rattle.wb_model.specs.meaning.Operands.{number_of, not_negative, set_row}
-use Rattle.wb_model.specs.meaning.Texts.{Edited, delete_text, set_length_text, insert_text}
-use Rattle.wb_model.specs.cells.TextCells.{text_words, text_in}
-use Rattle.wb_model.specs.meaning.Reading.{base_of, with_writable, with_readable, with_units, with_room, write, set_units, is_same_base}
-use Rattle.wb_model.specs.meaning.Statements.{Layer, statement}
+use Rattle.wb_heap_model.specs.declared.heap.TheConstants.Panic.{NUMBER_OUT_OF_RANGE}
+use Rattle.wb_heap_model.specs.declared.heap.Kind.{Kind}
+use Rattle.wb_heap_model.specs.declared.heap.Kind.TheVariants.{Raw, Object, Text, Cleanup}
+use Rattle.wb_heap_model.specs.declared.heap.Panic.{Panic}
+use Rattle.wb_heap_model.specs.declared.heap.Ptr.{Ptr}
+use Rattle.wb_heap_model.specs.declared.heap.Rule.{Rule}
+use Rattle.wb_tree.specs.declared.script.Script.{Script}
+use Rattle.wb_tree.specs.declared.script.Number.{Number}
+use Rattle.wb_tree.specs.declared.script.Writable.{Writable}
+use Rattle.wb_tree.specs.declared.script.Readable.{Readable}
+use Rattle.wb_tree.specs.declared.script.Statement.TheOpen.{Statement-F}
+use Rattle.wb_heap_model.specs.declared.text.Base.{Base}
+use Rattle.wb_heap_model.specs.declared.text.Base.TheVariants as B
+use Rattle.wb_heap_model.specs.Row.{Cell, is_at, cell_at, changed}
+use Rattle.wb_heap_model.specs.CellRow.{content_or_nil, payload_of, with_payload}
+use Rattle.wb_heap_model.specs.Spelling.{read_as}
+use Rattle.wb_heap_model.specs.Contents.{Content, units}
+use Rattle.wb_meaning.specs.State.{State, panics, goes_on, Process, ends, stops, and_then, with_some, require}
+use Rattle.wb_meaning.specs.Operands.{number_of, not_negative, set_row}
+use Rattle.wb_heap_model.specs.Texts.{Edited, delete_text, set_length_text, insert_text}
+use Rattle.wb_heap_model.specs.TextCells.{text_words, text_in}
+use Rattle.wb_meaning.specs.Reading.{base_of, with_writable, with_readable, with_units, with_room, write, set_units, is_same_base}
+use Rattle.wb_meaning.specs.Statements.{Layer, statement}
 use Rattle.wb_hbuf.specs.declared.sources.Edit.{Edit}
 use Rattle.wb_hbuf.specs.declared.sources.Edit.TheVariants.{Copy, Append}
 use Rattle.wb_hbuf.specs.Sources.{edit_text}
@@ -35,7 +36,7 @@ use Rattle.wb_machine.specs.TextOperands.{base_named, base_refusal, base_text, b
 use Rattle.wb_machine.specs.TextEffects.{HasPanicked, IsWritten, UnlessRefused, WithNumber, IsEditedBy, IsInsertedBy, IsDeletedBy, IsLengthSet}
 use Rattle.wb_machine.proofs.effects.StatementEffects.{number_is, fine_left, fine_right}
 use Rattle.wb_machine.proofs.effects.ReadTexts.{through, source_named, readable_is, writable_is, named_writable, room_is, shown}
-use Rattle.wb_model.proofs.heaps.TextCellsHeap.{found-changed}
+use Rattle.wb_heap_model.proofs.TextCellsHeap.{found-changed}
 use Rattle.wb_machine.proofs.kept.TextInvariant.{found_text}
 
 -- the state after a statement comes to what is left of it

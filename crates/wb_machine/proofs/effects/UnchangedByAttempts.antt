@@ -1,17 +1,17 @@
 -- What an attempt leaves as it was.
 use Rattle.std.proofs.Common.{◌≡◌, ℕ, List, refl, ap, ◌∙◌, sym, subst, arith, Result, Ok, Err, OnOk, OnErr, IsSome, IfSome, Option, Some, None, Bool, true, false, cond}
-use Rattle.wb_model.specs.declared.heap.Kind.{Kind}
-use Rattle.wb_model.specs.declared.heap.Answer.{Answer}
-use Rattle.wb_model.specs.declared.heap.Answer.TheVariants.{Granted, Simulated, Refused}
+use Rattle.wb_heap_model.specs.declared.heap.Kind.{Kind}
+use Rattle.wb_heap_model.specs.declared.heap.Answer.{Answer}
+use Rattle.wb_heap_model.specs.declared.heap.Answer.TheVariants.{Granted, Simulated, Refused}
 use Rattle.std.specs.Prelude.{nat_lt}
-use Rattle.wb_model.specs.heap.Row.{Cell, cell_length}
-use Rattle.wb_model.specs.cells.CellRow.{resized_words}
-use Rattle.wb_model.specs.heap.Rules.{Request}
-use Rattle.wb_model.specs.heap.Heap.{AfterAnswer, alloc_request, after_alloc, realloc_request, after_realloc}
-use Rattle.wb_model.specs.heap.LimitedHeap.{zero_words}
-use Rattle.wb_model.specs.runs.Account.{trace_line}
-use Rattle.wb_model.proofs.runs.AccountLemmas.{rises-stay}
-use Rattle.wb_model.specs.heap.Debug.{Debug, number_of_next, made_by, answer_in, alloc_made, longer_made, shorter_made, realloc_made}
+use Rattle.wb_heap_model.specs.Row.{Cell, cell_length}
+use Rattle.wb_heap_model.specs.CellRow.{resized_words}
+use Rattle.wb_heap_model.specs.Rules.{Request}
+use Rattle.wb_heap_model.specs.Heap.{AfterAnswer, alloc_request, after_alloc, realloc_request, after_realloc}
+use Rattle.wb_heap_model.specs.LimitedHeap.{zero_words}
+use Rattle.wb_heap_model.specs.Reported.{trace_line}
+use Rattle.wb_heap_model.proofs.KeptRises.{rises-stay}
+use Rattle.wb_heap_model.specs.Debug.{Debug, number_of_next, made_by, answer_in, alloc_made, longer_made, shorter_made, realloc_made}
 use Rattle.wb_machine.specs.RunState.{RunState, with_debug}
 use Rattle.wb_machine.specs.Owed.{Stays, KeepsCount}
 

@@ -1,20 +1,20 @@
 -- Statements that read texts come to what they mean.
 use Rattle.std.proofs.Common.{◌≡◌, ℕ, ◌+◌, ℤ, pos, List, length, refl, ap, ◌∙◌, sym, Option, Some, None, Result, Ok, Err}
 use Rattle.std.specs.Prelude.{ok_or}
-use Rattle.wb_model.specs.declared.heap.TheConstants.Panic.{NUMBER_OUT_OF_RANGE}
-use Rattle.wb_model.specs.declared.heap.Panic.{Panic}
-use Rattle.wb_model.specs.declared.heap.Rule.{Rule}
-use Rattle.wb_model.specs.declared.script.Script.{Script}
-use Rattle.wb_model.specs.declared.script.Number.{Number}
-use Rattle.wb_model.specs.declared.script.Writable.{Writable}
-use Rattle.wb_model.specs.declared.script.Readable.{Readable}
-use Rattle.wb_model.specs.declared.script.Statement.TheOpen.{Statement-F}
-use Rattle.wb_model.specs.declared.text.View.{View}
-use Rattle.wb_model.specs.meaning.State.{number, view, goes_on, Process, ends, and_then, with_some, set_local}
-use Rattle.wb_model.specs.meaning.Operands.{number_of, not_negative}
-use Rattle.wb_model.specs.meaning.Texts.{Part, left_part, right_part, mid_part, view_of_part}
-use Rattle.wb_model.specs.meaning.Reading.{Source, base_of, position_of, with_readable, with_units, with_room, write_view, printed}
-use Rattle.wb_model.specs.meaning.Statements.{statement, done, print_line}
+use Rattle.wb_heap_model.specs.declared.heap.TheConstants.Panic.{NUMBER_OUT_OF_RANGE}
+use Rattle.wb_heap_model.specs.declared.heap.Panic.{Panic}
+use Rattle.wb_heap_model.specs.declared.heap.Rule.{Rule}
+use Rattle.wb_tree.specs.declared.script.Script.{Script}
+use Rattle.wb_tree.specs.declared.script.Number.{Number}
+use Rattle.wb_tree.specs.declared.script.Writable.{Writable}
+use Rattle.wb_tree.specs.declared.script.Readable.{Readable}
+use Rattle.wb_tree.specs.declared.script.Statement.TheOpen.{Statement-F}
+use Rattle.wb_heap_model.specs.declared.text.View.{View}
+use Rattle.wb_meaning.specs.State.{number, view, goes_on, Process, ends, and_then, with_some, set_local}
+use Rattle.wb_meaning.specs.Operands.{number_of, not_negative}
+use Rattle.wb_heap_model.specs.Texts.{Part, left_part, right_part, mid_part, view_of_part, printed}
+use Rattle.wb_meaning.specs.Reading.{Source, base_of, position_of, with_readable, with_units, with_room, write_view}
+use Rattle.wb_meaning.specs.Statements.{statement, done, print_line}
 use Rattle.wb_machine.specs.RunState.{RunState, state_of}
 use Rattle.wb_machine.specs.Flow.{flow}
 use Rattle.wb_machine.specs.PointerOperands.{operands_refusal, first_refusal, of_readable}

@@ -3,21 +3,22 @@ use Rattle.std.proofs.Common.{◌≡◌, ℕ, zero, suc, ℤ, pos, List, [], ◌
 use Rattle.std.specs.Prelude.{option_map, slice_get, slice_index, unwrap_or}
 use Rattle.std.specs.Int.{cast_unsigned}
 use Rattle.std.proofs.lemmas.List.{map-set}
-use Rattle.wb_model.specs.declared.heap.TheConstants.Panic.{NUMBER_OUT_OF_RANGE, NULL_OR_STALE, WRONG_KIND, BAD_CELL}
-use Rattle.wb_model.specs.declared.heap.Ptr.{Ptr}
-use Rattle.wb_model.specs.declared.heap.Kind.{Kind}
-use Rattle.wb_model.specs.declared.heap.Kind.TheVariants.{Raw, Object, Text, Cleanup}
-use Rattle.wb_model.specs.declared.heap.Rule.{Rule}
-use Rattle.wb_model.specs.declared.script.Script.{Script}
-use Rattle.wb_model.specs.declared.script.Pointer.{Pointer}
-use Rattle.wb_model.specs.declared.script.Number.{Number}
-use Rattle.wb_model.specs.declared.script.Statement.TheOpen.{Statement-F}
-use Rattle.wb_model.specs.heap.Row.{Cell, cell_at, changed, usable_of}
-use Rattle.wb_model.specs.cells.CellRow.{content_or_nil, payload_of, with_payload}
-use Rattle.wb_model.specs.cells.Spelling.{signed, read_as}
-use Rattle.wb_model.specs.meaning.State.{Content, words, number, State, goes_on, Process, ends, and_then, with_some, set_local}
-use Rattle.wb_model.specs.meaning.Operands.{number_of, set_row, raw_words_of, with_cell}
-use Rattle.wb_model.specs.meaning.Statements.{statement, done, is_raw, index_in, with_words}
+use Rattle.wb_heap_model.specs.declared.heap.TheConstants.Panic.{NUMBER_OUT_OF_RANGE, NULL_OR_STALE, WRONG_KIND, BAD_CELL}
+use Rattle.wb_heap_model.specs.declared.heap.Ptr.{Ptr}
+use Rattle.wb_heap_model.specs.declared.heap.Kind.{Kind}
+use Rattle.wb_heap_model.specs.declared.heap.Kind.TheVariants.{Raw, Object, Text, Cleanup}
+use Rattle.wb_heap_model.specs.declared.heap.Rule.{Rule}
+use Rattle.wb_tree.specs.declared.script.Script.{Script}
+use Rattle.wb_tree.specs.declared.script.Pointer.{Pointer}
+use Rattle.wb_tree.specs.declared.script.Number.{Number}
+use Rattle.wb_tree.specs.declared.script.Statement.TheOpen.{Statement-F}
+use Rattle.wb_heap_model.specs.Row.{Cell, cell_at, changed, usable_of}
+use Rattle.wb_heap_model.specs.CellRow.{content_or_nil, payload_of, with_payload}
+use Rattle.wb_heap_model.specs.Spelling.{signed, read_as}
+use Rattle.wb_heap_model.specs.Contents.{Content, words}
+use Rattle.wb_meaning.specs.State.{number, State, goes_on, Process, ends, and_then, with_some, set_local}
+use Rattle.wb_meaning.specs.Operands.{number_of, set_row, raw_words_of, with_cell}
+use Rattle.wb_meaning.specs.Statements.{statement, done, is_raw, index_in, with_words}
 use Rattle.wb_machine.specs.RunState.{RunState, field_count, read_cell, read_row, state_of}
 use Rattle.wb_machine.specs.Flow.{flow}
 use Rattle.wb_machine.specs.PointerOperands.{operands_refusal}

@@ -5,9 +5,9 @@ use Rattle.std.proofs.Math.ListN.{get_or-append, get_or-map}
 use Rattle.std.proofs.Math.Seq.{get_or-append_seam}
 use Rattle.std.proofs.lemmas.List.{map-append, take-map, take_rest, nil_from_length, get_or-take, get_or-drop, get_or-set_same, get_or-set_other}
 use Rattle.std.proofs.lemmas.Option.{unwrap_or-slice_get}
-use Rattle.wb_model.specs.meaning.Texts.{Buffer}
-use Rattle.wb_model.specs.meaning.State.{number, buffer}
-use Rattle.wb_model.specs.meaning.Reading.{max_in}
+use Rattle.wb_heap_model.specs.Texts.{Buffer}
+use Rattle.wb_meaning.specs.State.{number, buffer}
+use Rattle.wb_meaning.specs.Reading.{max_in}
 use Rattle.wb_machine.specs.RunState.{Values, value_in}
 use Rattle.wb_machine.specs.declared.locals.Slot.{Slot}
 use Rattle.wb_machine.specs.declared.locals.Slot.TheVariants as S

@@ -2,11 +2,11 @@
 use Rattle.std.proofs.Common.{◌≡◌, ℕ, ◌+◌, ◌≤◌, List, take, drop, length, get_or, ap, subst, sym, ◌∙◌}
 use Rattle.std.specs.Prelude.{slice_set as set, Result, Ok, Err}
 use Rattle.std.proofs.lemmas.List.{set-get_or}
-use Rattle.wb_model.specs.declared.heap.Panic.{Panic}
-use Rattle.wb_model.specs.declared.text.Base.TheVariants as B
-use Rattle.wb_model.specs.meaning.State.{buffer}
-use Rattle.wb_model.specs.meaning.Reading.{max_in}
-use Rattle.wb_model.specs.meaning.Texts.{Buffer, Edited, answer_of, edited}
+use Rattle.wb_heap_model.specs.declared.heap.Panic.{Panic}
+use Rattle.wb_heap_model.specs.declared.text.Base.TheVariants as B
+use Rattle.wb_meaning.specs.State.{buffer}
+use Rattle.wb_meaning.specs.Reading.{max_in}
+use Rattle.wb_heap_model.specs.Texts.{Buffer, Edited, answer_of, edited}
 use Rattle.wb_machine.specs.RunState.{RunState, value_in}
 use Rattle.wb_machine.specs.StateView.{run_state}
 use Rattle.wb_machine.specs.Effects.{stored}

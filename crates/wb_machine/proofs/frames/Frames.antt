@@ -1,11 +1,10 @@
 -- The locals of frames, one above the other.
 use Rattle.std.proofs.Common.{◌≡◌, ℕ, suc, ◌+◌, ◌-◌, ◌<◌, ◌≤◌, List, [], ◌∷◌, ◌++◌, map, take, drop, length, get_or, min, ap, ◌∙◌, sym, arith}
-use Rattle.std.specs.Prelude.{slice_range}
+use Rattle.std.specs.Prelude.{slice_range, slice_set as set}
 use Rattle.std.proofs.lemmas.List.{append_assoc, take-append-drop, map-append, take-map, take_min, take_rest, take-set-le, drop-map, drop_min, drop-append-le, drop-set-add, length-drop, length-take-le}
 use Rattle.wb_machine.specs.LocalValues.{Frames, unframed}
-use Rattle.wb_model.specs.meaning.State.{Value}
+use Rattle.wb_meaning.specs.State.{Value}
 use Rattle.wb_machine.specs.RunState.{Values}
-use Rattle.std.specs.Prelude.{slice_set as set}
 use Rattle.std.proofs.Math.Seq.{take-suc, take-append_seam, drop-append_seam}
 
 -- one more element of a list that is gone through

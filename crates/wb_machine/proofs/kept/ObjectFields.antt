@@ -2,18 +2,19 @@
 use Rattle.std.proofs.Common.{◌≡◌, ℕ, zero, suc, ◌+◌, ◌*◌, ◌<◌, Bool, true, false, cond, List, [], ◌∷◌, length, take, Option, Some, None, Ok, Err, refl, sym, ap, ◌∙◌, arith}
 use Rattle.std.specs.Prelude.{nat_le, ◌&&◌, slice_get, slice_set, unwrap_or}
 use Rattle.std.proofs.lemmas.Bool.{leb-true, leb-false, eq-eqb}
-use Rattle.wb_model.specs.declared.heap.TheConstants.Panic.{WRONG_KIND}
-use Rattle.wb_model.specs.declared.heap.Ptr.{Ptr}
-use Rattle.wb_model.specs.declared.heap.Kind.{Kind}
-use Rattle.wb_model.specs.declared.heap.Kind.TheVariants.{Raw, Object, Text, Cleanup}
-use Rattle.wb_model.specs.declared.script.Script.{Script}
-use Rattle.wb_model.specs.heap.Row.{Cell, is_at, cell_at, changed}
-use Rattle.wb_model.specs.cells.CellRow.{content_or_nil, payload_of, with_payload}
-use Rattle.wb_model.specs.meaning.State.{fields, null}
-use Rattle.wb_model.specs.meaning.Operands.{set_field}
-use Rattle.wb_model.specs.cells.Spelling.{pointers, fields_in, read_as}
-use Rattle.wb_model.specs.heap.Debug.{Debug, with_row, debug_changed}
-use Rattle.wb_model.proofs.heaps.TextCellsHeap.{changed-same}
+use Rattle.wb_heap_model.specs.declared.heap.TheConstants.Panic.{WRONG_KIND}
+use Rattle.wb_heap_model.specs.declared.heap.Ptr.{Ptr}
+use Rattle.wb_heap_model.specs.declared.heap.Kind.{Kind}
+use Rattle.wb_heap_model.specs.declared.heap.Kind.TheVariants.{Raw, Object, Text, Cleanup}
+use Rattle.wb_tree.specs.declared.script.Script.{Script}
+use Rattle.wb_heap_model.specs.Row.{Cell, is_at, cell_at, changed}
+use Rattle.wb_heap_model.specs.CellRow.{content_or_nil, payload_of, with_payload}
+use Rattle.wb_heap_model.specs.Contents.{fields}
+use Rattle.wb_heap_model.specs.Pointers.{null}
+use Rattle.wb_meaning.specs.Operands.{set_field}
+use Rattle.wb_heap_model.specs.Spelling.{pointers, fields_in, read_as}
+use Rattle.wb_heap_model.specs.Debug.{Debug, with_row, debug_changed}
+use Rattle.wb_heap_model.proofs.TextCellsHeap.{changed-same}
 use Rattle.wb_objects.specs.Objects.{class_of_cell, is_of_class, words_of_cell, words_found, with_field, field_changed}
 use Rattle.wb_objects.proofs.Fields.{fields-written}
 use Rattle.wb_machine.specs.PointerOperands.{field_among, is_object, words_with_field, row_with_field}

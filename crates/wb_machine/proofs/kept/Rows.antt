@@ -3,19 +3,19 @@ use Rattle.std.proofs.Common.{◌≡◌, ℕ, ◌+◌, ◌-◌, ◌*◌, ◌/◌
 use Rattle.std.specs.Prelude.{nat_eq, nat_lt, ◌&&◌, option_map}
 use Rattle.std.specs.Int.{cast_unsigned, cast_signed}
 use Rattle.std.proofs.lemmas.Int.{to_z-of_z}
-use Rattle.wb_model.specs.declared.heap.Ptr.{Ptr}
-use Rattle.wb_model.specs.declared.heap.Kind.{Kind}
-use Rattle.wb_model.specs.declared.heap.Kind.TheVariants.{Raw, Cleanup}
-use Rattle.wb_model.specs.declared.script.Script.{Script}
-use Rattle.wb_model.specs.heap.Row.{Cell, headers, is_at, cell_at, without, inserted, changed, cell_length}
-use Rattle.wb_model.specs.cells.CellRow.{with_payload, resized_words}
-use Rattle.wb_model.specs.meaning.State.{words}
-use Rattle.wb_model.specs.meaning.Attempts.{resized}
-use Rattle.wb_model.specs.heap.Heap.{is_cleanup, lower, lowered}
-use Rattle.wb_model.specs.declared.heap.Header.{Header}
-use Rattle.wb_model.specs.meaning.Statements.{fresh_words}
-use Rattle.wb_model.specs.cells.Spelling.{signed, read_as}
-use Rattle.wb_model.specs.heap.LimitedHeap.{zero_words}
+use Rattle.wb_heap_model.specs.declared.heap.Ptr.{Ptr}
+use Rattle.wb_heap_model.specs.declared.heap.Kind.{Kind}
+use Rattle.wb_heap_model.specs.declared.heap.Kind.TheVariants.{Raw, Cleanup}
+use Rattle.wb_tree.specs.declared.script.Script.{Script}
+use Rattle.wb_heap_model.specs.Row.{Cell, headers, is_at, cell_at, without, inserted, changed, cell_length}
+use Rattle.wb_heap_model.specs.CellRow.{with_payload, resized_words}
+use Rattle.wb_heap_model.specs.Contents.{words}
+use Rattle.wb_meaning.specs.Attempts.{resized}
+use Rattle.wb_heap_model.specs.Heap.{is_cleanup, lower, lowered}
+use Rattle.wb_heap_model.specs.declared.heap.Header.{Header}
+use Rattle.wb_meaning.specs.Statements.{fresh_words}
+use Rattle.wb_heap_model.specs.Spelling.{signed, read_as}
+use Rattle.wb_heap_model.specs.LimitedHeap.{zero_words}
 use Rattle.wb_machine.specs.RunState.{field_count, read_cell, read_row}
 
 pub headers_read : (script : Script) (row : List (Cell (List ℕ))) → headers (read_row script row) ≡ headers row

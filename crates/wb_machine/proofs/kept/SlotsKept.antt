@@ -1,20 +1,20 @@
 -- The cleanup stack keeps a free slot while pieces are pending.
 use Rattle.std.proofs.Common.{◌≡◌, ℕ, ◌+◌, ◌-◌, ◌<◌, ◌≤◌, List, [], ◌∷◌, ◌++◌, true, false, length, take, length-take-le, inl, refl, sym, ap, ◌∙◌, subst, arith}
 use Rattle.std.specs.Prelude.{max}
-use Rattle.wb_model.specs.heap.Debug.{keeps_rises}
+use Rattle.wb_heap_model.specs.Debug.{keeps_rises}
 use Rattle.std.proofs.lemmas.Bool.{ltb-false}
-use Rattle.wb_model.specs.declared.heap.Ptr.{Ptr}
-use Rattle.wb_model.specs.declared.heap.Gave.{Gave}
-use Rattle.wb_model.specs.declared.heap.Gave.TheVariants as gave
-use Rattle.wb_model.specs.declared.run.Why.TheVariants.{Budget}
-use Rattle.wb_model.specs.declared.script.Local.{Local}
-use Rattle.wb_model.specs.declared.script.Script.{Script}
-use Rattle.wb_model.specs.meaning.State.{State, Value, ends, stops, is_cut, Process, and_then}
-use Rattle.wb_model.specs.meaning.Statements.{Layer, Meaning, Context, statement}
-use Rattle.wb_model.specs.heap.Space.{space_of}
-use Rattle.wb_model.proofs.meaning.EachStatement.{statement-free}
-use Rattle.wb_model.proofs.meaning.FreeSlots.{KeepsFree, KeepsAll, and_then-free}
-use Rattle.wb_model.proofs.meaning.FreeSlotLemmas.{ShownFree, settled-free}
+use Rattle.wb_heap_model.specs.declared.heap.Ptr.{Ptr}
+use Rattle.wb_heap_model.specs.declared.heap.Gave.{Gave}
+use Rattle.wb_heap_model.specs.declared.heap.Gave.TheVariants as gave
+use Rattle.wb_meaning.specs.declared.run.Why.TheVariants.{Budget}
+use Rattle.wb_tree.specs.declared.script.Local.{Local}
+use Rattle.wb_tree.specs.declared.script.Script.{Script}
+use Rattle.wb_meaning.specs.State.{State, Value, ends, stops, is_cut, Process, and_then}
+use Rattle.wb_meaning.specs.Statements.{Layer, Meaning, Context, statement}
+use Rattle.wb_heap_model.specs.Space.{space_of}
+use Rattle.wb_meaning.proofs.EachStatement.{statement-free}
+use Rattle.wb_meaning.proofs.FreeSlots.{KeepsFree, KeepsAll, and_then-free}
+use Rattle.wb_meaning.proofs.FreeSlotLemmas.{ShownFree, settled-free}
 use Rattle.wb_machine.specs.declared.pieces.Ending.{Ending}
 use Rattle.wb_machine.specs.declared.pieces.Ending.TheVariants.{GoesOn, Returns, Leaves, Panics, Cut, NoCleanup}
 use Rattle.wb_machine.specs.declared.pieces.PendingPiece.{PendingPiece}

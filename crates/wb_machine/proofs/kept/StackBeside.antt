@@ -2,23 +2,23 @@
 use Rattle.std.proofs.Common.{◌≡◌, ◌≢◌, ℕ, ◌-◌, Bool, true, false, not, cond, List, [], ◌∷◌, Option, Some, None, Result, Ok, Err, OnOk, OnErr, IsSome, IfSome, refl, sym, ap, ◌∙◌, subst, arith, length, ◌<◌}
 use Rattle.std.specs.Prelude.{◌&&◌, nat_eq, nat_lt}
 use Rattle.std.proofs.lemmas.Bool.{eqb-true, ne_eqb}
-use Rattle.wb_model.specs.declared.heap.Ptr.{Ptr}
-use Rattle.wb_model.specs.declared.heap.Header.{Header}
-use Rattle.wb_model.specs.declared.heap.Kind.{Kind}
-use Rattle.wb_model.specs.declared.heap.Kind.TheVariants.{Raw, Text, Object, Cleanup as CleanupKind}
-use Rattle.wb_model.specs.declared.heap.Answer.{Answer}
-use Rattle.wb_model.specs.declared.heap.Answer.TheVariants.{Granted, Simulated, Refused}
-use Rattle.wb_model.specs.heap.Placement.{has_stayed}
-use Rattle.wb_model.specs.heap.Row.{Cell, is_at, cell_at, cell_length, inserted, pointer_to, without}
-use Rattle.wb_model.specs.meaning.Texts.{Edited}
-use Rattle.wb_model.specs.cells.TextCells.{IsTextAt, debug_edited}
-use Rattle.wb_model.specs.cells.CellRow.{content_or_nil, payload_of, resized_words}
-use Rattle.wb_model.specs.heap.Rules.{Request}
-use Rattle.wb_model.specs.heap.Heap.{after_mark_end, after_realloc, is_cleanup, lower, lowered, moved, realloc_request}
-use Rattle.wb_model.specs.meaning.Statements.{is_raw}
-use Rattle.wb_model.specs.heap.Debug.{Debug, IsSoundDebug, alloc_made, answer_in, debug_changed, debug_without, longer_made, made_by, number_of_next, realloc_made, shorter_made, with_row}
-use Rattle.wb_model.proofs.heaps.Reallocations.{cell_at-inserted_other, at-own, not_at-number, pointer-at}
-use Rattle.wb_model.proofs.heaps.TextCellsHeap.{found-other}
+use Rattle.wb_heap_model.specs.declared.heap.Ptr.{Ptr}
+use Rattle.wb_heap_model.specs.declared.heap.Header.{Header}
+use Rattle.wb_heap_model.specs.declared.heap.Kind.{Kind}
+use Rattle.wb_heap_model.specs.declared.heap.Kind.TheVariants.{Raw, Text, Object, Cleanup as CleanupKind}
+use Rattle.wb_heap_model.specs.declared.heap.Answer.{Answer}
+use Rattle.wb_heap_model.specs.declared.heap.Answer.TheVariants.{Granted, Simulated, Refused}
+use Rattle.wb_heap_model.specs.Placement.{has_stayed}
+use Rattle.wb_heap_model.specs.Row.{Cell, is_at, cell_at, cell_length, inserted, pointer_to, without}
+use Rattle.wb_heap_model.specs.Texts.{Edited}
+use Rattle.wb_heap_model.specs.TextCells.{IsTextAt, debug_edited}
+use Rattle.wb_heap_model.specs.CellRow.{content_or_nil, payload_of, resized_words}
+use Rattle.wb_heap_model.specs.Rules.{Request}
+use Rattle.wb_heap_model.specs.Heap.{after_mark_end, after_realloc, is_cleanup, lower, lowered, moved, realloc_request}
+use Rattle.wb_meaning.specs.Statements.{is_raw}
+use Rattle.wb_heap_model.specs.Debug.{Debug, IsSoundDebug, alloc_made, answer_in, debug_changed, debug_without, longer_made, made_by, number_of_next, realloc_made, shorter_made, with_row}
+use Rattle.wb_heap_model.proofs.Reallocations.{cell_at-inserted_other, at-own, not_at-number, pointer-at}
+use Rattle.wb_heap_model.proofs.TextCellsHeap.{found-other}
 use Rattle.wb_cleanup.specs.declared.cleanup.Cleanup.{Cleanup}
 use Rattle.wb_cleanup.specs.Stacks.{IsStack, cell_of}
 use Rattle.wb_cleanup.proofs.HeapBesideStack.{alloc-beside, old-number}

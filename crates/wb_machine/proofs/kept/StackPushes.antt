@@ -1,15 +1,15 @@
 -- A push on the cleanup stack, as the state of a run sees it.
 use Rattle.std.proofs.Common.{◌≡◌, ◌≢◌, ◌++◌, ◌∷◌, [], ℕ, ◌+◌, ◌*◌, ◌≤◌, List, Bool, true, false, cond, Some, Result, Ok, Err, IfOk, OnErr, refl, sym, ap, ◌∙◌, subst, arith}
-use Rattle.wb_model.specs.declared.heap.Ptr.{Ptr}
-use Rattle.wb_model.specs.declared.heap.Item.{Item}
-use Rattle.wb_model.specs.declared.heap.Gave.{Gave}
-use Rattle.wb_model.specs.declared.heap.Gave.TheVariants as G
-use Rattle.wb_model.specs.declared.heap.Kind.TheVariants.{Text, Cleanup as CleanupKind}
-use Rattle.wb_model.specs.heap.Row.{Cell, cell_at, headers}
-use Rattle.wb_model.specs.cells.CellRow.{payload_of}
-use Rattle.wb_model.specs.heap.Debug.{Debug, keeps_rises, IsSoundDebug, debug_changed}
-use Rattle.wb_model.proofs.heaps.Reallocations.{at-number, found-from, found-head}
-use Rattle.wb_model.proofs.heaps.TextCellsHeap.{found-changed}
+use Rattle.wb_heap_model.specs.declared.heap.Ptr.{Ptr}
+use Rattle.wb_heap_model.specs.declared.heap.Item.{Item}
+use Rattle.wb_heap_model.specs.declared.heap.Gave.{Gave}
+use Rattle.wb_heap_model.specs.declared.heap.Gave.TheVariants as G
+use Rattle.wb_heap_model.specs.declared.heap.Kind.TheVariants.{Text, Cleanup as CleanupKind}
+use Rattle.wb_heap_model.specs.Row.{Cell, cell_at, headers}
+use Rattle.wb_heap_model.specs.CellRow.{payload_of}
+use Rattle.wb_heap_model.specs.Debug.{Debug, keeps_rises, IsSoundDebug, debug_changed}
+use Rattle.wb_heap_model.proofs.Reallocations.{at-number, found-from, found-head}
+use Rattle.wb_heap_model.proofs.TextCellsHeap.{found-changed}
 use Rattle.wb_cleanup.specs.declared.cleanup.Cleanup.{Cleanup}
 use Rattle.wb_cleanup.specs.declared.cleanup.Pushed.{Pushed}
 use Rattle.wb_cleanup.specs.declared.cleanup.Pushed.TheVariants.{Ceiling}

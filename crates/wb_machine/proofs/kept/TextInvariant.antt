@@ -2,31 +2,32 @@
 use Rattle.std.proofs.Common.{◌≡◌, ℕ, ◌+◌, ◌-◌, ◌*◌, ◌/◌, ◌≤◌, Bool, true, false, not, List, [], ◌∷◌, length, refl, ap, ◌∙◌, sym, subst, arith, cond, ◌<◌, ◌^◌, Option, Some, None, Result, OnOk, OnErr, IsSome, IfSome, option_map}
 use Rattle.std.proofs.lemmas.Bool.{eqb-true}
 use Rattle.std.specs.Prelude.{nat_eq, nat_lt, ◌&&◌, Ok, Err}
-use Rattle.wb_model.specs.declared.heap.TheConstants.Panic.{WRONG_KIND}
-use Rattle.wb_model.specs.declared.heap.Ptr.{Ptr}
-use Rattle.wb_model.specs.declared.heap.Header.{Header}
-use Rattle.wb_model.specs.declared.heap.Kind.{Kind}
-use Rattle.wb_model.specs.declared.heap.Panic.{Panic}
-use Rattle.wb_model.specs.declared.heap.Kind.TheVariants.{Raw, Object, Text, Cleanup}
-use Rattle.wb_model.specs.declared.heap.Answer.{Answer}
-use Rattle.wb_model.specs.declared.heap.Answer.TheVariants.{Granted, Simulated, Refused}
-use Rattle.wb_model.specs.heap.Row.{Cell, end_of, usable_of, is_at, cell_at, without, inserted, pointer_to, cell_length}
-use Rattle.wb_model.specs.cells.CellRow.{content_or_nil, payload_of, with_payload, resized_words}
-use Rattle.wb_model.specs.heap.Rules.{Request}
-use Rattle.wb_model.specs.heap.Heap.{alloc_request, after_alloc, realloc_request, after_realloc, new_cell, moved, is_cleanup, lower, lowered}
-use Rattle.wb_model.specs.heap.LimitedHeap.{zero_words}
-use Rattle.wb_model.specs.meaning.Texts.{Edited, answer_of, units_of_part}
-use Rattle.wb_model.specs.meaning.Statements.{is_null, is_raw}
-use Rattle.wb_model.specs.heap.Space.{limit_under}
-use Rattle.wb_model.specs.meaning.Reading.{max_units, is_same_base, is_same_pointer}
-use Rattle.wb_model.specs.heap.Debug.{Debug, number_of_next, made_by, answer_in, alloc_made, longer_made, shorter_made, realloc_made, debug_without, with_row}
-use Rattle.wb_model.specs.cells.TextCells.{IsText, text_words, text_in, text_at, IsTextAt, debug_edited, room_in, max_at, usable_or_none}
-use Rattle.wb_model.proofs.heaps.TextCells.{text-read, zeros-text, resized-text}
-use Rattle.wb_model.proofs.heaps.LimitedHeaps.{limit_under-ceiling}
+use Rattle.wb_heap_model.specs.declared.heap.TheConstants.Panic.{WRONG_KIND}
+use Rattle.wb_heap_model.specs.declared.heap.Ptr.{Ptr}
+use Rattle.wb_heap_model.specs.declared.heap.Header.{Header}
+use Rattle.wb_heap_model.specs.declared.heap.Kind.{Kind}
+use Rattle.wb_heap_model.specs.declared.heap.Panic.{Panic}
+use Rattle.wb_heap_model.specs.declared.heap.Kind.TheVariants.{Raw, Object, Text, Cleanup}
+use Rattle.wb_heap_model.specs.declared.heap.Answer.{Answer}
+use Rattle.wb_heap_model.specs.declared.heap.Answer.TheVariants.{Granted, Simulated, Refused}
+use Rattle.wb_heap_model.specs.Row.{Cell, end_of, usable_of, is_at, cell_at, without, inserted, pointer_to, cell_length}
+use Rattle.wb_heap_model.specs.CellRow.{content_or_nil, payload_of, with_payload, resized_words}
+use Rattle.wb_heap_model.specs.Rules.{Request}
+use Rattle.wb_heap_model.specs.Heap.{alloc_request, after_alloc, realloc_request, after_realloc, new_cell, moved, is_cleanup, lower, lowered}
+use Rattle.wb_heap_model.specs.LimitedHeap.{zero_words}
+use Rattle.wb_heap_model.specs.Texts.{Edited, answer_of, units_of_part, max_units}
+use Rattle.wb_heap_model.specs.Pointers.{is_null, is_same_pointer}
+use Rattle.wb_meaning.specs.Statements.{is_raw}
+use Rattle.wb_heap_model.specs.Space.{limit_under}
+use Rattle.wb_meaning.specs.Reading.{is_same_base}
+use Rattle.wb_heap_model.specs.Debug.{Debug, number_of_next, made_by, answer_in, alloc_made, longer_made, shorter_made, realloc_made, debug_without, with_row}
+use Rattle.wb_heap_model.specs.TextCells.{IsText, text_words, text_in, text_at, IsTextAt, debug_edited, room_in, max_at, usable_or_none}
+use Rattle.wb_heap_model.proofs.TextCells.{text-read, zeros-text, resized-text}
+use Rattle.wb_heap_model.proofs.LimitedHeaps.{limit_under-ceiling}
 use Rattle.wb_machine.specs.TextInvariant.{IsTextCell, AreTexts}
-use Rattle.wb_model.specs.declared.text.Base.{Base}
-use Rattle.wb_model.specs.declared.text.Base.TheVariants as B
-use Rattle.wb_model.specs.declared.text.View.{View}
+use Rattle.wb_heap_model.specs.declared.text.Base.{Base}
+use Rattle.wb_heap_model.specs.declared.text.Base.TheVariants as B
+use Rattle.wb_heap_model.specs.declared.text.View.{View}
 use Rattle.wb_machine.specs.declared.pieces.Ending.{Ending}
 use Rattle.wb_machine.specs.RunState.{RunState, with_debug}
 use Rattle.wb_machine.specs.declared.state.State.TheInside.{Inside}

@@ -3,31 +3,32 @@ use Rattle.std.proofs.Common.{◌≡◌, ℕ, ◌+◌, ◌*◌, ◌<◌, ◌≤�
 use Rattle.std.proofs.lemmas.Bool.{eqb-true}
 use Rattle.std.proofs.lemmas.List.{length-take, length-drop}
 use Rattle.std.proofs.lemmas.List.Elements.{All-filter, All-nil}
-use Rattle.wb_model.specs.declared.heap.TheConstants.Panic.{BAD_CELL, WRONG_KIND}
-use Rattle.wb_model.specs.declared.heap.Ptr.{Ptr}
-use Rattle.wb_model.specs.declared.heap.Answer.{Answer}
-use Rattle.wb_model.specs.declared.heap.Answer.TheVariants.{Granted, Simulated, Refused}
-use Rattle.wb_model.specs.declared.heap.Gave.{Gave}
-use Rattle.wb_model.specs.declared.heap.Gave.TheVariants as gave
-use Rattle.wb_model.specs.declared.heap.Kind.{Kind}
-use Rattle.wb_model.specs.declared.heap.Kind.TheVariants.{Raw, Object, Text, Cleanup}
-use Rattle.wb_model.specs.declared.run.Why.TheVariants.{Budget}
-use Rattle.wb_model.specs.declared.script.Script.{Script}
-use Rattle.wb_model.specs.heap.Row.{Cell, cell_at, without}
-use Rattle.wb_model.specs.heap.Rules.{Request}
-use Rattle.wb_model.specs.heap.Heap.{alloc_request, after_alloc, new_cell, is_cleanup}
-use Rattle.wb_model.specs.heap.LimitedHeap.{zero_words}
-use Rattle.wb_model.specs.cells.Spelling.{pointers, read_as}
-use Rattle.wb_model.specs.runs.Throughout.{SuitsKind, HoldsItsKind}
-use Rattle.wb_model.specs.meaning.State.{State, stops, ends, is_cut, Process, and_then}
-use Rattle.wb_model.specs.meaning.Statements.{Layer, Meaning, Context, is_null, statement}
-use Rattle.wb_model.specs.heap.Space.{space_of}
-use Rattle.wb_model.specs.heap.Debug.{Debug, keeps_rises, made_by, answer_in, number_of_next, alloc_made, with_row}
-use Rattle.wb_model.proofs.meaning.AlikeLemmas.{Keeps, AlikeAll, and_then-alike}
-use Rattle.wb_model.proofs.meaning.EachStatement.{statement-alike}
-use Rattle.wb_model.proofs.meaning.KeptCells.{AreOfKind, found-cell, kinds}
-use Rattle.wb_model.proofs.heaps.Rows.{All-placed}
-use Rattle.wb_model.proofs.runs.ThroughoutLemmas.{settled-shows}
+use Rattle.wb_heap_model.specs.declared.heap.TheConstants.Panic.{BAD_CELL, WRONG_KIND}
+use Rattle.wb_heap_model.specs.declared.heap.Ptr.{Ptr}
+use Rattle.wb_heap_model.specs.declared.heap.Answer.{Answer}
+use Rattle.wb_heap_model.specs.declared.heap.Answer.TheVariants.{Granted, Simulated, Refused}
+use Rattle.wb_heap_model.specs.declared.heap.Gave.{Gave}
+use Rattle.wb_heap_model.specs.declared.heap.Gave.TheVariants as gave
+use Rattle.wb_heap_model.specs.declared.heap.Kind.{Kind}
+use Rattle.wb_heap_model.specs.declared.heap.Kind.TheVariants.{Raw, Object, Text, Cleanup}
+use Rattle.wb_meaning.specs.declared.run.Why.TheVariants.{Budget}
+use Rattle.wb_tree.specs.declared.script.Script.{Script}
+use Rattle.wb_heap_model.specs.Row.{Cell, cell_at, without}
+use Rattle.wb_heap_model.specs.Rules.{Request}
+use Rattle.wb_heap_model.specs.Heap.{alloc_request, after_alloc, new_cell, is_cleanup}
+use Rattle.wb_heap_model.specs.LimitedHeap.{zero_words}
+use Rattle.wb_heap_model.specs.Spelling.{pointers, read_as}
+use Rattle.wb_meaning.specs.Throughout.{SuitsKind, HoldsItsKind}
+use Rattle.wb_meaning.specs.State.{State, stops, ends, is_cut, Process, and_then}
+use Rattle.wb_meaning.specs.Statements.{Layer, Meaning, Context, statement}
+use Rattle.wb_heap_model.specs.Pointers.{is_null}
+use Rattle.wb_heap_model.specs.Space.{space_of}
+use Rattle.wb_heap_model.specs.Debug.{Debug, keeps_rises, made_by, answer_in, number_of_next, alloc_made, with_row}
+use Rattle.wb_meaning.proofs.AlikeLemmas.{Keeps, AlikeAll, and_then-alike}
+use Rattle.wb_meaning.proofs.EachStatement.{statement-alike}
+use Rattle.wb_meaning.proofs.KeptCells.{AreOfKind, found-cell, kinds}
+use Rattle.wb_heap_model.proofs.Rows.{All-placed}
+use Rattle.wb_meaning.proofs.ThroughoutLemmas.{settled-shows}
 use Rattle.wb_objects.specs.Objects.{is_of_class, words_of_cell, HasField}
 use Rattle.wb_machine.specs.declared.pieces.Ending.{Ending}
 use Rattle.wb_machine.specs.declared.pieces.Ending.TheVariants.{GoesOn, Returns, Leaves, Panics, Cut, NoCleanup}

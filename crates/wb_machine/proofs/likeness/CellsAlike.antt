@@ -3,17 +3,17 @@ use Rattle.std.proofs.Common.{◌≡◌, ℕ, ◌+◌, ◌*◌, ◌<◌, ◌≤�
 use Rattle.std.specs.Prelude.{nat_eq, nat_le, slice_index, option_map}
 use Rattle.std.proofs.lemmas.Bool.{leb-true, leb-false, le-leb, lt-leb, eq-eqb, ne_eqb}
 use Rattle.std.proofs.lemmas.List.{drop_more, drop_all, length-drop}
-use Rattle.wb_model.specs.declared.heap.Header.{Header}
-use Rattle.wb_model.specs.declared.heap.Kind.{Kind}
-use Rattle.wb_model.specs.declared.heap.Kind.TheVariants.{Raw, Object, Text, Cleanup}
-use Rattle.wb_model.specs.declared.heap.Ptr.{Ptr}
-use Rattle.wb_model.specs.declared.script.Script.{Script}
-use Rattle.wb_model.specs.cells.Spelling.{pointers, signed, halves, read_as}
-use Rattle.wb_model.specs.heap.LimitedHeap.{next_live_of}
-use Rattle.wb_model.specs.heap.Row.{Cell, headers, end_of, is_at, cell_at, pointer_to, IsSpacedFrom}
-use Rattle.wb_model.specs.runs.SameButNumbers as numbers
-use Rattle.wb_model.specs.runs.SameButNumbers.{Names, AllBeside, none_beside, one_beside, IsSamePointer, IsSameHeader, IsSameContent, IsSameCell}
-use Rattle.wb_model.proofs.renaming.SameNumbers.{Extends, ap_two, take-beside, pointer-later, cell-later}
+use Rattle.wb_heap_model.specs.declared.heap.Header.{Header}
+use Rattle.wb_heap_model.specs.declared.heap.Kind.{Kind}
+use Rattle.wb_heap_model.specs.declared.heap.Kind.TheVariants.{Raw, Object, Text, Cleanup}
+use Rattle.wb_heap_model.specs.declared.heap.Ptr.{Ptr}
+use Rattle.wb_tree.specs.declared.script.Script.{Script}
+use Rattle.wb_heap_model.specs.Spelling.{pointers, signed, halves, read_as}
+use Rattle.wb_heap_model.specs.LimitedHeap.{next_live_of}
+use Rattle.wb_heap_model.specs.Row.{Cell, headers, end_of, is_at, cell_at, pointer_to, IsSpacedFrom}
+use Rattle.wb_renaming.specs.SameButNumbers as numbers
+use Rattle.wb_renaming.specs.SameButNumbers.{Names, AllBeside, none_beside, one_beside, IsSamePointer, IsSameHeader, IsSameContent, IsSameCell}
+use Rattle.wb_renaming.proofs.SameNumbers.{Extends, ap_two, take-beside, pointer-later, cell-later}
 use Rattle.wb_machine.specs.Alike.{ArePairsAlike, AreWordsAlike}
 use Rattle.wb_machine.specs.RunState.{field_count, read_cell, read_row}
 use Rattle.wb_machine.proofs.likeness.GrownMaps.{LeadsTo}

@@ -1,7 +1,7 @@
 -- What is compared piece by piece, under a map of numbers that grows meanwhile.
 use Rattle.std.proofs.Common.{◌≡◌, List, ◌∷◌, refl, sym, subst, ◌∙◌}
-use Rattle.wb_model.specs.runs.SameButNumbers.{Names, Renaming, AllBeside, one_beside}
-use Rattle.wb_model.proofs.renaming.SameNumbers.{Extends}
+use Rattle.wb_renaming.specs.SameButNumbers.{Names, Renaming, AllBeside, one_beside}
+use Rattle.wb_renaming.proofs.SameNumbers.{Extends}
 use Rattle.wb_machine.specs.Alike.{IsGrown}
 
 pub grown-same : {w v : Renaming} → v ≡ w → IsGrown w v

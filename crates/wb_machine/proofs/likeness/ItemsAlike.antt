@@ -2,10 +2,10 @@
 use Rattle.std.proofs.Common.{◌≡◌, ℕ, zero, suc, ◌+◌, ◌-◌, ◌≤◌, ◌<◌, Bool, true, false, List, [], ◌∷◌, ◌++◌, length, take, refl, ap, sym, subst, cond, arith, Some, None}
 use Rattle.std.specs.Prelude.{nat_le, slice_get, slice_index_or}
 use Rattle.std.proofs.lemmas.Bool.{leb-true, leb-false}
-use Rattle.wb_model.specs.declared.heap.Item.{Item}
-use Rattle.wb_model.specs.meaning.Statements.{newest}
-use Rattle.wb_model.specs.runs.SameButNumbers.{Names, AllBeside, none_beside, one_beside, IsSameItem}
-use Rattle.wb_model.proofs.renaming.SameNumbers.{Extends, append-beside, item-later}
+use Rattle.wb_heap_model.specs.declared.heap.Item.{Item}
+use Rattle.wb_heap_model.specs.Pointers.{newest}
+use Rattle.wb_renaming.specs.SameButNumbers.{Names, AllBeside, none_beside, one_beside, IsSameItem}
+use Rattle.wb_renaming.proofs.SameNumbers.{Extends, append-beside, item-later}
 use Rattle.wb_cleanup.specs.Stacks.{newest_above, all_but}
 use Rattle.wb_machine.proofs.likeness.GrownMaps.{LeadsTo}
 

@@ -2,8 +2,8 @@
 use Rattle.std.proofs.Common.{◌≡◌, ℕ, ◌<◌, ◌≤◌, ◌⊎◌, inl, inr, Bool, true, false, ◌||◌, List, [], ◌∷◌, ◌++◌, refl, sym, ◌∙◌, ap, subst, cond, arith, Some, None, Result, Ok, Err}
 use Rattle.std.specs.Prelude.{nat_eq, is_ok, OnOk, OnErr}
 use Rattle.std.proofs.lemmas.Bool.{eq-eqb, false≢true}
-use Rattle.wb_model.specs.runs.SameButNumbers.{Names, Renames, AreAddedSince, since_fork, up_to}
-use Rattle.wb_model.proofs.renaming.SameForks.{forked-renaming, shared-named}
+use Rattle.wb_renaming.specs.SameButNumbers.{Names, Renames, AreAddedSince, since_fork, up_to}
+use Rattle.wb_renaming.proofs.SameForks.{forked-renaming, shared-named}
 use Rattle.wb_machine.specs.declared.alike.names.Name.{Name}
 use Rattle.wb_machine.specs.Alike.{names_of, pair_of, IsGrown}
 use Rattle.wb_machine.proofs.likeness.GrownMaps.{grown-same}

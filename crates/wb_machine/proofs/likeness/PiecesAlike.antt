@@ -1,12 +1,12 @@
 -- Pieces that are the same but for numbers are so as pending pieces of the definitions.
 use Rattle.std.proofs.Common.{◌≡◌, ℕ, zero, suc, true, List, drop, reverse, sym, subst}
 use mathlib.Core.List.{reverse_aux}
-use Rattle.wb_model.specs.meaning.Statements.{all, turns}
-use Rattle.wb_model.specs.declared.script.StatementAt.{StatementAt}
-use Rattle.wb_model.specs.runs.Rest.{doing}
-use Rattle.wb_model.specs.runs.SameButNumbers as numbers
-use Rattle.wb_model.specs.runs.SameButNumbers.{Names, AllBeside, none_beside, one_beside, IsSameValue, IsSamePending, IsSameAfterwards}
-use Rattle.wb_model.proofs.renaming.SameNumbers.{Extends, take-beside, pointer-later}
+use Rattle.wb_meaning.specs.Statements.{all, turns}
+use Rattle.wb_tree.specs.declared.script.StatementAt.{StatementAt}
+use Rattle.wb_meaning.specs.Rest.{doing}
+use Rattle.wb_renaming.specs.SameButNumbers as numbers
+use Rattle.wb_renaming.specs.SameButNumbers.{Names, AllBeside, none_beside, one_beside, IsSameValue, IsSamePending, IsSameAfterwards}
+use Rattle.wb_renaming.proofs.SameNumbers.{Extends, take-beside, pointer-later}
 use Rattle.wb_machine.specs.declared.pieces.After.{After}
 use Rattle.wb_machine.specs.declared.pieces.PendingPiece.{PendingPiece}
 use Rattle.wb_machine.specs.declared.pieces.PendingPiece.TheVariants.{Code, Turns, Items, Object, Trap, Caught, MainTrap, MainCaught, Call}

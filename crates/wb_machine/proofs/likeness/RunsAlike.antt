@@ -1,14 +1,14 @@
 -- Two machines between two turns whose states and pieces are the same but for numbers: the rest of one run is that of the other.
 use Rattle.std.proofs.Common.{◌≡◌, ◌≢◌, ◌≤◌, true, false, sym, ◌∙◌, ap, subst}
-use Rattle.wb_model.specs.declared.run.Outcome.TheVariants.{Cut}
-use Rattle.wb_model.specs.declared.run.Why.TheVariants.{Budget}
-use Rattle.wb_model.specs.declared.script.Script.{Script}
-use Rattle.wb_model.specs.runs.Rest.{rest}
-use Rattle.wb_model.specs.runs.Run.{WholeRun}
-use Rattle.wb_model.specs.runs.Follows.{steps_of, reached, RefusesAlike, RestsAgree}
-use Rattle.wb_model.specs.runs.SameButNumbers as numbers
-use Rattle.wb_model.specs.runs.SameButNumbers.{Renaming, IsRenaming, AllBeside, IsSamePointer, IsSameState, IsSameValue, IsSameProgress}
-use Rattle.wb_model.proofs.renaming.FollowEither.{rests-together}
+use Rattle.wb_meaning.specs.declared.run.Outcome.TheVariants.{Cut}
+use Rattle.wb_meaning.specs.declared.run.Why.TheVariants.{Budget}
+use Rattle.wb_tree.specs.declared.script.Script.{Script}
+use Rattle.wb_meaning.specs.Rest.{rest}
+use Rattle.wb_meaning.specs.Run.{WholeRun}
+use Rattle.wb_renaming.specs.Follows.{steps_of, reached, RefusesAlike, RestsAgree}
+use Rattle.wb_renaming.specs.SameButNumbers as numbers
+use Rattle.wb_renaming.specs.SameButNumbers.{Renaming, IsRenaming, AllBeside, IsSamePointer, IsSameState, IsSameValue, IsSameProgress}
+use Rattle.wb_renaming.proofs.FollowEither.{rests-together}
 use Rattle.wb_machine.specs.declared.machine.Machine.TheInside.{Inside}
 use Rattle.wb_machine.specs.declared.pieces.Ending.TheVariants.{GoesOn}
 use Rattle.wb_machine.specs.Alike.{reached_by, whole_run_under, GoesOnLike}

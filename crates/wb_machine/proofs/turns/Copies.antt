@@ -1,9 +1,9 @@
 -- A machine with another list of the same pieces keeps what it did.
 use Rattle.std.proofs.Common.{◌≡◌, true, false, ◌&&◌, List, sym, subst}
-use Rattle.wb_model.specs.declared.heap.Rule.{Rule}
-use Rattle.wb_model.specs.heap.Debug.{keeps_rises}
-use Rattle.wb_model.specs.runs.Rest.{Fits}
-use Rattle.wb_model.specs.runs.Run.{whole_run}
+use Rattle.wb_heap_model.specs.declared.heap.Rule.{Rule}
+use Rattle.wb_heap_model.specs.Debug.{keeps_rises}
+use Rattle.wb_heap_model.specs.SameRules.{Fits}
+use Rattle.wb_meaning.specs.Run.{whole_run}
 use Rattle.wb_machine.specs.declared.control.Control.{Control}
 use Rattle.wb_machine.specs.declared.machine.Machine.TheInside.{Inside}
 use Rattle.wb_machine.specs.declared.pieces.Ending.{Ending}

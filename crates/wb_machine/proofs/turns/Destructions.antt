@@ -1,22 +1,24 @@
 -- The turns that destroy items and objects, and what these come to.
 use Rattle.std.proofs.Common.{◌≡◌, ℕ, suc, ◌≤◌, List, [], ◌∷◌, refl, ap, ◌∙◌, sym, Option, Some, None, Result, Ok, Err}
 use Rattle.std.specs.Prelude.{unwrap_or, option_map, ok_or}
-use Rattle.wb_model.specs.declared.heap.TheConstants.Panic.{NULL_OR_STALE, WRONG_KIND, POP_BELOW_TRAP}
-use Rattle.wb_model.specs.declared.heap.Kind.{Kind}
-use Rattle.wb_model.specs.declared.heap.Kind.TheVariants.{Raw, Object, Text, Cleanup}
-use Rattle.wb_model.specs.declared.heap.Item.{Item}
-use Rattle.wb_model.specs.declared.heap.Panic.{Panic}
-use Rattle.wb_model.specs.declared.heap.Ptr.{Ptr}
-use Rattle.wb_model.specs.declared.script.Script.{Script}
-use Rattle.wb_model.specs.heap.Row.{Cell, cell_at}
-use Rattle.wb_model.specs.meaning.State.{State, goes_on, Process, stops, panics, and_then, on_plain_end, then_do, with_some}
-use Rattle.wb_model.specs.meaning.Operands.{with_cell}
-use Rattle.wb_model.specs.meaning.Statements.{destroy_items, destroy_object, Context, newest, drop_newest, destroyed_item, with_class, class_of, in_frame, plain, release}
-use Rattle.wb_model.specs.meaning.Bodies.{class_at, no_body}
-use Rattle.wb_model.specs.meaning.Meaning.{begun, piece, meaning_of}
-use Rattle.wb_model.specs.runs.Rest.{Pending, doing, resumed, resume}
-use Rattle.wb_model.proofs.meaning.MeaningLemmas.{meaning_of-unfolds}
-use Rattle.wb_model.proofs.meaning.ResumeLemmas.{and_then-assoc, begun-and_then}
+use Rattle.wb_heap_model.specs.declared.heap.TheConstants.Panic.{NULL_OR_STALE, WRONG_KIND, POP_BELOW_TRAP}
+use Rattle.wb_heap_model.specs.declared.heap.Kind.{Kind}
+use Rattle.wb_heap_model.specs.declared.heap.Kind.TheVariants.{Raw, Object, Text, Cleanup}
+use Rattle.wb_heap_model.specs.declared.heap.Item.{Item}
+use Rattle.wb_heap_model.specs.declared.heap.Panic.{Panic}
+use Rattle.wb_heap_model.specs.declared.heap.Ptr.{Ptr}
+use Rattle.wb_tree.specs.declared.script.Script.{Script}
+use Rattle.wb_heap_model.specs.Row.{Cell, cell_at}
+use Rattle.wb_meaning.specs.State.{State, goes_on, Process, stops, panics, and_then, on_plain_end, then_do, with_some}
+use Rattle.wb_meaning.specs.Operands.{with_cell}
+use Rattle.wb_meaning.specs.Statements.{destroy_items, destroy_object, Context, drop_newest, destroyed_item, with_class, in_frame, plain, release}
+use Rattle.wb_heap_model.specs.Pointers.{newest}
+use Rattle.wb_heap_model.specs.Contents.{class_of}
+use Rattle.wb_tree.specs.Bodies.{class_at, no_body}
+use Rattle.wb_meaning.specs.Meaning.{begun, piece, meaning_of}
+use Rattle.wb_meaning.specs.Rest.{Pending, doing, resumed, resume}
+use Rattle.wb_meaning.proofs.MeaningLemmas.{meaning_of-unfolds}
+use Rattle.wb_meaning.proofs.ResumeLemmas.{and_then-assoc, begun-and_then}
 use Rattle.wb_objects.specs.Objects.{class_of_cell}
 use Rattle.wb_machine.specs.Bodies.{class_read}
 use Rattle.wb_machine.specs.RunState.{RunState, read_cell, state_of}

@@ -2,32 +2,35 @@
 use Rattle.std.proofs.Common.{◌≡◌, ◌≢◌, ℕ, Bool, true, false, List, [], ◌∷◌, ◌++◌, map, refl, ap, ◌∙◌, sym, subst, inl, Option, Some, None}
 use Rattle.std.proofs.Math.Path.{fun_ext}
 use Rattle.std.specs.Prelude.{min}
-use Rattle.wb_model.specs.declared.heap.Ptr.{Ptr}
-use Rattle.wb_model.specs.declared.heap.Rule.{Rule}
-use Rattle.wb_model.specs.declared.heap.Shape.{Shape}
-use Rattle.wb_model.specs.declared.heap.Kind.TheVariants.{Cleanup}
-use Rattle.wb_model.specs.declared.heap.Gave.{Gave}
-use Rattle.wb_model.specs.declared.heap.Gave.TheVariants as G
-use Rattle.wb_model.specs.declared.script.Script.{Script}
-use Rattle.wb_model.specs.declared.script.Local.{Local}
-use Rattle.wb_model.specs.declared.script.StatementAt.{StatementAt}
-use Rattle.wb_model.specs.heap.Placement.{placement_of}
-use Rattle.wb_model.specs.heap.Space.{space_of, bound_below, limit_under}
-use Rattle.wb_model.specs.meaning.State.{none, null, initial, State, goes_on, Process, ends, stops, asks, notes, and_then, on_plain_end}
-use Rattle.wb_model.specs.heap.Heap.{alloc_request, after_alloc}
-use Rattle.wb_model.specs.heap.LimitedHeap.{zero_words}
-use Rattle.wb_model.specs.declared.heap.Answer.{Answer}
-use Rattle.wb_model.specs.heap.Row.{cell_length}
-use Rattle.wb_model.specs.heap.Rules.{Request, refusal_of, unless_refused}
-use Rattle.wb_model.specs.heap.Debug.{Debug, keeps_rises, made_by, answer_in}
-use Rattle.wb_model.specs.runs.Rises.{first_rises}
-use Rattle.wb_model.specs.declared.run.Why.TheVariants.{Ceiling}
-use Rattle.wb_model.specs.meaning.Statements.{all}
-use Rattle.wb_model.specs.meaning.Meaning.{meaning_of}
-use Rattle.wb_model.specs.runs.Account.{settled}
-use Rattle.wb_model.specs.meaning.Attempts.{allocate}
-use Rattle.wb_model.specs.runs.Run.{before_of, main_trapped, in_main, started, process, whole_of, whole_run}
-use Rattle.wb_model.specs.runs.Rest.{Fits, Pending, doing, main_catching, resumed, resume, left_to_do, rest}
+use Rattle.wb_heap_model.specs.declared.heap.Ptr.{Ptr}
+use Rattle.wb_heap_model.specs.declared.heap.Rule.{Rule}
+use Rattle.wb_heap_model.specs.declared.heap.Shape.{Shape}
+use Rattle.wb_heap_model.specs.declared.heap.Kind.TheVariants.{Cleanup}
+use Rattle.wb_heap_model.specs.declared.heap.Gave.{Gave}
+use Rattle.wb_heap_model.specs.declared.heap.Gave.TheVariants as G
+use Rattle.wb_tree.specs.declared.script.Script.{Script}
+use Rattle.wb_tree.specs.declared.script.Local.{Local}
+use Rattle.wb_tree.specs.declared.script.StatementAt.{StatementAt}
+use Rattle.wb_heap_model.specs.Placement.{placement_of}
+use Rattle.wb_heap_model.specs.Space.{space_of, bound_below, limit_under}
+use Rattle.wb_heap_model.specs.Contents.{none}
+use Rattle.wb_heap_model.specs.Pointers.{null}
+use Rattle.wb_meaning.specs.State.{initial, State, goes_on, Process, ends, stops, asks, notes, and_then, on_plain_end}
+use Rattle.wb_heap_model.specs.Heap.{alloc_request, after_alloc}
+use Rattle.wb_heap_model.specs.LimitedHeap.{zero_words}
+use Rattle.wb_heap_model.specs.declared.heap.Answer.{Answer}
+use Rattle.wb_heap_model.specs.Row.{cell_length}
+use Rattle.wb_heap_model.specs.Rules.{Request, refusal_of, unless_refused}
+use Rattle.wb_heap_model.specs.Debug.{Debug, keeps_rises, made_by, answer_in}
+use Rattle.wb_heap_model.specs.Rises.{first_rises}
+use Rattle.wb_meaning.specs.declared.run.Why.TheVariants.{Ceiling}
+use Rattle.wb_meaning.specs.Statements.{all}
+use Rattle.wb_meaning.specs.Meaning.{meaning_of}
+use Rattle.wb_meaning.specs.Account.{settled}
+use Rattle.wb_meaning.specs.Attempts.{allocate}
+use Rattle.wb_meaning.specs.Run.{before_of, main_trapped, in_main, started, process, whole_of, whole_run}
+use Rattle.wb_heap_model.specs.SameRules.{Fits}
+use Rattle.wb_meaning.specs.Rest.{Pending, doing, main_catching, resumed, resume, left_to_do, rest}
 use Rattle.wb_machine.specs.declared.pieces.Ending.{Ending}
 use Rattle.wb_machine.specs.declared.pieces.Ending.TheVariants.{GoesOn, Cut, NoCleanup}
 use Rattle.wb_machine.specs.declared.pieces.PendingPiece.{PendingPiece}

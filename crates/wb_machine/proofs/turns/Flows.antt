@@ -1,28 +1,29 @@
 -- What attempts come to, from the state of a run on.
 use Rattle.std.proofs.Common.{◌≡◌, ℕ, ◌-◌, true, false, List, refl, ap, ◌∙◌, sym, Option, Some, None}
-use Rattle.wb_model.specs.declared.heap.Ptr.{Ptr}
-use Rattle.wb_model.specs.declared.heap.Kind.{Kind}
-use Rattle.wb_model.specs.declared.heap.Kind.TheVariants.{Raw, Object, Text, Cleanup}
-use Rattle.wb_model.specs.declared.heap.Header.{Header}
-use Rattle.wb_model.specs.declared.heap.Rule.{Rule}
-use Rattle.wb_model.specs.declared.heap.Answer.{Answer}
-use Rattle.wb_model.specs.declared.heap.Answer.TheVariants.{Granted, Simulated, Refused}
-use Rattle.wb_model.specs.declared.heap.Gave.{Gave}
-use Rattle.wb_model.specs.declared.heap.Gave.TheVariants as G
-use Rattle.wb_model.specs.declared.script.Script.{Script}
-use Rattle.wb_model.specs.heap.Placement.{place_to_grow_to, place_to_put}
-use Rattle.wb_model.specs.heap.Row.{Cell, inserted, without, pointer_to, cell_length}
-use Rattle.wb_model.specs.heap.Rules.{Request, answer_to}
-use Rattle.wb_model.specs.heap.Heap.{Heap, AfterAnswer, attempt_counted, new_cell, moved, alloc_request, after_alloc, realloc_request, after_realloc}
-use Rattle.wb_model.specs.heap.Space.{space_of, space_below, bound_below, limit_under}
-use Rattle.wb_model.specs.meaning.State.{Content, State, Way, Process, stops, is_cut, and_then, set_heap}
-use Rattle.wb_model.specs.declared.run.Why.TheVariants.{Ceiling}
-use Rattle.wb_model.specs.meaning.Attempts.{attempt, allocate, resized, reallocate_longer}
-use Rattle.wb_model.specs.runs.Account.{stopped, Settled, settled, on_answer, recorded}
-use Rattle.wb_model.specs.cells.CellRow.{resized_words}
-use Rattle.wb_model.specs.heap.LimitedHeap.{zero_words}
-use Rattle.wb_model.specs.heap.Debug.{number_of_next, made_by, gave_of, shorter_made}
-use Rattle.wb_model.specs.cells.Spelling.{read_as}
+use Rattle.wb_heap_model.specs.declared.heap.Ptr.{Ptr}
+use Rattle.wb_heap_model.specs.declared.heap.Kind.{Kind}
+use Rattle.wb_heap_model.specs.declared.heap.Kind.TheVariants.{Raw, Object, Text, Cleanup}
+use Rattle.wb_heap_model.specs.declared.heap.Header.{Header}
+use Rattle.wb_heap_model.specs.declared.heap.Rule.{Rule}
+use Rattle.wb_heap_model.specs.declared.heap.Answer.{Answer}
+use Rattle.wb_heap_model.specs.declared.heap.Answer.TheVariants.{Granted, Simulated, Refused}
+use Rattle.wb_heap_model.specs.declared.heap.Gave.{Gave}
+use Rattle.wb_heap_model.specs.declared.heap.Gave.TheVariants as G
+use Rattle.wb_tree.specs.declared.script.Script.{Script}
+use Rattle.wb_heap_model.specs.Placement.{place_to_grow_to, place_to_put}
+use Rattle.wb_heap_model.specs.Row.{Cell, inserted, without, pointer_to, cell_length}
+use Rattle.wb_heap_model.specs.Rules.{Request, answer_to}
+use Rattle.wb_heap_model.specs.Heap.{Heap, AfterAnswer, attempt_counted, new_cell, moved, alloc_request, after_alloc, realloc_request, after_realloc}
+use Rattle.wb_heap_model.specs.Space.{space_of, space_below, bound_below, limit_under}
+use Rattle.wb_heap_model.specs.Contents.{Content}
+use Rattle.wb_meaning.specs.State.{State, Way, Process, stops, is_cut, and_then, set_heap}
+use Rattle.wb_meaning.specs.declared.run.Why.TheVariants.{Ceiling}
+use Rattle.wb_meaning.specs.Attempts.{attempt, allocate, resized, reallocate_longer}
+use Rattle.wb_meaning.specs.Account.{stopped, Settled, settled, on_answer, recorded}
+use Rattle.wb_heap_model.specs.CellRow.{resized_words}
+use Rattle.wb_heap_model.specs.LimitedHeap.{zero_words}
+use Rattle.wb_heap_model.specs.Debug.{number_of_next, made_by, gave_of, shorter_made}
+use Rattle.wb_heap_model.specs.Spelling.{read_as}
 use Rattle.wb_machine.specs.RunState.{RunState, field_count, read_cell, read_row, read_heap, state_of, account_of, with_debug}
 use Rattle.wb_machine.specs.Flow.{flow}
 use Rattle.wb_machine.proofs.kept.Rows.{headers_read, read_inserted, read_without, read_resized}

@@ -3,28 +3,29 @@ use Rattle.std.proofs.Common.{◌≡◌, ℕ, ◌+◌, ◌<◌, ◌≤◌, Bool,
 use Rattle.std.specs.Prelude.{nat_le, unwrap_or}
 use Rattle.std.proofs.lemmas.Bool.{lt-ltb, le-ltb, le-leb, lt-leb}
 use Rattle.std.proofs.Math.Seq.{take-append_seam, drop-append_seam}
-use Rattle.wb_model.specs.declared.limits.TheConstants.{MOST_TURNS, MOST_FRAMES}
-use Rattle.wb_model.specs.declared.heap.TheConstants.Panic.{NUMBER_OUT_OF_RANGE, TOO_MANY_FRAMES, POP_BELOW_TRAP}
-use Rattle.wb_model.specs.declared.heap.Item.TheVariants as I
-use Rattle.wb_model.specs.declared.heap.Panic.{Panic}
-use Rattle.wb_model.specs.declared.heap.Ptr.{Ptr}
-use Rattle.wb_model.specs.declared.heap.Rule.{Rule}
-use Rattle.wb_model.specs.declared.script.Script.{Script}
-use Rattle.wb_model.specs.declared.script.Argument.{Argument}
-use Rattle.wb_model.specs.declared.script.Body.{Body}
-use Rattle.wb_model.specs.declared.script.Number.{Number}
-use Rattle.wb_model.specs.declared.script.Pointer.{Pointer}
-use Rattle.wb_model.specs.declared.script.StatementAt.{StatementAt}
-use Rattle.wb_model.specs.declared.script.Condition.{Condition}
-use Rattle.wb_model.specs.declared.script.Statement.TheOpen.{Statement-F}
-use Rattle.wb_model.specs.meaning.State.{null, initial, pointer, Process, goes_on, and_then, on_plain_end, with_some, require}
-use Rattle.wb_model.specs.meaning.Operands.{within, not_negative}
-use Rattle.wb_model.specs.meaning.Statements.{all, turns, destroy_items, destroy_object, Context, Layer, statement, choice, trapped, in_frame, plain, with_class, is_null, release, destroyed_item, destroyed_object}
-use Rattle.wb_model.specs.meaning.Bodies.{procedure_at, operation_at, class_at, no_body}
-use Rattle.wb_model.specs.meaning.Meaning.{piece, meaning_within, meaning_of}
-use Rattle.wb_model.specs.runs.Run.{whole_of}
-use Rattle.wb_model.specs.runs.Rest.{Pending, Afterwards, nothing_more, gives_to, releases, doing, catching, calling, after_frame, resumed, resume}
-use Rattle.wb_model.proofs.meaning.ResumeLemmas.{and_then-assoc}
+use Rattle.wb_basics.specs.declared.limits.TheConstants.{MOST_TURNS, MOST_FRAMES}
+use Rattle.wb_heap_model.specs.declared.heap.TheConstants.Panic.{NUMBER_OUT_OF_RANGE, TOO_MANY_FRAMES, POP_BELOW_TRAP}
+use Rattle.wb_heap_model.specs.declared.heap.Item.TheVariants as I
+use Rattle.wb_heap_model.specs.declared.heap.Panic.{Panic}
+use Rattle.wb_heap_model.specs.declared.heap.Ptr.{Ptr}
+use Rattle.wb_heap_model.specs.declared.heap.Rule.{Rule}
+use Rattle.wb_tree.specs.declared.script.Script.{Script}
+use Rattle.wb_tree.specs.declared.script.Argument.{Argument}
+use Rattle.wb_tree.specs.declared.script.Body.{Body}
+use Rattle.wb_tree.specs.declared.script.Number.{Number}
+use Rattle.wb_tree.specs.declared.script.Pointer.{Pointer}
+use Rattle.wb_tree.specs.declared.script.StatementAt.{StatementAt}
+use Rattle.wb_tree.specs.declared.script.Condition.{Condition}
+use Rattle.wb_tree.specs.declared.script.Statement.TheOpen.{Statement-F}
+use Rattle.wb_heap_model.specs.Pointers.{null, is_null}
+use Rattle.wb_meaning.specs.State.{initial, pointer, Process, goes_on, and_then, on_plain_end, with_some, require}
+use Rattle.wb_meaning.specs.Operands.{within, not_negative}
+use Rattle.wb_meaning.specs.Statements.{all, turns, destroy_items, destroy_object, Context, Layer, statement, choice, trapped, in_frame, plain, with_class, release, destroyed_item, destroyed_object}
+use Rattle.wb_tree.specs.Bodies.{procedure_at, operation_at, class_at, no_body}
+use Rattle.wb_meaning.specs.Meaning.{piece, meaning_within, meaning_of}
+use Rattle.wb_meaning.specs.Run.{whole_of}
+use Rattle.wb_meaning.specs.Rest.{Pending, Afterwards, nothing_more, gives_to, releases, doing, catching, calling, after_frame, resumed, resume}
+use Rattle.wb_meaning.proofs.ResumeLemmas.{and_then-assoc}
 use Rattle.wb_machine.specs.declared.pieces.Ending.TheVariants.{GoesOn, Panics}
 use Rattle.wb_machine.specs.declared.pieces.PendingPiece.{PendingPiece}
 use Rattle.wb_machine.specs.RunState.{Values, RunState, state_of}

@@ -5,28 +5,27 @@ use Rattle.std.specs.List.{list_all}
 use Rattle.std.proofs.lemmas.Bool.{leb-true}
 use Rattle.std.proofs.lemmas.List.{length-map}
 use Rattle.std.proofs.lemmas.List.Folds.{list_all-append}
-use Rattle.wb_model.specs.declared.limits.TheConstants.{MOST_PROCEDURES, MOST_LOCALS, MOST_PARAMETERS, MOST_CLASSES, MOST_FIELDS, MOST_EXTRA, LARGEST_BUFFER, LONGEST_LITERAL, DEEPEST_BLOCK, CEILING}
-use Rattle.wb_model.specs.declared.script.Script.{Script}
-use Rattle.wb_model.specs.declared.script.Argument.{Argument}
-use Rattle.wb_model.specs.declared.script.Body.{Body}
-use Rattle.wb_model.specs.declared.script.Class.{Class}
-use Rattle.wb_model.specs.declared.script.Local.{Local}
-use Rattle.wb_model.specs.declared.script.Local.TheVariants.{OfPointer, OfNumber, OfBuffer, OfView}
-use Rattle.wb_model.specs.declared.script.Operation.{Operation}
-use Rattle.wb_model.specs.declared.script.Parameter.{Parameter}
-use Rattle.wb_model.specs.declared.script.Procedure.{Procedure}
-use Rattle.wb_model.specs.declared.script.Condition.{Condition}
-use Rattle.wb_model.specs.declared.script.Number.{Number}
-use Rattle.wb_model.specs.declared.script.Pointer.{Pointer}
-use Rattle.wb_model.specs.declared.script.StatementAt.{StatementAt}
-use Rattle.wb_model.specs.declared.script.Statement.TheOpen.{Statement-F}
-use Rattle.wb_model.specs.declared.script.Statement.TheViews.{out-Statement}
-use Rattle.wb_model.specs.meaning.Statements.{Layer, payload_of_object}
-use Rattle.wb_model.specs.meaning.Bodies.{no_body, procedure_at, operation_at, class_at}
-use Rattle.wb_model.specs.language.Sound.{Declared, is_class_among, is_local, is_number, is_variable, is_pointer, is_condition, is_literal_text, is_nested, are_within, are_statements, is_pointer_local, is_parameter, local_of_parameter, is_body, scope_of, is_procedure, is_operation, is_own_body, is_class_of, are_classes, signatures_of, declared_in, fields_declared, is_entry, is_called, is_call, are_passed, are_few, is_sound_script, is_script}
-use Rattle.wb_model.specs.language.Trees.{its_parameters}
-use Rattle.wb_model.specs.language.Words.{is_quotable}
-use Rattle.wb_model.specs.meaning.Quiet.{is_quiet}
+use Rattle.wb_basics.specs.declared.limits.TheConstants.{MOST_PROCEDURES, MOST_LOCALS, MOST_PARAMETERS, MOST_CLASSES, MOST_FIELDS, MOST_EXTRA, LARGEST_BUFFER, LONGEST_LITERAL, DEEPEST_BLOCK, CEILING}
+use Rattle.wb_tree.specs.declared.script.Script.{Script}
+use Rattle.wb_tree.specs.declared.script.Argument.{Argument}
+use Rattle.wb_tree.specs.declared.script.Body.{Body}
+use Rattle.wb_tree.specs.declared.script.Class.{Class}
+use Rattle.wb_tree.specs.declared.script.Local.{Local}
+use Rattle.wb_tree.specs.declared.script.Local.TheVariants.{OfPointer, OfNumber, OfBuffer, OfView}
+use Rattle.wb_tree.specs.declared.script.Operation.{Operation}
+use Rattle.wb_tree.specs.declared.script.Parameter.{Parameter}
+use Rattle.wb_tree.specs.declared.script.Procedure.{Procedure}
+use Rattle.wb_tree.specs.declared.script.Condition.{Condition}
+use Rattle.wb_tree.specs.declared.script.Number.{Number}
+use Rattle.wb_tree.specs.declared.script.Pointer.{Pointer}
+use Rattle.wb_tree.specs.declared.script.StatementAt.{StatementAt}
+use Rattle.wb_tree.specs.declared.script.Statement.TheOpen.{Statement-F}
+use Rattle.wb_tree.specs.declared.script.Statement.TheViews.{out-Statement}
+use Rattle.wb_meaning.specs.Statements.{Layer}
+use Rattle.wb_tree.specs.Bodies.{payload_of_object, no_body, procedure_at, operation_at, class_at}
+use Rattle.wb_tree.specs.Sound.{Declared, is_class_among, is_local, is_number, is_variable, is_pointer, is_condition, is_literal_text, is_nested, are_within, are_statements, is_pointer_local, is_parameter, local_of_parameter, is_body, scope_of, is_procedure, is_operation, is_own_body, is_class_of, are_classes, signatures_of, declared_in, fields_declared, is_entry, is_called, is_call, are_passed, are_few, is_sound_script, is_script, is_quotable}
+use Rattle.wb_tree.specs.Spellings.{its_parameters}
+use Rattle.wb_tree.specs.Quiet.{is_quiet}
 use Rattle.wb_machine.specs.declared.pieces.PendingPiece.{PendingPiece}
 use Rattle.wb_machine.specs.declared.pieces.PendingPiece.TheVariants.{MainTrap}
 use Rattle.wb_machine.specs.LocalValues.{is_small}

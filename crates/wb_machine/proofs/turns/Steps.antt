@@ -3,20 +3,21 @@ use Rattle.std.proofs.Common.{◌≡◌, ℕ, zero, suc, ◌<◌, true, Option, 
 use Rattle.std.specs.Prelude.{nat_lt}
 use Rattle.std.proofs.lemmas.List.{reverse-append}
 use Rattle.std.proofs.lemmas.Bool.{lt-ltb, le-ltb}
-use Rattle.wb_model.specs.declared.heap.TheConstants.Panic.{POP_BELOW_TRAP}
-use Rattle.wb_model.specs.declared.heap.Item.{Item}
-use Rattle.wb_model.specs.declared.heap.Ptr.{Ptr}
-use Rattle.wb_model.specs.declared.heap.Rule.{Rule}
-use Rattle.wb_model.specs.declared.run.Why.TheVariants.{Budget}
-use Rattle.wb_model.specs.declared.script.Script.{Script}
-use Rattle.wb_model.specs.declared.script.StatementAt.{StatementAt}
-use Rattle.wb_model.specs.declared.script.Statement.TheViews.{out-Statement}
-use Rattle.wb_model.specs.meaning.State.{goes_on, and_then, then_do, with_some}
-use Rattle.wb_model.specs.meaning.Statements.{all, turns, destroy_items, destroy_object, newest, drop_newest, destroyed_item, with_class, Context, statement}
-use Rattle.wb_model.specs.meaning.Meaning.{begun, begun_if, meaning_of}
-use Rattle.wb_model.specs.runs.Run.{whole_of}
-use Rattle.wb_model.specs.runs.Rest.{Pending, doing, resume, left_to_do, rest}
-use Rattle.wb_model.proofs.meaning.ResumeLemmas.{resume-all, resume-turns}
+use Rattle.wb_heap_model.specs.declared.heap.TheConstants.Panic.{POP_BELOW_TRAP}
+use Rattle.wb_heap_model.specs.declared.heap.Item.{Item}
+use Rattle.wb_heap_model.specs.declared.heap.Ptr.{Ptr}
+use Rattle.wb_heap_model.specs.declared.heap.Rule.{Rule}
+use Rattle.wb_meaning.specs.declared.run.Why.TheVariants.{Budget}
+use Rattle.wb_tree.specs.declared.script.Script.{Script}
+use Rattle.wb_tree.specs.declared.script.StatementAt.{StatementAt}
+use Rattle.wb_tree.specs.declared.script.Statement.TheViews.{out-Statement}
+use Rattle.wb_meaning.specs.State.{goes_on, and_then, then_do, with_some}
+use Rattle.wb_meaning.specs.Statements.{all, turns, destroy_items, destroy_object, drop_newest, destroyed_item, with_class, Context, statement}
+use Rattle.wb_heap_model.specs.Pointers.{newest}
+use Rattle.wb_meaning.specs.Meaning.{begun, begun_if, meaning_of}
+use Rattle.wb_meaning.specs.Run.{whole_of}
+use Rattle.wb_meaning.specs.Rest.{Pending, doing, resume, left_to_do, rest}
+use Rattle.wb_meaning.proofs.ResumeLemmas.{resume-all, resume-turns}
 use Rattle.wb_machine.proofs.turns.Destructions.{object_destroyed, resume_items, resume_object, item_there}
 use Rattle.wb_machine.specs.declared.pieces.Ending.{Ending}
 use Rattle.wb_machine.specs.declared.pieces.Ending.TheVariants.{GoesOn, Returns, Leaves, Panics, Cut, NoCleanup}

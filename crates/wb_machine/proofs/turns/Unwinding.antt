@@ -2,18 +2,19 @@
 use Rattle.std.proofs.Common.{◌≡◌, ℕ, zero, suc, ◌-◌, ◌≤◌, ℤ, pos, false, true, not, List, [], ◌∷◌, take, drop, length, Option, Some, None, refl, ap, ◌∙◌, sym, arith}
 use Rattle.std.specs.Prelude.{nat_lt}
 use Rattle.std.proofs.lemmas.Bool.{lt-ltb, eq-eqb, ne_eqb}
-use Rattle.wb_model.specs.declared.heap.TheConstants.Panic.{ITEMS_LEFT}
-use Rattle.wb_model.specs.declared.heap.Ptr.{Ptr}
-use Rattle.wb_model.specs.declared.heap.Rule.{Rule}
-use Rattle.wb_model.specs.declared.script.Script.{Script}
-use Rattle.wb_model.specs.declared.script.StatementAt.{StatementAt}
-use Rattle.wb_model.specs.meaning.State.{null, number, leaves, Process, ends, and_then, on_plain_end, then_do, require, set_local}
-use Rattle.wb_model.specs.meaning.Statements.{all, turns, destroy_items, destroy_object, Context, trapped, done, plain}
-use Rattle.wb_model.specs.meaning.Meaning.{piece, meaning_of}
-use Rattle.wb_model.specs.runs.Run.{main_trapped, whole_of}
-use Rattle.wb_model.specs.runs.Rest.{doing, catching, caught, calling, main_catching, main_caught, after_frame, resumed, resume}
-use Rattle.wb_model.proofs.meaning.MeaningLemmas.{meaning_of-unfolds}
-use Rattle.wb_model.proofs.meaning.ResumeLemmas.{and_then-assoc}
+use Rattle.wb_heap_model.specs.declared.heap.TheConstants.Panic.{ITEMS_LEFT}
+use Rattle.wb_heap_model.specs.declared.heap.Ptr.{Ptr}
+use Rattle.wb_heap_model.specs.declared.heap.Rule.{Rule}
+use Rattle.wb_tree.specs.declared.script.Script.{Script}
+use Rattle.wb_tree.specs.declared.script.StatementAt.{StatementAt}
+use Rattle.wb_heap_model.specs.Pointers.{null}
+use Rattle.wb_meaning.specs.State.{number, leaves, Process, ends, and_then, on_plain_end, then_do, require, set_local}
+use Rattle.wb_meaning.specs.Statements.{all, turns, destroy_items, destroy_object, Context, trapped, done, plain}
+use Rattle.wb_meaning.specs.Meaning.{piece, meaning_of}
+use Rattle.wb_meaning.specs.Run.{main_trapped, whole_of}
+use Rattle.wb_meaning.specs.Rest.{doing, catching, caught, calling, main_catching, main_caught, after_frame, resumed, resume}
+use Rattle.wb_meaning.proofs.MeaningLemmas.{meaning_of-unfolds}
+use Rattle.wb_meaning.proofs.ResumeLemmas.{and_then-assoc}
 use Rattle.wb_machine.specs.declared.pieces.After.{After}
 use Rattle.wb_machine.specs.declared.pieces.After.TheVariants.{Nothing, Gives, Releases}
 use Rattle.wb_machine.specs.declared.pieces.Ending.{Ending}

@@ -1,11 +1,11 @@
 -- What is left of a run that is over, and of one that has not begun.
 use Rattle.std.proofs.Common.{◌≡◌, ℕ, true, false, List, [], ◌∷◌, map, refl, ap, sym}
-use Rattle.wb_model.specs.declared.heap.Rule.{Rule}
-use Rattle.wb_model.specs.declared.script.Script.{Script}
-use Rattle.wb_model.specs.declared.run.Leak.{Leak}
-use Rattle.wb_model.specs.heap.Heap.{cells_of_all_levels}
-use Rattle.wb_model.specs.runs.Run.{leak_of}
-use Rattle.wb_model.specs.runs.Rest.{resume, left_to_do, rest}
+use Rattle.wb_heap_model.specs.declared.heap.Rule.{Rule}
+use Rattle.wb_tree.specs.declared.script.Script.{Script}
+use Rattle.wb_heap_model.specs.declared.reported.Leak.{Leak}
+use Rattle.wb_heap_model.specs.Heap.{cells_of_all_levels}
+use Rattle.wb_heap_model.specs.Reported.{leak_of}
+use Rattle.wb_meaning.specs.Rest.{resume, left_to_do, rest}
 use Rattle.wb_machine.specs.declared.pieces.Ending.{Ending}
 use Rattle.wb_machine.specs.declared.pieces.Ending.TheVariants.{GoesOn, Returns, Leaves, Panics, Cut, NoCleanup}
 use Rattle.wb_machine.specs.declared.pieces.PendingPiece.{PendingPiece}

@@ -1,17 +1,16 @@
 -- A rule that fits says the same as the machine's own of the attempts made so far.
 use Rattle.std.proofs.Common.{◌≡◌, ℕ, ◌+◌, ◌≤◌, Bool, true, false, refl, ap, inl, inr, arith}
-use Rattle.std.specs.Prelude.{if◌then◌else◌, Some}
-use Rattle.wb_model.specs.declared.heap.Answer.TheVariants.{Simulated}
-use Rattle.wb_model.specs.declared.heap.Rule.{Rule}
-use Rattle.std.specs.Prelude.{List}
+use Rattle.std.specs.Prelude.{if◌then◌else◌, Some, List}
+use Rattle.wb_heap_model.specs.declared.heap.Answer.TheVariants.{Simulated}
+use Rattle.wb_heap_model.specs.declared.heap.Rule.{Rule}
 use Rattle.wb_machine.specs.declared.pieces.Ending.{Ending}
 use Rattle.wb_machine.specs.declared.pieces.Ending.TheVariants.{GoesOn, Returns, Leaves, Panics, Cut, NoCleanup}
 use Rattle.wb_machine.specs.declared.pieces.PendingPiece.{PendingPiece}
 use Rattle.wb_machine.specs.Flow.{is_stop, is_over}
-use Rattle.wb_model.specs.runs.Rest.{Fits}
-use Rattle.wb_model.specs.heap.Rules.{unless_refused, answer_to, Request}
-use Rattle.wb_model.specs.heap.Space.{limit_under}
-use Rattle.wb_model.proofs.heaps.RuleLemmas.{same-limit}
+use Rattle.wb_heap_model.specs.SameRules.{Fits}
+use Rattle.wb_heap_model.specs.Rules.{unless_refused, answer_to, Request}
+use Rattle.wb_heap_model.specs.Space.{limit_under}
+use Rattle.wb_heap_model.proofs.RuleLemmas.{same-limit}
 
 -- both leave the heap the same length
 pub fits-limit : (r own : Rule) (ended : Bool) (attempts : ℕ) → Fits r own ended attempts → limit_under r ≡ limit_under own

@@ -1,8 +1,9 @@
 -- A run that is over has come to what the definitions say of the whole run.
 use Rattle.std.proofs.Common.{◌≡◌, ◌≤◌, ◌+◌, true, false, Some, ap, ◌∙◌, sym, subst, refl, inl, arith}
-use Rattle.wb_model.specs.declared.run.RisesResult.{RisesResult}
-use Rattle.wb_model.specs.runs.Run.{WholeRun, rises_above, rises_result_of, run, run_with_rises, whole_run}
-use Rattle.wb_model.proofs.runs.AccountLemmas.{whole-with_rises}
+use Rattle.wb_meaning.specs.declared.run.RisesResult.{RisesResult}
+use Rattle.wb_meaning.specs.Run.{WholeRun, rises_result_of, run, run_with_rises, whole_run}
+use Rattle.wb_heap_model.specs.Rises.{rises_above}
+use Rattle.wb_meaning.proofs.AccountLemmas.{whole-with_rises}
 use Rattle.wb_machine.specs.Flow.{is_over, rest_at}
 use Rattle.wb_machine.specs.Seen.{Seen}
 use Rattle.wb_machine.specs.Results.{leaks_at_end, outcome_by, run_result_by, whole_by}

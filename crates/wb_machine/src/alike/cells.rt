@@ -2,11 +2,11 @@
 //! place, and the comparison ends at the first difference.
 
 ghost use Rattle.std.specs.Prelude.{◌≡◌, ◌+◌, ◌^◌, ◌<◌, ℕ, List, true, Some, length, slice_index, IfSome, IsSome, OnSome};
-ghost use Rattle.wb_model.specs.cells.CellRow.{payload_of};
-ghost use Rattle.wb_model.specs.declared.script.Script.{Script};
-ghost use Rattle.wb_model.specs.heap.Debug.{IsSoundDebug};
-ghost use Rattle.wb_model.specs.heap.Row.{cell_at, end_of, Cell};
-ghost use Rattle.wb_model.specs.runs.SameButNumbers.{AllBeside, IsSameCell, IsSameHeader, IsSameItem};
+ghost use Rattle.wb_heap_model.specs.CellRow.{payload_of};
+ghost use Rattle.wb_tree.specs.declared.script.Script.{Script};
+ghost use Rattle.wb_heap_model.specs.Debug.{IsSoundDebug};
+ghost use Rattle.wb_heap_model.specs.Row.{cell_at, end_of, Cell};
+ghost use Rattle.wb_renaming.specs.SameButNumbers.{AllBeside, IsSameCell, IsSameHeader, IsSameItem};
 ghost use Rattle.wb_cleanup.specs.Stacks.{items_of, IsStack};
 ghost use Rattle.wb_machine.specs.Alike.{ArePairsAlike, AreWordsAlike, IsGrown};
 ghost use Rattle.wb_machine.specs.RunState.{read_cell, read_row};
@@ -14,7 +14,7 @@ ghost use Rattle.wb_machine.specs.RunState.{read_cell, read_row};
 use super::names::Names;
 use wb_cleanup::Cleanup;
 use wb_debug::DebugHeap;
-use wb_model::heap::{Header, Item, Kind, Ptr};
+use wb_heap_model::heap::{Header, Item, Kind, Ptr};
 
 fn same_header(names: &mut Names, header: Header, other: Header) -> bool
     ensures same { result ≡ true → IsSameHeader names.new.names header other }

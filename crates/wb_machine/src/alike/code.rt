@@ -7,8 +7,8 @@ use super::operands::{
     same_arguments, same_condition, same_number, same_pointer, same_readable, same_refusal,
     same_writable,
 };
-use wb_model::limits::DEEPEST_BLOCK;
-use wb_model::script::{Statement, StatementAt};
+use wb_basics::limits::DEEPEST_BLOCK;
+use wb_tree::script::{Statement, StatementAt};
 
 /// Whether two statements that get, change or release cells are the same; `false` for statements of other kinds.
 fn same_on_cells(statement: &Statement, other: &Statement) -> bool

@@ -2,11 +2,11 @@
 
 ghost use Rattle.std.specs.Prelude.{◌≡◌, ◌≤◌, [], true};
 ghost use Rattle.wb_machine.specs.Alike.{pair_of, IsGrown};
-ghost use Rattle.wb_model.specs.runs.SameButNumbers.{since_fork, IsRenaming, IsSamePointer, Renames};
+ghost use Rattle.wb_renaming.specs.SameButNumbers.{since_fork, IsRenaming, IsSamePointer, Renames};
 
 use arrayvec::ArrayVec;
 use std::marker::Model;
-use wb_model::heap::Ptr;
+use wb_heap_model::heap::Ptr;
 
 /// An allocation number of one run, and the one of the other run that stands for it.
 #[derive(Clone, Copy, Default)]
@@ -29,7 +29,7 @@ pub struct Names {
 }
 
 impl Model for Names {
-    ghost use Rattle.wb_model.specs.runs.SameButNumbers.{Renaming};
+    ghost use Rattle.wb_renaming.specs.SameButNumbers.{Renaming};
 
     ghost Value = { Renaming };
 

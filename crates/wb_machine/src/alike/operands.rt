@@ -2,7 +2,7 @@
 
 ghost use Rattle.std.specs.Prelude.{◌≡◌, true};
 
-use wb_model::script::{Argument, Condition, Holder, Number, Pointer, Readable, Refusal, Writable};
+use wb_tree::script::{Argument, Condition, Holder, Number, Pointer, Readable, Refusal, Writable};
 
 fn same_holder(holder: Holder, other: Holder) -> bool
     ensures { result ≡ true → other ≡ holder }

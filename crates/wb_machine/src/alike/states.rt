@@ -1,9 +1,9 @@
 //! States of two runs that are the same except for allocation numbers.
 
 ghost use Rattle.std.specs.Prelude.{◌≡◌, true};
-ghost use Rattle.wb_model.specs.declared.script.Script.{Script};
-ghost use Rattle.wb_model.specs.runs.SameButNumbers.{AllBeside, IsSameItem, IsSamePointer};
-ghost use Rattle.wb_model.specs.runs.SameButNumbers.{IsSameState, IsSameValue};
+ghost use Rattle.wb_tree.specs.declared.script.Script.{Script};
+ghost use Rattle.wb_renaming.specs.SameButNumbers.{AllBeside, IsSameItem, IsSamePointer};
+ghost use Rattle.wb_renaming.specs.SameButNumbers.{IsSameState, IsSameValue};
 ghost use Rattle.wb_machine.specs.Alike.{IsGrown};
 ghost use Rattle.wb_machine.specs.RunState.{state_of};
 

@@ -1,9 +1,9 @@
 //! How a call begins: the body of a procedure is added, in a frame of its own.
 
 ghost use Rattle.std.specs.Prelude.{◌≡◌, ◌<◌, ◌≤◌, ℕ, None, length, IsTrue, OnOk};
-ghost use Rattle.wb_model.specs.language.Sound.{is_script};
-ghost use Rattle.wb_model.specs.declared.heap.Rule.{Rule};
-ghost use Rattle.wb_model.specs.declared.script.Statement.TheOpen.{Statement-F};
+ghost use Rattle.wb_tree.specs.Sound.{is_script};
+ghost use Rattle.wb_heap_model.specs.declared.heap.Rule.{Rule};
+ghost use Rattle.wb_tree.specs.declared.script.Statement.TheOpen.{Statement-F};
 ghost use Rattle.wb_machine.specs.declared.pieces.Ending.TheVariants.{GoesOn};
 ghost use Rattle.wb_machine.specs.PointerOperands.{first_refusal, of_arguments};
 ghost use Rattle.wb_machine.specs.Flow.{context_of, AreSound, rest_from, rest_of_statement};
@@ -16,8 +16,8 @@ use crate::control::{Control, procedure_at};
 use crate::locals::NULL;
 use crate::pieces::{After, Context};
 use crate::state::State;
-use wb_model::memory::NoMemory;
-use wb_model::script::{Argument, Script};
+use wb_basics::memory::NoMemory;
+use wb_tree::script::{Argument, Script};
 
 impl<'a> Control<'a> {
     /// Begins a call whose result is dropped.

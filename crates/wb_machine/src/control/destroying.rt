@@ -2,14 +2,14 @@
 
 ghost use Rattle.std.specs.Prelude.{◌≡◌, ◌+◌, ◌^◌, ◌<◌, ◌≤◌, ◌∷◌, [], ℕ, IsTrue, OnOk};
 ghost use Rattle.std.specs.List.{list_all};
-ghost use Rattle.wb_model.specs.language.Sound.{is_script};
-ghost use Rattle.wb_model.specs.meaning.Statements.{destroy_items, destroy_object, destroyed_item, destroyed_object};
-ghost use Rattle.wb_model.specs.meaning.Statements.{is_null};
-ghost use Rattle.wb_model.specs.meaning.Meaning.{meaning_of};
-ghost use Rattle.wb_model.specs.runs.Rest.{doing};
-ghost use Rattle.wb_model.specs.declared.heap.Rule.{Rule};
-ghost use Rattle.wb_model.specs.declared.script.Body.{Body};
-ghost use Rattle.wb_model.specs.declared.script.Script.{Script};
+ghost use Rattle.wb_tree.specs.Sound.{is_script};
+ghost use Rattle.wb_meaning.specs.Statements.{destroy_items, destroy_object, destroyed_item, destroyed_object};
+ghost use Rattle.wb_heap_model.specs.Pointers.{is_null};
+ghost use Rattle.wb_meaning.specs.Meaning.{meaning_of};
+ghost use Rattle.wb_meaning.specs.Rest.{doing};
+ghost use Rattle.wb_heap_model.specs.declared.heap.Rule.{Rule};
+ghost use Rattle.wb_tree.specs.declared.script.Body.{Body};
+ghost use Rattle.wb_tree.specs.declared.script.Script.{Script};
 ghost use Rattle.wb_machine.specs.declared.pieces.Ending.TheVariants.{GoesOn};
 ghost use Rattle.wb_machine.specs.Bodies.{IsBody};
 ghost use Rattle.wb_machine.specs.LocalValues.{values_of_arguments};
@@ -27,9 +27,9 @@ use crate::locals::NULL;
 use crate::pieces::{After, Context, Ending, PendingPiece};
 use crate::raiser::Raiser;
 use crate::state::State;
-use wb_model::heap::{Item, Panic, Ptr};
-use wb_model::memory::NoMemory;
-use wb_model::script::Script;
+use wb_basics::memory::NoMemory;
+use wb_heap_model::heap::{Item, Panic, Ptr};
+use wb_tree::script::Script;
 
 impl<'a> Control<'a> {
     /// Begins to destroy the object that a pointer names. For null there is nothing to do.

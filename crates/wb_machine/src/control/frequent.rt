@@ -3,9 +3,9 @@
 //! statement out. All other statements are passed on to `heads`.
 
 ghost use Rattle.std.specs.Prelude.{◌≡◌, ℕ, IsOk, IsTrue, OnOk};
-ghost use Rattle.wb_model.specs.language.Sound.{is_script};
-ghost use Rattle.wb_model.specs.declared.heap.Rule.{Rule};
-ghost use Rattle.wb_model.specs.declared.script.Statement.TheViews.{out-Statement};
+ghost use Rattle.wb_tree.specs.Sound.{is_script};
+ghost use Rattle.wb_heap_model.specs.declared.heap.Rule.{Rule};
+ghost use Rattle.wb_tree.specs.declared.script.Statement.TheViews.{out-Statement};
 ghost use Rattle.wb_machine.specs.declared.pieces.Ending.TheVariants.{Panics};
 ghost use Rattle.wb_machine.specs.AttemptRises.{AsksForNoRise};
 ghost use Rattle.wb_machine.specs.Flow.{context_of, rest_from, rest_of_statement};
@@ -19,9 +19,9 @@ use crate::control::Control;
 use crate::pieces::{Context, Ending};
 use crate::raiser::Raiser;
 use crate::state::State;
-use wb_model::heap::Panic;
-use wb_model::memory::NoMemory;
-use wb_model::script::{Script, Statement};
+use wb_basics::memory::NoMemory;
+use wb_heap_model::heap::Panic;
+use wb_tree::script::{Script, Statement};
 
 impl<'a> Control<'a> {
     /// Ends the run with the panic of an operand.

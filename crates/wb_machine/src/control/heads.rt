@@ -2,12 +2,12 @@
 
 ghost use Rattle.std.specs.Prelude.{◌≡◌, ◌+◌, ◌≤◌, [], ◌∷◌, ℕ, None, length, max, IsOk, IsTrue, OnOk};
 ghost use Rattle.std.specs.List.{list_all};
-ghost use Rattle.wb_model.specs.language.Sound.{is_script};
-ghost use Rattle.wb_model.specs.declared.heap.Rule.{Rule};
-ghost use Rattle.wb_model.specs.declared.script.Script.{Script};
-ghost use Rattle.wb_model.specs.declared.script.Body.{Body};
-ghost use Rattle.wb_model.specs.declared.script.Statement.TheOpen.{Statement-F};
-ghost use Rattle.wb_model.specs.declared.script.Statement.TheViews.{out-Statement};
+ghost use Rattle.wb_tree.specs.Sound.{is_script};
+ghost use Rattle.wb_heap_model.specs.declared.heap.Rule.{Rule};
+ghost use Rattle.wb_tree.specs.declared.script.Script.{Script};
+ghost use Rattle.wb_tree.specs.declared.script.Body.{Body};
+ghost use Rattle.wb_tree.specs.declared.script.Statement.TheOpen.{Statement-F};
+ghost use Rattle.wb_tree.specs.declared.script.Statement.TheViews.{out-Statement};
 ghost use Rattle.wb_machine.specs.declared.pieces.Ending.TheVariants.{GoesOn};
 ghost use Rattle.wb_machine.specs.AttemptRises.{AsksForNoRise};
 ghost use Rattle.wb_machine.specs.Bodies.{IsBody};
@@ -27,10 +27,10 @@ use crate::operands::{not_negative, number_within};
 use crate::pieces::{After, Context, Ending, PendingPiece};
 use crate::raiser::Raiser;
 use crate::state::State;
-use wb_model::heap::{Panic, Ptr};
-use wb_model::limits::{MOST_FRAMES, MOST_TURNS};
-use wb_model::memory::NoMemory;
-use wb_model::script::{Condition, Number, Pointer, Script, Statement, StatementAt};
+use wb_basics::limits::{MOST_FRAMES, MOST_TURNS};
+use wb_basics::memory::NoMemory;
+use wb_heap_model::heap::{Panic, Ptr};
+use wb_tree::script::{Condition, Number, Pointer, Script, Statement, StatementAt};
 
 impl<'a> Control<'a> {
     /// Begins the part of an `if` that its condition chooses, unless that part is empty.

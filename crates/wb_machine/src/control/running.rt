@@ -2,11 +2,12 @@
 
 ghost use Rattle.std.specs.Prelude.{◌≡◌, ◌+◌, ◌<◌, ◌≤◌, ◌&&◌, ℕ, true, false, if◌then◌else◌};
 ghost use Rattle.std.specs.Prelude.{nat_lt, unwrap_or, min, IsOk, IsTrue, OnOk};
-ghost use Rattle.wb_model.specs.language.Sound.{is_script};
-ghost use Rattle.wb_model.specs.runs.Rest.{first_line, Fits};
-ghost use Rattle.wb_model.specs.declared.heap.Rule.{Rule};
-ghost use Rattle.wb_model.specs.declared.run.Why.TheVariants.{Budget};
-ghost use Rattle.wb_model.specs.declared.script.Script.{Script};
+ghost use Rattle.wb_tree.specs.Sound.{is_script};
+ghost use Rattle.wb_meaning.specs.Rest.{first_line};
+ghost use Rattle.wb_heap_model.specs.SameRules.{Fits};
+ghost use Rattle.wb_heap_model.specs.declared.heap.Rule.{Rule};
+ghost use Rattle.wb_meaning.specs.declared.run.Why.TheVariants.{Budget};
+ghost use Rattle.wb_tree.specs.declared.script.Script.{Script};
 ghost use Rattle.wb_machine.specs.declared.pieces.Ending.TheVariants.{Cut};
 ghost use Rattle.wb_machine.specs.BetweenTurns.{IsBetweenTurns, KeepsSetting};
 ghost use Rattle.wb_machine.specs.RunState.{RunState, state_of};
@@ -19,10 +20,10 @@ ghost use Rattle.wb_machine.specs.QuietTurns.{steps_after, BeginsNoRise};
 use crate::control::Control;
 use crate::pieces::Ending;
 use crate::state::State;
-use wb_model::limits::LARGEST_BUDGET;
-use wb_model::memory::NoMemory;
-use wb_model::run::Why;
-use wb_model::script::Script;
+use wb_basics::limits::LARGEST_BUDGET;
+use wb_basics::memory::NoMemory;
+use wb_meaning::run::Why;
+use wb_tree::script::Script;
 
 impl<'a> Control<'a> {
     /// Cuts the run at the budget.

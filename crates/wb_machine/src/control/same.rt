@@ -2,8 +2,8 @@
 //! fingerprint.
 
 ghost use Rattle.std.specs.Prelude.{◌≡◌, ◌+◌, ◌<◌, ◌∷◌, drop, length, true};
-ghost use Rattle.wb_model.specs.runs.SameButNumbers.{AllBeside, IsSamePointer};
-ghost use Rattle.wb_model.specs.runs.SameButNumbers as numbers;
+ghost use Rattle.wb_renaming.specs.SameButNumbers.{AllBeside, IsSamePointer};
+ghost use Rattle.wb_renaming.specs.SameButNumbers as numbers;
 ghost use Rattle.wb_machine.specs.declared.pieces.Ending.TheVariants.{GoesOn};
 ghost use Rattle.wb_machine.specs.Alike.{IsGrown};
 ghost use Rattle.wb_machine.specs.SamePieces.{is_of_trap, ArePendingAlike, IsSameAfter, IsSamePiece};
@@ -13,7 +13,7 @@ use crate::alike::code::same_statements;
 use crate::alike::names::Names;
 use crate::fingerprint::Fingerprint;
 use crate::pieces::{After, Context, Ending, PendingPiece, first_statement};
-use wb_model::heap::Ptr;
+use wb_heap_model::heap::Ptr;
 
 /// Whether the piece that was above the pending ones ended plainly.
 fn goes_on(ending: Ending) -> bool

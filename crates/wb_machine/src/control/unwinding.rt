@@ -2,10 +2,10 @@
 
 ghost use Rattle.std.specs.Prelude.{◌≡◌, ◌+◌, ◌-◌, ◌<◌, ◌≤◌, ◌⊎◌, ◌++◌, ◌∷◌, [], ℕ, List, true, false, length, max};
 ghost use Rattle.std.specs.Prelude.{take, drop, vec_capacity, vec_len, IsOk, IsTrue, OnOk};
-ghost use Rattle.wb_model.specs.meaning.Statements.{destroy_items};
-ghost use Rattle.wb_model.specs.runs.Rest.{doing, catching, caught, calling, main_catching, main_caught};
-ghost use Rattle.wb_model.specs.declared.heap.Rule.{Rule};
-ghost use Rattle.wb_model.specs.declared.script.Script.{Script};
+ghost use Rattle.wb_meaning.specs.Statements.{destroy_items};
+ghost use Rattle.wb_meaning.specs.Rest.{doing, catching, caught, calling, main_catching, main_caught};
+ghost use Rattle.wb_heap_model.specs.declared.heap.Rule.{Rule};
+ghost use Rattle.wb_tree.specs.declared.script.Script.{Script};
 ghost use Rattle.wb_machine.specs.declared.pieces.PendingPiece.{PendingPiece};
 ghost use Rattle.wb_machine.specs.declared.pieces.Ending.TheVariants.{GoesOn};
 ghost use Rattle.wb_machine.specs.declared.raiser.Raiser.TheVariants.{MainEnd, Release, TrapEnd};
@@ -24,8 +24,8 @@ use crate::pieces::{After, Context, Ending, IN_MAIN, PendingPiece, needs_step};
 use crate::raiser::Raiser;
 use crate::state::State;
 use std::alloc::AllocError;
-use wb_model::heap::{Panic, Ptr};
-use wb_model::memory::NoMemory;
+use wb_basics::memory::NoMemory;
+use wb_heap_model::heap::{Panic, Ptr};
 
 impl<'a> Control<'a> {
     /// Whether the piece on top is done: the run isn't stopped, and either the piece has no step left, or the piece above it ended with a

@@ -2,8 +2,8 @@
 
 ghost use Rattle.std.specs.Prelude.{◌≡◌};
 ghost use Rattle.wb_hbuf.specs.Sources.{IsSource, SuitsEdit, edit_text, source_units};
-ghost use Rattle.wb_model.specs.meaning.Reading.{max_in};
-ghost use Rattle.wb_model.specs.meaning.Texts.{answer_of, delete_text, set_length_text};
+ghost use Rattle.wb_meaning.specs.Reading.{max_in};
+ghost use Rattle.wb_heap_model.specs.Texts.{answer_of, delete_text, set_length_text};
 ghost use Rattle.wb_machine.specs.BufferEdits.{frames_edited, frames_put_back};
 ghost use Rattle.wb_machine.specs.LocalValues.{buffer_in};
 ghost use Rattle.wb_machine.specs.RunState.{value_in};
@@ -11,7 +11,7 @@ ghost use Rattle.wb_machine.specs.RunState.{value_in};
 use super::{Locals, Stored, copy_of, stored_at};
 use wb_hbuf::DebugHeap;
 use wb_hbuf::sources::{Edit, Source};
-use wb_model::heap::Panic;
+use wb_heap_model::heap::Panic;
 use wb_text::buf::Buf;
 
 /// Edits of the buffer in a local, in place. An edit that panics leaves the buffer as it was.

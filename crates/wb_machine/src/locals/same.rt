@@ -1,7 +1,7 @@
 //! Locals of two runs that are the same except for allocation numbers, and what locals add to a fingerprint.
 
 ghost use Rattle.std.specs.Prelude.{◌≡◌, ◌+◌, ◌<◌, ◌∷◌, drop, length, slice_get, true, IfSome, Some};
-ghost use Rattle.wb_model.specs.runs.SameButNumbers.{AllBeside, IsSameBase, IsSameValue, IsSameView};
+ghost use Rattle.wb_renaming.specs.SameButNumbers.{AllBeside, IsSameBase, IsSameValue, IsSameView};
 ghost use Rattle.wb_machine.specs.Alike.{IsGrown};
 ghost use Rattle.wb_machine.specs.LocalValues.{value_of, value_stored, values_stored};
 

@@ -1,12 +1,12 @@
 -- Which lines have no place in a body: those that begin an item or a part of one, and those whose operands don't fit.
 use Rattle.std.proofs.Common.{◌≡◌, ◌⊎◌, inl, inr, ap, ◌∙◌, List, length, Bool, true, false, ◌&&◌, IsTrue}
-use Rattle.wb_model.specs.declared.script_lines.Form.TheVariants.{Line}
-use Rattle.wb_model.specs.declared.script_lines.LineKind.{LineKind}
-use Rattle.wb_model.specs.declared.script_lines.LineKind.TheVariants as line_kind
-use Rattle.wb_model.specs.declared.script_lines.Referent.{Referent}
-use Rattle.wb_model.specs.declared.script_lines.Operand.{Operand}
-use Rattle.wb_model.specs.language.LineKinds.{operand_places_for, role_of}
-use Rattle.wb_model.specs.language.Sound.{Declared, Scope}
+use Rattle.wb_tree.specs.declared.script_lines.Form.TheVariants.{Line}
+use Rattle.wb_tree.specs.declared.script_lines.LineKind.{LineKind}
+use Rattle.wb_tree.specs.declared.script_lines.LineKind.TheVariants as line_kind
+use Rattle.wb_tree.specs.declared.script_lines.Referent.{Referent}
+use Rattle.wb_tree.specs.declared.script_lines.Operand.{Operand}
+use Rattle.wb_language.specs.LineKinds.{operand_places_for, role_of}
+use Rattle.wb_tree.specs.Sound.{Declared, Scope}
 use Rattle.wb_script.specs.declared.tree.bodies.OpenBody.{OpenBody}
 use Rattle.wb_script.specs.Building.{Counts, begins_block, fits, is_due, line_kinds_of_blocks, may_stand}
 use Rattle.wb_script.specs.Fitting.{operand_places_fit, operands_fit}

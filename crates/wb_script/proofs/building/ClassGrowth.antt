@@ -3,19 +3,19 @@ use Rattle.std.proofs.Common.{◌≡◌, refl, sym, ap, ◌∙◌, ℕ, suc, ◌
 use Rattle.std.specs.List.{list_all}
 use Rattle.std.proofs.lemmas.List.{map-append, length-map}
 use Rattle.std.proofs.lemmas.List.Folds.{list_all-append}
-use Rattle.wb_model.specs.declared.limits.TheConstants.{MOST_FIELDS}
-use Rattle.wb_model.specs.declared.script.Body.{Body}
-use Rattle.wb_model.specs.declared.script.Class.{Class}
-use Rattle.wb_model.specs.declared.script_lines.LineKind.{LineKind}
-use Rattle.wb_model.specs.declared.script_lines.LineKind.TheVariants as line_kind
-use Rattle.wb_model.specs.declared.script_lines.Referent.{Referent}
-use Rattle.wb_model.specs.declared.script_lines.Operand.{Operand}
-use Rattle.wb_model.specs.declared.script_lines.Form.TheVariants.{Line}
-use Rattle.wb_model.specs.declared.script_lines.Role.TheVariants as role
-use Rattle.wb_model.specs.language.LineKinds.{role_of}
-use Rattle.wb_model.specs.language.Names.{item_kind_of}
-use Rattle.wb_model.specs.language.Sound.{Declared, are_classes, fields_declared, is_class_among, is_class_of, is_own_body}
-use Rattle.wb_model.specs.language.Trees.{Indexed, Marked, Lines, class_head, field_line, field_lines, number_kept, own_body_lines, end_line, each_from, lines_of_class, in_order, all_lines}
+use Rattle.wb_basics.specs.declared.limits.TheConstants.{MOST_FIELDS}
+use Rattle.wb_tree.specs.declared.script.Body.{Body}
+use Rattle.wb_tree.specs.declared.script.Class.{Class}
+use Rattle.wb_tree.specs.declared.script_lines.LineKind.{LineKind}
+use Rattle.wb_tree.specs.declared.script_lines.LineKind.TheVariants as line_kind
+use Rattle.wb_tree.specs.declared.script_lines.Referent.{Referent}
+use Rattle.wb_tree.specs.declared.script_lines.Operand.{Operand}
+use Rattle.wb_tree.specs.declared.script_lines.Form.TheVariants.{Line}
+use Rattle.wb_tree.specs.declared.script_lines.Role.TheVariants as role
+use Rattle.wb_language.specs.LineKinds.{role_of}
+use Rattle.wb_language.specs.Names.{item_kind_of}
+use Rattle.wb_tree.specs.Sound.{Declared, are_classes, fields_declared, is_class_among, is_class_of, is_own_body}
+use Rattle.wb_language.specs.Trees.{Indexed, Marked, Lines, class_head, field_line, field_lines, number_kept, own_body_lines, end_line, each_from, lines_of_class, in_order, all_lines}
 use Rattle.wb_nesting.specs.declared.open.Open.TheVariants.{Declarations, Destroyed}
 use Rattle.wb_script.specs.declared.tree.whole.WholeItems.{WholeItems}
 use Rattle.wb_script.specs.declared.tree.whole.Owner.TheVariants as of
@@ -156,7 +156,7 @@ module _ (declared : Declared) (number : ℕ) (b : WholeItems) (c : Class) (soun
   end_order : all_lines (items_in_order (with_class b c)) ≡ front ++ (open_class_lines index c ++ end_line ∷ [])
   end_order =
       let classes : List Lines = each_from lines_of_class 0 b.classes in
-      let bodies : List Lines = in_order (each_from Rattle.wb_model.specs.language.Trees.lines_of_procedure 0 b.procedures) (each_from Rattle.wb_model.specs.language.Trees.lines_of_operation 0 b.operations) in
+      let bodies : List Lines = in_order (each_from Rattle.wb_language.specs.Trees.lines_of_procedure 0 b.procedures) (each_from Rattle.wb_language.specs.Trees.lines_of_operation 0 b.operations) in
       let last : Lines = lines_of_class index c in
       let made = own_body_lines line_kind.Constructor c.construct in
       let gone = own_body_lines line_kind.Destructor c.destroy in

@@ -1,29 +1,29 @@
 -- The lines of a statement, with those of what is inside it, and what a closed block is.
 use Rattle.std.proofs.Common.{◌≡◌, refl, sym, ap, subst, ◌∙◌, ℕ, List, [], ◌∷◌, ◌++◌, map, Some, Bool, true, false, ◌&&◌, IsTrue, append_assoc}
 use Rattle.std.specs.Prelude.{◌||◌, nat_lt, slice_get}
-use Rattle.wb_model.specs.declared.script.Condition.{Condition}
-use Rattle.wb_model.specs.declared.script.Condition.TheVariants.{IsNull, NotNull, Equal, Less}
-use Rattle.wb_model.specs.declared.script_lines.LineKind.{LineKind}
-use Rattle.wb_model.specs.declared.script_lines.Referent.{Referent}
-use Rattle.wb_model.specs.declared.script_lines.Operand.{Operand}
-use Rattle.wb_model.specs.declared.script_lines.Form.TheVariants.{Line}
-use Rattle.wb_model.specs.declared.script.Argument.{Argument}
-use Rattle.wb_model.specs.declared.script.Holder.TheVariants as H
-use Rattle.wb_model.specs.declared.script.Pointer.{Pointer}
-use Rattle.wb_model.specs.declared.script.Pointer.TheVariants.{Held}
-use Rattle.wb_model.specs.declared.script.Refusal.TheVariants.{GivesNull, Leaves}
-use Rattle.wb_model.specs.declared.script_lines.LineKind.TheVariants as line_kind
-use Rattle.wb_model.specs.declared.script.Number.{Number}
-use Rattle.wb_model.specs.declared.script.StatementAt.{StatementAt}
-use Rattle.wb_model.specs.declared.script.Statement.{Statement}
-use Rattle.wb_model.specs.declared.script.Statement.TheOpen.{Statement-F}
-use Rattle.wb_model.specs.declared.script.Statement.TheFolds.{map-Statement}
-use Rattle.wb_model.specs.declared.script.Statement.TheViews.{out-Statement, outs-If, outs-IfElse, outs-Repeat, outs-Trap, outs-Call, outs-CallTo, outs-PushOperation, outs-Construct, outs-Delete, If, IfElse, Repeat, Trap}
-use Rattle.wb_model.specs.declared.script.Statement.TheVariants.{Call, CallTo, Construct, Delete, PushOperation, rolls-If, rolls-IfElse, rolls-Repeat, rolls-Trap}
-use Rattle.wb_model.specs.declared.script.Statement.TheFolds.{fold-StatementAt, fold_out-StatementAt, fold_out-Statement, fold-roll-Statement}
-use Rattle.wb_model.specs.language.Sound.{Declared, Scope, is_condition, is_number, is_variable, is_pointer, is_pointer_local, is_call, is_statement, is_simple, is_nested, are_within}
-use Rattle.wb_model.specs.language.Kinds.{is_trap}
-use Rattle.wb_model.specs.language.Trees.{Marked, lines_joined, layer_lines, statement_at_layer, statement_at_lines, lines_of_statement, statement_lines, statement_line, condition_line, end_line, else_line, line_or_unknown, and_operand, all_spelled, argument_operand, pointer_operand, procedure_operand, operation_operand}
+use Rattle.wb_tree.specs.declared.script.Condition.{Condition}
+use Rattle.wb_tree.specs.declared.script.Condition.TheVariants.{IsNull, NotNull, Equal, Less}
+use Rattle.wb_tree.specs.declared.script_lines.LineKind.{LineKind}
+use Rattle.wb_tree.specs.declared.script_lines.Referent.{Referent}
+use Rattle.wb_tree.specs.declared.script_lines.Operand.{Operand}
+use Rattle.wb_tree.specs.declared.script_lines.Form.TheVariants.{Line}
+use Rattle.wb_tree.specs.declared.script.Argument.{Argument}
+use Rattle.wb_tree.specs.declared.script.Holder.TheVariants as H
+use Rattle.wb_tree.specs.declared.script.Pointer.{Pointer}
+use Rattle.wb_tree.specs.declared.script.Pointer.TheVariants.{Held}
+use Rattle.wb_tree.specs.declared.script.Refusal.TheVariants.{GivesNull, Leaves}
+use Rattle.wb_tree.specs.declared.script_lines.LineKind.TheVariants as line_kind
+use Rattle.wb_tree.specs.declared.script.Number.{Number}
+use Rattle.wb_tree.specs.declared.script.StatementAt.{StatementAt}
+use Rattle.wb_tree.specs.declared.script.Statement.{Statement}
+use Rattle.wb_tree.specs.declared.script.Statement.TheOpen.{Statement-F}
+use Rattle.wb_tree.specs.declared.script.Statement.TheFolds.{map-Statement, fold-StatementAt, fold_out-StatementAt, fold_out-Statement, fold-roll-Statement}
+use Rattle.wb_tree.specs.declared.script.Statement.TheViews.{out-Statement, outs-If, outs-IfElse, outs-Repeat, outs-Trap, outs-Call, outs-CallTo, outs-PushOperation, outs-Construct, outs-Delete, If, IfElse, Repeat, Trap}
+use Rattle.wb_tree.specs.declared.script.Statement.TheVariants.{Call, CallTo, Construct, Delete, PushOperation, rolls-If, rolls-IfElse, rolls-Repeat, rolls-Trap}
+use Rattle.wb_tree.specs.Sound.{Declared, Scope, is_condition, is_number, is_variable, is_pointer, is_pointer_local, is_call, is_statement, is_simple, is_nested, are_within}
+use Rattle.wb_language.specs.Kinds.{is_trap}
+use Rattle.wb_language.specs.Trees.{Marked, lines_joined, layer_lines, statement_at_layer, statement_at_lines, lines_of_statement, statement_lines, statement_line, condition_line, end_line, else_line, line_or_unknown, and_operand, all_spelled}
+use Rattle.wb_tree.specs.Spellings.{argument_operand, pointer_operand, procedure_operand, operation_operand}
 use Rattle.wb_script.specs.declared.tree.blocks.Head.TheVariants as head
 use Rattle.wb_script.specs.Building.{IsWhole, condition_line_kind, head_form, head_lines}
 use Rattle.wb_script.specs.Stated.{IsOneLine}

@@ -3,19 +3,20 @@ use Rattle.std.proofs.Common.{◌≡◌, refl, sym, ap, subst, ◌∙◌, ℕ, �
 use Rattle.std.specs.Prelude.{IfOk, Result, Ok, Err}
 use Rattle.std.proofs.lemmas.List.{map-append}
 use Rattle.std.proofs.lemmas.List.Folds.{list_all-append}
-use Rattle.wb_model.specs.declared.script.Body.{Body}
-use Rattle.wb_model.specs.declared.script.Class.{Class}
-use Rattle.wb_model.specs.declared.script.Parameter.{Parameter}
-use Rattle.wb_model.specs.declared.script.Procedure.{Procedure}
-use Rattle.wb_model.specs.declared.script.Operation.{Operation}
-use Rattle.wb_model.specs.declared.script_lines.LineKind.{LineKind}
-use Rattle.wb_model.specs.declared.script_lines.LineKind.TheVariants as line_kind
-use Rattle.wb_model.specs.declared.script_lines.Referent.{Referent}
-use Rattle.wb_model.specs.declared.script_lines.Operand.{Operand}
-use Rattle.wb_model.specs.declared.script_lines.Form.TheVariants.{Skip, Line}
-use Rattle.wb_model.specs.language.LineKinds.{role_of}
-use Rattle.wb_model.specs.language.Sound.{Declared, is_body, is_own_body, is_procedure, is_operation, scope_of}
-use Rattle.wb_model.specs.language.Trees.{its_parameters, Marked, Lines, mark, class_head, field_lines, own_body_lines, end_line, body_lines, each_from, lines_of_class, lines_of_procedure, lines_of_operation, in_order, all_lines}
+use Rattle.wb_tree.specs.declared.script.Body.{Body}
+use Rattle.wb_tree.specs.declared.script.Class.{Class}
+use Rattle.wb_tree.specs.declared.script.Parameter.{Parameter}
+use Rattle.wb_tree.specs.declared.script.Procedure.{Procedure}
+use Rattle.wb_tree.specs.declared.script.Operation.{Operation}
+use Rattle.wb_tree.specs.declared.script_lines.LineKind.{LineKind}
+use Rattle.wb_tree.specs.declared.script_lines.LineKind.TheVariants as line_kind
+use Rattle.wb_tree.specs.declared.script_lines.Referent.{Referent}
+use Rattle.wb_tree.specs.declared.script_lines.Operand.{Operand}
+use Rattle.wb_tree.specs.declared.script_lines.Form.TheVariants.{Skip, Line}
+use Rattle.wb_language.specs.LineKinds.{role_of}
+use Rattle.wb_tree.specs.Sound.{Declared, is_body, is_own_body, is_procedure, is_operation, scope_of}
+use Rattle.wb_tree.specs.Spellings.{its_parameters}
+use Rattle.wb_language.specs.Trees.{Marked, Lines, mark, class_head, field_lines, own_body_lines, end_line, body_lines, each_from, lines_of_class, lines_of_procedure, lines_of_operation, in_order, all_lines}
 use Rattle.wb_nesting.specs.declared.open.Open.TheVariants.{Made}
 use Rattle.wb_script.specs.declared.tree.whole.WholeItems.{WholeItems}
 use Rattle.wb_script.specs.declared.tree.whole.Owner.{Owner}

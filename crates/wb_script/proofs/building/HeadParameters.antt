@@ -4,16 +4,16 @@ use Rattle.std.specs.List.{list_all, flat_map}
 use Rattle.std.proofs.lemmas.Grind.{flat_map-append}
 use Rattle.std.proofs.lemmas.List.{length-map, map-append}
 use Rattle.std.proofs.lemmas.List.Folds.{list_all-append}
-use Rattle.wb_model.specs.declared.script.Parameter as model
-use Rattle.wb_model.specs.declared.script.Parameter.TheVariants as parameter
-use Rattle.wb_model.specs.declared.script_lines.Referent.{Referent}
-use Rattle.wb_model.specs.declared.script_lines.Referent.TheVariants as referent
-use Rattle.wb_model.specs.declared.script_lines.Operand.{Operand}
-use Rattle.wb_model.specs.declared.script_lines.Operand.TheVariants.{Parameter}
-use Rattle.wb_model.specs.declared.script_lines.ParameterType.TheVariants as parameter_type
-use Rattle.wb_model.specs.language.Names.{parameter_type_of}
-use Rattle.wb_model.specs.language.Sound.{Declared, is_local, is_parameter, local_of_parameter}
-use Rattle.wb_model.specs.language.Trees.{all_spelled, and_operand, parameter_operand}
+use Rattle.wb_tree.specs.declared.script.Parameter as model
+use Rattle.wb_tree.specs.declared.script.Parameter.TheVariants as parameter
+use Rattle.wb_tree.specs.declared.script_lines.Referent.{Referent}
+use Rattle.wb_tree.specs.declared.script_lines.Referent.TheVariants as referent
+use Rattle.wb_tree.specs.declared.script_lines.Operand.{Operand}
+use Rattle.wb_tree.specs.declared.script_lines.Operand.TheVariants.{Parameter}
+use Rattle.wb_tree.specs.declared.script_lines.ParameterType.TheVariants as parameter_type
+use Rattle.wb_language.specs.Names.{parameter_type_of}
+use Rattle.wb_tree.specs.Sound.{Declared, is_local, is_parameter, local_of_parameter}
+use Rattle.wb_language.specs.Trees.{all_spelled, and_operand, parameter_operand}
 use Rattle.wb_script.specs.Building.{parameter_taking}
 use Rattle.wb_script.specs.Growing.{IsSoundOpen, are_parameters, is_parameter_operand, new_body, parameters_of_operands}
 use Rattle.wb_script.proofs.lists.Tests.{parts, together}

@@ -2,17 +2,18 @@
 use Rattle.std.proofs.Common.{◌≡◌, refl, sym, ap, ◌∙◌, ℕ, ◌<◌, ◌≤◌, List, [], ◌∷◌, ◌++◌, length, Some, None, true, ◌&&◌, nat_eq, nat_le, append-nil, arith}
 use Rattle.std.proofs.lemmas.Bool.{false≢true}
 use Rattle.std.proofs.lemmas.Bool.Decides.{nat_tests}
-use Rattle.wb_model.specs.declared.limits.TheConstants.{MOST_CLASSES, MOST_EXTRA}
-use Rattle.wb_model.specs.declared.script.Parameter as kinds
-use Rattle.wb_model.specs.declared.script_lines.LineKind.TheVariants as line_kind
-use Rattle.wb_model.specs.declared.script_lines.Referent.{Referent}
-use Rattle.wb_model.specs.declared.script_lines.Referent.TheVariants as referent
-use Rattle.wb_model.specs.declared.script_lines.Operand.{Operand}
-use Rattle.wb_model.specs.declared.script_lines.Operand.TheVariants.{Name, Parameter, Size}
-use Rattle.wb_model.specs.declared.script_lines.ParameterType.TheVariants as parameter_type
-use Rattle.wb_model.specs.declared.script_lines.Form.TheVariants.{Line}
-use Rattle.wb_model.specs.language.Sound.{Declared}
-use Rattle.wb_model.specs.language.Trees.{its_parameters, Indexed, Marked, all_lines, and_operand, line_or_unknown}
+use Rattle.wb_basics.specs.declared.limits.TheConstants.{MOST_CLASSES, MOST_EXTRA}
+use Rattle.wb_tree.specs.declared.script.Parameter as kinds
+use Rattle.wb_tree.specs.declared.script_lines.LineKind.TheVariants as line_kind
+use Rattle.wb_tree.specs.declared.script_lines.Referent.{Referent}
+use Rattle.wb_tree.specs.declared.script_lines.Referent.TheVariants as referent
+use Rattle.wb_tree.specs.declared.script_lines.Operand.{Operand}
+use Rattle.wb_tree.specs.declared.script_lines.Operand.TheVariants.{Name, Parameter, Size}
+use Rattle.wb_tree.specs.declared.script_lines.ParameterType.TheVariants as parameter_type
+use Rattle.wb_tree.specs.declared.script_lines.Form.TheVariants.{Line}
+use Rattle.wb_tree.specs.Sound.{Declared}
+use Rattle.wb_tree.specs.Spellings.{its_parameters}
+use Rattle.wb_language.specs.Trees.{Indexed, Marked, all_lines, and_operand, line_or_unknown}
 use Rattle.wb_script.specs.declared.tree.whole.WholeItems.{WholeItems}
 use Rattle.wb_script.specs.declared.tree.whole.Owner.TheVariants as of
 use Rattle.wb_script.specs.Building.{counts_after}

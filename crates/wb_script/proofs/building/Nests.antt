@@ -5,16 +5,16 @@ use Rattle.std.specs.List.{flat_map, list_all, list_any}
 use Rattle.std.proofs.lemmas.Grind.{flat_map-append, fold-append}
 use Rattle.std.proofs.lemmas.List.{map-append}
 use Rattle.std.proofs.lemmas.List.Folds.{list_all-append}
-use Rattle.wb_model.specs.declared.script.Condition.{Condition}
-use Rattle.wb_model.specs.declared.script.StatementAt.{StatementAt}
-use Rattle.wb_model.specs.declared.script.Statement.{Statement}
-use Rattle.wb_model.specs.declared.script.Statement.TheViews.{out-Statement}
-use Rattle.wb_model.specs.declared.script_lines.Role.{Role}
-use Rattle.wb_model.specs.declared.script_lines.Role.TheVariants as role
-use Rattle.wb_model.specs.language.Kinds.{is_trap}
-use Rattle.wb_model.specs.language.Names.{without_last}
-use Rattle.wb_model.specs.language.Sound.{Declared, Scope, is_condition, is_nested, are_within}
-use Rattle.wb_model.specs.language.Trees.{Marked, condition_line, statement_at_lines, statement_lines, else_line, end_line}
+use Rattle.wb_tree.specs.declared.script.Condition.{Condition}
+use Rattle.wb_tree.specs.declared.script.StatementAt.{StatementAt}
+use Rattle.wb_tree.specs.declared.script.Statement.{Statement}
+use Rattle.wb_tree.specs.declared.script.Statement.TheViews.{out-Statement}
+use Rattle.wb_tree.specs.declared.script_lines.Role.{Role}
+use Rattle.wb_tree.specs.declared.script_lines.Role.TheVariants as role
+use Rattle.wb_language.specs.Kinds.{is_trap}
+use Rattle.wb_language.specs.Names.{without_last}
+use Rattle.wb_tree.specs.Sound.{Declared, Scope, is_condition, is_nested, are_within}
+use Rattle.wb_language.specs.Trees.{Marked, condition_line, statement_at_lines, statement_lines, else_line, end_line}
 use Rattle.wb_nesting.specs.declared.open.Open.{Open}
 use Rattle.wb_nesting.specs.declared.open.Open.TheVariants.{Declarations, Statements, Branch, Block}
 use Rattle.wb_script.specs.declared.tree.blocks.Head.{Head}

@@ -4,7 +4,7 @@ use Rattle.std.specs.Prelude.{if◌then◌else◌}
 use Rattle.std.specs.List.{list_all}
 use Rattle.std.proofs.lemmas.Bool.Decides.{nat_tests}
 use Rattle.std.proofs.lemmas.Grind.{fold-append}
-use Rattle.wb_model.specs.language.Trees.{Lines, each_from, in_place, in_order}
+use Rattle.wb_language.specs.Trees.{Lines, each_from, in_place, in_order}
 use Rattle.wb_script.proofs.lists.Tests.{parts, together, below_of, below_test}
 
 -- items are before a line

@@ -5,21 +5,22 @@ use Rattle.std.specs.Option.{option_map}
 use Rattle.std.specs.Prelude.{slice_get}
 use Rattle.std.proofs.lemmas.List.{map-append, length-map}
 use Rattle.std.proofs.lemmas.Option.{slice_get-map, slice_get_within}
-use Rattle.wb_model.specs.declared.script.Argument.{Argument}
-use Rattle.wb_model.specs.declared.script.Parameter.{Parameter}
-use Rattle.wb_model.specs.declared.script_lines.Referent.{Referent}
-use Rattle.wb_model.specs.declared.script_lines.Operand as model
+use Rattle.wb_tree.specs.declared.script.Argument.{Argument}
+use Rattle.wb_tree.specs.declared.script.Parameter.{Parameter}
+use Rattle.wb_tree.specs.declared.script_lines.Referent.{Referent}
+use Rattle.wb_tree.specs.declared.script_lines.Operand as model
 use Rattle.std.specs.List.{list_any}
-use Rattle.wb_model.specs.declared.script.Statement.{Statement}
-use Rattle.wb_model.specs.declared.script_lines.LineKind.{LineKind}
-use Rattle.wb_model.specs.language.Kinds.{is_trap}
-use Rattle.wb_model.specs.language.Forms.{renamed_parameter_type}
-use Rattle.wb_model.specs.declared.script_lines.ItemKind.TheVariants as kind
-use Rattle.wb_model.specs.declared.limits.TheConstants.{LONGEST_SCRIPT}
-use Rattle.wb_model.specs.language.Names as names
-use Rattle.wb_model.specs.language.Names.{item_of_kind, of_kind}
-use Rattle.wb_model.specs.language.Sound.{Declared, Scope, is_passed, are_passed}
-use Rattle.wb_model.specs.language.Trees.{Spelled, and_operand, all_spelled, argument_operand}
+use Rattle.wb_tree.specs.declared.script.Statement.{Statement}
+use Rattle.wb_tree.specs.declared.script_lines.LineKind.{LineKind}
+use Rattle.wb_language.specs.Kinds.{is_trap}
+use Rattle.wb_language.specs.Forms.{renamed_parameter_type}
+use Rattle.wb_tree.specs.declared.script_lines.ItemKind.TheVariants as kind
+use Rattle.wb_basics.specs.declared.limits.TheConstants.{LONGEST_SCRIPT}
+use Rattle.wb_language.specs.Names as names
+use Rattle.wb_language.specs.Names.{item_of_kind, of_kind}
+use Rattle.wb_tree.specs.Sound.{Declared, Scope, is_passed, are_passed}
+use Rattle.wb_tree.specs.Spellings.{Spelled, argument_operand}
+use Rattle.wb_language.specs.Trees.{and_operand, all_spelled}
 use Rattle.wb_script.specs.Fitting.{argument_fits, arguments_fit}
 use Rattle.wb_lines.specs.BytesOf.{bytes_of_text}
 use Rattle.wb_script.specs.BytesOf.{bytes_of_item, bytes_of_items, parameter_named, signatures_among}

@@ -5,17 +5,17 @@ use Rattle.std.proofs.lemmas.Bool.{false≢true}
 use Rattle.std.specs.Prelude.{if◌then◌else◌}
 use Rattle.std.specs.List.{list_all}
 use Rattle.std.specs.Option.{option_and_then}
-use Rattle.wb_model.specs.declared.script_lines.LineKind.{LineKind}
-use Rattle.wb_model.specs.declared.script_lines.LineKind.TheVariants as line_kind
-use Rattle.wb_model.specs.declared.script_lines.Operand.TheVariants.{Name}
-use Rattle.wb_model.specs.declared.script_lines.Role.{Role}
-use Rattle.wb_model.specs.declared.script_lines.Role.TheVariants as role
-use Rattle.wb_model.specs.declared.script_lines.Form.{Form}
-use Rattle.wb_model.specs.declared.script_lines.Form.TheVariants.{Skip, Unknown, Line}
-use Rattle.wb_model.specs.language.Forms.{role_of_form}
-use Rattle.wb_model.specs.language.LineKinds.{role_of, is_outside_role}
-use Rattle.wb_model.specs.language.Names.{Text, NamesSoFar, Declaration, known_after, begins_body, fields_after, first_name}
-use Rattle.wb_model.specs.language.Resolved.{has_this, class_of_this, resolved_line}
+use Rattle.wb_tree.specs.declared.script_lines.LineKind.{LineKind}
+use Rattle.wb_tree.specs.declared.script_lines.LineKind.TheVariants as line_kind
+use Rattle.wb_tree.specs.declared.script_lines.Operand.TheVariants.{Name}
+use Rattle.wb_tree.specs.declared.script_lines.Role.{Role}
+use Rattle.wb_tree.specs.declared.script_lines.Role.TheVariants as role
+use Rattle.wb_tree.specs.declared.script_lines.Form.{Form}
+use Rattle.wb_tree.specs.declared.script_lines.Form.TheVariants.{Skip, Unknown, Line}
+use Rattle.wb_language.specs.Forms.{role_of_form}
+use Rattle.wb_language.specs.LineKinds.{role_of, is_outside_role}
+use Rattle.wb_language.specs.Names.{Text, NamesSoFar, Declaration, known_after, begins_body, fields_after, first_name}
+use Rattle.wb_language.specs.Resolved.{has_this, class_of_this, resolved_line}
 use Rattle.wb_script.specs.Building.{Counts, counts_after, classes_after, with_field, last_count}
 use Rattle.wb_nesting.specs.Machine.{move_of, moved, step}
 use Rattle.wb_lines.specs.Typed.{is_typed}

@@ -3,12 +3,12 @@ use Rattle.std.proofs.Common.{◌≡◌, refl, ℕ, zero, suc, ◌+◌, ◌<◌,
 use Rattle.std.specs.Prelude.{if◌then◌else◌}
 use Rattle.std.specs.Option.{option_map}
 use Rattle.std.proofs.lemmas.List.{take_more, take-map, get_or-map, length-map, length-take}
-use Rattle.wb_model.specs.declared.script_lines.Role.TheVariants as role
-use Rattle.wb_model.specs.language.Forms.{role_of_form}
-use Rattle.wb_model.specs.language.Grammar.{IsGrammatical}
-use Rattle.wb_model.specs.language.Passes.{first_bad, state_after}
-use Rattle.wb_model.specs.language.Sound.{Declared}
-use Rattle.wb_model.specs.language.Trees.{Indexed, counted, counted_from}
+use Rattle.wb_tree.specs.declared.script_lines.Role.TheVariants as role
+use Rattle.wb_language.specs.Forms.{role_of_form}
+use Rattle.wb_language.specs.Grammar.{IsGrammatical}
+use Rattle.wb_language.specs.Passes.{first_bad, state_after}
+use Rattle.wb_tree.specs.Sound.{Declared}
+use Rattle.wb_language.specs.Trees.{Indexed, counted, counted_from}
 use Rattle.wb_nesting.specs.declared.open.Open.{Open}
 use Rattle.wb_script.specs.Building.{AllFit, counts_of, fits, unfit, counts_after, nothing_counted}
 use Rattle.wb_nesting.specs.Machine.{after_line}

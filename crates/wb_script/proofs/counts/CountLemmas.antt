@@ -1,9 +1,9 @@
 -- How many classes, procedures and operations lines have.
 use Rattle.std.proofs.Common.{◌≡◌, refl, ap, ℕ, suc, ◌+◌, ◌≤◌, List, [], ◌∷◌, length, length-append, arith}
-use Rattle.wb_model.specs.declared.script_lines.LineKind.TheVariants as line_kind
-use Rattle.wb_model.specs.declared.script_lines.Form.TheVariants.{Line}
-use Rattle.wb_model.specs.language.Passes.{state_after}
-use Rattle.wb_model.specs.language.Trees.{Indexed}
+use Rattle.wb_tree.specs.declared.script_lines.LineKind.TheVariants as line_kind
+use Rattle.wb_tree.specs.declared.script_lines.Form.TheVariants.{Line}
+use Rattle.wb_language.specs.Passes.{state_after}
+use Rattle.wb_language.specs.Trees.{Indexed}
 use Rattle.wb_script.specs.Building.{Counts, counts_after, counts_of, nothing_counted, parameters_of, with_field}
 
 -- one more field, and as many classes

@@ -4,27 +4,27 @@ use Rattle.std.proofs.lemmas.Bool.{false≢true}
 use Rattle.std.specs.List.{flat_map}
 use Rattle.std.proofs.lemmas.List.{map-append, length-map}
 use Rattle.std.proofs.lemmas.Bool.Decides.{nat_tests}
-use Rattle.wb_model.specs.declared.script_lines.LineKind.{LineKind}
-use Rattle.wb_model.specs.declared.script_lines.LineKind.TheVariants as line_kind
-use Rattle.wb_model.specs.declared.script_lines.LocalKind.{LocalKind}
-use Rattle.wb_model.specs.declared.script_lines.LocalKind.TheVariants as kind
-use Rattle.wb_model.specs.declared.script_lines.Referent.{Referent}
-use Rattle.wb_model.specs.declared.script_lines.Referent.TheVariants as referent
-use Rattle.wb_model.specs.declared.script_lines.Operand.{Operand}
-use Rattle.wb_model.specs.declared.script_lines.Operand.TheVariants.{Name, Field, Number, Size, Literal, Parameter, Keyword}
-use Rattle.wb_model.specs.declared.script_lines.ParameterType.{ParameterType}
-use Rattle.wb_model.specs.declared.script_lines.ParameterType.TheVariants as parameter_type
-use Rattle.wb_model.specs.declared.script_lines.Role.TheVariants as role
-use Rattle.wb_model.specs.declared.script_lines.Form.{Form}
-use Rattle.wb_model.specs.declared.script_lines.Form.TheVariants.{Skip, Unknown, Line}
-use Rattle.wb_model.specs.declared.script_lines.OperandPlace.{OperandPlace}
-use Rattle.wb_model.specs.declared.script_lines.OperandPlace.TheVariants as operand_place
-use Rattle.wb_model.specs.declared.script.Local.{Local}
-use Rattle.wb_model.specs.declared.script.Local.TheVariants.{OfPointer, OfNumber, OfBuffer, OfView}
-use Rattle.wb_model.specs.language.LineKinds.{operand_places_for, role_of}
-use Rattle.wb_model.specs.language.Names.{Text, NamesSoFar, Declaration, parameters_in, name_passed, parameter_type_of, kind_of_parameter, nothing_known, known_after, blocks_after, has_long_name, has_more_parameters, is_one_more, is_large, passes_limit}
-use Rattle.wb_model.specs.language.Resolved.{class_named, item_referent, resolved_parameter_type, resolved_operand, resolved_operands, resolved_line}
-use Rattle.wb_model.specs.language.Sound.{local_of_parameter}
+use Rattle.wb_tree.specs.declared.script_lines.LineKind.{LineKind}
+use Rattle.wb_tree.specs.declared.script_lines.LineKind.TheVariants as line_kind
+use Rattle.wb_tree.specs.declared.script_lines.LocalKind.{LocalKind}
+use Rattle.wb_tree.specs.declared.script_lines.LocalKind.TheVariants as kind
+use Rattle.wb_tree.specs.declared.script_lines.Referent.{Referent}
+use Rattle.wb_tree.specs.declared.script_lines.Referent.TheVariants as referent
+use Rattle.wb_tree.specs.declared.script_lines.Operand.{Operand}
+use Rattle.wb_tree.specs.declared.script_lines.Operand.TheVariants.{Name, Field, Number, Size, Literal, Parameter, Keyword}
+use Rattle.wb_tree.specs.declared.script_lines.ParameterType.{ParameterType}
+use Rattle.wb_tree.specs.declared.script_lines.ParameterType.TheVariants as parameter_type
+use Rattle.wb_tree.specs.declared.script_lines.Role.TheVariants as role
+use Rattle.wb_tree.specs.declared.script_lines.Form.{Form}
+use Rattle.wb_tree.specs.declared.script_lines.Form.TheVariants.{Skip, Unknown, Line}
+use Rattle.wb_tree.specs.declared.script_lines.OperandPlace.{OperandPlace}
+use Rattle.wb_tree.specs.declared.script_lines.OperandPlace.TheVariants as operand_place
+use Rattle.wb_tree.specs.declared.script.Local.{Local}
+use Rattle.wb_tree.specs.declared.script.Local.TheVariants.{OfPointer, OfNumber, OfBuffer, OfView}
+use Rattle.wb_language.specs.LineKinds.{operand_places_for, role_of}
+use Rattle.wb_language.specs.Names.{Text, NamesSoFar, Declaration, parameters_in, name_passed, parameter_type_of, kind_of_parameter, nothing_known, known_after, blocks_after, has_long_name, has_more_parameters, is_one_more, is_large, passes_limit}
+use Rattle.wb_language.specs.Resolved.{class_named, item_referent, resolved_parameter_type, resolved_operand, resolved_operands, resolved_line}
+use Rattle.wb_tree.specs.Sound.{local_of_parameter}
 use Rattle.wb_script.specs.Building.{Counts, nothing_counted, counts_after, parameter_taking, parameters_of, classes_after, last_count, is_small, is_due, declares}
 use Rattle.wb_script.specs.BytesOf.{parameter_named}
 use Rattle.wb_lines.specs.Typed.{is_operand, are_operands, is_typed}

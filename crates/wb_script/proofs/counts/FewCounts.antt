@@ -3,22 +3,22 @@ use Rattle.std.proofs.Common.{◌≡◌, refl, ap, ◌∙◌, ℕ, suc, ◌+◌,
 use Rattle.std.specs.List.{list_all}
 use Rattle.std.proofs.lemmas.List.{length-map}
 use Rattle.std.proofs.lemmas.List.Folds.{list_all-append}
-use Rattle.wb_model.specs.declared.limits.TheConstants.{LONGEST_SCRIPT, MOST_CLASSES, MOST_FIELDS, MOST_PROCEDURES}
-use Rattle.wb_model.specs.declared.script_lines.Form.TheVariants.{Skip, Unknown, Line}
-use Rattle.wb_model.specs.declared.script_lines.ItemKind.{ItemKind}
-use Rattle.wb_model.specs.declared.script_lines.ItemKind.TheVariants as item
-use Rattle.wb_model.specs.declared.script_lines.LineKind.{LineKind}
-use Rattle.wb_model.specs.declared.script_lines.LineKind.TheVariants as line_kind
-use Rattle.wb_model.specs.declared.script_lines.Referent.{Referent}
-use Rattle.wb_model.specs.declared.script_lines.Operand.{Operand}
-use Rattle.wb_model.specs.declared.script_lines.Role.{Role}
-use Rattle.wb_model.specs.declared.script_lines.Role.TheVariants as role
-use Rattle.wb_model.specs.language.LineKinds.{role_of}
-use Rattle.wb_model.specs.language.Names as model
-use Rattle.wb_model.specs.language.Names.{count_among, item_kind_of, of_kind}
-use Rattle.wb_model.specs.language.Passes.{first_bad, state_after}
-use Rattle.wb_model.specs.language.Sound.{Declared}
-use Rattle.wb_model.specs.language.Trees.{Indexed}
+use Rattle.wb_basics.specs.declared.limits.TheConstants.{LONGEST_SCRIPT, MOST_CLASSES, MOST_FIELDS, MOST_PROCEDURES}
+use Rattle.wb_tree.specs.declared.script_lines.Form.TheVariants.{Skip, Unknown, Line}
+use Rattle.wb_tree.specs.declared.script_lines.ItemKind.{ItemKind}
+use Rattle.wb_tree.specs.declared.script_lines.ItemKind.TheVariants as item
+use Rattle.wb_tree.specs.declared.script_lines.LineKind.{LineKind}
+use Rattle.wb_tree.specs.declared.script_lines.LineKind.TheVariants as line_kind
+use Rattle.wb_tree.specs.declared.script_lines.Referent.{Referent}
+use Rattle.wb_tree.specs.declared.script_lines.Operand.{Operand}
+use Rattle.wb_tree.specs.declared.script_lines.Role.{Role}
+use Rattle.wb_tree.specs.declared.script_lines.Role.TheVariants as role
+use Rattle.wb_language.specs.LineKinds.{role_of}
+use Rattle.wb_language.specs.Names as model
+use Rattle.wb_language.specs.Names.{count_among, item_kind_of, of_kind}
+use Rattle.wb_language.specs.Passes.{first_bad, state_after}
+use Rattle.wb_tree.specs.Sound.{Declared}
+use Rattle.wb_language.specs.Trees.{Indexed}
 use Rattle.wb_script.specs.Building.{AllFit, Counts, classes_after, counts_after, counts_of, declares, fits, is_due, last_count, nothing_counted, operations_after, parameters_of, procedures_after, scope_at, unfit, with_field}
 use Rattle.wb_script.specs.Fitting.{operands_fit}
 use Rattle.wb_script.specs.BytesOf.{declared_by, fields_among, bytes_of_item, bytes_of_items, parameter_named, signatures_among}

@@ -3,10 +3,10 @@ use Rattle.std.proofs.Common.{◌≡◌, refl, sym, ap, ◌∙◌, ℕ, zero, su
 use Rattle.std.specs.Prelude.{if◌then◌else◌}
 use Rattle.std.specs.List.{list_all}
 use Rattle.std.proofs.lemmas.List.{length-map}
-use Rattle.wb_model.specs.declared.limits.TheConstants.{MOST_FIELDS}
-use Rattle.wb_model.specs.declared.script_lines.ItemKind.TheVariants as kind
-use Rattle.wb_model.specs.language.Names as model
-use Rattle.wb_model.specs.language.Names.{is_same_kind, of_kind}
+use Rattle.wb_basics.specs.declared.limits.TheConstants.{MOST_FIELDS}
+use Rattle.wb_tree.specs.declared.script_lines.ItemKind.TheVariants as kind
+use Rattle.wb_language.specs.Names as model
+use Rattle.wb_language.specs.Names.{is_same_kind, of_kind}
 use Rattle.wb_script.specs.declared.checks.items.Declaration.{Declaration}
 use Rattle.wb_lines.specs.BytesOf.{bytes_of_text}
 use Rattle.wb_script.specs.BytesOf.{fields_among, bytes_of_item, bytes_of_items}

@@ -1,10 +1,10 @@
 -- How many items of a kind are among items.
 use Rattle.std.proofs.Common.{◌≡◌, sym, ◌∙◌, ◌+◌, List, [], ◌∷◌, length, arith}
 use Rattle.std.proofs.lemmas.List.{length-map}
-use Rattle.wb_model.specs.declared.script_lines.ItemKind.{ItemKind}
-use Rattle.wb_model.specs.declared.script_lines.ItemKind.TheVariants as kind
-use Rattle.wb_model.specs.language.Names as model
-use Rattle.wb_model.specs.language.Names.{of_kind, item_of_kind, count_among}
+use Rattle.wb_tree.specs.declared.script_lines.ItemKind.{ItemKind}
+use Rattle.wb_tree.specs.declared.script_lines.ItemKind.TheVariants as kind
+use Rattle.wb_language.specs.Names as model
+use Rattle.wb_language.specs.Names.{of_kind, item_of_kind, count_among}
 use Rattle.wb_script.specs.declared.checks.items.Declaration.{Declaration}
 use Rattle.wb_script.specs.BytesOf.{bytes_of_item, bytes_of_items, fields_among}
 

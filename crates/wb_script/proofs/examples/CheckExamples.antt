@@ -1,20 +1,20 @@
 -- What the definitions say of lines of scripts: each example is proved by its parts.
 use Rattle.std.proofs.Common.{refl, ℕ, pos, List, [], ◌∷◌, take, Some, inl, inr, arith}
 use Rattle.std.specs.Prelude.{codes}
-use Rattle.wb_model.specs.declared.script_lines.LineKind.TheVariants.{Alloc, Op, Proc, Ptr, ClassPtr, Repeat, End}
-use Rattle.wb_model.specs.declared.script_lines.LocalKind.TheVariants as kind
-use Rattle.wb_model.specs.declared.script_lines.Operand.TheVariants.{Name, Number, Parameter}
-use Rattle.wb_model.specs.declared.script_lines.Form.{Form}
-use Rattle.wb_model.specs.declared.script_lines.Form.TheVariants.{Line}
-use Rattle.wb_model.specs.declared.script_lines.ParameterType.TheVariants as parameter_type
-use Rattle.wb_model.specs.language.DeclaredAgain.{Space, DeclaresAgain}
-use Rattle.wb_model.specs.language.Forms.{forms_of}
-use Rattle.wb_model.specs.language.LineKinds.{line_kinds}
-use Rattle.wb_model.specs.language.Lines.{lines_of}
-use Rattle.wb_model.specs.language.MissedFields.{IsHeldAs}
-use Rattle.wb_model.specs.language.Names.{Text}
-use Rattle.wb_model.specs.language.PassedLimits.{HaveOpenBlocks}
-use Rattle.wb_model.specs.language.QuietBodies.{MayLeaveThere}
+use Rattle.wb_tree.specs.declared.script_lines.LineKind.TheVariants.{Alloc, Op, Proc, Ptr, ClassPtr, Repeat, End}
+use Rattle.wb_tree.specs.declared.script_lines.LocalKind.TheVariants as kind
+use Rattle.wb_tree.specs.declared.script_lines.Operand.TheVariants.{Name, Number, Parameter}
+use Rattle.wb_tree.specs.declared.script_lines.Form.{Form}
+use Rattle.wb_tree.specs.declared.script_lines.Form.TheVariants.{Line}
+use Rattle.wb_tree.specs.declared.script_lines.ParameterType.TheVariants as parameter_type
+use Rattle.wb_language.specs.DeclaredAgain.{Space, DeclaresAgain}
+use Rattle.wb_language.specs.Forms.{forms_of}
+use Rattle.wb_language.specs.LineKinds.{line_kinds}
+use Rattle.wb_language.specs.Lines.{lines_of}
+use Rattle.wb_language.specs.MissedFields.{IsHeldAs}
+use Rattle.wb_language.specs.Names.{Text}
+use Rattle.wb_language.specs.PassedLimits.{HaveOpenBlocks}
+use Rattle.wb_language.specs.QuietBodies.{MayLeaveThere}
 
 abbrev forms_in : List ℕ → List (Form Text)
 forms_in bytes = forms_of (lines_of bytes)

@@ -1,22 +1,22 @@
 -- What the definitions make of scripts with classes: each example is proved by computing.
 use Rattle.std.proofs.Common.{refl}
 use Rattle.std.specs.Prelude.{◌≡◌, ℕ, List, [], ◌∷◌, ◌++◌, Option, Some, None, codes, map, replicate}
-use Rattle.wb_model.specs.declared.fault.ScriptFault.TheVariants.{UnknownName, DoubleName, WrongKind, MayLeave, NoMain, TooMany}
-use Rattle.wb_model.specs.declared.script_lines.LineKind.TheVariants.{Class, Field, ClassField, Constructor, Destructor, Proc, Ptr, ClassPtr, New, NewLeave, Construct, Delete, Free, PushObj, Set, SetField, Call, End}
-use Rattle.wb_model.specs.declared.script_lines.Referent.TheVariants as referent
-use Rattle.wb_model.specs.declared.script_lines.Operand.TheVariants.{Name, Size, Parameter}
-use Rattle.wb_model.specs.declared.script_lines.Operand.TheVariants as spelled
-use Rattle.wb_model.specs.declared.script_lines.ParameterType.TheVariants.{OfClass}
-use Rattle.wb_model.specs.declared.script_lines.Form.{Form}
-use Rattle.wb_model.specs.declared.script_lines.Form.TheVariants.{Line}
-use Rattle.wb_model.specs.language.Forms.{forms_of}
-use Rattle.wb_model.specs.language.Grammar.{AreItems, AreFields, IsOptional, IsBody, AreStatements}
-use Rattle.wb_model.specs.language.LineKinds.{line_kinds}
-use Rattle.wb_model.specs.language.Lines.{lines_of}
-use Rattle.wb_model.specs.language.Names.{Text, first_refused, passes_limit}
-use Rattle.wb_model.specs.language.Resolved.{resolved}
-use Rattle.wb_model.specs.language.Scripts.{AreLines, main_of, first_unknown, first_double, first_wrong, first_leaving, IsLinesFault}
-use Rattle.wb_model.specs.language.Trees.{counted_from, lines_joined}
+use Rattle.wb_language.specs.declared.fault.ScriptFault.TheVariants.{UnknownName, DoubleName, WrongKind, MayLeave, NoMain, TooMany}
+use Rattle.wb_tree.specs.declared.script_lines.LineKind.TheVariants.{Class, Field, ClassField, Constructor, Destructor, Proc, Ptr, ClassPtr, New, NewLeave, Construct, Delete, Free, PushObj, Set, SetField, Call, End}
+use Rattle.wb_tree.specs.declared.script_lines.Referent.TheVariants as referent
+use Rattle.wb_tree.specs.declared.script_lines.Operand.TheVariants.{Name, Size, Parameter}
+use Rattle.wb_tree.specs.declared.script_lines.Operand.TheVariants as spelled
+use Rattle.wb_tree.specs.declared.script_lines.ParameterType.TheVariants.{OfClass}
+use Rattle.wb_tree.specs.declared.script_lines.Form.{Form}
+use Rattle.wb_tree.specs.declared.script_lines.Form.TheVariants.{Line}
+use Rattle.wb_language.specs.Forms.{forms_of}
+use Rattle.wb_language.specs.Grammar.{AreItems, AreFields, IsOptional, IsBody, AreStatements}
+use Rattle.wb_language.specs.LineKinds.{line_kinds}
+use Rattle.wb_language.specs.Lines.{lines_of}
+use Rattle.wb_language.specs.Names.{Text, first_refused, passes_limit}
+use Rattle.wb_language.specs.Resolved.{resolved}
+use Rattle.wb_language.specs.Scripts.{AreLines, main_of, first_unknown, first_double, first_wrong, first_leaving, IsLinesFault}
+use Rattle.wb_language.specs.Trees.{counted_from, lines_joined}
 
 abbrev forms_in : List ℕ → List (Form Text)
 forms_in bytes = forms_of (lines_of bytes)

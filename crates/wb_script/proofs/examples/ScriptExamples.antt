@@ -1,20 +1,20 @@
 -- What the definitions make of whole scripts: each example is proved by computing.
 use Rattle.std.proofs.Common.{◌≡◌, refl, ℕ, pos, negsuc, List, [], ◌∷◌, ◌++◌, Option, Some, None, map, replicate}
 use Rattle.std.specs.Prelude.{codes}
-use Rattle.wb_model.specs.declared.script_lines.LineKind.TheVariants.{Proc, Ptr, Int, Alloc, AllocL, Leave, CallTo, ReturnPointer, Print, IfNull, Else, Trap, End}
-use Rattle.wb_model.specs.declared.script_lines.Referent.TheVariants as referent
-use Rattle.wb_model.specs.declared.script_lines.Operand.TheVariants.{Name, Number, Literal, Parameter, Keyword}
-use Rattle.wb_model.specs.declared.script_lines.ParameterType.TheVariants as parameter_type
-use Rattle.wb_model.specs.declared.script_lines.Form.{Form}
-use Rattle.wb_model.specs.declared.script_lines.Form.TheVariants.{Line}
-use Rattle.wb_model.specs.language.Forms.{forms_of}
-use Rattle.wb_model.specs.language.Grammar.{AreItems, IsBody, AreStatements}
-use Rattle.wb_model.specs.language.LineKinds.{line_kinds}
-use Rattle.wb_model.specs.language.Lines.{lines_of}
-use Rattle.wb_model.specs.language.Names.{Text, first_refused, passes_limit, literals_of}
-use Rattle.wb_model.specs.language.Resolved.{resolved}
-use Rattle.wb_model.specs.language.Scripts.{AreLines, main_of, first_unknown, first_double, first_wrong}
-use Rattle.wb_model.specs.language.Trees.{counted_from, lines_joined}
+use Rattle.wb_tree.specs.declared.script_lines.LineKind.TheVariants.{Proc, Ptr, Int, Alloc, AllocL, Leave, CallTo, ReturnPointer, Print, IfNull, Else, Trap, End}
+use Rattle.wb_tree.specs.declared.script_lines.Referent.TheVariants as referent
+use Rattle.wb_tree.specs.declared.script_lines.Operand.TheVariants.{Name, Number, Literal, Parameter, Keyword}
+use Rattle.wb_tree.specs.declared.script_lines.ParameterType.TheVariants as parameter_type
+use Rattle.wb_tree.specs.declared.script_lines.Form.{Form}
+use Rattle.wb_tree.specs.declared.script_lines.Form.TheVariants.{Line}
+use Rattle.wb_language.specs.Forms.{forms_of}
+use Rattle.wb_language.specs.Grammar.{AreItems, IsBody, AreStatements}
+use Rattle.wb_language.specs.LineKinds.{line_kinds}
+use Rattle.wb_language.specs.Lines.{lines_of}
+use Rattle.wb_language.specs.Names.{Text, first_refused, passes_limit, literals_of}
+use Rattle.wb_language.specs.Resolved.{resolved}
+use Rattle.wb_language.specs.Scripts.{AreLines, main_of, first_unknown, first_double, first_wrong}
+use Rattle.wb_language.specs.Trees.{counted_from, lines_joined}
 
 abbrev forms_in : List ℕ → List (Form Text)
 forms_in bytes = forms_of (lines_of bytes)

@@ -1,17 +1,17 @@
 -- Lines of which none may leave where it is: those of a script, where the check of its lines refused none.
 use Rattle.std.proofs.Common.{◌≡◌, refl, ℕ, suc, List, [], ◌∷◌, ◌++◌, Bool, true, false, not, ◌&&◌, Option, Some, None, if◌then◌else◌, option_map}
 use Rattle.std.specs.List.{list_any}
-use Rattle.wb_model.specs.declared.script_lines.BodyKind.{BodyKind}
-use Rattle.wb_model.specs.declared.script_lines.BodyKind.TheVariants as of
-use Rattle.wb_model.specs.declared.script_lines.Form.{Form}
-use Rattle.wb_model.specs.declared.script_lines.Form.TheVariants.{Skip, Unknown, Line}
-use Rattle.wb_model.specs.language.Kinds.{may_leave}
-use Rattle.wb_model.specs.language.LineKinds.{may_leave_in}
-use Rattle.wb_model.specs.language.Names.{Text, NamesSoFar, Declaration, nothing_known, known_after, line_kind_in, body_in, body_after, items_of}
-use Rattle.wb_model.specs.language.Passes.{first_bad, each_with}
-use Rattle.wb_model.specs.language.Resolved.{resolved_line, resolved}
-use Rattle.wb_model.specs.language.Scripts.{first_leaving}
-use Rattle.wb_model.specs.language.Trees.{Indexed, Marked, counted_from}
+use Rattle.wb_tree.specs.declared.script_lines.BodyKind.{BodyKind}
+use Rattle.wb_tree.specs.declared.script_lines.BodyKind.TheVariants as of
+use Rattle.wb_tree.specs.declared.script_lines.Form.{Form}
+use Rattle.wb_tree.specs.declared.script_lines.Form.TheVariants.{Skip, Unknown, Line}
+use Rattle.wb_language.specs.Kinds.{may_leave}
+use Rattle.wb_language.specs.LineKinds.{may_leave_in}
+use Rattle.wb_language.specs.Names.{Text, NamesSoFar, Declaration, nothing_known, known_after, line_kind_in, body_in, body_after, items_of}
+use Rattle.wb_language.specs.Passes.{first_bad, each_with}
+use Rattle.wb_language.specs.Resolved.{resolved_line, resolved}
+use Rattle.wb_language.specs.Scripts.{first_leaving}
+use Rattle.wb_language.specs.Trees.{Indexed, Marked, counted_from}
 
 -- a line cannot leave in a body of a kind
 abbrev pub is_quiet_in : BodyKind → Indexed → Bool

@@ -1,30 +1,32 @@
 -- Statements whose lines cannot leave in an operation or in a destructor cannot leave.
 use Rattle.std.proofs.Common.{◌≡◌, refl, sym, ap, subst, ◌∙◌, ℕ, zero, suc, List, [], ◌∷◌, ◌++◌, Bool, true, false, not, ◌&&◌, ◌||◌, IsTrue, is_some, Option, Some, None, map, append_assoc}
 use Rattle.std.proofs.lemmas.Bool.{false≢true}
-use Rattle.wb_model.specs.declared.script_lines.BodyKind.{BodyKind}
-use Rattle.wb_model.specs.declared.script_lines.LineKind.{LineKind}
-use Rattle.wb_model.specs.declared.script_lines.LineKind.TheVariants as line_kind
-use Rattle.wb_model.specs.declared.script_lines.Referent.{Referent}
-use Rattle.wb_model.specs.declared.script_lines.Operand.{Operand}
-use Rattle.wb_model.specs.declared.script.Argument.{Argument}
-use Rattle.wb_model.specs.declared.script.Condition.{Condition}
-use Rattle.wb_model.specs.declared.script.Condition.TheVariants.{IsNull, NotNull, Equal, Less}
-use Rattle.wb_model.specs.declared.script.Pointer.{Pointer}
-use Rattle.wb_model.specs.declared.script.Pointer.TheVariants.{Held, Field}
-use Rattle.wb_model.specs.declared.script.Number.{Number}
-use Rattle.wb_model.specs.declared.script.Writable.{Writable}
-use Rattle.wb_model.specs.declared.script.Readable.{Readable}
-use Rattle.wb_model.specs.declared.script.Refusal.TheVariants.{GivesNull, Leaves}
-use Rattle.wb_model.specs.declared.script.StatementAt.{StatementAt}
-use Rattle.wb_model.specs.declared.script.Statement.{Statement}
-use Rattle.wb_model.specs.declared.script.Statement.TheOpen.{Statement-F}
-use Rattle.wb_model.specs.declared.script.Statement.TheFolds.{fold_out-Statement, map-Statement}
-use Rattle.wb_model.specs.declared.script.Statement.TheViews.{out-Statement}
-use Rattle.wb_model.specs.language.LineKinds.{is_quiet, is_outside, is_loud, may_leave_in}
-use Rattle.wb_model.specs.language.Names.{body_kind_of, body_after}
-use Rattle.wb_model.specs.meaning.Quiet.{is_quiet_statement, are_quiet}
-use Rattle.wb_model.specs.language.Sound.{Declared, Scope, is_condition, is_number, is_nested, are_within}
-use Rattle.wb_model.specs.language.Trees.{Spelled, Spelling, Marked, pointer_operand, number_operand, variable_operand, writable_operand, text_operand, argument_operand, and_operand, all_spelled, line_or_unknown, spelled_line, condition_spelling, statement_spelling, layer_lines, statement_at_layer, lines_joined, lines_of_statement, statement_at_lines, statement_lines, end_line, else_line}
+use Rattle.wb_tree.specs.declared.script_lines.BodyKind.{BodyKind}
+use Rattle.wb_tree.specs.declared.script_lines.LineKind.{LineKind}
+use Rattle.wb_tree.specs.declared.script_lines.LineKind.TheVariants as line_kind
+use Rattle.wb_tree.specs.declared.script_lines.Referent.{Referent}
+use Rattle.wb_tree.specs.declared.script_lines.Operand.{Operand}
+use Rattle.wb_tree.specs.declared.script.Argument.{Argument}
+use Rattle.wb_tree.specs.declared.script.Condition.{Condition}
+use Rattle.wb_tree.specs.declared.script.Condition.TheVariants.{IsNull, NotNull, Equal, Less}
+use Rattle.wb_tree.specs.declared.script.Pointer.{Pointer}
+use Rattle.wb_tree.specs.declared.script.Pointer.TheVariants.{Held, Field}
+use Rattle.wb_tree.specs.declared.script.Number.{Number}
+use Rattle.wb_tree.specs.declared.script.Writable.{Writable}
+use Rattle.wb_tree.specs.declared.script.Readable.{Readable}
+use Rattle.wb_tree.specs.declared.script.Refusal.TheVariants.{GivesNull, Leaves}
+use Rattle.wb_tree.specs.declared.script.StatementAt.{StatementAt}
+use Rattle.wb_tree.specs.declared.script.Statement.{Statement}
+use Rattle.wb_tree.specs.declared.script.Statement.TheOpen.{Statement-F}
+use Rattle.wb_tree.specs.declared.script.Statement.TheFolds.{fold_out-Statement, map-Statement}
+use Rattle.wb_tree.specs.declared.script.Statement.TheViews.{out-Statement}
+use Rattle.wb_tree.specs.QuietLines.{is_quiet}
+use Rattle.wb_language.specs.LineKinds.{is_outside, is_loud, may_leave_in}
+use Rattle.wb_language.specs.Names.{body_kind_of, body_after}
+use Rattle.wb_tree.specs.Quiet.{is_quiet_statement, are_quiet}
+use Rattle.wb_tree.specs.Sound.{Declared, Scope, is_condition, is_number, is_nested, are_within}
+use Rattle.wb_tree.specs.Spellings.{Spelled, Spelling, pointer_operand, number_operand, variable_operand, writable_operand, text_operand, argument_operand, condition_spelling, statement_spelling}
+use Rattle.wb_language.specs.Trees.{Marked, and_operand, all_spelled, line_or_unknown, spelled_line, layer_lines, statement_at_layer, lines_joined, lines_of_statement, statement_at_lines, statement_lines, end_line, else_line}
 use Rattle.wb_script.proofs.building.ClosedBlocks.{lines_of_statement_at, joined-map, flat_layer}
 use Rattle.wb_script.proofs.one_script.OperandLaws.{pointer_is, number_is, writable_is, text_is, argument_spelled}
 use Rattle.wb_script.proofs.leaving.QuietLines.{are_quiet_from, QuietFrom, both, both_hold}

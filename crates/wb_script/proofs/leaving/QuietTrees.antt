@@ -2,25 +2,26 @@
 use Rattle.std.proofs.Common.{refl, sym, subst, ℕ, suc, List, [], ◌∷◌, ◌++◌, Bool, true, false, not, ◌&&◌, ◌||◌, IsTrue, Option, Some, None, if◌then◌else◌, nat_lt, nat_le, length, append_assoc}
 use Rattle.std.proofs.lemmas.Bool.{false≢true}
 use Rattle.std.specs.List.{list_all}
-use Rattle.wb_model.specs.declared.limits.TheConstants.{DEEPEST_BLOCK, MOST_LOCALS, MOST_FIELDS, MOST_EXTRA}
-use Rattle.wb_model.specs.declared.script_lines.BodyKind.{BodyKind}
-use Rattle.wb_model.specs.declared.script_lines.BodyKind.TheVariants as of
-use Rattle.wb_model.specs.declared.script_lines.Form.{Form}
-use Rattle.wb_model.specs.declared.script_lines.Referent.TheVariants as referent
-use Rattle.wb_model.specs.declared.script_lines.Operand.TheVariants.{Name, Size}
-use Rattle.wb_model.specs.declared.script_lines.LineKind.TheVariants as line_kind
-use Rattle.wb_model.specs.declared.script.Script.{Script}
-use Rattle.wb_model.specs.declared.script.Body.{Body}
-use Rattle.wb_model.specs.declared.script.Class.{Class}
-use Rattle.wb_model.specs.declared.script.Operation.{Operation}
-use Rattle.wb_model.specs.declared.script.Local.{Local}
-use Rattle.wb_model.specs.declared.script.Local.TheVariants.{OfPointer, OfNumber, OfBuffer, OfView}
-use Rattle.wb_model.specs.language.LineKinds.{may_leave_in}
-use Rattle.wb_model.specs.language.Names.{Text}
-use Rattle.wb_model.specs.meaning.Quiet.{is_quiet, is_quiet_local, is_quiet_body, is_quiet_if_there, are_quiet}
-use Rattle.wb_model.specs.language.Scripts.{IsTreeOf}
-use Rattle.wb_model.specs.language.Sound.{Declared, Scope, declared_in, scope_of, is_sound_script, are_few, are_classes, is_class_of, is_own_body, is_operation, is_procedure, is_body, is_local, are_statements, is_literal_text, is_class_among}
-use Rattle.wb_model.specs.language.Trees.{its_parameters, Spelled, Marked, class_operand, Lines, local_lines, body_lines, statement_lines, end_line, class_head, field_lines, own_body_lines, class_lines, operation_lines, lines_of_class, lines_of_procedure, lines_of_operation, each_from, in_place, in_order, all_lines, bodies_in_order}
+use Rattle.wb_basics.specs.declared.limits.TheConstants.{DEEPEST_BLOCK, MOST_LOCALS, MOST_FIELDS, MOST_EXTRA}
+use Rattle.wb_tree.specs.declared.script_lines.BodyKind.{BodyKind}
+use Rattle.wb_tree.specs.declared.script_lines.BodyKind.TheVariants as of
+use Rattle.wb_tree.specs.declared.script_lines.Form.{Form}
+use Rattle.wb_tree.specs.declared.script_lines.Referent.TheVariants as referent
+use Rattle.wb_tree.specs.declared.script_lines.Operand.TheVariants.{Name, Size}
+use Rattle.wb_tree.specs.declared.script_lines.LineKind.TheVariants as line_kind
+use Rattle.wb_tree.specs.declared.script.Script.{Script}
+use Rattle.wb_tree.specs.declared.script.Body.{Body}
+use Rattle.wb_tree.specs.declared.script.Class.{Class}
+use Rattle.wb_tree.specs.declared.script.Operation.{Operation}
+use Rattle.wb_tree.specs.declared.script.Local.{Local}
+use Rattle.wb_tree.specs.declared.script.Local.TheVariants.{OfPointer, OfNumber, OfBuffer, OfView}
+use Rattle.wb_language.specs.LineKinds.{may_leave_in}
+use Rattle.wb_language.specs.Names.{Text}
+use Rattle.wb_tree.specs.Quiet.{is_quiet, is_quiet_local, is_quiet_body, is_quiet_if_there, are_quiet}
+use Rattle.wb_language.specs.Scripts.{IsTreeOf}
+use Rattle.wb_tree.specs.Sound.{Declared, Scope, declared_in, scope_of, is_sound_script, are_few, are_classes, is_class_of, is_own_body, is_operation, is_procedure, is_body, is_local, are_statements, is_literal_text, is_class_among}
+use Rattle.wb_tree.specs.Spellings.{its_parameters, Spelled, class_operand}
+use Rattle.wb_language.specs.Trees.{Marked, Lines, local_lines, body_lines, statement_lines, end_line, class_head, field_lines, own_body_lines, class_lines, operation_lines, lines_of_class, lines_of_procedure, lines_of_operation, each_from, in_place, in_order, all_lines, bodies_in_order}
 use Rattle.wb_script.proofs.leaving.QuietLines.{are_quiet_from, QuietFrom, QuietSomewhere, both, both_hold, quiet_parts, quiet_lines}
 use Rattle.wb_script.proofs.leaving.QuietStatements.{Closed, quiet_line, quiet_statements}
 

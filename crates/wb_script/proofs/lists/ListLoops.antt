@@ -3,11 +3,11 @@ use Rattle.std.proofs.Common.{◌≡◌, ℕ, suc, ◌+◌, ◌<◌, ◌≤◌, 
 use Rattle.std.proofs.lemmas.List.{drop_all}
 use Rattle.std.specs.Borrow.{Bor}
 use Rattle.std.specs.List.{flat_map}
-use Rattle.wb_model.specs.declared.script_lines.Form.{Form}
-use Rattle.wb_model.specs.declared.script_lines.Role.{Role}
-use Rattle.wb_model.specs.declared.script_lines.Role.TheVariants as role
-use Rattle.wb_model.specs.language.Forms.{role_of_form}
-use Rattle.wb_model.specs.language.Names.{Text, first_name, fields_with, following_fields}
+use Rattle.wb_tree.specs.declared.script_lines.Form.{Form}
+use Rattle.wb_tree.specs.declared.script_lines.Role.{Role}
+use Rattle.wb_tree.specs.declared.script_lines.Role.TheVariants as role
+use Rattle.wb_language.specs.Forms.{role_of_form}
+use Rattle.wb_language.specs.Names.{Text, first_name, fields_with, following_fields}
 use Rattle.wb_lines.specs.BytesOf.{bytes_of_text, bytes_of_form, bytes_of_forms}
 use Rattle.wb_lines.proofs.BytesOf.{role-renamed}
 

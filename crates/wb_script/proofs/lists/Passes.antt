@@ -3,8 +3,8 @@ use Rattle.std.proofs.Common.{◌≡◌, ℕ, suc, ◌+◌, ◌<◌, ◌≤◌, 
 use Rattle.std.proofs.lemmas.List.{drop_all, take_more, map-append}
 use Rattle.std.specs.Prelude.{if◌then◌else◌}
 use Rattle.std.specs.Option.{option_map}
-use Rattle.wb_model.specs.language.Passes.{first_bad, each_with, state_after}
-use Rattle.wb_model.specs.language.Scripts.{number_of_line}
+use Rattle.wb_language.specs.Passes.{first_bad, each_with, state_after}
+use Rattle.wb_language.specs.Scripts.{number_of_line}
 use Rattle.wb_script.specs.Checks.{or_here}
 
 shifted : (i : ℕ) (o : Option ℕ) → option_map (λ n. i + n) (option_map suc o) ≡ option_map (λ n. suc i + n) o

@@ -6,24 +6,24 @@ use Rattle.std.specs.List.{list_any}
 use Rattle.std.specs.Str.{bytes_eq}
 use Rattle.std.proofs.lemmas.List.{length-map}
 use Rattle.std.proofs.lemmas.List.Folds.{list_any-append}
-use Rattle.wb_model.specs.declared.script_lines.LineKind.{LineKind}
-use Rattle.wb_model.specs.declared.script_lines.ItemKind.{ItemKind}
-use Rattle.wb_model.specs.declared.script_lines.ItemKind.TheVariants as item
-use Rattle.wb_model.specs.declared.script_lines.LocalKind.{LocalKind}
-use Rattle.wb_model.specs.declared.script_lines.LocalKind.TheVariants as kind
-use Rattle.wb_model.specs.declared.script_lines.OperandPlace.{OperandPlace}
-use Rattle.wb_model.specs.declared.script_lines.OperandPlace.TheVariants as operand_place
-use Rattle.wb_model.specs.declared.script_lines.Operand.{Operand}
-use Rattle.wb_model.specs.declared.script_lines.Operand.TheVariants.{Name, Field, Parameter}
-use Rattle.wb_model.specs.declared.script_lines.ParameterType.TheVariants as parameter_type
-use Rattle.wb_model.specs.declared.script_lines.Referent.TheVariants as referent
-use Rattle.wb_model.specs.declared.script_lines.Form.{Form}
-use Rattle.wb_model.specs.declared.script_lines.Form.TheVariants.{Skip, Unknown, Line}
-use Rattle.wb_model.specs.language.LineKinds.{operand_places_for}
-use Rattle.wb_model.specs.language.Names.{Text, NamesSoFar, Declaration, count_among, is_among, names_of, first_declaration_of}
-use Rattle.wb_model.specs.language.Passes.{first_where}
-use Rattle.wb_model.specs.language.Resolved.{referent_at, local_referent, has_this, is_this, own_referent, referent_of_kind, item_after, item_at, item_referent, class_of_base, fields_of_class, field_at, field_referent, resolved_operand, resolved_operands, refers_to_nothing, means_nothing, uses_unknown}
-use Rattle.wb_model.specs.language.Undeclared.{local_used, item_used, names_used, used_in, is_missing, field_missed}
+use Rattle.wb_tree.specs.declared.script_lines.LineKind.{LineKind}
+use Rattle.wb_tree.specs.declared.script_lines.ItemKind.{ItemKind}
+use Rattle.wb_tree.specs.declared.script_lines.ItemKind.TheVariants as item
+use Rattle.wb_tree.specs.declared.script_lines.LocalKind.{LocalKind}
+use Rattle.wb_tree.specs.declared.script_lines.LocalKind.TheVariants as kind
+use Rattle.wb_tree.specs.declared.script_lines.OperandPlace.{OperandPlace}
+use Rattle.wb_tree.specs.declared.script_lines.OperandPlace.TheVariants as operand_place
+use Rattle.wb_tree.specs.declared.script_lines.Operand.{Operand}
+use Rattle.wb_tree.specs.declared.script_lines.Operand.TheVariants.{Name, Field, Parameter}
+use Rattle.wb_tree.specs.declared.script_lines.ParameterType.TheVariants as parameter_type
+use Rattle.wb_tree.specs.declared.script_lines.Referent.TheVariants as referent
+use Rattle.wb_tree.specs.declared.script_lines.Form.{Form}
+use Rattle.wb_tree.specs.declared.script_lines.Form.TheVariants.{Skip, Unknown, Line}
+use Rattle.wb_language.specs.LineKinds.{operand_places_for}
+use Rattle.wb_language.specs.Names.{Text, NamesSoFar, Declaration, count_among, is_among, names_of, first_declaration_of}
+use Rattle.wb_language.specs.Passes.{first_where}
+use Rattle.wb_language.specs.Resolved.{referent_at, local_referent, has_this, is_this, own_referent, referent_of_kind, item_after, item_at, item_referent, class_of_base, fields_of_class, field_at, field_referent, resolved_operand, resolved_operands, refers_to_nothing, means_nothing, uses_unknown}
+use Rattle.wb_language.specs.Undeclared.{local_used, item_used, names_used, used_in, is_missing, field_missed}
 use Rattle.wb_script.proofs.names.FoundItems.{place_within}
 
 -- a name that is found is among the names, and one that isn't found is not

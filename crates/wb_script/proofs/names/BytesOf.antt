@@ -1,6 +1,6 @@
 -- The names of items that hold references.
 use Rattle.std.proofs.Common.{◌≡◌, List, [], ◌∷◌, map, refl, ap}
-use Rattle.wb_model.specs.language.Names.{names_of}
+use Rattle.wb_language.specs.Names.{names_of}
 use Rattle.wb_script.specs.BytesOf.{bytes_of_items}
 use Rattle.wb_script.specs.declared.checks.items.Declaration.{Declaration}
 

@@ -1,11 +1,11 @@
 -- What one more line is to the checks of the lines before it.
 use Rattle.std.proofs.Common.{◌≡◌, ℕ, suc, ◌+◌, List, [], ◌∷◌, ◌++◌, length, Bool, Option, sym, ap, ◌∙◌, append-nil, arith}
 use Rattle.std.proofs.lemmas.Grind.{flat_map-append}
-use Rattle.wb_model.specs.declared.script_lines.Form.{Form}
-use Rattle.wb_model.specs.language.Kinds.{has_wrong_kind, may_leave}
-use Rattle.wb_model.specs.language.Names.{Text, NamesSoFar, Declaration, names_of, nothing_known, known_after, first_refused, declares_again, passes_limit, literals_in, literals_of}
-use Rattle.wb_model.specs.language.Resolved.{resolved_among, resolved_line, uses_unknown}
-use Rattle.wb_model.specs.language.Scripts.{number_of_line}
+use Rattle.wb_tree.specs.declared.script_lines.Form.{Form}
+use Rattle.wb_language.specs.Kinds.{has_wrong_kind, may_leave}
+use Rattle.wb_language.specs.Names.{Text, NamesSoFar, Declaration, names_of, nothing_known, known_after, first_refused, declares_again, passes_limit, literals_in, literals_of}
+use Rattle.wb_language.specs.Resolved.{resolved_among, resolved_line, uses_unknown}
+use Rattle.wb_language.specs.Scripts.{number_of_line}
 use Rattle.wb_script.specs.Checks.{known_in, or_here, AreChecked}
 use Rattle.wb_lines.specs.BytesOf.{bytes_of_texts}
 use Rattle.wb_script.specs.declared.checks.Checked.{Checked}

@@ -4,15 +4,15 @@ use Rattle.std.specs.Prelude.{if◌then◌else◌}
 use Rattle.std.specs.List.{list_all}
 use Rattle.std.specs.Str.{bytes_eq}
 use Rattle.std.proofs.lemmas.List.Folds.{list_any-append}
-use Rattle.wb_model.specs.declared.script_lines.LineKind.TheVariants as line_kind
-use Rattle.wb_model.specs.declared.script_lines.BodyKind.TheVariants as of
-use Rattle.wb_model.specs.declared.script_lines.Form.{Form}
-use Rattle.wb_model.specs.declared.script_lines.Form.TheVariants.{Line}
-use Rattle.wb_model.specs.language.Forms.{role_of_form}
-use Rattle.wb_model.specs.language.Names.{Text, NamesSoFar, known_after, nothing_known, begins_body, body_after, body_in, is_among, locals_by, locals_after}
-use Rattle.wb_model.specs.language.Passes.{state_after}
-use Rattle.wb_model.specs.language.Resolved.{has_this, is_this}
-use Rattle.wb_model.specs.language.Undeclared.{stays_inside, is_of_object, declares, IsDeclared}
+use Rattle.wb_tree.specs.declared.script_lines.LineKind.TheVariants as line_kind
+use Rattle.wb_tree.specs.declared.script_lines.BodyKind.TheVariants as of
+use Rattle.wb_tree.specs.declared.script_lines.Form.{Form}
+use Rattle.wb_tree.specs.declared.script_lines.Form.TheVariants.{Line}
+use Rattle.wb_language.specs.Forms.{role_of_form}
+use Rattle.wb_language.specs.Names.{Text, NamesSoFar, known_after, nothing_known, begins_body, body_after, body_in, is_among, locals_by, locals_after}
+use Rattle.wb_language.specs.Passes.{state_after}
+use Rattle.wb_language.specs.Resolved.{has_this, is_this}
+use Rattle.wb_language.specs.Undeclared.{stays_inside, is_of_object, declares, IsDeclared}
 use Rattle.wb_lines.proofs.TypedLemmas.{both}
 use Rattle.wb_script.proofs.names.AbsentNames.{or_false, is_known_here}
 

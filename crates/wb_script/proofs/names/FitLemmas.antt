@@ -5,32 +5,32 @@ use Rattle.std.specs.Option.{option_map}
 use Rattle.std.specs.List.{list_any, list_all, flat_map}
 use Rattle.std.proofs.lemmas.Option.{slice_get-map}
 use Rattle.std.proofs.lemmas.Bool.Decides.{nat_tests}
-use Rattle.wb_model.specs.declared.script_lines.LineKind.{LineKind}
-use Rattle.wb_model.specs.declared.script_lines.LineKind.TheVariants as line_kind
-use Rattle.wb_model.specs.declared.script_lines.LocalKind.{LocalKind}
-use Rattle.wb_model.specs.declared.script_lines.LocalKind.TheVariants as kind
-use Rattle.wb_model.specs.declared.script_lines.OperandPlace.{OperandPlace}
-use Rattle.wb_model.specs.declared.script_lines.WordKind.{WordKind}
-use Rattle.wb_model.specs.declared.script_lines.WordKind.TheVariants as word
-use Rattle.wb_model.specs.declared.script_lines.OperandPlace.TheVariants as operand_place
-use Rattle.wb_model.specs.declared.script_lines.Referent.{Referent}
-use Rattle.wb_model.specs.declared.script_lines.Referent.TheVariants as referent
-use Rattle.wb_model.specs.declared.script_lines.Operand.{Operand}
-use Rattle.wb_model.specs.declared.script_lines.Operand.TheVariants.{Name, Field, Number, Size, Literal, Parameter, Keyword}
-use Rattle.wb_model.specs.declared.script_lines.ParameterType.{ParameterType}
-use Rattle.wb_model.specs.declared.script_lines.ParameterType.TheVariants as parameter_type
-use Rattle.wb_model.specs.declared.script_lines.OperandKind.TheVariants as operand_kind
-use Rattle.wb_model.specs.declared.script_lines.ItemKind.{ItemKind}
-use Rattle.wb_model.specs.declared.script_lines.ItemKind.TheVariants as item
-use Rattle.wb_model.specs.declared.script.Local.{Local}
-use Rattle.wb_model.specs.declared.script.Local.TheVariants.{OfPointer, OfNumber, OfBuffer, OfView}
-use Rattle.wb_model.specs.declared.script.Number.TheVariants.{Constant}
-use Rattle.wb_model.specs.language.LineKinds.{operand_places_for, word_kinds, takes, is_outside}
-use Rattle.wb_model.specs.language.Kinds.{operand_kind_of_field, operand_kind_of_class, operand_kind_of_type, is_right, are_right, is_given, are_given, is_given_to}
-use Rattle.wb_model.specs.language.Names.{Text, NamesSoFar, Declaration, names_of, of_kind, item_of_kind, count_among, literal_text, first_declaration_of}
-use Rattle.wb_model.specs.language.Resolved.{local_referent, referent_at, has_this, is_this, this_referent, own_referent, referent_of_kind, item_after, item_at, item_referent, class_if_named, class_of_kind, class_of_local, class_of_this, class_of_base, fields_of_item, fields_of_class, field_at, field_referent, name_referent, resolved_parameter_type, resolved_operand, resolved_operands}
-use Rattle.wb_model.specs.language.Sound.{Scope, Declared, is_pointer_local, is_number_local, is_buffer_local, is_view_local, is_class, is_index, is_number}
-use Rattle.wb_model.specs.language.Sound as sound
+use Rattle.wb_tree.specs.declared.script_lines.LineKind.{LineKind}
+use Rattle.wb_tree.specs.declared.script_lines.LineKind.TheVariants as line_kind
+use Rattle.wb_tree.specs.declared.script_lines.LocalKind.{LocalKind}
+use Rattle.wb_tree.specs.declared.script_lines.LocalKind.TheVariants as kind
+use Rattle.wb_tree.specs.declared.script_lines.OperandPlace.{OperandPlace}
+use Rattle.wb_tree.specs.declared.script_lines.WordKind.{WordKind}
+use Rattle.wb_tree.specs.declared.script_lines.WordKind.TheVariants as word
+use Rattle.wb_tree.specs.declared.script_lines.OperandPlace.TheVariants as operand_place
+use Rattle.wb_tree.specs.declared.script_lines.Referent.{Referent}
+use Rattle.wb_tree.specs.declared.script_lines.Referent.TheVariants as referent
+use Rattle.wb_tree.specs.declared.script_lines.Operand.{Operand}
+use Rattle.wb_tree.specs.declared.script_lines.Operand.TheVariants.{Name, Field, Number, Size, Literal, Parameter, Keyword}
+use Rattle.wb_tree.specs.declared.script_lines.ParameterType.{ParameterType}
+use Rattle.wb_tree.specs.declared.script_lines.ParameterType.TheVariants as parameter_type
+use Rattle.wb_tree.specs.declared.script_lines.OperandKind.TheVariants as operand_kind
+use Rattle.wb_tree.specs.declared.script_lines.ItemKind.{ItemKind}
+use Rattle.wb_tree.specs.declared.script_lines.ItemKind.TheVariants as item
+use Rattle.wb_tree.specs.declared.script.Local.{Local}
+use Rattle.wb_tree.specs.declared.script.Local.TheVariants.{OfPointer, OfNumber, OfBuffer, OfView}
+use Rattle.wb_tree.specs.declared.script.Number.TheVariants.{Constant}
+use Rattle.wb_language.specs.LineKinds.{operand_places_for, word_kinds, takes, is_outside}
+use Rattle.wb_language.specs.Kinds.{operand_kind_of_field, operand_kind_of_class, operand_kind_of_type, is_right, are_right, is_given, are_given, is_given_to}
+use Rattle.wb_language.specs.Names.{Text, NamesSoFar, Declaration, names_of, of_kind, item_of_kind, count_among, literal_text, first_declaration_of}
+use Rattle.wb_language.specs.Resolved.{local_referent, referent_at, has_this, is_this, this_referent, own_referent, referent_of_kind, item_after, item_at, item_referent, class_if_named, class_of_kind, class_of_local, class_of_this, class_of_base, fields_of_item, fields_of_class, field_at, field_referent, name_referent, resolved_parameter_type, resolved_operand, resolved_operands}
+use Rattle.wb_tree.specs.Sound.{Scope, Declared, is_pointer_local, is_number_local, is_buffer_local, is_view_local, is_class, is_index, is_number}
+use Rattle.wb_tree.specs.Sound as sound
 use Rattle.wb_script.specs.Fitting.{is_name_there, is_field_there, is_parameter_type_there, is_there, operand_fits, operand_places_fit, argument_fits, arguments_fit, fit_signature, is_operation_there}
 use Rattle.wb_script.specs.BytesOf.{parameter_named, signatures_among, fields_among}
 use Rattle.wb_lines.specs.Typed.{is_short, is_word_of, is_operand, are_operands}

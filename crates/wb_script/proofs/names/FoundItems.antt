@@ -4,11 +4,11 @@ use Rattle.std.specs.Prelude.{slice_get, if◌then◌else◌}
 use Rattle.std.specs.Option.{option_map}
 use Rattle.std.specs.Str.{bytes_eq}
 use Rattle.std.proofs.lemmas.Option.{slice_get_within}
-use Rattle.wb_model.specs.declared.script_lines.ItemKind.{ItemKind}
-use Rattle.wb_model.specs.declared.script_lines.ItemKind.TheVariants as item
-use Rattle.wb_model.specs.language.Kinds.{same}
-use Rattle.wb_model.specs.language.Names.{Text, Declaration, is_same_kind, of_kind, item_of_kind, count_among, first_declaration_of}
-use Rattle.wb_model.specs.language.Passes.{first_where}
+use Rattle.wb_tree.specs.declared.script_lines.ItemKind.{ItemKind}
+use Rattle.wb_tree.specs.declared.script_lines.ItemKind.TheVariants as item
+use Rattle.wb_language.specs.Kinds.{same}
+use Rattle.wb_language.specs.Names.{Text, Declaration, is_same_kind, of_kind, item_of_kind, count_among, first_declaration_of}
+use Rattle.wb_language.specs.Passes.{first_where}
 
 -- a name that is declared has an index
 where_within : (p : Text → Bool) (names : List Text) (i : ℕ) → first_where p names ≡ Some i → i < length names

@@ -2,10 +2,10 @@
 use Rattle.std.proofs.Common.{ℕ, suc, ◌<◌, ◌≤◌, List, [], ◌∷◌, Bool, true, false, length, arith}
 use Rattle.std.specs.Prelude.{if◌then◌else◌}
 use Rattle.std.proofs.lemmas.List.{length-map}
-use Rattle.wb_model.specs.declared.limits.TheConstants.{LONGEST_SCRIPT}
-use Rattle.wb_model.specs.declared.script_lines.ItemKind.{ItemKind}
-use Rattle.wb_model.specs.language.Names as model
-use Rattle.wb_model.specs.language.Names.{count_among, is_same_kind, of_kind}
+use Rattle.wb_basics.specs.declared.limits.TheConstants.{LONGEST_SCRIPT}
+use Rattle.wb_tree.specs.declared.script_lines.ItemKind.{ItemKind}
+use Rattle.wb_language.specs.Names as model
+use Rattle.wb_language.specs.Names.{count_among, is_same_kind, of_kind}
 use Rattle.wb_script.specs.declared.checks.items.Declaration.{Declaration}
 use Rattle.wb_script.specs.BytesOf.{bytes_of_item, bytes_of_items}
 

@@ -1,22 +1,22 @@
 -- The operands of a line fit where no check refuses them.
 use Rattle.std.proofs.Common.{◌≡◌, refl, sym, ap, ◌∙◌, ℕ, ◌-◌, ◌+◌, ◌≤◌, List, [], ◌∷◌, true, false, not, ◌&&◌, length, map, replicate, length-append, arith}
 use Rattle.std.specs.List.{list_all, flat_map}
-use Rattle.wb_model.specs.declared.script_lines.LineKind.{LineKind}
-use Rattle.wb_model.specs.declared.script_lines.LineKind.TheVariants as line_kind
-use Rattle.wb_model.specs.declared.script_lines.OperandPlace.{OperandPlace}
-use Rattle.wb_model.specs.declared.script_lines.OperandPlace.TheVariants as operand_place
-use Rattle.wb_model.specs.declared.script_lines.Referent.{Referent}
-use Rattle.wb_model.specs.declared.script_lines.Referent.TheVariants as referent
-use Rattle.wb_model.specs.declared.script_lines.Operand.{Operand}
-use Rattle.wb_model.specs.declared.script_lines.Operand.TheVariants.{Name}
-use Rattle.wb_model.specs.declared.script_lines.OperandKind.{OperandKind}
-use Rattle.wb_model.specs.declared.script_lines.OperandKind.TheVariants as operand_kind
-use Rattle.wb_model.specs.declared.script_lines.Form.TheVariants.{Line}
-use Rattle.wb_model.specs.language.LineKinds.{operand_places_for, takes, is_pointer_kind}
-use Rattle.wb_model.specs.language.Kinds.{operand_kind_of_name, operand_kind_of, is_right, are_right, same, sides_agree, arguments_agree, call_agrees, is_right_line}
-use Rattle.wb_model.specs.language.Names.{Text, NamesSoFar, Declaration, literal_text, literals_in}
-use Rattle.wb_model.specs.language.Resolved.{own_referent, item_referent, class_of_this, resolved_operand, resolved_operands, resolved_line}
-use Rattle.wb_model.specs.language.Sound.{Scope, Declared}
+use Rattle.wb_tree.specs.declared.script_lines.LineKind.{LineKind}
+use Rattle.wb_tree.specs.declared.script_lines.LineKind.TheVariants as line_kind
+use Rattle.wb_tree.specs.declared.script_lines.OperandPlace.{OperandPlace}
+use Rattle.wb_tree.specs.declared.script_lines.OperandPlace.TheVariants as operand_place
+use Rattle.wb_tree.specs.declared.script_lines.Referent.{Referent}
+use Rattle.wb_tree.specs.declared.script_lines.Referent.TheVariants as referent
+use Rattle.wb_tree.specs.declared.script_lines.Operand.{Operand}
+use Rattle.wb_tree.specs.declared.script_lines.Operand.TheVariants.{Name}
+use Rattle.wb_tree.specs.declared.script_lines.OperandKind.{OperandKind}
+use Rattle.wb_tree.specs.declared.script_lines.OperandKind.TheVariants as operand_kind
+use Rattle.wb_tree.specs.declared.script_lines.Form.TheVariants.{Line}
+use Rattle.wb_language.specs.LineKinds.{operand_places_for, takes, is_pointer_kind}
+use Rattle.wb_language.specs.Kinds.{operand_kind_of_name, operand_kind_of, is_right, are_right, same, sides_agree, arguments_agree, call_agrees, is_right_line}
+use Rattle.wb_language.specs.Names.{Text, NamesSoFar, Declaration, literal_text, literals_in}
+use Rattle.wb_language.specs.Resolved.{own_referent, item_referent, class_of_this, resolved_operand, resolved_operands, resolved_line}
+use Rattle.wb_tree.specs.Sound.{Scope, Declared}
 use Rattle.wb_script.specs.Fitting.{is_name_there, is_there, operand_places_fit, sides_fit, call_fits, operands_fit}
 use Rattle.wb_script.specs.BytesOf.{fields_among}
 use Rattle.wb_lines.specs.Typed.{is_operand, are_operands}

@@ -1,9 +1,9 @@
 -- The lines of rows: with one more, the first and the last of them.
 use Rattle.std.proofs.Common.{◌≡◌, refl, sym, ap, subst, ◌∙◌, ℕ, zero, suc, ◌+◌, ◌-◌, ◌<◌, ◌≤◌, List, [], ◌∷◌, ◌++◌, length, get_or, take, drop, arith, add-one, append-nil, take-append-drop}
 use Rattle.std.proofs.lemmas.List.{drop_all, drop_more, drop-append-le, length-drop, length-take, same_from_push, take_all, take_more, take-append-le}
-use Rattle.wb_model.specs.declared.script_lines.Form.{Form}
-use Rattle.wb_model.specs.declared.script_lines.Operand.{Operand}
-use Rattle.wb_model.specs.declared.script_lines.Referent.{Referent}
+use Rattle.wb_tree.specs.declared.script_lines.Form.{Form}
+use Rattle.wb_tree.specs.declared.script_lines.Operand.{Operand}
+use Rattle.wb_tree.specs.declared.script_lines.Referent.{Referent}
 use Rattle.wb_script.specs.declared.checks.resolved_lines.Row.{Row}
 use Rattle.wb_script.specs.ResolvedLines.{count_of, counted_in, lines_of_rows, with_operands}
 

@@ -3,19 +3,19 @@ use Rattle.std.proofs.Common.{◌≡◌, refl, ap, ◌∙◌, ℕ, zero, suc, �
 use Rattle.std.specs.Prelude.{if◌then◌else◌}
 use Rattle.std.specs.List.{list_all, list_any, flat_map}
 use Rattle.std.proofs.lemmas.List.Folds.{list_all-append}
-use Rattle.wb_model.specs.declared.script_lines.LineKind.{LineKind}
-use Rattle.wb_model.specs.declared.script_lines.LineKind.TheVariants as line_kind
-use Rattle.wb_model.specs.declared.script_lines.OperandPlace.{OperandPlace}
-use Rattle.wb_model.specs.declared.script_lines.OperandPlace.TheVariants as operand_place
-use Rattle.wb_model.specs.declared.script_lines.WordKind.{WordKind}
-use Rattle.wb_model.specs.declared.script_lines.WordKind.TheVariants as word
-use Rattle.wb_model.specs.declared.script_lines.Operand.{Operand}
-use Rattle.wb_model.specs.declared.script_lines.Operand.TheVariants.{Literal}
-use Rattle.wb_model.specs.declared.script_lines.Form.{Form}
-use Rattle.wb_model.specs.declared.script_lines.Form.TheVariants.{Skip, Unknown, Line}
-use Rattle.wb_model.specs.language.LineKinds.{operand_places_of, operand_places_for, word_kinds}
-use Rattle.wb_model.specs.language.Names.{Text, literal_text, literals_in, literals_of}
-use Rattle.wb_model.specs.language.Sound.{is_literal_text}
+use Rattle.wb_tree.specs.declared.script_lines.LineKind.{LineKind}
+use Rattle.wb_tree.specs.declared.script_lines.LineKind.TheVariants as line_kind
+use Rattle.wb_tree.specs.declared.script_lines.OperandPlace.{OperandPlace}
+use Rattle.wb_tree.specs.declared.script_lines.OperandPlace.TheVariants as operand_place
+use Rattle.wb_tree.specs.declared.script_lines.WordKind.{WordKind}
+use Rattle.wb_tree.specs.declared.script_lines.WordKind.TheVariants as word
+use Rattle.wb_tree.specs.declared.script_lines.Operand.{Operand}
+use Rattle.wb_tree.specs.declared.script_lines.Operand.TheVariants.{Literal}
+use Rattle.wb_tree.specs.declared.script_lines.Form.{Form}
+use Rattle.wb_tree.specs.declared.script_lines.Form.TheVariants.{Skip, Unknown, Line}
+use Rattle.wb_language.specs.LineKinds.{operand_places_of, operand_places_for, word_kinds}
+use Rattle.wb_language.specs.Names.{Text, literal_text, literals_in, literals_of}
+use Rattle.wb_tree.specs.Sound.{is_literal_text}
 use Rattle.wb_lines.specs.Typed.{is_word_of, is_operand, are_operands, is_typed, AreTyped}
 use Rattle.wb_lines.proofs.TypedLemmas.{both, either_first}
 use Rattle.wb_script.proofs.names.FitLemmas.{both_hold}

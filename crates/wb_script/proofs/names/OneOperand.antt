@@ -1,12 +1,12 @@
 -- Operands that don't fit a line: those that its one operand place doesn't fit, and another number than the sides of a `set`.
 use Rattle.std.proofs.Common.{◌≡◌, refl, List, [], ◌∷◌, Bool, true, false, ◌&&◌, length, IsTrue, arith}
 use Rattle.std.proofs.lemmas.Bool.{false≢true}
-use Rattle.wb_model.specs.declared.script_lines.LineKind.{LineKind}
-use Rattle.wb_model.specs.declared.script_lines.LineKind.TheVariants as line_kind
-use Rattle.wb_model.specs.declared.script_lines.OperandPlace.TheVariants as operand_place
-use Rattle.wb_model.specs.declared.script_lines.Referent.{Referent}
-use Rattle.wb_model.specs.declared.script_lines.Operand.{Operand}
-use Rattle.wb_model.specs.language.Sound.{Declared, Scope}
+use Rattle.wb_tree.specs.declared.script_lines.LineKind.{LineKind}
+use Rattle.wb_tree.specs.declared.script_lines.LineKind.TheVariants as line_kind
+use Rattle.wb_tree.specs.declared.script_lines.OperandPlace.TheVariants as operand_place
+use Rattle.wb_tree.specs.declared.script_lines.Referent.{Referent}
+use Rattle.wb_tree.specs.declared.script_lines.Operand.{Operand}
+use Rattle.wb_tree.specs.Sound.{Declared, Scope}
 use Rattle.wb_script.specs.Fitting.{operand_fits, operand_places_fit, operands_fit}
 use Rattle.wb_script.specs.Stated.{takes_pointer, takes_number}
 use Rattle.wb_script.proofs.names.FitLemmas.{counts_differ}

@@ -2,14 +2,14 @@
 use Rattle.std.proofs.Common.{◌≡◌, ℕ, suc, ◌+◌, ◌<◌, ◌≤◌, List, [], ◌∷◌, length, drop, map, Some, None, Bool, true, false, ◌&&◌, refl, sym, ap, get_or, add-one, drop-cons}
 use Rattle.std.specs.Prelude.{slice_get}
 use Rattle.std.proofs.lemmas.List.{drop_all}
-use Rattle.wb_model.specs.declared.script_lines.OperandPlace.{OperandPlace}
-use Rattle.wb_model.specs.declared.script_lines.Referent.{Referent}
-use Rattle.wb_model.specs.declared.script_lines.Operand.{Operand}
-use Rattle.wb_model.specs.declared.script_lines.LineKind.{LineKind}
-use Rattle.wb_model.specs.declared.script_lines.ParameterType.{ParameterType}
-use Rattle.wb_model.specs.language.Kinds.{is_right, are_right, is_given, are_given}
-use Rattle.wb_model.specs.language.Names.{Text, Declaration, NamesSoFar}
-use Rattle.wb_model.specs.language.Resolved.{resolved_operand, resolved_operands}
+use Rattle.wb_tree.specs.declared.script_lines.OperandPlace.{OperandPlace}
+use Rattle.wb_tree.specs.declared.script_lines.Referent.{Referent}
+use Rattle.wb_tree.specs.declared.script_lines.Operand.{Operand}
+use Rattle.wb_tree.specs.declared.script_lines.LineKind.{LineKind}
+use Rattle.wb_tree.specs.declared.script_lines.ParameterType.{ParameterType}
+use Rattle.wb_language.specs.Kinds.{is_right, are_right, is_given, are_given}
+use Rattle.wb_language.specs.Names.{Text, Declaration, NamesSoFar}
+use Rattle.wb_language.specs.Resolved.{resolved_operand, resolved_operands}
 use Rattle.wb_lines.proofs.OperandPlaces.{drop_some, drop_none}
 
 module _ (operand_places : List OperandPlace) (operands : List (Operand Referent)) (i : ℕ) where

@@ -6,23 +6,23 @@ use Rattle.std.specs.Prelude.{codes, slice_get, if◌then◌else◌}
 use Rattle.std.specs.List.{list_all}
 use Rattle.std.specs.Option.{option_map}
 use Rattle.std.specs.Str.{bytes_eq}
-use Rattle.wb_model.specs.declared.script_lines.LineKind.TheVariants as line_kind
-use Rattle.wb_model.specs.declared.script_lines.ItemKind.{ItemKind}
-use Rattle.wb_model.specs.declared.script_lines.ItemKind.TheVariants as item
-use Rattle.wb_model.specs.declared.script_lines.Operand.TheVariants.{Name}
-use Rattle.wb_model.specs.declared.script_lines.Form.{Form}
-use Rattle.wb_model.specs.declared.script_lines.Form.TheVariants.{Skip, Unknown, Line}
-use Rattle.wb_model.specs.declared.script_lines.ParameterType.{ParameterType}
-use Rattle.wb_model.specs.declared.script.Parameter.{Parameter}
-use Rattle.wb_model.specs.declared.fault.ScriptFault.{ScriptFault}
-use Rattle.wb_model.specs.declared.fault.ScriptFault.TheVariants.{UnknownName, DoubleName, WrongKind, MayLeave, NoMain, TooMany}
-use Rattle.wb_model.specs.language.Forms.{role_of_form, renamed}
-use Rattle.wb_model.specs.language.Kinds.{is_nothing, is_right_line, misuses_main, returns_in_trap, returns_outside, has_wrong_kind}
-use Rattle.wb_model.specs.language.Names.{Text, NamesSoFar, Declaration, nothing_known, known_after, names_of, first_declaration_of, is_same_kind, of_kind, count_among, items_by, items_of, parameters_in}
-use Rattle.wb_model.specs.language.Passes.{first_bad, first_where}
-use Rattle.wb_model.specs.language.Resolved.{resolved, resolved_line, referent_of_kind, item_after, item_at, item_referent}
-use Rattle.wb_model.specs.language.Scripts.{main_of, procedure_referent, number_of_line, first_wrong, IsNamed, IsLinesFault}
-use Rattle.wb_model.specs.language.Sound.{is_entry}
+use Rattle.wb_tree.specs.declared.script_lines.LineKind.TheVariants as line_kind
+use Rattle.wb_tree.specs.declared.script_lines.ItemKind.{ItemKind}
+use Rattle.wb_tree.specs.declared.script_lines.ItemKind.TheVariants as item
+use Rattle.wb_tree.specs.declared.script_lines.Operand.TheVariants.{Name}
+use Rattle.wb_tree.specs.declared.script_lines.Form.{Form}
+use Rattle.wb_tree.specs.declared.script_lines.Form.TheVariants.{Skip, Unknown, Line}
+use Rattle.wb_tree.specs.declared.script_lines.ParameterType.{ParameterType}
+use Rattle.wb_tree.specs.declared.script.Parameter.{Parameter}
+use Rattle.wb_language.specs.declared.fault.ScriptFault.{ScriptFault}
+use Rattle.wb_language.specs.declared.fault.ScriptFault.TheVariants.{UnknownName, DoubleName, WrongKind, MayLeave, NoMain, TooMany}
+use Rattle.wb_language.specs.Forms.{role_of_form, renamed}
+use Rattle.wb_language.specs.Kinds.{is_nothing, is_right_line, misuses_main, returns_in_trap, returns_outside, has_wrong_kind}
+use Rattle.wb_language.specs.Names.{Text, NamesSoFar, Declaration, nothing_known, known_after, names_of, first_declaration_of, is_same_kind, of_kind, count_among, items_by, items_of, parameters_in}
+use Rattle.wb_language.specs.Passes.{first_bad, first_where}
+use Rattle.wb_language.specs.Resolved.{resolved, resolved_line, referent_of_kind, item_after, item_at, item_referent}
+use Rattle.wb_language.specs.Scripts.{main_of, procedure_referent, number_of_line, first_wrong, IsNamed, IsLinesFault}
+use Rattle.wb_tree.specs.Sound.{is_entry}
 use Rattle.wb_script.specs.Building.{counts_of}
 use Rattle.wb_script.specs.Checks.{AreChecked, AreNamed, IsFirstFault}
 use Rattle.wb_script.specs.BytesOf.{parameter_named, signatures_among}

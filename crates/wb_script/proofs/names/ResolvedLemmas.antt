@@ -4,25 +4,25 @@ use Rattle.std.specs.Prelude.{if◌then◌else◌}
 use Rattle.std.specs.Option.{option_map}
 use Rattle.std.specs.List.{list_all, list_any, flat_map}
 use Rattle.std.proofs.lemmas.List.{map-append, length-map}
-use Rattle.wb_model.specs.declared.script_lines.LineKind.{LineKind}
-use Rattle.wb_model.specs.declared.script_lines.LineKind.TheVariants as line_kind
-use Rattle.wb_model.specs.declared.script_lines.Role.{Role}
-use Rattle.wb_model.specs.declared.script_lines.Role.TheVariants as role
-use Rattle.wb_model.specs.declared.script_lines.Form.{Form}
-use Rattle.wb_model.specs.declared.script_lines.Form.TheVariants.{Skip, Unknown, Line}
-use Rattle.wb_model.specs.declared.script_lines.Referent.{Referent}
-use Rattle.wb_model.specs.declared.script_lines.Operand.{Operand}
-use Rattle.wb_model.specs.declared.script_lines.Operand.TheVariants.{Name}
-use Rattle.wb_model.specs.declared.script_lines.ItemKind.{ItemKind}
-use Rattle.wb_model.specs.declared.script_lines.ItemKind.TheVariants as item
-use Rattle.wb_model.specs.declared.script.Parameter.{Parameter}
-use Rattle.wb_model.specs.language.Forms.{role_of_form}
-use Rattle.wb_model.specs.language.Grammar.{IsGrammatical, content}
-use Rattle.wb_model.specs.language.LineKinds.{role_of}
-use Rattle.wb_model.specs.language.Kinds.{has_wrong_kind, misuses_main, returns_in_trap, returns_outside, is_right_line, ends_body, is_trap}
-use Rattle.wb_model.specs.language.Passes.{first_bad, state_after, each_with}
-use Rattle.wb_model.specs.language.Names.{Text, NamesSoFar, Declaration, nothing_known, literals_in, literals_of, is_same_kind, of_kind, count_among, items_by, items_of, known_after, passes_limit, first_refused}
-use Rattle.wb_model.specs.language.Resolved.{class_of_this, resolved_line, resolved_among, resolved}
+use Rattle.wb_tree.specs.declared.script_lines.LineKind.{LineKind}
+use Rattle.wb_tree.specs.declared.script_lines.LineKind.TheVariants as line_kind
+use Rattle.wb_tree.specs.declared.script_lines.Role.{Role}
+use Rattle.wb_tree.specs.declared.script_lines.Role.TheVariants as role
+use Rattle.wb_tree.specs.declared.script_lines.Form.{Form}
+use Rattle.wb_tree.specs.declared.script_lines.Form.TheVariants.{Skip, Unknown, Line}
+use Rattle.wb_tree.specs.declared.script_lines.Referent.{Referent}
+use Rattle.wb_tree.specs.declared.script_lines.Operand.{Operand}
+use Rattle.wb_tree.specs.declared.script_lines.Operand.TheVariants.{Name}
+use Rattle.wb_tree.specs.declared.script_lines.ItemKind.{ItemKind}
+use Rattle.wb_tree.specs.declared.script_lines.ItemKind.TheVariants as item
+use Rattle.wb_tree.specs.declared.script.Parameter.{Parameter}
+use Rattle.wb_language.specs.Forms.{role_of_form}
+use Rattle.wb_language.specs.Grammar.{IsGrammatical, content}
+use Rattle.wb_language.specs.LineKinds.{role_of}
+use Rattle.wb_language.specs.Kinds.{has_wrong_kind, misuses_main, returns_in_trap, returns_outside, is_right_line, ends_body, is_trap}
+use Rattle.wb_language.specs.Passes.{first_bad, state_after, each_with}
+use Rattle.wb_language.specs.Names.{Text, NamesSoFar, Declaration, nothing_known, literals_in, literals_of, is_same_kind, of_kind, count_among, items_by, items_of, known_after, passes_limit, first_refused}
+use Rattle.wb_language.specs.Resolved.{class_of_this, resolved_line, resolved_among, resolved}
 use Rattle.wb_script.specs.Building.{Counts, nothing_counted, counts_after, counts_of, last_count, may_stand, fits, unfit, scope_at, AllFit}
 use Rattle.wb_script.specs.BytesOf.{parameter_named, signatures_among}
 use Rattle.wb_lines.specs.Typed.{is_typed, AreTyped}

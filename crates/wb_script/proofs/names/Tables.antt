@@ -3,14 +3,14 @@ use Rattle.std.proofs.Common.{◌≡◌, refl, sym, ap, ◌∙◌, ℕ, zero, su
 use Rattle.std.specs.Prelude.{slice_get, if◌then◌else◌, unwrap_or}
 use Rattle.std.specs.Option.{option_map, option_and_then}
 use Rattle.std.specs.Str.{bytes_eq}
-use Rattle.wb_model.specs.declared.script_lines.ItemKind.{ItemKind}
-use Rattle.wb_model.specs.declared.script_lines.ItemKind.TheVariants as item
-use Rattle.wb_model.specs.declared.script_lines.Referent.{Referent}
-use Rattle.wb_model.specs.declared.script_lines.Referent.TheVariants as referent
-use Rattle.wb_model.specs.language.Names as model
-use Rattle.wb_model.specs.language.Names.{Text, count_among, first_declaration_of, is_same_kind, item_of_kind, names_of, of_kind}
-use Rattle.wb_model.specs.language.Resolved.{item_after, item_at, referent_of_kind}
-use Rattle.wb_model.specs.language.Passes.{first_where}
+use Rattle.wb_tree.specs.declared.script_lines.ItemKind.{ItemKind}
+use Rattle.wb_tree.specs.declared.script_lines.ItemKind.TheVariants as item
+use Rattle.wb_tree.specs.declared.script_lines.Referent.{Referent}
+use Rattle.wb_tree.specs.declared.script_lines.Referent.TheVariants as referent
+use Rattle.wb_language.specs.Names as model
+use Rattle.wb_language.specs.Names.{Text, count_among, first_declaration_of, is_same_kind, item_of_kind, names_of, of_kind}
+use Rattle.wb_language.specs.Resolved.{item_after, item_at, referent_of_kind}
+use Rattle.wb_language.specs.Passes.{first_where}
 use Rattle.wb_script.specs.BytesOf.{bytes_of_items}
 use Rattle.wb_script.specs.Tables.{indexes_from, next_referent, no_counts, referents_from, with_next}
 use Rattle.wb_script.specs.declared.checks.items.Declaration.{Declaration}

@@ -2,14 +2,15 @@
 use Rattle.std.proofs.Common.{◌≡◌, refl, sym, ap, subst, ◌∙◌, ℕ, List, [], ◌∷◌, ◌++◌, true, Some, None, map, append-nil, append_assoc}
 use Rattle.std.specs.List.{list_all}
 use Rattle.std.proofs.lemmas.List.Folds.{list_all-append}
-use Rattle.wb_model.specs.declared.script_lines.LineKind.TheVariants as line_kind
-use Rattle.wb_model.specs.declared.script_lines.Form.TheVariants.{Line}
-use Rattle.wb_model.specs.declared.script.StatementAt.{StatementAt}
-use Rattle.wb_model.specs.declared.script.Statement.{Statement}
-use Rattle.wb_model.specs.declared.script.Statement.TheOpen.{Statement-F}
-use Rattle.wb_model.specs.declared.script.Statement.TheViews.{roll-Statement}
-use Rattle.wb_model.specs.declared.script.Statement.TheFolds.{fold-StatementAt, fold_out-StatementAt, fold-roll-Statement, map-Statement, ind-Statement}
-use Rattle.wb_model.specs.language.Trees.{Marked, number_operand, variable_operand, line, condition_line, layer_lines, statement_at_layer, lines_joined, lines_of_statement, statement_at_lines, statement_lines, end_line, else_line}
+use Rattle.wb_tree.specs.declared.script_lines.LineKind.TheVariants as line_kind
+use Rattle.wb_tree.specs.declared.script_lines.Form.TheVariants.{Line}
+use Rattle.wb_tree.specs.declared.script.StatementAt.{StatementAt}
+use Rattle.wb_tree.specs.declared.script.Statement.{Statement}
+use Rattle.wb_tree.specs.declared.script.Statement.TheOpen.{Statement-F}
+use Rattle.wb_tree.specs.declared.script.Statement.TheViews.{roll-Statement}
+use Rattle.wb_tree.specs.declared.script.Statement.TheFolds.{fold-StatementAt, fold_out-StatementAt, fold-roll-Statement, map-Statement, ind-Statement}
+use Rattle.wb_language.specs.Trees.{Marked, line, condition_line, layer_lines, statement_at_layer, lines_joined, lines_of_statement, statement_at_lines, statement_lines, end_line, else_line}
+use Rattle.wb_tree.specs.Spellings.{number_operand, variable_operand}
 use Rattle.wb_lines.proofs.TypedLemmas.{both}
 use Rattle.wb_script.proofs.names.KnownLines.{is_known, is_of_a_script}
 use Rattle.wb_script.proofs.one_script.ReadBack.{Part, with_statement, opened, with_line, with_lines, with_lines-append}

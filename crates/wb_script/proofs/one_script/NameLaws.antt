@@ -6,16 +6,16 @@ use Rattle.std.specs.List.{list_all, list_any}
 use Rattle.std.specs.Str.{bytes_eq}
 use Rattle.std.proofs.lemmas.List.Folds.{list_all-append}
 use Rattle.std.proofs.lemmas.Slice.Eq.{bytes_eq-Decides}
-use Rattle.wb_model.specs.declared.script_lines.Form.{Form}
-use Rattle.wb_model.specs.declared.fault.ScriptFault.TheVariants.{UnknownName}
-use Rattle.wb_model.specs.declared.script.Script.{Script}
-use Rattle.wb_model.specs.language.Forms.{forms_of}
-use Rattle.wb_model.specs.language.Lines.{lines_of, is_too_long}
-use Rattle.wb_model.specs.language.Scripts.{IsScriptOf, IsFaultOf, number_of_line, first_unknown}
-use Rattle.wb_model.specs.language.Names.{Text, NamesSoFar, Declaration, known_after, nothing_known, is_among, items_of, names_of, first_refused}
-use Rattle.wb_model.specs.language.Passes.{first_bad, state_after}
-use Rattle.wb_model.specs.language.Resolved.{uses_unknown}
-use Rattle.wb_model.specs.language.Undeclared.{local_used, item_used, used_in, IsDeclared, uses_undeclared_field, UsesUndeclared, UsesDeclaredUpTo, IsFirstUndeclaredLine}
+use Rattle.wb_tree.specs.declared.script_lines.Form.{Form}
+use Rattle.wb_language.specs.declared.fault.ScriptFault.TheVariants.{UnknownName}
+use Rattle.wb_tree.specs.declared.script.Script.{Script}
+use Rattle.wb_language.specs.Forms.{forms_of}
+use Rattle.wb_language.specs.Lines.{lines_of, is_too_long}
+use Rattle.wb_language.specs.Scripts.{IsScriptOf, IsFaultOf, number_of_line, first_unknown}
+use Rattle.wb_language.specs.Names.{Text, NamesSoFar, Declaration, known_after, nothing_known, is_among, items_of, names_of, first_refused}
+use Rattle.wb_language.specs.Passes.{first_bad, state_after}
+use Rattle.wb_language.specs.Resolved.{uses_unknown}
+use Rattle.wb_language.specs.Undeclared.{local_used, item_used, used_in, IsDeclared, uses_undeclared_field, UsesUndeclared, UsesDeclaredUpTo, IsFirstUndeclaredLine}
 use Rattle.wb_lines.specs.Typed.{is_typed, AreTyped}
 use Rattle.wb_lines.proofs.Cuts.{lines_within}
 use Rattle.wb_script.proofs.one_script.FaultLaws.{found_line}

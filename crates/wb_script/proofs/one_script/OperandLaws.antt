@@ -4,27 +4,28 @@ use Rattle.std.specs.List.{flat_map}
 use Rattle.std.specs.Prelude.{unwrap_or}
 use Rattle.std.proofs.lemmas.Bool.{false≢true}
 use Rattle.std.proofs.lemmas.List.{map-append}
-use Rattle.wb_model.specs.declared.script_lines.Referent.{Referent}
-use Rattle.wb_model.specs.declared.script_lines.Referent.TheVariants as referent
-use Rattle.wb_model.specs.declared.script_lines.Operand.{Operand}
-use Rattle.wb_model.specs.declared.script_lines.Operand.TheVariants.{Name, Number, Literal, Keyword}
-use Rattle.wb_model.specs.declared.script_lines.Operand.TheVariants as spelled
-use Rattle.wb_model.specs.declared.script_lines.ParameterType.TheVariants as parameter_type
-use Rattle.wb_model.specs.declared.script.Parameter.{Parameter}
-use Rattle.wb_model.specs.declared.script.Parameter.TheVariants as parameter
-use Rattle.wb_model.specs.declared.script.Argument.{Argument}
-use Rattle.wb_model.specs.declared.script.Argument.TheVariants.{Passed, Given}
-use Rattle.wb_model.specs.declared.script.Holder.TheVariants as H
-use Rattle.wb_model.specs.declared.script.Pointer.{Pointer}
-use Rattle.wb_model.specs.declared.script.Pointer.TheVariants as P
-use Rattle.wb_model.specs.declared.script.Number as N
-use Rattle.wb_model.specs.declared.script.Number.TheVariants.{Constant, Variable}
-use Rattle.wb_model.specs.declared.script.Writable.{Writable}
-use Rattle.wb_model.specs.declared.script.Writable.TheVariants.{OwnBuffer, InCell}
-use Rattle.wb_model.specs.declared.script.Readable.{Readable}
-use Rattle.wb_model.specs.declared.script.Readable.TheVariants.{Of, ViewOf, Quoted}
-use Rattle.wb_model.specs.language.Names.{parameter_type_of}
-use Rattle.wb_model.specs.language.Trees.{Spelled, pointer_operand, number_operand, writable_operand, text_operand, parameter_operand, argument_operand, and_operand, all_spelled}
+use Rattle.wb_tree.specs.declared.script_lines.Referent.{Referent}
+use Rattle.wb_tree.specs.declared.script_lines.Referent.TheVariants as referent
+use Rattle.wb_tree.specs.declared.script_lines.Operand.{Operand}
+use Rattle.wb_tree.specs.declared.script_lines.Operand.TheVariants.{Name, Number, Literal, Keyword}
+use Rattle.wb_tree.specs.declared.script_lines.Operand.TheVariants as spelled
+use Rattle.wb_tree.specs.declared.script_lines.ParameterType.TheVariants as parameter_type
+use Rattle.wb_tree.specs.declared.script.Parameter.{Parameter}
+use Rattle.wb_tree.specs.declared.script.Parameter.TheVariants as parameter
+use Rattle.wb_tree.specs.declared.script.Argument.{Argument}
+use Rattle.wb_tree.specs.declared.script.Argument.TheVariants.{Passed, Given}
+use Rattle.wb_tree.specs.declared.script.Holder.TheVariants as H
+use Rattle.wb_tree.specs.declared.script.Pointer.{Pointer}
+use Rattle.wb_tree.specs.declared.script.Pointer.TheVariants as P
+use Rattle.wb_tree.specs.declared.script.Number as N
+use Rattle.wb_tree.specs.declared.script.Number.TheVariants.{Constant, Variable}
+use Rattle.wb_tree.specs.declared.script.Writable.{Writable}
+use Rattle.wb_tree.specs.declared.script.Writable.TheVariants.{OwnBuffer, InCell}
+use Rattle.wb_tree.specs.declared.script.Readable.{Readable}
+use Rattle.wb_tree.specs.declared.script.Readable.TheVariants.{Of, ViewOf, Quoted}
+use Rattle.wb_language.specs.Names.{parameter_type_of}
+use Rattle.wb_tree.specs.Spellings.{Spelled, pointer_operand, number_operand, writable_operand, text_operand, argument_operand}
+use Rattle.wb_language.specs.Trees.{parameter_operand, and_operand, all_spelled}
 use Rattle.wb_script.specs.Building.{parameter_taking}
 
 -- the pointer, the number or the local that an operand spells

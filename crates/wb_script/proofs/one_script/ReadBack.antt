@@ -1,28 +1,28 @@
 -- What lines say of a script, read from the last to the first.
 use Rattle.std.proofs.Common.{◌≡◌, refl, ap, ℕ, List, [], ◌∷◌, ◌++◌, Option, Some, None, map}
 use Rattle.std.specs.Prelude.{unwrap_or}
-use Rattle.wb_model.specs.declared.script_lines.LineKind.TheVariants as line_kind
-use Rattle.wb_model.specs.declared.script_lines.Referent.{Referent}
-use Rattle.wb_model.specs.declared.script_lines.Referent.TheVariants as referent
-use Rattle.wb_model.specs.declared.script_lines.Operand.{Operand}
-use Rattle.wb_model.specs.declared.script_lines.Operand.TheVariants.{Name, Number, Size}
-use Rattle.wb_model.specs.declared.script_lines.Form.TheVariants.{Line}
-use Rattle.wb_model.specs.declared.script.Body.{Body}
-use Rattle.wb_model.specs.declared.script.Class.{Class}
-use Rattle.wb_model.specs.declared.script.Procedure.{Procedure}
-use Rattle.wb_model.specs.declared.script.Operation.{Operation}
-use Rattle.wb_model.specs.declared.script.Condition.{Condition}
-use Rattle.wb_model.specs.declared.script.Condition.TheVariants.{IsNull, NotNull, Equal, Less}
-use Rattle.wb_model.specs.declared.script.Local.{Local}
-use Rattle.wb_model.specs.declared.script.Local.TheVariants.{OfPointer, OfNumber, OfBuffer, OfView}
-use Rattle.wb_model.specs.declared.script.Number.TheVariants.{Constant, Variable}
-use Rattle.wb_model.specs.declared.script.Refusal.TheVariants.{GivesNull, Leaves}
-use Rattle.wb_model.specs.declared.script.StatementAt.{StatementAt}
-use Rattle.wb_model.specs.declared.script.Statement.{Statement}
-use Rattle.wb_model.specs.declared.script.Statement.TheOpen.{Statement-F}
-use Rattle.wb_model.specs.declared.script.Statement.TheViews.{roll-Statement}
-use Rattle.wb_model.specs.language.Resolved.{class_in}
-use Rattle.wb_model.specs.language.Trees.{Indexed, Marked, line}
+use Rattle.wb_tree.specs.declared.script_lines.LineKind.TheVariants as line_kind
+use Rattle.wb_tree.specs.declared.script_lines.Referent.{Referent}
+use Rattle.wb_tree.specs.declared.script_lines.Referent.TheVariants as referent
+use Rattle.wb_tree.specs.declared.script_lines.Operand.{Operand}
+use Rattle.wb_tree.specs.declared.script_lines.Operand.TheVariants.{Name, Number, Size}
+use Rattle.wb_tree.specs.declared.script_lines.Form.TheVariants.{Line}
+use Rattle.wb_tree.specs.declared.script.Body.{Body}
+use Rattle.wb_tree.specs.declared.script.Class.{Class}
+use Rattle.wb_tree.specs.declared.script.Procedure.{Procedure}
+use Rattle.wb_tree.specs.declared.script.Operation.{Operation}
+use Rattle.wb_tree.specs.declared.script.Condition.{Condition}
+use Rattle.wb_tree.specs.declared.script.Condition.TheVariants.{IsNull, NotNull, Equal, Less}
+use Rattle.wb_tree.specs.declared.script.Local.{Local}
+use Rattle.wb_tree.specs.declared.script.Local.TheVariants.{OfPointer, OfNumber, OfBuffer, OfView}
+use Rattle.wb_tree.specs.declared.script.Number.TheVariants.{Constant, Variable}
+use Rattle.wb_tree.specs.declared.script.Refusal.TheVariants.{GivesNull, Leaves}
+use Rattle.wb_tree.specs.declared.script.StatementAt.{StatementAt}
+use Rattle.wb_tree.specs.declared.script.Statement.{Statement}
+use Rattle.wb_tree.specs.declared.script.Statement.TheOpen.{Statement-F}
+use Rattle.wb_tree.specs.declared.script.Statement.TheViews.{roll-Statement}
+use Rattle.wb_language.specs.Resolved.{class_in}
+use Rattle.wb_language.specs.Trees.{Indexed, Marked, line}
 use Rattle.wb_script.proofs.one_script.OperandLaws.{pointer_in, variable_in, number_in, writable_in, view_in, text_in, argument_in, local_in, procedure_in, operation_in, parameters_in}
 use Rattle.wb_script.proofs.one_script.OperandLaws as operand
 

@@ -1,25 +1,25 @@
 -- The lines of a script tell which script it is.
 use Rattle.std.proofs.Common.{◌≡◌, refl, sym, ap, subst, ◌∙◌, ℕ, suc, List, [], ◌∷◌, ◌++◌, true, Option, Some, None, length, map, append-nil, append_assoc}
 use Rattle.std.specs.List.{list_all}
-use Rattle.wb_model.specs.declared.script_lines.LineKind.TheVariants as line_kind
-use Rattle.wb_model.specs.declared.script_lines.Referent.{Referent}
-use Rattle.wb_model.specs.declared.script_lines.Referent.TheVariants as referent
-use Rattle.wb_model.specs.declared.script_lines.Operand.{Operand}
-use Rattle.wb_model.specs.declared.script_lines.Operand.TheVariants.{Name}
-use Rattle.wb_model.specs.declared.script_lines.Form.TheVariants.{Line}
-use Rattle.wb_model.specs.declared.script.Script.{Script}
-use Rattle.wb_model.specs.declared.script.Class.{Class}
-use Rattle.wb_model.specs.declared.script.Body.{Body}
-use Rattle.wb_model.specs.declared.script.Procedure.{Procedure}
-use Rattle.wb_model.specs.declared.script.Operation.{Operation}
-use Rattle.wb_model.specs.declared.script.Local.{Local}
-use Rattle.wb_model.specs.declared.script.Local.TheVariants.{OfPointer, OfNumber, OfBuffer, OfView}
-use Rattle.wb_model.specs.language.Forms.{forms_of}
-use Rattle.wb_model.specs.language.Grammar.{IsGrammatical}
-use Rattle.wb_model.specs.language.Lines.{lines_of}
-use Rattle.wb_model.specs.language.Resolved.{resolved}
-use Rattle.wb_model.specs.language.Scripts.{IsScriptOf}
-use Rattle.wb_model.specs.language.Trees.{Marked, Lines, counted_from, parameter_operand, and_operand, all_spelled, line_or_unknown, statement_lines, local_line, local_lines, field_line, field_lines, own_body_lines, end_line, body_lines, head_line, class_head, class_lines, procedure_lines, operation_head, operation_lines, each_from, lines_of_class, lines_of_procedure, lines_of_operation, in_order, all_lines, bodies_in_order, script_lines}
+use Rattle.wb_tree.specs.declared.script_lines.LineKind.TheVariants as line_kind
+use Rattle.wb_tree.specs.declared.script_lines.Referent.{Referent}
+use Rattle.wb_tree.specs.declared.script_lines.Referent.TheVariants as referent
+use Rattle.wb_tree.specs.declared.script_lines.Operand.{Operand}
+use Rattle.wb_tree.specs.declared.script_lines.Operand.TheVariants.{Name}
+use Rattle.wb_tree.specs.declared.script_lines.Form.TheVariants.{Line}
+use Rattle.wb_tree.specs.declared.script.Script.{Script}
+use Rattle.wb_tree.specs.declared.script.Class.{Class}
+use Rattle.wb_tree.specs.declared.script.Body.{Body}
+use Rattle.wb_tree.specs.declared.script.Procedure.{Procedure}
+use Rattle.wb_tree.specs.declared.script.Operation.{Operation}
+use Rattle.wb_tree.specs.declared.script.Local.{Local}
+use Rattle.wb_tree.specs.declared.script.Local.TheVariants.{OfPointer, OfNumber, OfBuffer, OfView}
+use Rattle.wb_language.specs.Forms.{forms_of}
+use Rattle.wb_language.specs.Grammar.{IsGrammatical}
+use Rattle.wb_language.specs.Lines.{lines_of}
+use Rattle.wb_language.specs.Resolved.{resolved}
+use Rattle.wb_language.specs.Scripts.{IsScriptOf}
+use Rattle.wb_language.specs.Trees.{Marked, Lines, counted_from, parameter_operand, and_operand, all_spelled, line_or_unknown, statement_lines, local_line, local_lines, field_line, field_lines, own_body_lines, end_line, body_lines, head_line, class_head, class_lines, procedure_lines, operation_head, operation_lines, each_from, lines_of_class, lines_of_procedure, lines_of_operation, in_order, all_lines, bodies_in_order, script_lines}
 use Rattle.wb_script.proofs.names.ResolvedLemmas.{roles-resolved}
 use Rattle.wb_lines.proofs.TypedLemmas.{both}
 use Rattle.wb_script.proofs.names.KnownLines.{is_known, is_of_a_script, known_lines}

@@ -2,21 +2,22 @@
 -- depends on an operand.
 use Rattle.std.proofs.Common.{◌≡◌, refl, ℕ, [], ◌∷◌, true}
 use Rattle.std.proofs.lemmas.Bool.{false≢true}
-use Rattle.wb_model.specs.declared.script_lines.LineKind.TheVariants as line_kind
-use Rattle.wb_model.specs.declared.script_lines.Form.TheVariants.{Unknown}
-use Rattle.wb_model.specs.declared.script.Condition.{Condition}
-use Rattle.wb_model.specs.declared.script.Condition.TheVariants.{IsNull, NotNull, Equal, Less}
-use Rattle.wb_model.specs.declared.script.Holder.TheVariants as H
-use Rattle.wb_model.specs.declared.script.Pointer.TheVariants.{Held, Field}
-use Rattle.wb_model.specs.declared.script.Number as N
-use Rattle.wb_model.specs.declared.script.Number.TheVariants.{Constant, Variable}
-use Rattle.wb_model.specs.declared.script.Writable.TheVariants.{OwnBuffer, InCell}
-use Rattle.wb_model.specs.declared.script.Readable.TheVariants.{Of, ViewOf, Quoted}
-use Rattle.wb_model.specs.declared.script.Refusal.TheVariants.{GivesNull, Leaves}
-use Rattle.wb_model.specs.declared.script.StatementAt.{StatementAt}
-use Rattle.wb_model.specs.declared.script.Statement.{Statement}
-use Rattle.wb_model.specs.declared.script.Statement.TheOpen.{Statement-F}
-use Rattle.wb_model.specs.language.Trees.{Indexed, number_operand, line, condition_line, statement_line}
+use Rattle.wb_tree.specs.declared.script_lines.LineKind.TheVariants as line_kind
+use Rattle.wb_tree.specs.declared.script_lines.Form.TheVariants.{Unknown}
+use Rattle.wb_tree.specs.declared.script.Condition.{Condition}
+use Rattle.wb_tree.specs.declared.script.Condition.TheVariants.{IsNull, NotNull, Equal, Less}
+use Rattle.wb_tree.specs.declared.script.Holder.TheVariants as H
+use Rattle.wb_tree.specs.declared.script.Pointer.TheVariants.{Held, Field}
+use Rattle.wb_tree.specs.declared.script.Number as N
+use Rattle.wb_tree.specs.declared.script.Number.TheVariants.{Constant, Variable}
+use Rattle.wb_tree.specs.declared.script.Writable.TheVariants.{OwnBuffer, InCell}
+use Rattle.wb_tree.specs.declared.script.Readable.TheVariants.{Of, ViewOf, Quoted}
+use Rattle.wb_tree.specs.declared.script.Refusal.TheVariants.{GivesNull, Leaves}
+use Rattle.wb_tree.specs.declared.script.StatementAt.{StatementAt}
+use Rattle.wb_tree.specs.declared.script.Statement.{Statement}
+use Rattle.wb_tree.specs.declared.script.Statement.TheOpen.{Statement-F}
+use Rattle.wb_language.specs.Trees.{Indexed, line, condition_line, statement_line}
+use Rattle.wb_tree.specs.Spellings.{number_operand}
 use Rattle.wb_script.proofs.names.KnownLines.{is_known}
 use Rattle.wb_script.proofs.one_script.OperandLaws.{pointer_is, pointer_read, number_is, number_read, writable_is, writable_read, text_is, text_read, arguments_are, arguments_read}
 use Rattle.wb_script.proofs.one_script.ReadBack.{Part, choice, with_statement, closed, with_line}

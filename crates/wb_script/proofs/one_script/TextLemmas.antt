@@ -2,17 +2,17 @@
 use Rattle.std.proofs.Common.{◌≡◌, ℕ, zero, suc, ◌+◌, ◌-◌, ◌≤◌, List, [], ◌∷◌, ◌++◌, Bool, true, false, length, take, replicate, refl, sym, ap, subst, ◌∙◌, arith, nat_eq, Result, Ok, Err}
 use Rattle.std.specs.Prelude.{codes, IfOk, IfErr}
 use Rattle.std.proofs.lemmas.List.{map-append, take-map, length-map}
-use Rattle.wb_model.specs.declared.fault.ScriptFault.{ScriptFault}
-use Rattle.wb_model.specs.declared.fault.ScriptFault.TheVariants.{TooLong, NotAscii, Grammar, UnknownName, DoubleName, WrongKind, MayLeave, NoMain, TooMany, NoMemory}
-use Rattle.wb_model.specs.declared.script_lines.Form.{Form}
-use Rattle.wb_model.specs.declared.script_lines.Role.TheVariants as role
-use Rattle.wb_model.specs.declared.script.Script.{Script}
-use Rattle.wb_model.specs.language.Forms.{role_of_form, line_form, forms_of}
-use Rattle.wb_model.specs.language.Grammar.{IsGrammatical, IsFirstMisfit}
-use Rattle.wb_model.specs.language.LineKinds.{line_kinds}
-use Rattle.wb_model.specs.language.Lines.{lines_of, is_too_long, ends_line, pieces_from, onto_first, quoted_after}
-use Rattle.wb_model.specs.language.Names.{Text}
-use Rattle.wb_model.specs.language.Scripts.{IsGrammarLine, IsPlainText, IsTreeOf, IsScriptOf, IsFaultOf}
+use Rattle.wb_language.specs.declared.fault.ScriptFault.{ScriptFault}
+use Rattle.wb_language.specs.declared.fault.ScriptFault.TheVariants.{TooLong, NotAscii, Grammar, UnknownName, DoubleName, WrongKind, MayLeave, NoMain, TooMany, NoMemory}
+use Rattle.wb_tree.specs.declared.script_lines.Form.{Form}
+use Rattle.wb_tree.specs.declared.script_lines.Role.TheVariants as role
+use Rattle.wb_tree.specs.declared.script.Script.{Script}
+use Rattle.wb_language.specs.Forms.{role_of_form, line_form, forms_of}
+use Rattle.wb_language.specs.Grammar.{IsGrammatical, IsFirstMisfit}
+use Rattle.wb_language.specs.LineKinds.{line_kinds}
+use Rattle.wb_language.specs.Lines.{lines_of, is_too_long, ends_line, pieces_from, onto_first, quoted_after}
+use Rattle.wb_language.specs.Names.{Text}
+use Rattle.wb_language.specs.Scripts.{IsGrammarLine, IsPlainText, IsTreeOf, IsScriptOf, IsFaultOf}
 use Rattle.wb_script.specs.Reads.{roles_of, IsFormsFault}
 use Rattle.wb_lines.proofs.Foreign.{at_most}
 

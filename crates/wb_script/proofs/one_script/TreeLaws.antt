@@ -1,10 +1,10 @@
 -- Which classes, procedures and operations are in an order of all: those of the three lists, whichever order it is. So they tell the lists.
 use Rattle.std.proofs.Common.{◌≡◌, ◌⊎◌, inl, inr, refl, sym, ap, subst, ◌∙◌, ℕ, zero, suc, ◌+◌, List, [], ◌∷◌, map, Some, Bool, true, false, nat_lt, add-zero, zero-add, arith}
 use Rattle.std.specs.Prelude.{if◌then◌else◌, fold, slice_get}
-use Rattle.wb_model.specs.declared.script.Class.{Class}
-use Rattle.wb_model.specs.declared.script.Procedure.{Procedure}
-use Rattle.wb_model.specs.declared.script.Operation.{Operation}
-use Rattle.wb_model.specs.language.Trees.{Lines, each_from, in_place, in_order}
+use Rattle.wb_tree.specs.declared.script.Class.{Class}
+use Rattle.wb_tree.specs.declared.script.Procedure.{Procedure}
+use Rattle.wb_tree.specs.declared.script.Operation.{Operation}
+use Rattle.wb_language.specs.Trees.{Lines, each_from, in_place, in_order}
 use Rattle.wb_script.proofs.one_script.ReadBack.{Item, IndexedItem}
 
 -- the number of the first line of an item

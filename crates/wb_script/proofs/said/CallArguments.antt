@@ -2,26 +2,26 @@
 use Rattle.std.proofs.Common.{◌≡◌, ℕ, suc, ◌-◌, List, [], ◌∷◌, ◌++◌, map, length, take, replicate, Option, Some, None, Bool, true, false, ◌&&◌, refl, sym, ap, subst, ◌∙◌, arith}
 use Rattle.std.specs.Prelude.{slice_get}
 use Rattle.std.proofs.lemmas.Bool.{false≢true}
-use Rattle.wb_model.specs.declared.script_lines.ItemKind.{ItemKind}
-use Rattle.wb_model.specs.declared.script_lines.ItemKind.TheVariants as item
-use Rattle.wb_model.specs.declared.script_lines.LineKind.{LineKind}
-use Rattle.wb_model.specs.declared.script_lines.LineKind.TheVariants as line_kind
-use Rattle.wb_model.specs.declared.script_lines.OperandPlace.{OperandPlace}
-use Rattle.wb_model.specs.declared.script_lines.OperandPlace.TheVariants as operand_place
-use Rattle.wb_model.specs.declared.script_lines.ParameterType.{ParameterType}
-use Rattle.wb_model.specs.declared.script_lines.ParameterType.TheVariants as parameter_type
-use Rattle.wb_model.specs.declared.script_lines.Referent.{Referent}
-use Rattle.wb_model.specs.declared.script_lines.Operand.{Operand}
-use Rattle.wb_model.specs.declared.script_lines.Operand.TheVariants.{Name}
-use Rattle.wb_model.specs.declared.script_lines.Form.{Form}
-use Rattle.wb_model.specs.declared.script_lines.Form.TheVariants.{Line}
-use Rattle.wb_model.specs.language.Forms.{role_of_form}
-use Rattle.wb_model.specs.language.Grammar.{IsGrammatical}
-use Rattle.wb_model.specs.language.Kinds.{are_given, arguments_agree, call_agrees, is_given, is_given_to, operand_kind_of}
-use Rattle.wb_model.specs.language.LineKinds.{operand_places_for, takes}
-use Rattle.wb_model.specs.language.Names.{Text, Declaration, NamesSoFar, count_among, first_declaration_of, is_same_kind, item_of_kind, items_of, names_of, parameters_in}
-use Rattle.wb_model.specs.language.Resolved.{item_after, item_at, item_referent, referent_of_kind, resolved_operand, resolved_operands}
-use Rattle.wb_model.specs.language.WrongSorts.{ArgumentsFit, CallsWrongly, IsItemNamed, called_by, place_for}
+use Rattle.wb_tree.specs.declared.script_lines.ItemKind.{ItemKind}
+use Rattle.wb_tree.specs.declared.script_lines.ItemKind.TheVariants as item
+use Rattle.wb_tree.specs.declared.script_lines.LineKind.{LineKind}
+use Rattle.wb_tree.specs.declared.script_lines.LineKind.TheVariants as line_kind
+use Rattle.wb_tree.specs.declared.script_lines.OperandPlace.{OperandPlace}
+use Rattle.wb_tree.specs.declared.script_lines.OperandPlace.TheVariants as operand_place
+use Rattle.wb_tree.specs.declared.script_lines.ParameterType.{ParameterType}
+use Rattle.wb_tree.specs.declared.script_lines.ParameterType.TheVariants as parameter_type
+use Rattle.wb_tree.specs.declared.script_lines.Referent.{Referent}
+use Rattle.wb_tree.specs.declared.script_lines.Operand.{Operand}
+use Rattle.wb_tree.specs.declared.script_lines.Operand.TheVariants.{Name}
+use Rattle.wb_tree.specs.declared.script_lines.Form.{Form}
+use Rattle.wb_tree.specs.declared.script_lines.Form.TheVariants.{Line}
+use Rattle.wb_language.specs.Forms.{role_of_form}
+use Rattle.wb_language.specs.Grammar.{IsGrammatical}
+use Rattle.wb_language.specs.Kinds.{are_given, arguments_agree, call_agrees, is_given, is_given_to, operand_kind_of}
+use Rattle.wb_language.specs.LineKinds.{operand_places_for, takes}
+use Rattle.wb_language.specs.Names.{Text, Declaration, NamesSoFar, count_among, first_declaration_of, is_same_kind, item_of_kind, items_of, names_of, parameters_in}
+use Rattle.wb_language.specs.Resolved.{item_after, item_at, item_referent, referent_of_kind, resolved_operand, resolved_operands}
+use Rattle.wb_language.specs.WrongSorts.{ArgumentsFit, CallsWrongly, IsItemNamed, called_by, place_for}
 use Rattle.wb_lines.specs.Typed.{is_operand, is_typed, AreTyped}
 use Rattle.wb_lines.proofs.TypedLemmas.{both}
 use Rattle.wb_script.proofs.names.DeclaredHere.{known_following}

@@ -4,22 +4,22 @@ use Rattle.std.specs.Prelude.{if◌then◌else◌}
 use Rattle.std.specs.List.{list_all, list_any}
 use Rattle.std.proofs.lemmas.Bool.{false≢true}
 use Rattle.std.proofs.lemmas.List.Folds.{list_all-append}
-use Rattle.wb_model.specs.declared.script_lines.ItemKind.TheVariants as item
-use Rattle.wb_model.specs.declared.script_lines.LineKind.TheVariants as line_kind
-use Rattle.wb_model.specs.declared.script_lines.Operand.TheVariants.{Name}
-use Rattle.wb_model.specs.declared.script_lines.Role.{Role}
-use Rattle.wb_model.specs.declared.script_lines.Role.TheVariants as role
-use Rattle.wb_model.specs.declared.script_lines.Form.{Form}
-use Rattle.wb_model.specs.declared.script_lines.Form.TheVariants.{Skip, Unknown, Line}
-use Rattle.wb_model.specs.language.DeclaredAgain.{Space, begins_space, is_class_role}
-use Rattle.wb_model.specs.language.Forms.{role_of_form}
-use Rattle.wb_model.specs.language.Grammar.{IsGrammatical}
-use Rattle.wb_model.specs.language.MissedFields.{IsClassAround}
-use Rattle.wb_model.specs.language.Names.{Text, Declaration, NamesSoFar, begins_body, count_begun, following_fields, item_of_kind, items_by, items_of, known_after, nothing_known}
-use Rattle.wb_model.specs.language.PassedLimits.{count_of}
-use Rattle.wb_model.specs.language.Passes.{state_after}
-use Rattle.wb_model.specs.language.Resolved.{fields_of_class, fields_of_item, has_this}
-use Rattle.wb_model.specs.language.Undeclared.{is_of_object}
+use Rattle.wb_tree.specs.declared.script_lines.ItemKind.TheVariants as item
+use Rattle.wb_tree.specs.declared.script_lines.LineKind.TheVariants as line_kind
+use Rattle.wb_tree.specs.declared.script_lines.Operand.TheVariants.{Name}
+use Rattle.wb_tree.specs.declared.script_lines.Role.{Role}
+use Rattle.wb_tree.specs.declared.script_lines.Role.TheVariants as role
+use Rattle.wb_tree.specs.declared.script_lines.Form.{Form}
+use Rattle.wb_tree.specs.declared.script_lines.Form.TheVariants.{Skip, Unknown, Line}
+use Rattle.wb_language.specs.DeclaredAgain.{Space, begins_space, is_class_role}
+use Rattle.wb_language.specs.Forms.{role_of_form}
+use Rattle.wb_language.specs.Grammar.{IsGrammatical}
+use Rattle.wb_language.specs.MissedFields.{IsClassAround}
+use Rattle.wb_language.specs.Names.{Text, Declaration, NamesSoFar, begins_body, count_begun, following_fields, item_of_kind, items_by, items_of, known_after, nothing_known}
+use Rattle.wb_language.specs.PassedLimits.{count_of}
+use Rattle.wb_language.specs.Passes.{state_after}
+use Rattle.wb_language.specs.Resolved.{fields_of_class, fields_of_item, has_this}
+use Rattle.wb_language.specs.Undeclared.{is_of_object}
 use Rattle.wb_lines.specs.Typed.{is_typed, AreTyped}
 use Rattle.wb_lines.proofs.TypedLemmas.{both}
 use Rattle.wb_nesting.specs.declared.open.Open.{Open}

@@ -6,19 +6,19 @@ use Rattle.std.specs.Option.{option_map}
 use Rattle.std.specs.Str.{bytes_eq}
 use Rattle.std.proofs.lemmas.Bool.{false≢true}
 use Rattle.std.proofs.lemmas.List.Folds.{list_any-append}
-use Rattle.wb_model.specs.declared.script_lines.ItemKind.{ItemKind}
-use Rattle.wb_model.specs.declared.script_lines.ItemKind.TheVariants as item
-use Rattle.wb_model.specs.declared.script_lines.LineKind.TheVariants as line_kind
-use Rattle.wb_model.specs.declared.script_lines.Operand.TheVariants.{Name}
-use Rattle.wb_model.specs.declared.script_lines.Role.{Role}
-use Rattle.wb_model.specs.declared.script_lines.Role.TheVariants as role
-use Rattle.wb_model.specs.declared.script_lines.Form.{Form}
-use Rattle.wb_model.specs.declared.script_lines.Form.TheVariants.{Skip, Unknown, Line}
-use Rattle.wb_model.specs.language.DeclaredAgain.{Space, names_by, declares_in, is_class_role}
-use Rattle.wb_model.specs.language.Forms.{role_of_form}
-use Rattle.wb_model.specs.language.MissedFields.{is_among_fields, is_field_role, DeclareField, IsClassNamed}
-use Rattle.wb_model.specs.language.Names.{Text, Declaration, count_among, declaration_of, first_declaration_of, first_name, fields_with, following_fields, is_among, item_kind_in, item_of_kind, items_by, items_of, names_of, parameters_in}
-use Rattle.wb_model.specs.language.Resolved.{class_in, class_named, fields_of_class, fields_of_item, item_after, item_at, referent_of_kind}
+use Rattle.wb_tree.specs.declared.script_lines.ItemKind.{ItemKind}
+use Rattle.wb_tree.specs.declared.script_lines.ItemKind.TheVariants as item
+use Rattle.wb_tree.specs.declared.script_lines.LineKind.TheVariants as line_kind
+use Rattle.wb_tree.specs.declared.script_lines.Operand.TheVariants.{Name}
+use Rattle.wb_tree.specs.declared.script_lines.Role.{Role}
+use Rattle.wb_tree.specs.declared.script_lines.Role.TheVariants as role
+use Rattle.wb_tree.specs.declared.script_lines.Form.{Form}
+use Rattle.wb_tree.specs.declared.script_lines.Form.TheVariants.{Skip, Unknown, Line}
+use Rattle.wb_language.specs.DeclaredAgain.{Space, names_by, declares_in, is_class_role}
+use Rattle.wb_language.specs.Forms.{role_of_form}
+use Rattle.wb_language.specs.MissedFields.{is_among_fields, is_field_role, DeclareField, IsClassNamed}
+use Rattle.wb_language.specs.Names.{Text, Declaration, count_among, declaration_of, first_declaration_of, first_name, fields_with, following_fields, is_among, item_kind_in, item_of_kind, items_by, items_of, names_of, parameters_in}
+use Rattle.wb_language.specs.Resolved.{class_in, class_named, fields_of_class, fields_of_item, item_after, item_at, referent_of_kind}
 use Rattle.wb_script.proofs.names.FoundItems.{item_here, same_as_itself}
 use Rattle.wb_script.proofs.said.DoubleNames.{item_names}
 

@@ -8,24 +8,24 @@ use Rattle.std.proofs.lemmas.Bool.Decides.{nat_tests}
 use Rattle.std.proofs.lemmas.List.{map-append}
 use Rattle.std.proofs.lemmas.List.Folds.{list_any-append}
 use Rattle.std.proofs.lemmas.Slice.Eq.{bytes_eq-Decides}
-use Rattle.wb_model.specs.declared.fault.ScriptFault.{ScriptFault}
-use Rattle.wb_model.specs.declared.fault.ScriptFault.TheVariants.{DoubleName}
-use Rattle.wb_model.specs.declared.script.Script.{Script}
-use Rattle.wb_model.specs.declared.script_lines.ItemKind.{ItemKind}
-use Rattle.wb_model.specs.declared.script_lines.LineKind.TheVariants as line_kind
-use Rattle.wb_model.specs.declared.script_lines.Operand.TheVariants.{Name}
-use Rattle.wb_model.specs.declared.script_lines.Role.{Role}
-use Rattle.wb_model.specs.declared.script_lines.Role.TheVariants as role
-use Rattle.wb_model.specs.declared.script_lines.Form.{Form}
-use Rattle.wb_model.specs.declared.script_lines.Form.TheVariants.{Skip, Unknown, Line}
-use Rattle.wb_model.specs.language.DeclaredAgain.{Space, names_by, declares_in, is_class_role, begins_space, IsDeclaredIn, DeclaresAnother, DeclaresAgain}
-use Rattle.wb_model.specs.language.FaultOrder.{number_of_fault}
-use Rattle.wb_model.specs.language.FirstLines.{IsFirstLine, IsOfNoLine}
-use Rattle.wb_model.specs.language.Forms.{forms_of, role_of_form}
-use Rattle.wb_model.specs.language.Lines.{lines_of}
-use Rattle.wb_model.specs.language.Names.{Text, Declaration, NamesSoFar, begins_body, declaration_of, declares_again, fields_after, first_declaration_of, first_name, has_double, is_among, is_declared_there, is_item_before, items_before, items_by, items_of, known_after, locals_by, names_of, nothing_known, parameter_names}
-use Rattle.wb_model.specs.language.Passes.{first_where, state_after}
-use Rattle.wb_model.specs.language.Scripts.{IsFaultOf, IsScriptOf}
+use Rattle.wb_language.specs.declared.fault.ScriptFault.{ScriptFault}
+use Rattle.wb_language.specs.declared.fault.ScriptFault.TheVariants.{DoubleName}
+use Rattle.wb_tree.specs.declared.script.Script.{Script}
+use Rattle.wb_tree.specs.declared.script_lines.ItemKind.{ItemKind}
+use Rattle.wb_tree.specs.declared.script_lines.LineKind.TheVariants as line_kind
+use Rattle.wb_tree.specs.declared.script_lines.Operand.TheVariants.{Name}
+use Rattle.wb_tree.specs.declared.script_lines.Role.{Role}
+use Rattle.wb_tree.specs.declared.script_lines.Role.TheVariants as role
+use Rattle.wb_tree.specs.declared.script_lines.Form.{Form}
+use Rattle.wb_tree.specs.declared.script_lines.Form.TheVariants.{Skip, Unknown, Line}
+use Rattle.wb_language.specs.DeclaredAgain.{Space, names_by, declares_in, is_class_role, begins_space, IsDeclaredIn, DeclaresAnother, DeclaresAgain}
+use Rattle.wb_language.specs.FaultOrder.{number_of_fault}
+use Rattle.wb_language.specs.FirstLines.{IsFirstLine, IsOfNoLine}
+use Rattle.wb_language.specs.Forms.{forms_of, role_of_form}
+use Rattle.wb_language.specs.Lines.{lines_of}
+use Rattle.wb_language.specs.Names.{Text, Declaration, NamesSoFar, begins_body, declaration_of, declares_again, fields_after, first_declaration_of, first_name, has_double, is_among, is_declared_there, is_item_before, items_before, items_by, items_of, known_after, locals_by, names_of, nothing_known, parameter_names}
+use Rattle.wb_language.specs.Passes.{first_where, state_after}
+use Rattle.wb_language.specs.Scripts.{IsFaultOf, IsScriptOf}
 use Rattle.wb_script.proofs.names.DeclaredHere.{known_following}
 use Rattle.wb_script.proofs.said.LaterFaults.{none_double}
 use Rattle.wb_script.proofs.said.FirstSaid.{AreRefused, first_said, none_said}

@@ -4,27 +4,27 @@ use Rattle.std.specs.Prelude.{if◌then◌else◌}
 use Rattle.std.specs.List.{list_all, list_any}
 use Rattle.std.proofs.lemmas.Bool.{false≢true}
 use Rattle.std.proofs.lemmas.List.Folds.{list_all-append}
-use Rattle.wb_model.specs.declared.fault.ScriptFault.{ScriptFault}
-use Rattle.wb_model.specs.declared.fault.ScriptFault.TheVariants.{UnknownName}
-use Rattle.wb_model.specs.declared.script.Script.{Script}
-use Rattle.wb_model.specs.declared.script_lines.LocalKind.{LocalKind}
-use Rattle.wb_model.specs.declared.script_lines.LocalKind.TheVariants as kind
-use Rattle.wb_model.specs.declared.script_lines.OperandPlace.{OperandPlace}
-use Rattle.wb_model.specs.declared.script_lines.Operand.{Operand}
-use Rattle.wb_model.specs.declared.script_lines.Operand.TheVariants.{Name, Field, Number, Size, Literal, Parameter, Keyword}
-use Rattle.wb_model.specs.declared.script_lines.Form.{Form}
-use Rattle.wb_model.specs.declared.script_lines.Form.TheVariants.{Skip, Unknown, Line}
-use Rattle.wb_model.specs.language.FaultOrder.{number_of_fault}
-use Rattle.wb_model.specs.language.FirstLines.{IsFirstLine, IsOfNoLine}
-use Rattle.wb_model.specs.language.Forms.{forms_of, role_of_form}
-use Rattle.wb_model.specs.language.Grammar.{IsGrammatical}
-use Rattle.wb_model.specs.language.LineKinds.{operand_places_for}
-use Rattle.wb_model.specs.language.Lines.{lines_of}
-use Rattle.wb_model.specs.language.MissedFields.{field_named, DeclareField, IsClassAround, IsClassOf, IsHeldAs, MissesField, UsesUnknown}
-use Rattle.wb_model.specs.language.Names.{Text, Declaration, NamesSoFar, first_declaration_of, following_fields, is_among, items_of}
-use Rattle.wb_model.specs.language.Resolved.{class_named, class_of_base, class_of_kind, class_of_local, class_of_this, fields_of_class, has_this, is_this, uses_unknown}
-use Rattle.wb_model.specs.language.Scripts.{IsFaultOf, IsScriptOf}
-use Rattle.wb_model.specs.language.Undeclared.{UsesUndeclared, field_missed, is_missing, names_used, used_in, uses_undeclared_field}
+use Rattle.wb_language.specs.declared.fault.ScriptFault.{ScriptFault}
+use Rattle.wb_language.specs.declared.fault.ScriptFault.TheVariants.{UnknownName}
+use Rattle.wb_tree.specs.declared.script.Script.{Script}
+use Rattle.wb_tree.specs.declared.script_lines.LocalKind.{LocalKind}
+use Rattle.wb_tree.specs.declared.script_lines.LocalKind.TheVariants as kind
+use Rattle.wb_tree.specs.declared.script_lines.OperandPlace.{OperandPlace}
+use Rattle.wb_tree.specs.declared.script_lines.Operand.{Operand}
+use Rattle.wb_tree.specs.declared.script_lines.Operand.TheVariants.{Name, Field, Number, Size, Literal, Parameter, Keyword}
+use Rattle.wb_tree.specs.declared.script_lines.Form.{Form}
+use Rattle.wb_tree.specs.declared.script_lines.Form.TheVariants.{Skip, Unknown, Line}
+use Rattle.wb_language.specs.FaultOrder.{number_of_fault}
+use Rattle.wb_language.specs.FirstLines.{IsFirstLine, IsOfNoLine}
+use Rattle.wb_language.specs.Forms.{forms_of, role_of_form}
+use Rattle.wb_language.specs.Grammar.{IsGrammatical}
+use Rattle.wb_language.specs.LineKinds.{operand_places_for}
+use Rattle.wb_language.specs.Lines.{lines_of}
+use Rattle.wb_language.specs.MissedFields.{field_named, DeclareField, IsClassAround, IsClassOf, IsHeldAs, MissesField, UsesUnknown}
+use Rattle.wb_language.specs.Names.{Text, Declaration, NamesSoFar, first_declaration_of, following_fields, is_among, items_of}
+use Rattle.wb_language.specs.Resolved.{class_named, class_of_base, class_of_kind, class_of_local, class_of_this, fields_of_class, has_this, is_this, uses_unknown}
+use Rattle.wb_language.specs.Scripts.{IsFaultOf, IsScriptOf}
+use Rattle.wb_language.specs.Undeclared.{UsesUndeclared, field_missed, is_missing, names_used, used_in, uses_undeclared_field}
 use Rattle.wb_lines.specs.Typed.{is_typed, AreTyped}
 use Rattle.wb_lines.proofs.TypedLemmas.{both}
 use Rattle.wb_script.proofs.names.AbsentNames.{is_known_here}

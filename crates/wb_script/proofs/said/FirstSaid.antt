@@ -2,11 +2,11 @@
 use Rattle.std.proofs.Common.{◌≡◌, ℕ, suc, List, [], ◌∷◌, ◌++◌, length, Option, Some, None, Bool, true, false, refl, sym, ap, subst, ◌∙◌, append_assoc}
 use Rattle.std.specs.Prelude.{if◌then◌else◌}
 use Rattle.std.specs.Option.{option_map}
-use Rattle.wb_model.specs.declared.script_lines.Form.{Form}
-use Rattle.wb_model.specs.language.FirstLines.{Said, IsOfNone, IsFirstLine, IsOfNoLine}
-use Rattle.wb_model.specs.language.Names.{Text, NamesSoFar, known_after, nothing_known, first_refused}
-use Rattle.wb_model.specs.language.Passes.{first_bad, state_after}
-use Rattle.wb_model.specs.language.Scripts.{number_of_line}
+use Rattle.wb_tree.specs.declared.script_lines.Form.{Form}
+use Rattle.wb_language.specs.FirstLines.{Said, IsOfNone, IsFirstLine, IsOfNoLine}
+use Rattle.wb_language.specs.Names.{Text, NamesSoFar, known_after, nothing_known, first_refused}
+use Rattle.wb_language.specs.Passes.{first_bad, state_after}
+use Rattle.wb_language.specs.Scripts.{number_of_line}
 use Rattle.wb_script.proofs.one_script.FaultLaws.{found_line}
 use Rattle.wb_script.proofs.names.DeclaredHere.{known_following}
 

@@ -1,11 +1,11 @@
 -- A fault says that the checks before its own find nothing.
 use Rattle.std.proofs.Common.{◌≡◌, ℕ, ◌<◌, List, None, arith}
-use Rattle.wb_model.specs.declared.fault.ScriptFault.{ScriptFault}
-use Rattle.wb_model.specs.declared.fault.ScriptFault.TheVariants.{TooLong, NotAscii, Grammar, UnknownName, DoubleName, WrongKind, MayLeave, NoMain, TooMany, NoMemory}
-use Rattle.wb_model.specs.language.FaultOrder.{number_of_fault}
-use Rattle.wb_model.specs.language.Forms.{forms_of}
-use Rattle.wb_model.specs.language.Lines.{lines_of}
-use Rattle.wb_model.specs.language.Scripts.{IsFaultOf, IsWellFormed, first_unknown, first_double, first_wrong, first_leaving}
+use Rattle.wb_language.specs.declared.fault.ScriptFault.{ScriptFault}
+use Rattle.wb_language.specs.declared.fault.ScriptFault.TheVariants.{TooLong, NotAscii, Grammar, UnknownName, DoubleName, WrongKind, MayLeave, NoMain, TooMany, NoMemory}
+use Rattle.wb_language.specs.FaultOrder.{number_of_fault}
+use Rattle.wb_language.specs.Forms.{forms_of}
+use Rattle.wb_language.specs.Lines.{lines_of}
+use Rattle.wb_language.specs.Scripts.{IsFaultOf, IsWellFormed, first_unknown, first_double, first_wrong, first_leaving}
 
 pub none_unknown : (bytes : List ℕ) (fault : ScriptFault) → IsFaultOf bytes fault → 4 < number_of_fault fault → IsWellFormed bytes × (first_unknown (forms_of (lines_of bytes)) ≡ None)
 none_unknown bytes TooLong is lt = absurd (omega (arith, lt))

@@ -5,24 +5,24 @@ use Rattle.std.proofs.lemmas.Bool.{false≢true}
 use Rattle.std.proofs.lemmas.List.{length-take}
 use Rattle.std.proofs.lemmas.List.Folds.{list_any-append, list_all-append}
 use Rattle.std.proofs.lemmas.List.Sums.{sum_by-cons}
-use Rattle.wb_model.specs.declared.fault.ScriptFault.TheVariants.{TooMany}
-use Rattle.wb_model.specs.declared.script.Script.{Script}
-use Rattle.wb_model.specs.declared.script_lines.ItemKind.TheVariants as item
-use Rattle.wb_model.specs.declared.script_lines.LineKind.{LineKind}
-use Rattle.wb_model.specs.declared.script_lines.LineKind.TheVariants as line_kind
-use Rattle.wb_model.specs.declared.script_lines.Operand.TheVariants.{Name}
-use Rattle.wb_model.specs.declared.script_lines.Role.{Role}
-use Rattle.wb_model.specs.declared.script_lines.Role.TheVariants as role
-use Rattle.wb_model.specs.declared.script_lines.Form.{Form}
-use Rattle.wb_model.specs.declared.script_lines.Form.TheVariants.{Skip, Unknown, Line}
-use Rattle.wb_model.specs.language.DeclaredAgain.{Space, begins_space, is_class_role}
-use Rattle.wb_model.specs.language.FirstLines.{IsFirstLine, IsOfNoLine}
-use Rattle.wb_model.specs.language.Forms.{forms_of, role_of_form}
-use Rattle.wb_model.specs.language.Lines.{lines_of}
-use Rattle.wb_model.specs.language.Names.{Text, NamesSoFar, blocks_after, count_begun, has_long_name, has_more_parameters, is_large, is_one_more, known_after, nothing_known, passes_limit}
-use Rattle.wb_model.specs.language.PassedLimits.{PassesLimit, DeclareSoMany, HaveOpenBlocks, count_of, is_procedure_role, is_block_role, is_end_role, is_in_no_body}
-use Rattle.wb_model.specs.language.Passes.{state_after}
-use Rattle.wb_model.specs.language.Scripts.{IsFaultOf, IsScriptOf}
+use Rattle.wb_language.specs.declared.fault.ScriptFault.TheVariants.{TooMany}
+use Rattle.wb_tree.specs.declared.script.Script.{Script}
+use Rattle.wb_tree.specs.declared.script_lines.ItemKind.TheVariants as item
+use Rattle.wb_tree.specs.declared.script_lines.LineKind.{LineKind}
+use Rattle.wb_tree.specs.declared.script_lines.LineKind.TheVariants as line_kind
+use Rattle.wb_tree.specs.declared.script_lines.Operand.TheVariants.{Name}
+use Rattle.wb_tree.specs.declared.script_lines.Role.{Role}
+use Rattle.wb_tree.specs.declared.script_lines.Role.TheVariants as role
+use Rattle.wb_tree.specs.declared.script_lines.Form.{Form}
+use Rattle.wb_tree.specs.declared.script_lines.Form.TheVariants.{Skip, Unknown, Line}
+use Rattle.wb_language.specs.DeclaredAgain.{Space, begins_space, is_class_role}
+use Rattle.wb_language.specs.FirstLines.{IsFirstLine, IsOfNoLine}
+use Rattle.wb_language.specs.Forms.{forms_of, role_of_form}
+use Rattle.wb_language.specs.Lines.{lines_of}
+use Rattle.wb_language.specs.Names.{Text, NamesSoFar, blocks_after, count_begun, has_long_name, has_more_parameters, is_large, is_one_more, known_after, nothing_known, passes_limit}
+use Rattle.wb_language.specs.PassedLimits.{PassesLimit, DeclareSoMany, HaveOpenBlocks, count_of, is_procedure_role, is_block_role, is_end_role, is_in_no_body}
+use Rattle.wb_language.specs.Passes.{state_after}
+use Rattle.wb_language.specs.Scripts.{IsFaultOf, IsScriptOf}
 use Rattle.wb_lines.specs.Typed.{is_typed, AreTyped}
 use Rattle.wb_lines.proofs.TypedLemmas.{both}
 use Rattle.wb_script.proofs.lists.Tests.{within_of, within_test}

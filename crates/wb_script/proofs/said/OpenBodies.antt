@@ -7,17 +7,17 @@ use Rattle.std.specs.Str.{bytes_eq}
 use Rattle.std.proofs.lemmas.Bool.{false≢true}
 use Rattle.std.proofs.lemmas.List.{map-append}
 use Rattle.std.proofs.lemmas.List.Concat.{flat_map-append}
-use Rattle.wb_model.specs.declared.script_lines.LineKind.TheVariants as line_kind
-use Rattle.wb_model.specs.declared.script_lines.LocalKind.{LocalKind}
-use Rattle.wb_model.specs.declared.script_lines.Operand.{Operand}
-use Rattle.wb_model.specs.declared.script_lines.Operand.TheVariants.{Name, Parameter}
-use Rattle.wb_model.specs.declared.script_lines.Form.{Form}
-use Rattle.wb_model.specs.declared.script_lines.Form.TheVariants.{Skip, Unknown, Line}
-use Rattle.wb_model.specs.language.DeclaredAgain.{Space, begins_space}
-use Rattle.wb_model.specs.language.Forms.{role_of_form}
-use Rattle.wb_model.specs.language.MissedFields.{Held, held_by, held_by_parameter, names_held, IsFirstHeld, IsHeldAs, IsOpenBody}
-use Rattle.wb_model.specs.language.Names.{Text, NamesSoFar, begins_body, first_declaration_of, is_among, kind_of_parameter, kinds_by, known_after, locals_by, name_passed, nothing_known, parameter_type_of}
-use Rattle.wb_model.specs.language.Passes.{state_after}
+use Rattle.wb_tree.specs.declared.script_lines.LineKind.TheVariants as line_kind
+use Rattle.wb_tree.specs.declared.script_lines.LocalKind.{LocalKind}
+use Rattle.wb_tree.specs.declared.script_lines.Operand.{Operand}
+use Rattle.wb_tree.specs.declared.script_lines.Operand.TheVariants.{Name, Parameter}
+use Rattle.wb_tree.specs.declared.script_lines.Form.{Form}
+use Rattle.wb_tree.specs.declared.script_lines.Form.TheVariants.{Skip, Unknown, Line}
+use Rattle.wb_language.specs.DeclaredAgain.{Space, begins_space}
+use Rattle.wb_language.specs.Forms.{role_of_form}
+use Rattle.wb_language.specs.MissedFields.{Held, held_by, held_by_parameter, names_held, IsFirstHeld, IsHeldAs, IsOpenBody}
+use Rattle.wb_language.specs.Names.{Text, NamesSoFar, begins_body, first_declaration_of, is_among, kind_of_parameter, kinds_by, known_after, locals_by, name_passed, nothing_known, parameter_type_of}
+use Rattle.wb_language.specs.Passes.{state_after}
 use Rattle.wb_lines.specs.Typed.{is_typed, AreTyped}
 use Rattle.wb_lines.proofs.TypedLemmas.{both}
 use Rattle.wb_script.proofs.names.DeclaredHere.{known_following}

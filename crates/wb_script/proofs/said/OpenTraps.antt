@@ -2,19 +2,19 @@
 use Rattle.std.proofs.Common.{◌≡◌, ℕ, suc, ◌+◌, ◌-◌, ◌<◌, ◌≤◌, List, [], ◌∷◌, ◌++◌, length, take, Bool, true, false, ◌||◌, cond, ◌⊎◌, inl, inr, refl, sym, ap, subst, ◌∙◌, append_assoc, arith, length-append}
 use Rattle.std.specs.List.{list_any}
 use Rattle.std.proofs.lemmas.Bool.{false≢true}
-use Rattle.wb_model.specs.declared.script_lines.LineKind.{LineKind}
-use Rattle.wb_model.specs.declared.script_lines.LineKind.TheVariants as line_kind
-use Rattle.wb_model.specs.declared.script_lines.Role.{Role}
-use Rattle.wb_model.specs.declared.script_lines.Role.TheVariants as role
-use Rattle.wb_model.specs.declared.script_lines.Form.{Form}
-use Rattle.wb_model.specs.declared.script_lines.Form.TheVariants.{Skip, Unknown, Line}
-use Rattle.wb_model.specs.language.Forms.{role_of_form}
-use Rattle.wb_model.specs.language.Kinds.{is_trap}
-use Rattle.wb_model.specs.language.LineKinds.{role_of}
-use Rattle.wb_model.specs.language.Names.{Text, NamesSoFar, blocks_after, known_after, line_kind_in, nothing_known, without_last}
-use Rattle.wb_model.specs.language.PassedLimits.{count_of, is_block_role, is_end_role, is_in_no_body}
-use Rattle.wb_model.specs.language.Passes.{state_after}
-use Rattle.wb_model.specs.language.WrongSorts.{IsInTrap, LeaveOpen, heads_trap}
+use Rattle.wb_tree.specs.declared.script_lines.LineKind.{LineKind}
+use Rattle.wb_tree.specs.declared.script_lines.LineKind.TheVariants as line_kind
+use Rattle.wb_tree.specs.declared.script_lines.Role.{Role}
+use Rattle.wb_tree.specs.declared.script_lines.Role.TheVariants as role
+use Rattle.wb_tree.specs.declared.script_lines.Form.{Form}
+use Rattle.wb_tree.specs.declared.script_lines.Form.TheVariants.{Skip, Unknown, Line}
+use Rattle.wb_language.specs.Forms.{role_of_form}
+use Rattle.wb_language.specs.Kinds.{is_trap}
+use Rattle.wb_language.specs.LineKinds.{role_of}
+use Rattle.wb_language.specs.Names.{Text, NamesSoFar, blocks_after, known_after, line_kind_in, nothing_known, without_last}
+use Rattle.wb_language.specs.PassedLimits.{count_of, is_block_role, is_end_role, is_in_no_body}
+use Rattle.wb_language.specs.Passes.{state_after}
+use Rattle.wb_language.specs.WrongSorts.{IsInTrap, LeaveOpen, heads_trap}
 use Rattle.wb_script.proofs.names.DeclaredHere.{known_following}
 use Rattle.wb_script.proofs.said.ManyLines.{one_counted}
 use Rattle.wb_script.proofs.said.SinceLines.{either_false, found_in, neither, passes_in}

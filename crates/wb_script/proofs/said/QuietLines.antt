@@ -2,26 +2,26 @@
 use Rattle.std.proofs.Common.{◌≡◌, ℕ, ◌<◌, List, [], ◌∷◌, ◌++◌, Option, Some, None, Bool, true, false, not, ◌&&◌, ◌||◌, refl, sym, ap, ◌∙◌}
 use Rattle.std.specs.Prelude.{if◌then◌else◌, is_some}
 use Rattle.std.proofs.lemmas.Bool.{false≢true}
-use Rattle.wb_model.specs.declared.fault.ScriptFault.{ScriptFault}
-use Rattle.wb_model.specs.declared.fault.ScriptFault.TheVariants.{MayLeave}
-use Rattle.wb_model.specs.declared.script.Script.{Script}
-use Rattle.wb_model.specs.declared.script_lines.BodyKind.{BodyKind}
-use Rattle.wb_model.specs.declared.script_lines.BodyKind.TheVariants as of
-use Rattle.wb_model.specs.declared.script_lines.LineKind.{LineKind}
-use Rattle.wb_model.specs.declared.script_lines.LineKind.TheVariants as line_kind
-use Rattle.wb_model.specs.declared.script_lines.Form.{Form}
-use Rattle.wb_model.specs.declared.script_lines.Form.TheVariants.{Skip, Unknown, Line}
-use Rattle.wb_model.specs.language.DeclaredAgain.{Space, begins_space}
-use Rattle.wb_model.specs.language.FaultOrder.{number_of_fault}
-use Rattle.wb_model.specs.language.FirstLines.{IsFirstLine, IsOfNoLine}
-use Rattle.wb_model.specs.language.Forms.{forms_of, role_of_form}
-use Rattle.wb_model.specs.language.Kinds.{may_leave}
-use Rattle.wb_model.specs.language.LineKinds.{is_loud, may_leave_in, role_of, text_of}
-use Rattle.wb_model.specs.language.Lines.{lines_of}
-use Rattle.wb_model.specs.language.Names.{Text, NamesSoFar, begins_body, body_after, body_in, is_among, known_after, nothing_known}
-use Rattle.wb_model.specs.language.Passes.{state_after}
-use Rattle.wb_model.specs.language.QuietBodies.{quiet_words, does_something, begins_quiet_body, IsInQuietBody, MayLeaveThere}
-use Rattle.wb_model.specs.language.Scripts.{IsFaultOf, IsScriptOf}
+use Rattle.wb_language.specs.declared.fault.ScriptFault.{ScriptFault}
+use Rattle.wb_language.specs.declared.fault.ScriptFault.TheVariants.{MayLeave}
+use Rattle.wb_tree.specs.declared.script.Script.{Script}
+use Rattle.wb_tree.specs.declared.script_lines.BodyKind.{BodyKind}
+use Rattle.wb_tree.specs.declared.script_lines.BodyKind.TheVariants as of
+use Rattle.wb_tree.specs.declared.script_lines.LineKind.{LineKind}
+use Rattle.wb_tree.specs.declared.script_lines.LineKind.TheVariants as line_kind
+use Rattle.wb_tree.specs.declared.script_lines.Form.{Form}
+use Rattle.wb_tree.specs.declared.script_lines.Form.TheVariants.{Skip, Unknown, Line}
+use Rattle.wb_language.specs.DeclaredAgain.{Space, begins_space}
+use Rattle.wb_language.specs.FaultOrder.{number_of_fault}
+use Rattle.wb_language.specs.FirstLines.{IsFirstLine, IsOfNoLine}
+use Rattle.wb_language.specs.Forms.{forms_of, role_of_form}
+use Rattle.wb_language.specs.Kinds.{may_leave}
+use Rattle.wb_language.specs.LineKinds.{is_loud, may_leave_in, role_of, text_of}
+use Rattle.wb_language.specs.Lines.{lines_of}
+use Rattle.wb_language.specs.Names.{Text, NamesSoFar, begins_body, body_after, body_in, is_among, known_after, nothing_known}
+use Rattle.wb_language.specs.Passes.{state_after}
+use Rattle.wb_language.specs.QuietBodies.{quiet_words, does_something, begins_quiet_body, IsInQuietBody, MayLeaveThere}
+use Rattle.wb_language.specs.Scripts.{IsFaultOf, IsScriptOf}
 use Rattle.wb_script.proofs.names.DeclaredHere.{known_following}
 use Rattle.wb_script.proofs.said.LaterFaults.{none_leaving}
 use Rattle.wb_script.proofs.said.FirstSaid.{AreRefused, first_said, none_said}

@@ -2,22 +2,22 @@
 use Rattle.std.proofs.Common.{◌≡◌, suc, List, [], ◌∷◌, ◌++◌, map, length, Bool, true, false, ◌&&◌, refl, sym, ap, subst, ◌∙◌}
 use Rattle.std.specs.List.{list_all}
 use Rattle.std.proofs.lemmas.Bool.{false≢true}
-use Rattle.wb_model.specs.declared.script_lines.LineKind.{LineKind}
-use Rattle.wb_model.specs.declared.script_lines.LineKind.TheVariants as line_kind
-use Rattle.wb_model.specs.declared.script_lines.OperandPlace.{OperandPlace}
-use Rattle.wb_model.specs.declared.script_lines.OperandPlace.TheVariants as operand_place
-use Rattle.wb_model.specs.declared.script_lines.Referent.{Referent}
-use Rattle.wb_model.specs.declared.script_lines.Operand.{Operand}
-use Rattle.wb_model.specs.declared.script_lines.Form.{Form}
-use Rattle.wb_model.specs.declared.script_lines.Form.TheVariants.{Line}
-use Rattle.wb_model.specs.language.Forms.{role_of_form}
-use Rattle.wb_model.specs.language.Grammar.{IsGrammatical}
-use Rattle.wb_model.specs.language.Kinds.{are_right, operand_kind_of, same, sides_agree}
-use Rattle.wb_model.specs.language.LineKinds.{is_pointer_kind, operand_places_for, takes}
-use Rattle.wb_model.specs.language.Names.{Text, Declaration, NamesSoFar, items_of}
-use Rattle.wb_model.specs.language.Resolved.{resolved_operand, resolved_operands}
-use Rattle.wb_model.specs.language.Undeclared.{names_used, used_in}
-use Rattle.wb_model.specs.language.WrongSorts.{HasWrongOperand, SidesDiffer, placed}
+use Rattle.wb_tree.specs.declared.script_lines.LineKind.{LineKind}
+use Rattle.wb_tree.specs.declared.script_lines.LineKind.TheVariants as line_kind
+use Rattle.wb_tree.specs.declared.script_lines.OperandPlace.{OperandPlace}
+use Rattle.wb_tree.specs.declared.script_lines.OperandPlace.TheVariants as operand_place
+use Rattle.wb_tree.specs.declared.script_lines.Referent.{Referent}
+use Rattle.wb_tree.specs.declared.script_lines.Operand.{Operand}
+use Rattle.wb_tree.specs.declared.script_lines.Form.{Form}
+use Rattle.wb_tree.specs.declared.script_lines.Form.TheVariants.{Line}
+use Rattle.wb_language.specs.Forms.{role_of_form}
+use Rattle.wb_language.specs.Grammar.{IsGrammatical}
+use Rattle.wb_language.specs.Kinds.{are_right, operand_kind_of, same, sides_agree}
+use Rattle.wb_language.specs.LineKinds.{is_pointer_kind, operand_places_for, takes}
+use Rattle.wb_language.specs.Names.{Text, Declaration, NamesSoFar, items_of}
+use Rattle.wb_language.specs.Resolved.{resolved_operand, resolved_operands}
+use Rattle.wb_language.specs.Undeclared.{names_used, used_in}
+use Rattle.wb_language.specs.WrongSorts.{HasWrongOperand, SidesDiffer, placed}
 use Rattle.wb_lines.specs.Typed.{are_operands, is_operand, is_typed, AreTyped}
 use Rattle.wb_lines.proofs.TypedLemmas.{both}
 use Rattle.wb_script.proofs.names.DeclaredHere.{known_following}

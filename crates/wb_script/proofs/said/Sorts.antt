@@ -2,29 +2,29 @@
 use Rattle.std.proofs.Common.{◌≡◌, ℕ, List, ◌∷◌, ◌++◌, map, take, Option, Some, None, Bool, true, false, inl, inr, refl, sym, ap, subst, ◌∙◌}
 use Rattle.std.specs.Prelude.{if◌then◌else◌, is_some}
 use Rattle.std.proofs.lemmas.Bool.{false≢true}
-use Rattle.wb_model.specs.declared.script_lines.ItemKind.{ItemKind}
-use Rattle.wb_model.specs.declared.script_lines.ItemKind.TheVariants as item
-use Rattle.wb_model.specs.declared.script_lines.LineKind.{LineKind}
-use Rattle.wb_model.specs.declared.script_lines.LocalKind.{LocalKind}
-use Rattle.wb_model.specs.declared.script_lines.LocalKind.TheVariants as kind
-use Rattle.wb_model.specs.declared.script_lines.OperandPlace.{OperandPlace}
-use Rattle.wb_model.specs.declared.script_lines.OperandPlace.TheVariants as operand_place
-use Rattle.wb_model.specs.declared.script_lines.OperandKind.{OperandKind}
-use Rattle.wb_model.specs.declared.script_lines.OperandKind.TheVariants as operand_kind
-use Rattle.wb_model.specs.declared.script_lines.ParameterType.TheVariants as parameter_type
-use Rattle.wb_model.specs.declared.script_lines.Referent.{Referent}
-use Rattle.wb_model.specs.declared.script_lines.Referent.TheVariants as referent
-use Rattle.wb_model.specs.declared.script_lines.Operand.{Operand}
-use Rattle.wb_model.specs.declared.script_lines.Operand.TheVariants.{Name, Field, Number, Size, Literal, Parameter, Keyword}
-use Rattle.wb_model.specs.declared.script_lines.Form.{Form}
-use Rattle.wb_model.specs.language.Forms.{role_of_form}
-use Rattle.wb_model.specs.language.Grammar.{IsGrammatical}
-use Rattle.wb_model.specs.language.Kinds.{operand_kind_of, operand_kind_of_class, operand_kind_of_field, operand_kind_of_name}
-use Rattle.wb_model.specs.language.LineKinds.{takes}
-use Rattle.wb_model.specs.language.MissedFields.{DeclareField, IsClassOf}
-use Rattle.wb_model.specs.language.Names.{Text, Declaration, NamesSoFar, count_among, first_declaration_of, is_among, items_of, names_of}
-use Rattle.wb_model.specs.language.Resolved.{class_in, class_named, class_of_base, field_at, field_referent, fields_of_class, has_this, is_this, item_after, item_at, item_referent, local_referent, own_referent, referent_at, referent_of_kind, resolved_operand, this_referent}
-use Rattle.wb_model.specs.language.WrongSorts.{IsOfSort, IsTaken, NamesItem, NamesLocal, TakesSort, sort_of_item, sort_of_local}
+use Rattle.wb_tree.specs.declared.script_lines.ItemKind.{ItemKind}
+use Rattle.wb_tree.specs.declared.script_lines.ItemKind.TheVariants as item
+use Rattle.wb_tree.specs.declared.script_lines.LineKind.{LineKind}
+use Rattle.wb_tree.specs.declared.script_lines.LocalKind.{LocalKind}
+use Rattle.wb_tree.specs.declared.script_lines.LocalKind.TheVariants as kind
+use Rattle.wb_tree.specs.declared.script_lines.OperandPlace.{OperandPlace}
+use Rattle.wb_tree.specs.declared.script_lines.OperandPlace.TheVariants as operand_place
+use Rattle.wb_tree.specs.declared.script_lines.OperandKind.{OperandKind}
+use Rattle.wb_tree.specs.declared.script_lines.OperandKind.TheVariants as operand_kind
+use Rattle.wb_tree.specs.declared.script_lines.ParameterType.TheVariants as parameter_type
+use Rattle.wb_tree.specs.declared.script_lines.Referent.{Referent}
+use Rattle.wb_tree.specs.declared.script_lines.Referent.TheVariants as referent
+use Rattle.wb_tree.specs.declared.script_lines.Operand.{Operand}
+use Rattle.wb_tree.specs.declared.script_lines.Operand.TheVariants.{Name, Field, Number, Size, Literal, Parameter, Keyword}
+use Rattle.wb_tree.specs.declared.script_lines.Form.{Form}
+use Rattle.wb_language.specs.Forms.{role_of_form}
+use Rattle.wb_language.specs.Grammar.{IsGrammatical}
+use Rattle.wb_language.specs.Kinds.{operand_kind_of, operand_kind_of_class, operand_kind_of_field, operand_kind_of_name}
+use Rattle.wb_language.specs.LineKinds.{takes}
+use Rattle.wb_language.specs.MissedFields.{DeclareField, IsClassOf}
+use Rattle.wb_language.specs.Names.{Text, Declaration, NamesSoFar, count_among, first_declaration_of, is_among, items_of, names_of}
+use Rattle.wb_language.specs.Resolved.{class_in, class_named, class_of_base, field_at, field_referent, fields_of_class, has_this, is_this, item_after, item_at, item_referent, local_referent, own_referent, referent_at, referent_of_kind, resolved_operand, this_referent}
+use Rattle.wb_language.specs.WrongSorts.{IsOfSort, IsTaken, NamesItem, NamesLocal, TakesSort, sort_of_item, sort_of_local}
 use Rattle.wb_lines.specs.Typed.{AreTyped}
 use Rattle.wb_script.proofs.names.AbsentNames.{is_known_here}
 use Rattle.wb_script.proofs.names.DeclaredHere.{known_following, declared_is, is_declared}

@@ -3,27 +3,27 @@ use Rattle.std.proofs.Common.{◌≡◌, ℕ, ◌<◌, List, [], ◌∷◌, ◌+
 use Rattle.std.specs.List.{list_all, list_any}
 use Rattle.std.proofs.lemmas.Bool.{false≢true}
 use Rattle.std.proofs.lemmas.List.Folds.{list_all-append}
-use Rattle.wb_model.specs.declared.fault.ScriptFault.{ScriptFault}
-use Rattle.wb_model.specs.declared.fault.ScriptFault.TheVariants.{WrongKind}
-use Rattle.wb_model.specs.declared.script.Script.{Script}
-use Rattle.wb_model.specs.declared.script_lines.LineKind.{LineKind}
-use Rattle.wb_model.specs.declared.script_lines.LineKind.TheVariants as line_kind
-use Rattle.wb_model.specs.declared.script_lines.OperandPlace.{OperandPlace}
-use Rattle.wb_model.specs.declared.script_lines.Referent.{Referent}
-use Rattle.wb_model.specs.declared.script_lines.Operand.{Operand}
-use Rattle.wb_model.specs.declared.script_lines.Form.{Form}
-use Rattle.wb_model.specs.declared.script_lines.Form.TheVariants.{Skip, Unknown, Line}
-use Rattle.wb_model.specs.language.FaultOrder.{number_of_fault}
-use Rattle.wb_model.specs.language.FirstLines.{IsFirstLine, IsOfNoLine}
-use Rattle.wb_model.specs.language.Forms.{forms_of, role_of_form}
-use Rattle.wb_model.specs.language.Grammar.{IsGrammatical}
-use Rattle.wb_model.specs.language.Kinds.{arguments_agree, ends_body, has_wrong_kind, is_of_procedure, is_right_line, is_trap, misuses_main, returns_pointer, sides_agree}
-use Rattle.wb_model.specs.language.LineKinds.{operand_places_for}
-use Rattle.wb_model.specs.language.Lines.{lines_of}
-use Rattle.wb_model.specs.language.Names.{Text, Declaration, NamesSoFar, items_of, line_kind_in}
-use Rattle.wb_model.specs.language.Resolved.{resolved_line, resolved_operand, resolved_operands}
-use Rattle.wb_model.specs.language.Scripts.{IsFaultOf, IsScriptOf}
-use Rattle.wb_model.specs.language.WrongSorts.{CallsWrongly, HasWrongOperand, IsInNoProcedure, IsWrong, SidesDiffer, heads_no_procedure}
+use Rattle.wb_language.specs.declared.fault.ScriptFault.{ScriptFault}
+use Rattle.wb_language.specs.declared.fault.ScriptFault.TheVariants.{WrongKind}
+use Rattle.wb_tree.specs.declared.script.Script.{Script}
+use Rattle.wb_tree.specs.declared.script_lines.LineKind.{LineKind}
+use Rattle.wb_tree.specs.declared.script_lines.LineKind.TheVariants as line_kind
+use Rattle.wb_tree.specs.declared.script_lines.OperandPlace.{OperandPlace}
+use Rattle.wb_tree.specs.declared.script_lines.Referent.{Referent}
+use Rattle.wb_tree.specs.declared.script_lines.Operand.{Operand}
+use Rattle.wb_tree.specs.declared.script_lines.Form.{Form}
+use Rattle.wb_tree.specs.declared.script_lines.Form.TheVariants.{Skip, Unknown, Line}
+use Rattle.wb_language.specs.FaultOrder.{number_of_fault}
+use Rattle.wb_language.specs.FirstLines.{IsFirstLine, IsOfNoLine}
+use Rattle.wb_language.specs.Forms.{forms_of, role_of_form}
+use Rattle.wb_language.specs.Grammar.{IsGrammatical}
+use Rattle.wb_language.specs.Kinds.{arguments_agree, ends_body, has_wrong_kind, is_of_procedure, is_right_line, is_trap, misuses_main, returns_pointer, sides_agree}
+use Rattle.wb_language.specs.LineKinds.{operand_places_for}
+use Rattle.wb_language.specs.Lines.{lines_of}
+use Rattle.wb_language.specs.Names.{Text, Declaration, NamesSoFar, items_of, line_kind_in}
+use Rattle.wb_language.specs.Resolved.{resolved_line, resolved_operand, resolved_operands}
+use Rattle.wb_language.specs.Scripts.{IsFaultOf, IsScriptOf}
+use Rattle.wb_language.specs.WrongSorts.{CallsWrongly, HasWrongOperand, IsInNoProcedure, IsWrong, SidesDiffer, heads_no_procedure}
 use Rattle.wb_lines.specs.Typed.{is_typed, AreTyped}
 use Rattle.wb_lines.proofs.TypedLemmas.{both}
 use Rattle.wb_script.proofs.names.DeclaredHere.{known_following}

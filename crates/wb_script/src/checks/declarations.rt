@@ -2,9 +2,9 @@
 
 ghost use Rattle.std.specs.Prelude.{◌≡◌, IfOk, Some, slice_get};
 ghost use Rattle.std.specs.Option.{option_and_then, option_map};
-ghost use Rattle.wb_model.specs.declared.script_lines.ItemKind.TheVariants as item;
-ghost use Rattle.wb_model.specs.language.Names.{count_among, first_declaration_of, item_of_kind, items_of, names_of};
-ghost use Rattle.wb_model.specs.language.Resolved.{item_at};
+ghost use Rattle.wb_tree.specs.declared.script_lines.ItemKind.TheVariants as item;
+ghost use Rattle.wb_language.specs.Names.{count_among, first_declaration_of, item_of_kind, items_of, names_of};
+ghost use Rattle.wb_language.specs.Resolved.{item_at};
 ghost use Rattle.wb_lines.specs.BytesOf.{bytes_of_forms};
 ghost use Rattle.wb_script.specs.BytesOf.{bytes_of_item, bytes_of_items};
 
@@ -13,7 +13,7 @@ use crate::checks::tables::{indexes_of, names_of, referents_of};
 use std::alloc::{AllocError, Global};
 use std::collections::HashMap;
 use std::marker::Model;
-use wb_model::script_lines::{Form, ItemKind, Referent};
+use wb_tree::script_lines::{Form, ItemKind, Referent};
 
 /// The classes, procedures and operations that all lines of a script declare, in order.
 #[derive(Drop)]

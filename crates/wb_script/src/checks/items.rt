@@ -2,20 +2,20 @@
 
 ghost use Rattle.std.specs.Prelude.{◌≡◌, IfOk, OnOk, ◌++◌, map};
 ghost use Rattle.std.specs.List.{flat_map};
-ghost use Rattle.wb_model.specs.language.Forms.{renamed_parameter_type};
-ghost use Rattle.wb_model.specs.language.Names.{count_among, fields_in_item, following_fields};
-ghost use Rattle.wb_model.specs.language.Names.{is_same_kind, declaration_of, items_by};
-ghost use Rattle.wb_model.specs.language.Names.{items_of, parameters_in, parameter_type_of};
+ghost use Rattle.wb_language.specs.Forms.{renamed_parameter_type};
+ghost use Rattle.wb_language.specs.Names.{count_among, fields_in_item, following_fields};
+ghost use Rattle.wb_language.specs.Names.{is_same_kind, declaration_of, items_by};
+ghost use Rattle.wb_language.specs.Names.{items_of, parameters_in, parameter_type_of};
 ghost use Rattle.wb_lines.specs.BytesOf.{bytes_of_form, bytes_of_forms, bytes_of_operands};
 ghost use Rattle.wb_lines.specs.BytesOf.{bytes_of_text, bytes_of_texts};
 ghost use Rattle.wb_script.specs.BytesOf.{bytes_of_item, bytes_of_items};
 
 use std::alloc::{AllocError, Global};
+use wb_basics::items::Items;
 use wb_lines::declares::{first_name, item_kind_in, parameter_type_of};
 use wb_lines::forms::role;
 use wb_lines::lists::{add, add_some};
-use wb_model::items::Items;
-use wb_model::script_lines::{Form, ItemKind, Operand, ParameterType, Role};
+use wb_tree::script_lines::{Form, ItemKind, Operand, ParameterType, Role};
 
 /// Something of the script's own space: a class with the names of its fields, a procedure or an operation with what its
 /// parameters take.

@@ -2,15 +2,15 @@
 
 ghost use Rattle.std.specs.Prelude.{◌≡◌, length, map, not};
 ghost use Rattle.std.specs.List.{flat_map, list_any};
-ghost use Rattle.wb_model.specs.language.Forms.{renamed_parameter_type};
-ghost use Rattle.wb_model.specs.language.LineKinds.{is_pointer_kind, operand_places_for};
-ghost use Rattle.wb_model.specs.language.Kinds.{are_given, are_right, arguments_agree, call_agrees, ends_body};
-ghost use Rattle.wb_model.specs.language.Kinds.{has_wrong_kind, is_class_line_kind, is_given, is_nothing};
-ghost use Rattle.wb_model.specs.language.Kinds.{is_of_procedure, is_right, is_right_line, is_trap, misuses_main};
-ghost use Rattle.wb_model.specs.language.Kinds.{returns_in_trap, returns_outside, returns_pointer, sides_agree};
-ghost use Rattle.wb_model.specs.language.Kinds.{operand_kind_of};
-ghost use Rattle.wb_model.specs.language.Names.{parameter_type_of};
-ghost use Rattle.wb_model.specs.language.Resolved.{resolved_line};
+ghost use Rattle.wb_language.specs.Forms.{renamed_parameter_type};
+ghost use Rattle.wb_language.specs.LineKinds.{is_pointer_kind, operand_places_for};
+ghost use Rattle.wb_language.specs.Kinds.{are_given, are_right, arguments_agree, call_agrees, ends_body};
+ghost use Rattle.wb_language.specs.Kinds.{has_wrong_kind, is_class_line_kind, is_given, is_nothing};
+ghost use Rattle.wb_language.specs.Kinds.{is_of_procedure, is_right, is_right_line, is_trap, misuses_main};
+ghost use Rattle.wb_language.specs.Kinds.{returns_in_trap, returns_outside, returns_pointer, sides_agree};
+ghost use Rattle.wb_language.specs.Kinds.{operand_kind_of};
+ghost use Rattle.wb_language.specs.Names.{parameter_type_of};
+ghost use Rattle.wb_language.specs.Resolved.{resolved_line};
 ghost use Rattle.wb_script.specs.Checks.{known_in};
 ghost use Rattle.wb_script.specs.ResolvedLines.{form_of};
 ghost use Rattle.wb_lines.specs.BytesOf.{bytes_of_form, bytes_of_operands, bytes_of_text};
@@ -22,7 +22,7 @@ use crate::checks::resolved_lines::ResolvedLine;
 use wb_lines::operand_kinds::{is_pointer_kind, operand_kind_of, takes};
 use wb_lines::operand_places::OperandPlaces;
 use wb_lines::same::are_same;
-use wb_model::script_lines::{
+use wb_tree::script_lines::{
     BodyKind, Form, LineKind, Operand, OperandPlace, ParameterType, Referent,
 };
 

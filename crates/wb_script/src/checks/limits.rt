@@ -2,19 +2,19 @@
 
 ghost use Rattle.std.specs.Prelude.{◌≡◌, length};
 ghost use Rattle.std.specs.List.{flat_map, list_any};
-ghost use Rattle.wb_model.specs.language.Names.{has_long_class, has_long_name, has_more_parameters, is_large, is_long};
-ghost use Rattle.wb_model.specs.language.Names.{is_long_name, is_one_more, passes_limit, parameter_type_of};
+ghost use Rattle.wb_language.specs.Names.{has_long_class, has_long_name, has_more_parameters, is_large, is_long};
+ghost use Rattle.wb_language.specs.Names.{is_long_name, is_one_more, passes_limit, parameter_type_of};
 ghost use Rattle.wb_script.specs.Checks.{known_in, is_size_above, IsFew};
-ghost use Rattle.wb_model.specs.language.Forms.{renamed_parameter_type};
+ghost use Rattle.wb_language.specs.Forms.{renamed_parameter_type};
 ghost use Rattle.wb_lines.specs.BytesOf.{bytes_of_operand, bytes_of_operands, bytes_of_form, bytes_of_text};
 
 use crate::checks::names_so_far::NamesSoFar;
-use wb_lines::forms::role;
-use wb_model::limits::{
+use wb_basics::limits::{
     DEEPEST_BLOCK, LARGEST_BUFFER, LONGEST_NAME, MOST_CLASSES, MOST_EXTRA, MOST_FIELDS,
     MOST_LOCALS, MOST_PARAMETERS, MOST_PROCEDURES,
 };
-use wb_model::script_lines::{Form, LineKind, Operand, ParameterType, Role};
+use wb_lines::forms::role;
+use wb_tree::script_lines::{Form, LineKind, Operand, ParameterType, Role};
 
 fn is_long_name(name: &[u8]) -> bool
     ensures { result ≡ is_long_name name.now }

@@ -2,10 +2,10 @@
 
 ghost use Rattle.std.specs.Prelude.{◌≡◌};
 ghost use Rattle.std.specs.List.{flat_map, list_any};
-ghost use Rattle.wb_model.specs.language.Names.{first_declaration_of, is_among, is_item_before, has_double};
-ghost use Rattle.wb_model.specs.language.Names.{name_passed, names_of, parameter_names, is_declared_there};
-ghost use Rattle.wb_model.specs.language.Names.{declares_again};
-ghost use Rattle.wb_model.specs.language.Resolved.{has_unknown, refers_to_nothing, means_nothing, takes_nothing};
+ghost use Rattle.wb_language.specs.Names.{first_declaration_of, is_among, is_item_before, has_double};
+ghost use Rattle.wb_language.specs.Names.{name_passed, names_of, parameter_names, is_declared_there};
+ghost use Rattle.wb_language.specs.Names.{declares_again};
+ghost use Rattle.wb_language.specs.Resolved.{has_unknown, refers_to_nothing, means_nothing, takes_nothing};
 ghost use Rattle.wb_script.specs.Checks.{known_in, IsFew};
 ghost use Rattle.wb_script.specs.ResolvedLines.{form_of};
 ghost use Rattle.wb_lines.specs.BytesOf.{bytes_of_texts, bytes_of_operands, bytes_of_form};
@@ -17,7 +17,7 @@ use crate::checks::resolved_lines::ResolvedLine;
 use wb_lines::declares::first_name;
 use wb_lines::forms::role;
 use wb_lines::same::are_same;
-use wb_model::script_lines::{Form, Operand, ParameterType, Referent, Role};
+use wb_tree::script_lines::{Form, Operand, ParameterType, Referent, Role};
 
 /// The index of the first of these names that is `name`; `None` if none is.
 pub(crate) fn place_of(names: &[&[u8]], name: &[u8]) -> Option<usize>

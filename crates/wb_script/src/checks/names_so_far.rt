@@ -3,12 +3,12 @@
 ghost use Rattle.std.specs.Prelude.{◌≡◌, ◌+◌, ◌≤◌, [], ◌++◌, length, map, OnOk};
 ghost use Rattle.std.specs.Option.{option_map, option_to_list};
 ghost use Rattle.std.specs.List.{flat_map};
-ghost use Rattle.wb_model.specs.language.Names.{blocks_after, bodies_before, body_after, body_in, count_begun};
-ghost use Rattle.wb_model.specs.language.Names.{fields_after, first_name, items_before, kind_of_parameter};
-ghost use Rattle.wb_model.specs.language.Names.{kinds_after, known_after, line_kind_in, literal_text, literals_in};
-ghost use Rattle.wb_model.specs.language.Names.{local_kind_in, locals_after, name_passed, nothing_known};
-ghost use Rattle.wb_model.specs.language.Names.{parameter_names, parameters_in, parameter_type_of, with_one};
-ghost use Rattle.wb_model.specs.declared.script_lines.ItemKind.TheVariants as item;
+ghost use Rattle.wb_language.specs.Names.{blocks_after, bodies_before, body_after, body_in, count_begun};
+ghost use Rattle.wb_language.specs.Names.{fields_after, first_name, items_before, kind_of_parameter};
+ghost use Rattle.wb_language.specs.Names.{kinds_after, known_after, line_kind_in, literal_text, literals_in};
+ghost use Rattle.wb_language.specs.Names.{local_kind_in, locals_after, name_passed, nothing_known};
+ghost use Rattle.wb_language.specs.Names.{parameter_names, parameters_in, parameter_type_of, with_one};
+ghost use Rattle.wb_tree.specs.declared.script_lines.ItemKind.TheVariants as item;
 ghost use Rattle.wb_lines.specs.BytesOf.{bytes_of_form, bytes_of_kind, bytes_of_operand, bytes_of_operands};
 ghost use Rattle.wb_lines.specs.BytesOf.{bytes_of_text, bytes_of_texts};
 ghost use Rattle.wb_script.specs.Checks.{known_in, AreSameItems, IsFew};
@@ -17,7 +17,7 @@ use std::alloc::{AllocError, Global};
 use wb_lines::declares::{body_in, first_name, item_kind_in, kind_of_parameter, local_kind_in};
 use wb_lines::forms::role;
 use wb_lines::lists::{add, add_some};
-use wb_model::script_lines::{BodyKind, Form, ItemKind, LineKind, LocalKind, Operand, Role};
+use wb_tree::script_lines::{BodyKind, Form, ItemKind, LineKind, LocalKind, Operand, Role};
 
 fn literal_text<'a>(operand: &Operand<&'a [u8]>) -> Option<&'a [u8]>
     ensures { option_to_list (option_map bytes_of_text result)

@@ -2,14 +2,14 @@
 
 ghost use Rattle.std.specs.Prelude.{◌≡◌, ◌++◌, length, map, slice_get, OnOk};
 ghost use Rattle.std.specs.Option.{option_map};
-ghost use Rattle.wb_model.specs.language.Forms.{renamed_parameter_type};
-ghost use Rattle.wb_model.specs.language.LineKinds.{operand_places_for};
-ghost use Rattle.wb_model.specs.language.Names.{first_declaration_of, names_before};
-ghost use Rattle.wb_model.specs.language.Resolved.{class_in, class_named, class_of_base, class_of_kind, class_of_local};
-ghost use Rattle.wb_model.specs.language.Resolved.{class_of_this, field_at, field_referent, has_this, is_this};
-ghost use Rattle.wb_model.specs.language.Resolved.{item_referent, local_referent, referent_at};
-ghost use Rattle.wb_model.specs.language.Resolved.{name_referent, own_referent, resolved_operand};
-ghost use Rattle.wb_model.specs.language.Resolved.{resolved_operands, resolved_parameter_type, this_referent};
+ghost use Rattle.wb_language.specs.Forms.{renamed_parameter_type};
+ghost use Rattle.wb_language.specs.LineKinds.{operand_places_for};
+ghost use Rattle.wb_language.specs.Names.{first_declaration_of, names_before};
+ghost use Rattle.wb_language.specs.Resolved.{class_in, class_named, class_of_base, class_of_kind, class_of_local};
+ghost use Rattle.wb_language.specs.Resolved.{class_of_this, field_at, field_referent, has_this, is_this};
+ghost use Rattle.wb_language.specs.Resolved.{item_referent, local_referent, referent_at};
+ghost use Rattle.wb_language.specs.Resolved.{name_referent, own_referent, resolved_operand};
+ghost use Rattle.wb_language.specs.Resolved.{resolved_operands, resolved_parameter_type, this_referent};
 ghost use Rattle.wb_lines.specs.BytesOf.{bytes_of_kind, bytes_of_operand, bytes_of_operands};
 ghost use Rattle.wb_lines.specs.BytesOf.{bytes_of_text};
 ghost use Rattle.wb_script.specs.BytesOf.{bytes_of_items};
@@ -22,7 +22,7 @@ use std::alloc::AllocError;
 use wb_lines::lists::add;
 use wb_lines::operand_places::OperandPlaces;
 use wb_lines::same::are_same;
-use wb_model::script_lines::{
+use wb_tree::script_lines::{
     BodyKind, LineKind, LocalKind, Operand, OperandPlace, ParameterType, Referent,
 };
 

@@ -2,9 +2,9 @@
 //! allocation of its own. What a name stands for is found out in `resolved`.
 
 ghost use Rattle.std.specs.Prelude.{◌≡◌, ◌<◌, ◌≤◌, ◌++◌, [], ◌∷◌, List, drop, length, take, IfOk, OnErr, OnOk};
-ghost use Rattle.wb_model.specs.declared.script_lines.Form as model;
-ghost use Rattle.wb_model.specs.declared.script_lines.Referent as referent;
-ghost use Rattle.wb_model.specs.language.Resolved.{resolved_line};
+ghost use Rattle.wb_tree.specs.declared.script_lines.Form as model;
+ghost use Rattle.wb_tree.specs.declared.script_lines.Referent as referent;
+ghost use Rattle.wb_language.specs.Resolved.{resolved_line};
 ghost use Rattle.wb_lines.specs.BytesOf.{bytes_of_form};
 ghost use Rattle.wb_script.specs.BytesOf.{bytes_of_items};
 ghost use Rattle.wb_script.specs.Checks.{known_in};
@@ -16,7 +16,7 @@ use crate::checks::resolved::add_operands;
 use std::alloc::{AllocError, Global};
 use std::marker::Model;
 use wb_lines::lists::add;
-use wb_model::script_lines::{Form, LineKind, Operand, Referent};
+use wb_tree::script_lines::{Form, LineKind, Operand, Referent};
 
 /// A line with its operands, which it borrows.
 #[derive(Clone, Copy)]
@@ -108,8 +108,8 @@ pub(crate) struct ResolvedLines {
 
 impl Model for ResolvedLines {
     ghost use Rattle.std.specs.Prelude.{◌≡◌, length, List};
-    ghost use Rattle.wb_model.specs.declared.script_lines.Form.{Form};
-    ghost use Rattle.wb_model.specs.declared.script_lines.Referent.{Referent};
+    ghost use Rattle.wb_tree.specs.declared.script_lines.Form.{Form};
+    ghost use Rattle.wb_tree.specs.declared.script_lines.Referent.{Referent};
     ghost use Rattle.wb_script.specs.ResolvedLines.{counted_in, lines_of_rows};
 
     ghost Value = { List (Form Referent) };

@@ -8,7 +8,7 @@ use crate::checks::items::{Declaration, is_same_kind};
 use std::alloc::{AllocError, Global};
 use std::collections::HashMap;
 use wb_lines::lists::add;
-use wb_model::script_lines::{ItemKind, Referent};
+use wb_tree::script_lines::{ItemKind, Referent};
 
 /// How many items of each kind come before an item.
 #[derive(Clone, Copy)]

@@ -2,12 +2,12 @@
 
 ghost use Rattle.std.specs.Prelude.{◌≡◌, [], ◌∷◌, ◌++◌, IfOk};
 ghost use Rattle.std.specs.List.{list_any};
-ghost use Rattle.wb_model.specs.language.Kinds.{is_trap};
+ghost use Rattle.wb_language.specs.Kinds.{is_trap};
 ghost use Rattle.wb_script.specs.Building.{head_line_kind, line_kinds_of_blocks, IsWhole, IsClosed, TurnsToElse};
 
 use std::alloc::{AllocError, Global};
-use wb_model::items::Items;
-use wb_model::script::{Condition, Number, Statement, StatementAt};
+use wb_basics::items::Items;
+use wb_tree::script::{Condition, Number, Statement, StatementAt};
 
 /// What a block began with.
 #[derive(Drop)]

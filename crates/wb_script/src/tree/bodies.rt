@@ -1,10 +1,10 @@
 //! Builds an open body, line by line up to its end.
 
 ghost use Rattle.std.specs.Prelude.{◌≡◌, ◌≤◌, ◌++◌, ◌∷◌, [], length, IfOk, IsTrue, OnOk};
-ghost use Rattle.wb_model.specs.declared.script_lines.Role.TheVariants as role;
-ghost use Rattle.wb_model.specs.declared.script_lines.Form.TheVariants.{Line};
-ghost use Rattle.wb_model.specs.declared.script_lines.LineKind.TheVariants as line_kind;
-ghost use Rattle.wb_model.specs.language.LineKinds.{role_of};
+ghost use Rattle.wb_tree.specs.declared.script_lines.Role.TheVariants as role;
+ghost use Rattle.wb_tree.specs.declared.script_lines.Form.TheVariants.{Line};
+ghost use Rattle.wb_tree.specs.declared.script_lines.LineKind.TheVariants as line_kind;
+ghost use Rattle.wb_language.specs.LineKinds.{role_of};
 ghost use Rattle.wb_script.specs.Building.{begins_block, line_kinds_of_blocks};
 ghost use Rattle.wb_script.specs.declared.tree.bodies.BodyProgress.TheVariants.{Inside};
 ghost use Rattle.wb_script.specs.Growing.{AddsWhereFit, IsSoundOpen, TakesWhereFit, declared_in_space, if_added};
@@ -18,10 +18,10 @@ use crate::tree::plain::plain_statement;
 use crate::tree::scope::Scope;
 use crate::tree::space::Space;
 use std::alloc::{AllocError, Global};
-use wb_model::items::Items;
-use wb_model::limits::{DEEPEST_BLOCK, MOST_LOCALS};
-use wb_model::script::{Body, Local, Parameter, Statement, StatementAt};
-use wb_model::script_lines::{LineKind, Operand, Referent};
+use wb_basics::items::Items;
+use wb_basics::limits::{DEEPEST_BLOCK, MOST_LOCALS};
+use wb_tree::script::{Body, Local, Parameter, Statement, StatementAt};
+use wb_tree::script_lines::{LineKind, Operand, Referent};
 
 /// A body whose end hasn't been read: its parameters; the class of `self`, if it is a body of a class; the locals that its declarations
 /// declare; its scope, which is the parameters and then these locals; and its open blocks with the statements so far.

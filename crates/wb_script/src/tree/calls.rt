@@ -2,11 +2,11 @@
 
 ghost use Rattle.std.specs.Prelude.{◌≡◌, ◌≤◌, false, length, map, IfOk, IsTrue, List, Some, MatchOption, slice_get};
 ghost use Rattle.std.specs.Option.{option_map};
-ghost use Rattle.wb_model.specs.declared.limits.TheConstants.{LONGEST_SCRIPT};
-ghost use Rattle.wb_model.specs.declared.script_lines.LineKind.TheVariants as line_kind;
-ghost use Rattle.wb_model.specs.language.Names as model;
-ghost use Rattle.wb_model.specs.language.Sound.{is_passed};
-ghost use Rattle.wb_model.specs.language.Trees.{argument_operand};
+ghost use Rattle.wb_basics.specs.declared.limits.TheConstants.{LONGEST_SCRIPT};
+ghost use Rattle.wb_tree.specs.declared.script_lines.LineKind.TheVariants as line_kind;
+ghost use Rattle.wb_language.specs.Names as model;
+ghost use Rattle.wb_tree.specs.Sound.{is_passed};
+ghost use Rattle.wb_tree.specs.Spellings.{argument_operand};
 ghost use Rattle.wb_script.specs.Fitting.{argument_fits};
 ghost use Rattle.wb_script.specs.BytesOf.{declared_by, bytes_of_items, signatures_among};
 ghost use Rattle.wb_script.specs.Stated.{ArePassed, IsCalled, IsNestedOf, bytes_of_parameter, scope_in};
@@ -14,9 +14,9 @@ ghost use Rattle.wb_script.specs.Stated.{ArePassed, IsCalled, IsNestedOf, bytes_
 use crate::checks::declarations::Declarations;
 use crate::tree::scope::Scope;
 use std::alloc::{AllocError, Global};
-use wb_model::items::Items;
-use wb_model::script::{Argument, Statement};
-use wb_model::script_lines::{Operand, ParameterType, Referent};
+use wb_basics::items::Items;
+use wb_tree::script::{Argument, Statement};
+use wb_tree::script_lines::{Operand, ParameterType, Referent};
 
 /// An operand as the argument for a parameter; `None` if it doesn't fit.
 fn argument(

@@ -2,16 +2,16 @@
 
 ghost use Rattle.std.specs.Prelude.{◌≡◌, ◌<◌, ◌≤◌, ℕ, [], ◌∷◌, ◌++◌, Some, is_some, length, nat_le, IfOk, IfSome};
 ghost use Rattle.std.specs.Prelude.{IsTrue};
-ghost use Rattle.wb_model.specs.declared.limits.TheConstants.{MOST_CLASSES, MOST_EXTRA};
-ghost use Rattle.wb_model.specs.declared.script_lines.Form.TheVariants.{Line};
-ghost use Rattle.wb_model.specs.declared.script_lines.LineKind.TheVariants as line_kind;
-ghost use Rattle.wb_model.specs.declared.script_lines.OperandPlace.TheVariants as operand_place;
-ghost use Rattle.wb_model.specs.declared.script_lines.Referent.TheVariants as referent;
-ghost use Rattle.wb_model.specs.declared.script_lines.Operand.TheVariants.{Name, Size};
-ghost use Rattle.wb_model.specs.declared.script_lines.Role.TheVariants as role;
-ghost use Rattle.wb_model.specs.language.LineKinds.{role_of};
-ghost use Rattle.wb_model.specs.language.Sound.{Declared, Scope, is_class_among};
-ghost use Rattle.wb_model.specs.language.Trees.{field_line};
+ghost use Rattle.wb_basics.specs.declared.limits.TheConstants.{MOST_CLASSES, MOST_EXTRA};
+ghost use Rattle.wb_tree.specs.declared.script_lines.Form.TheVariants.{Line};
+ghost use Rattle.wb_tree.specs.declared.script_lines.LineKind.TheVariants as line_kind;
+ghost use Rattle.wb_tree.specs.declared.script_lines.OperandPlace.TheVariants as operand_place;
+ghost use Rattle.wb_tree.specs.declared.script_lines.Referent.TheVariants as referent;
+ghost use Rattle.wb_tree.specs.declared.script_lines.Operand.TheVariants.{Name, Size};
+ghost use Rattle.wb_tree.specs.declared.script_lines.Role.TheVariants as role;
+ghost use Rattle.wb_language.specs.LineKinds.{role_of};
+ghost use Rattle.wb_tree.specs.Sound.{Declared, Scope, is_class_among};
+ghost use Rattle.wb_language.specs.Trees.{field_line};
 ghost use Rattle.wb_script.specs.Building.{declares, is_small};
 ghost use Rattle.wb_script.specs.Fitting.{operand_places_fit, operands_fit};
 ghost use Rattle.wb_script.specs.Growing.{GrowsWhereFit, IsBelow, IsSound, OpensWhereFit, SaysWhereFit, building_after};
@@ -22,10 +22,10 @@ use crate::tree::openings::new_body;
 use crate::tree::space::Space;
 use crate::tree::whole::{Building, Owner, Stage, WholeItems, with_class};
 use std::alloc::{AllocError, Global};
-use wb_model::items::Items;
-use wb_model::limits::{MOST_CLASSES, MOST_EXTRA, MOST_FIELDS};
-use wb_model::script::Class;
-use wb_model::script_lines::{LineKind, Operand, Referent};
+use wb_basics::items::Items;
+use wb_basics::limits::{MOST_CLASSES, MOST_EXTRA, MOST_FIELDS};
+use wb_tree::script::Class;
+use wb_tree::script_lines::{LineKind, Operand, Referent};
 
 /// The extra bytes of the class with an index, by the operands of its first line; `None` if the operands don't fit.
 fn extra_of(index: usize, operands: &[Operand<Referent>]) -> Option<u32>

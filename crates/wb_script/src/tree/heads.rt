@@ -1,15 +1,15 @@
 //! What the first line of a block begins, from the operands of the line. As in `statements`, functions that build this are never inlined.
 
-ghost use Rattle.wb_model.specs.declared.script_lines.LineKind.TheVariants as line_kind;
+ghost use Rattle.wb_tree.specs.declared.script_lines.LineKind.TheVariants as line_kind;
 ghost use Rattle.std.specs.Prelude.{IsTrue};
-ghost use Rattle.wb_model.specs.declared.script_lines.Keyword.{Keyword};
+ghost use Rattle.wb_tree.specs.declared.script_lines.Keyword.{Keyword};
 ghost use Rattle.wb_script.specs.Building.{begins_block};
 ghost use Rattle.wb_script.specs.Stated.{AreCompared, IsHeadOf};
 
 use crate::tree::blocks::Head;
 use crate::tree::scope::Scope;
-use wb_model::script::{Condition, Number};
-use wb_model::script_lines::{LineKind, Operand, Referent};
+use wb_tree::script::{Condition, Number};
+use wb_tree::script_lines::{LineKind, Operand, Referent};
 
 #[inline(never)]
 fn if_null(here: &Scope, operands: &[Operand<Referent>]) -> Option<Head>

@@ -1,22 +1,22 @@
 //! The locals that lines declare.
 
 ghost use Rattle.std.specs.Prelude.{◌≡◌, ◌≤◌, ℕ, [], ◌∷◌, is_some, length, IsTrue, IfSome, Some};
-ghost use Rattle.wb_model.specs.declared.limits.TheConstants.{LARGEST_BUFFER, MOST_CLASSES};
-ghost use Rattle.wb_model.specs.declared.script_lines.Role.TheVariants.{Declaration};
-ghost use Rattle.wb_model.specs.declared.script_lines.Form.TheVariants.{Line};
-ghost use Rattle.wb_model.specs.declared.script_lines.LineKind.TheVariants as line_kind;
-ghost use Rattle.wb_model.specs.declared.script_lines.OperandPlace.TheVariants as operand_place;
-ghost use Rattle.wb_model.specs.declared.script_lines.Referent.TheVariants as referent;
-ghost use Rattle.wb_model.specs.declared.script_lines.Operand.TheVariants.{Name};
-ghost use Rattle.wb_model.specs.language.LineKinds.{role_of};
-ghost use Rattle.wb_model.specs.language.Sound.{Declared, Scope, is_local};
-ghost use Rattle.wb_model.specs.language.Trees.{local_line};
+ghost use Rattle.wb_basics.specs.declared.limits.TheConstants.{LARGEST_BUFFER, MOST_CLASSES};
+ghost use Rattle.wb_tree.specs.declared.script_lines.Role.TheVariants.{Declaration};
+ghost use Rattle.wb_tree.specs.declared.script_lines.Form.TheVariants.{Line};
+ghost use Rattle.wb_tree.specs.declared.script_lines.LineKind.TheVariants as line_kind;
+ghost use Rattle.wb_tree.specs.declared.script_lines.OperandPlace.TheVariants as operand_place;
+ghost use Rattle.wb_tree.specs.declared.script_lines.Referent.TheVariants as referent;
+ghost use Rattle.wb_tree.specs.declared.script_lines.Operand.TheVariants.{Name};
+ghost use Rattle.wb_language.specs.LineKinds.{role_of};
+ghost use Rattle.wb_tree.specs.Sound.{Declared, Scope, is_local};
+ghost use Rattle.wb_language.specs.Trees.{local_line};
 ghost use Rattle.wb_script.specs.Building.{local_of, declares, is_small};
 ghost use Rattle.wb_script.specs.Fitting.{operand_places_fit, operands_fit};
 
-use wb_model::limits::LARGEST_BUFFER;
-use wb_model::script::Local;
-use wb_model::script_lines::{LineKind, Operand, Referent};
+use wb_basics::limits::LARGEST_BUFFER;
+use wb_tree::script::Local;
+use wb_tree::script_lines::{LineKind, Operand, Referent};
 
 /// `local`, if these operands are only the name of the local with this index in its body; `None` otherwise.
 fn local_of_name(index: usize, operands: &[Operand<Referent>], local: Local) -> Option<Local>

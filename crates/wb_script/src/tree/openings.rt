@@ -1,10 +1,10 @@
 //! The lines that begin a procedure or an operation, and a body just after its first line.
 
 ghost use Rattle.std.specs.Prelude.{◌≡◌, ◌≤◌, ◌+◌, length, map, IfOk};
-ghost use Rattle.wb_model.specs.declared.limits.TheConstants.{MOST_CLASSES, MOST_PROCEDURES};
-ghost use Rattle.wb_model.specs.declared.script_lines.Form.TheVariants.{Line};
-ghost use Rattle.wb_model.specs.declared.script_lines.LineKind.TheVariants as line_kind;
-ghost use Rattle.wb_model.specs.language.Sound.{local_of_parameter};
+ghost use Rattle.wb_basics.specs.declared.limits.TheConstants.{MOST_CLASSES, MOST_PROCEDURES};
+ghost use Rattle.wb_tree.specs.declared.script_lines.Form.TheVariants.{Line};
+ghost use Rattle.wb_tree.specs.declared.script_lines.LineKind.TheVariants as line_kind;
+ghost use Rattle.wb_tree.specs.Sound.{local_of_parameter};
 ghost use Rattle.wb_script.specs.Growing.{AreParametersOf, AreTaken, IsBelow, IsSound, IsTaken, OpensWhereFit};
 ghost use Rattle.wb_script.specs.Growing.{declared_in_space, has_room, is_operation_head, new_body, outside};
 
@@ -13,10 +13,10 @@ use crate::tree::bodies::OpenBody;
 use crate::tree::space::Space;
 use crate::tree::whole::{Owner, Stage, WholeItems};
 use std::alloc::{AllocError, Global};
-use wb_model::items::Items;
-use wb_model::limits::{MOST_PARAMETERS, MOST_PROCEDURES};
-use wb_model::script::{Local, Parameter};
-use wb_model::script_lines::{Operand, ParameterType, Referent};
+use wb_basics::items::Items;
+use wb_basics::limits::{MOST_PARAMETERS, MOST_PROCEDURES};
+use wb_tree::script::{Local, Parameter};
+use wb_tree::script_lines::{Operand, ParameterType, Referent};
 
 /// The parameter that an operand declares, in a script with this number of classes; `None` if the operand declares no parameter.
 fn parameter(classes: usize, operand: &Operand<Referent>) -> Option<Parameter>

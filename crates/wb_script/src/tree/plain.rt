@@ -1,11 +1,11 @@
 //! The statement of a line that begins no block.
 
 ghost use Rattle.std.specs.Prelude.{◌≡◌, ◌≤◌, ℕ, length, IfOk};
-ghost use Rattle.wb_model.specs.declared.script_lines.LineKind.TheVariants as line_kind;
-ghost use Rattle.wb_model.specs.declared.script_lines.Role.TheVariants.{Plain};
-ghost use Rattle.wb_model.specs.declared.limits.TheConstants.{LONGEST_SCRIPT};
-ghost use Rattle.wb_model.specs.language.LineKinds.{role_of};
-ghost use Rattle.wb_model.specs.language.Sound.{Declared};
+ghost use Rattle.wb_tree.specs.declared.script_lines.LineKind.TheVariants as line_kind;
+ghost use Rattle.wb_tree.specs.declared.script_lines.Role.TheVariants.{Plain};
+ghost use Rattle.wb_basics.specs.declared.limits.TheConstants.{LONGEST_SCRIPT};
+ghost use Rattle.wb_language.specs.LineKinds.{role_of};
+ghost use Rattle.wb_tree.specs.Sound.{Declared};
 ghost use Rattle.wb_script.specs.Building.{line_kinds_of_blocks};
 ghost use Rattle.wb_script.specs.BytesOf.{declared_by};
 ghost use Rattle.wb_script.specs.Stated.{IsNestedOf, IsOperationOf, IsStatedWhereFit, scope_in};
@@ -16,8 +16,8 @@ use crate::tree::calls::{call, call_to};
 use crate::tree::scope::Scope;
 use crate::tree::statements::{one_pointer, return_nothing, return_pointer, statement_of};
 use std::alloc::{AllocError, Global};
-use wb_model::script::Statement;
-use wb_model::script_lines::{LineKind, Operand, Referent};
+use wb_tree::script::Statement;
+use wb_tree::script_lines::{LineKind, Operand, Referent};
 
 /// The operation that an operand names; `None` if it names no operation.
 fn operation(items: &Declarations, operand: &Operand<Referent>) -> Option<u16>

@@ -4,9 +4,9 @@ pub(crate) mod counted;
 mod operands;
 
 ghost use Rattle.std.specs.Prelude.{◌≤◌, length};
-ghost use Rattle.wb_model.specs.declared.limits.TheConstants.{MOST_CLASSES, MOST_LOCALS};
+ghost use Rattle.wb_basics.specs.declared.limits.TheConstants.{MOST_CLASSES, MOST_LOCALS};
 
-use wb_model::script::Local;
+use wb_tree::script::Local;
 
 /// What the operands of a body's lines may name: the locals of the body, the class of `self` if it is a body of a class, how many fields
 /// each class of the script has, and how many literals the script has.

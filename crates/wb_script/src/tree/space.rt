@@ -2,14 +2,14 @@
 
 ghost use Rattle.std.specs.Prelude.{◌≡◌, ◌≤◌, [], ◌∷◌, ◌++◌, length, nat_le, IsTrue, IfOk, OnOk};
 ghost use Rattle.std.specs.List.{list_all};
-ghost use Rattle.wb_model.specs.declared.limits.TheConstants.{LONGEST_SCRIPT, MOST_CLASSES, MOST_FIELDS};
-ghost use Rattle.wb_model.specs.declared.script_lines.ItemKind.TheVariants as kind;
+ghost use Rattle.wb_basics.specs.declared.limits.TheConstants.{LONGEST_SCRIPT, MOST_CLASSES, MOST_FIELDS};
+ghost use Rattle.wb_tree.specs.declared.script_lines.ItemKind.TheVariants as kind;
 ghost use Rattle.wb_script.specs.BytesOf.{fields_among, bytes_of_items};
 
 use crate::checks::declarations::Declarations;
 use crate::checks::items::Declaration;
 use std::alloc::{AllocError, Global};
-use wb_model::script_lines::ItemKind;
+use wb_tree::script_lines::ItemKind;
 
 /// How many literals a script has, its own space, and how many fields each class has.
 #[derive(Clone, Copy)]

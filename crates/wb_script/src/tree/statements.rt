@@ -4,10 +4,10 @@
 //! line.
 
 ghost use Rattle.std.specs.Prelude.{◌≡◌, [], ◌∷◌, false, IsTrue, MatchOption};
-ghost use Rattle.wb_model.specs.declared.script_lines.LineKind.TheVariants as line_kind;
-ghost use Rattle.wb_model.specs.declared.script_lines.OperandPlace.TheVariants as operand_place;
-ghost use Rattle.wb_model.specs.language.Sound.{is_pointer, is_number};
-ghost use Rattle.wb_model.specs.language.Trees.{pointer_operand, number_operand};
+ghost use Rattle.wb_tree.specs.declared.script_lines.LineKind.TheVariants as line_kind;
+ghost use Rattle.wb_tree.specs.declared.script_lines.OperandPlace.TheVariants as operand_place;
+ghost use Rattle.wb_tree.specs.Sound.{is_pointer, is_number};
+ghost use Rattle.wb_tree.specs.Spellings.{pointer_operand, number_operand};
 ghost use Rattle.wb_script.specs.Fitting.{operand_places_fit};
 ghost use Rattle.wb_script.specs.Stated.{IsStatementOf, IsOnlySpelled, IsPairSpelled, IsTripleSpelled, IsReturnOf};
 ghost use Rattle.wb_script.specs.Stated.{alloc_line_kind, is_lasting, new_line_kind, new_text_line_kind};
@@ -19,8 +19,8 @@ use crate::tree::scope::counted::{one, three, two};
 use crate::tree::text_statements::{
     append, copy, delete_text, get_length, get_maximum, insert, left, mid, print, right, set_length,
 };
-use wb_model::script::{Holder, Number, Pointer, Refusal, Statement};
-use wb_model::script_lines::{LineKind, Operand, Referent};
+use wb_tree::script::{Holder, Number, Pointer, Refusal, Statement};
+use wb_tree::script_lines::{LineKind, Operand, Referent};
 
 /// The statement of a line that takes no operands; `None` if it has some.
 #[inline(never)]

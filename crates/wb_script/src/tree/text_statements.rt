@@ -1,13 +1,13 @@
 //! The statements of lines about texts and views, each from the operands of its line.
 
 ghost use Rattle.std.specs.Prelude.{[], ◌∷◌};
-ghost use Rattle.wb_model.specs.declared.script_lines.LineKind.TheVariants as line_kind;
+ghost use Rattle.wb_tree.specs.declared.script_lines.LineKind.TheVariants as line_kind;
 ghost use Rattle.wb_script.specs.Stated.{IsStatementOf};
 
 use crate::tree::scope::Scope;
 use crate::tree::scope::counted::{four, one, three, two};
-use wb_model::script::Statement;
-use wb_model::script_lines::{Operand, Referent};
+use wb_tree::script::Statement;
+use wb_tree::script_lines::{Operand, Referent};
 
 #[inline(never)]
 pub(crate) fn copy(here: &Scope, operands: &[Operand<Referent>]) -> Option<Statement>

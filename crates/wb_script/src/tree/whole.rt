@@ -5,8 +5,8 @@ ghost use Rattle.wb_script.specs.Growing.{with_whole_body, outside, with_class, 
 
 use crate::tree::bodies::OpenBody;
 use std::alloc::{AllocError, Global};
-use wb_model::items::Items;
-use wb_model::script::{Body, Class, Operation, Parameter, Procedure};
+use wb_basics::items::Items;
+use wb_tree::script::{Body, Class, Operation, Parameter, Procedure};
 
 /// The classes, the procedures and the operations of a script, each in the order of their lines.
 #[derive(Drop)]

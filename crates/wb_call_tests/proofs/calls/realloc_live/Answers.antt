@@ -1,14 +1,14 @@
 use Rattle.std.proofs.Common.{◌≡◌, ℕ, Result, Ok, Err, OnOk, OnErr, Option, Some, None, IsSome, IfSome, List, Bool, true, false, cond, refl, ap, ◌∙◌}
 use Rattle.std.specs.Prelude.{nat_lt}
-use Rattle.wb_model.specs.declared.heap.Answer.{Answer}
-use Rattle.wb_model.specs.declared.heap.Answer.TheVariants.{Granted, Simulated, Refused}
-use Rattle.wb_model.specs.declared.heap.Gave.{Gave}
-use Rattle.wb_model.specs.declared.memory.NoMemory.{NoMemory}
-use Rattle.wb_model.specs.cells.CellRow.{resized_words}
-use Rattle.wb_model.specs.heap.Debug.{Debug, made_by, answer_in, longer_made, shorter_made, realloc_made}
-use Rattle.wb_model.specs.heap.Heap.{after_realloc, realloc_request}
-use Rattle.wb_model.specs.heap.Row.{Cell, cell_at, cell_length}
-use Rattle.wb_model.specs.heap.Rules.{Request}
+use Rattle.wb_heap_model.specs.declared.heap.Answer.{Answer}
+use Rattle.wb_heap_model.specs.declared.heap.Answer.TheVariants.{Granted, Simulated, Refused}
+use Rattle.wb_heap_model.specs.declared.heap.Gave.{Gave}
+use Rattle.wb_basics.specs.declared.memory.NoMemory.{NoMemory}
+use Rattle.wb_heap_model.specs.CellRow.{resized_words}
+use Rattle.wb_heap_model.specs.Debug.{Debug, made_by, answer_in, longer_made, shorter_made, realloc_made}
+use Rattle.wb_heap_model.specs.Heap.{after_realloc, realloc_request}
+use Rattle.wb_heap_model.specs.Row.{Cell, cell_at, cell_length}
+use Rattle.wb_heap_model.specs.Rules.{Request}
 use Rattle.wb_call_tests.proofs.calls.realloc_live.Goals as goal
 
 -- a reallocation changes nothing about the current level

@@ -1,13 +1,14 @@
 use Rattle.std.proofs.Common.{◌≡◌, ℕ, Result, Ok, Err, OnOk, OnErr, Option, Some, None, refl, ap, ◌∙◌}
-use Rattle.wb_model.specs.declared.heap.Answer.{Answer}
-use Rattle.wb_model.specs.declared.heap.Gave.{Gave}
-use Rattle.wb_model.specs.declared.heap.Kind.TheVariants.{Raw}
-use Rattle.wb_model.specs.declared.memory.NoMemory.{NoMemory}
-use Rattle.wb_model.specs.heap.Debug.{Debug, keeps_rises, made_by, answer_in, number_of_next, trace_line, alloc_made}
-use Rattle.wb_model.specs.heap.Heap.{after_alloc, alloc_request}
-use Rattle.wb_model.specs.heap.LimitedHeap.{zero_words}
-use Rattle.wb_model.specs.heap.Rules.{Request}
-use Rattle.wb_model.proofs.runs.AccountLemmas.{rises-stay}
+use Rattle.wb_heap_model.specs.declared.heap.Answer.{Answer}
+use Rattle.wb_heap_model.specs.declared.heap.Gave.{Gave}
+use Rattle.wb_heap_model.specs.declared.heap.Kind.TheVariants.{Raw}
+use Rattle.wb_basics.specs.declared.memory.NoMemory.{NoMemory}
+use Rattle.wb_heap_model.specs.Debug.{Debug, keeps_rises, made_by, answer_in, number_of_next, alloc_made}
+use Rattle.wb_heap_model.specs.Reported.{trace_line}
+use Rattle.wb_heap_model.specs.Heap.{after_alloc, alloc_request}
+use Rattle.wb_heap_model.specs.LimitedHeap.{zero_words}
+use Rattle.wb_heap_model.specs.Rules.{Request}
+use Rattle.wb_heap_model.proofs.KeptRises.{rises-stay}
 use Rattle.wb_call_tests.proofs.rises.attempt.Goals as goal
 
 -- an attempt changes nothing about what is kept

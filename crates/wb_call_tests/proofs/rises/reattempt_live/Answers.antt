@@ -1,14 +1,15 @@
 use Rattle.std.proofs.Common.{◌≡◌, ℕ, Result, Ok, Err, OnOk, OnErr, Option, Some, None, IsSome, IfSome, List, Bool, true, false, cond, refl, ap, ◌∙◌}
 use Rattle.std.specs.Prelude.{nat_lt}
-use Rattle.wb_model.specs.declared.heap.Answer.{Answer}
-use Rattle.wb_model.specs.declared.heap.Gave.{Gave}
-use Rattle.wb_model.specs.declared.memory.NoMemory.{NoMemory}
-use Rattle.wb_model.specs.cells.CellRow.{resized_words}
-use Rattle.wb_model.specs.heap.Debug.{Debug, keeps_rises, made_by, answer_in, number_of_next, trace_line, longer_made, shorter_made, realloc_made}
-use Rattle.wb_model.specs.heap.Heap.{after_realloc, realloc_request}
-use Rattle.wb_model.specs.heap.Row.{Cell, cell_at, cell_length}
-use Rattle.wb_model.specs.heap.Rules.{Request}
-use Rattle.wb_model.proofs.runs.AccountLemmas.{rises-stay}
+use Rattle.wb_heap_model.specs.declared.heap.Answer.{Answer}
+use Rattle.wb_heap_model.specs.declared.heap.Gave.{Gave}
+use Rattle.wb_basics.specs.declared.memory.NoMemory.{NoMemory}
+use Rattle.wb_heap_model.specs.CellRow.{resized_words}
+use Rattle.wb_heap_model.specs.Debug.{Debug, keeps_rises, made_by, answer_in, number_of_next, longer_made, shorter_made, realloc_made}
+use Rattle.wb_heap_model.specs.Reported.{trace_line}
+use Rattle.wb_heap_model.specs.Heap.{after_realloc, realloc_request}
+use Rattle.wb_heap_model.specs.Row.{Cell, cell_at, cell_length}
+use Rattle.wb_heap_model.specs.Rules.{Request}
+use Rattle.wb_heap_model.proofs.KeptRises.{rises-stay}
 use Rattle.wb_call_tests.proofs.rises.reattempt_live.Goals as goal
 
 -- a reallocation changes nothing about what is kept

@@ -1,9 +1,9 @@
 use Rattle.std.proofs.Common.{◌≡◌, Result, Ok, Err, OnOk, OnErr, Bool, true, false, cond, refl, ap, ◌∙◌}
-use Rattle.wb_model.specs.declared.heap.Panic.{Panic}
-use Rattle.wb_model.specs.declared.heap.Ptr.{Ptr}
-use Rattle.wb_model.specs.heap.Debug.{Debug, keeps_rises, debug_without, with_row}
-use Rattle.wb_model.specs.heap.Row.{without}
-use Rattle.wb_model.specs.meaning.Statements.{is_null}
+use Rattle.wb_heap_model.specs.declared.heap.Panic.{Panic}
+use Rattle.wb_heap_model.specs.declared.heap.Ptr.{Ptr}
+use Rattle.wb_heap_model.specs.Debug.{Debug, keeps_rises, debug_without, with_row}
+use Rattle.wb_heap_model.specs.Row.{without}
+use Rattle.wb_heap_model.specs.Pointers.{is_null}
 use Rattle.wb_call_tests.proofs.rises.release.Goals as goal
 
 -- a release changes nothing about what is kept

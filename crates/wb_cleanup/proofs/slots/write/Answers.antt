@@ -1,8 +1,8 @@
 use Rattle.std.proofs.Common.{◌≡◌, ◌*◌, List, ℕ, [], ◌∷◌, sym, ap, ◌∙◌, arith}
-use Rattle.wb_model.specs.declared.heap.Ptr.{Ptr}
-use Rattle.wb_model.specs.cells.CellRow.{payload_of}
-use Rattle.wb_model.specs.cells.CleanupCells.{slot_words}
-use Rattle.wb_model.specs.heap.Debug.{debug_changed}
+use Rattle.wb_heap_model.specs.declared.heap.Ptr.{Ptr}
+use Rattle.wb_heap_model.specs.CellRow.{payload_of}
+use Rattle.wb_heap_model.specs.CleanupCells.{slot_words}
+use Rattle.wb_heap_model.specs.Debug.{debug_changed}
 use Rattle.wb_cleanup.specs.Slots.{with_words}
 use Rattle.wb_cleanup.proofs.Rewriting.{same-length, four-written}
 use Rattle.wb_cleanup.proofs.slots.write.Goals.{in-Free, in-Delete, in-Call}

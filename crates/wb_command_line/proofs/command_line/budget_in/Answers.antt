@@ -1,7 +1,7 @@
 use Rattle.std.proofs.Common.{arith, codes}
 use Rattle.std.specs.Str.Parse.{ExplainsUnsignedError, HasUnsignedDigitsIfOk, ParsesUnsigned}
 use Rattle.clap.specs.Words.{found_of, rows_of}
-use Rattle.wb_model.specs.declared.limits.TheConstants.{DEFAULT_BUDGET, LARGEST_BUDGET}
+use Rattle.wb_basics.specs.declared.limits.TheConstants.{DEFAULT_BUDGET, LARGEST_BUDGET}
 use Rattle.wb_command_line.proofs.MatchesLemmas.{budget_is, given_or}
 use Rattle.wb_command_line.proofs.command_line.budget_in.Goals as goal
 

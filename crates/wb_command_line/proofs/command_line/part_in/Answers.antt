@@ -1,8 +1,8 @@
 use Rattle.std.proofs.Common.{◌≡◌, arith, codes}
 use Rattle.std.specs.Str.Parse.{ExplainsUnsignedError, HasUnsignedDigitsIfOk, ParsesUnsigned}
 use Rattle.clap.specs.Words.{found_of, rows_of}
-use Rattle.wb_model.specs.declared.limits.TheConstants.{CEILING}
-use Rattle.wb_model.specs.declared.part.Part.{Part}
+use Rattle.wb_basics.specs.declared.limits.TheConstants.{CEILING}
+use Rattle.wb_runs.specs.declared.part.Part.{Part}
 use Rattle.wb_command_line.specs.Spelled.{part_of}
 use Rattle.wb_command_line.proofs.MatchesLemmas.{from_is, given_or, to_is}
 use Rattle.wb_command_line.proofs.command_line.part_in.Goals as goal

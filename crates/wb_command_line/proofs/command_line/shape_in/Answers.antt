@@ -2,8 +2,8 @@ use Rattle.std.proofs.Common.{◌≡◌, ◌%◌, subst, arith, codes, false}
 use Rattle.std.specs.Str.Parse.{ExplainsUnsignedError, HasUnsignedDigitsIfOk, ParsesUnsigned}
 use Rattle.std.proofs.lemmas.Bool.{eq-eqb, le-leb}
 use Rattle.clap.specs.Words.{found_of, rows_of}
-use Rattle.wb_model.specs.declared.limits.TheConstants.{LARGEST_MINIMUM, DEFAULT_MINIMUM, SMALLEST_STEP, LARGEST_STEP, DEFAULT_STEP}
-use Rattle.wb_model.specs.declared.heap.Shape.{Shape}
+use Rattle.wb_basics.specs.declared.limits.TheConstants.{LARGEST_MINIMUM, DEFAULT_MINIMUM, SMALLEST_STEP, LARGEST_STEP, DEFAULT_STEP}
+use Rattle.wb_heap_model.specs.declared.heap.Shape.{Shape}
 use Rattle.wb_command_line.specs.Command.{is_sixteenfold}
 use Rattle.wb_command_line.specs.Spelled.{shape_of}
 use Rattle.wb_command_line.proofs.MatchesLemmas.{given_or, min_is, not_sixteenfold, step_is}

@@ -1,7 +1,7 @@
 use Rattle.std.proofs.Common.{◌≡◌, ◌∙◌, ap, length, sym, arith}
-use Rattle.wb_model.specs.heap.Row.{headers}
-use Rattle.wb_model.proofs.heaps.LimitedHeaps.{top_of-committed}
-use Rattle.wb_model.proofs.heaps.Onward.{onward_zero, onward_next, onward_fewer}
+use Rattle.wb_heap_model.specs.Row.{headers}
+use Rattle.wb_heap_model.proofs.LimitedHeaps.{top_of-committed}
+use Rattle.wb_heap_model.proofs.Onward.{onward_zero, onward_next, onward_fewer}
 use Rattle.wb_debug.specs.Levels.{is_counted}
 use Rattle.wb_debug.specs.Tally.{number}
 use Rattle.wb_debug.proofs.Counting.{onward-end, onward-number, row-within}

@@ -1,4 +1,4 @@
-use Rattle.wb_model.specs.heap.Row.{headers}
+use Rattle.wb_heap_model.specs.Row.{headers}
 use Rattle.wb_debug.specs.Levels.{is_counted}
 use Rattle.wb_debug.proofs.Tallies.{below-zero}
 use Rattle.wb_debug.proofs.checks.count_and_lowest.Goals as goal

@@ -1,7 +1,7 @@
 use Rattle.std.proofs.Common.{◌≡◌, ◌++◌, ap, ◌∙◌, sym, subst, List}
-use Rattle.wb_model.specs.declared.run.Leak.{Leak}
-use Rattle.wb_model.specs.heap.Row.{headers, end_of}
-use Rattle.wb_model.proofs.heaps.Onward.{onward, onward_zero, onward_next, onward_fewer}
+use Rattle.wb_heap_model.specs.declared.reported.Leak.{Leak}
+use Rattle.wb_heap_model.specs.Row.{headers, end_of}
+use Rattle.wb_heap_model.proofs.Onward.{onward, onward_zero, onward_next, onward_fewer}
 use Rattle.wb_debug.proofs.Leaks.{leaks_of, leaks_on, leaks_past, leaks_whole}
 use Rattle.wb_debug.proofs.checks.list_leaks.Goals.{then-has_level+in_ok-push, else-has_level}
 use Rattle.wb_debug.proofs.checks.list_leaks.Goals as goal

@@ -1,7 +1,7 @@
 use Rattle.std.proofs.Common.{◌≡◌, ◌<◌, length, ◌∙◌, ap, sym, subst, arith}
-use Rattle.wb_model.specs.heap.Row.{headers, end_of, pointer_to}
-use Rattle.wb_model.specs.heap.LimitedHeap.{LimitedHeap, IsSoundHeap}
-use Rattle.wb_model.proofs.heaps.Onward.{onward, onward_next, onward_fewer}
+use Rattle.wb_heap_model.specs.Row.{headers, end_of, pointer_to}
+use Rattle.wb_heap_model.specs.LimitedHeap.{LimitedHeap, IsSoundHeap}
+use Rattle.wb_heap_model.proofs.Onward.{onward, onward_next, onward_fewer}
 use Rattle.wb_debug.specs.Levels.{is_counted}
 use Rattle.wb_debug.specs.Tally.{number}
 use Rattle.wb_debug.specs.declared.checks.Levels.TheVariants.{One}

@@ -1,7 +1,7 @@
 use Rattle.std.proofs.Common.{◌≡◌, length}
-use Rattle.wb_model.specs.heap.LimitedHeap.{IsSoundHeap}
-use Rattle.wb_model.specs.heap.Row.{headers}
-use Rattle.wb_model.proofs.heaps.Onward.{onward}
+use Rattle.wb_heap_model.specs.LimitedHeap.{IsSoundHeap}
+use Rattle.wb_heap_model.specs.Row.{headers}
+use Rattle.wb_heap_model.proofs.Onward.{onward}
 use Rattle.wb_debug.specs.declared.checks.Levels.TheVariants.{One}
 use Rattle.wb_debug.specs.Levels.{is_counted}
 use Rattle.wb_debug.specs.Tally.{number}

@@ -1,7 +1,7 @@
 use Rattle.std.proofs.Common.{◌∙◌, ap, true, false, sym}
-use Rattle.wb_model.specs.heap.Heap.{lowest}
-use Rattle.wb_model.specs.heap.Row.{headers}
-use Rattle.wb_model.proofs.heaps.Onward.{onward_next, onward_fewer}
+use Rattle.wb_heap_model.specs.Heap.{lowest}
+use Rattle.wb_heap_model.specs.Row.{headers}
+use Rattle.wb_heap_model.proofs.Onward.{onward_next, onward_fewer}
 use Rattle.wb_debug.specs.Levels.{is_counted}
 use Rattle.wb_debug.proofs.Counting.{onward-counted, onward-end, onward-one}
 use Rattle.wb_debug.proofs.checks.lowest.Goals as goal

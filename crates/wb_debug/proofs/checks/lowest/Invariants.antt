@@ -1,6 +1,6 @@
 use Rattle.std.proofs.Common.{◌≡◌, filter, length}
-use Rattle.wb_model.specs.heap.Row.{headers}
-use Rattle.wb_model.proofs.heaps.Onward.{onward}
+use Rattle.wb_heap_model.specs.Row.{headers}
+use Rattle.wb_heap_model.proofs.Onward.{onward}
 use Rattle.wb_debug.specs.Levels.{is_counted}
 use Rattle.wb_debug.proofs.checks.lowest.Given as goal
 

@@ -1,7 +1,7 @@
 use Rattle.std.proofs.Common.{◌∙◌, sym, arith}
-use Rattle.wb_model.specs.heap.Row.{headers}
-use Rattle.wb_model.proofs.heaps.LimitedHeaps.{top_of-committed}
-use Rattle.wb_model.proofs.heaps.Onward.{onward_next, onward_fewer}
+use Rattle.wb_heap_model.specs.Row.{headers}
+use Rattle.wb_heap_model.proofs.LimitedHeaps.{top_of-committed}
+use Rattle.wb_heap_model.proofs.Onward.{onward_next, onward_fewer}
 use Rattle.wb_debug.proofs.Counting.{counted-all, counted-first, counted-more, counted-within, row-within}
 use Rattle.wb_debug.proofs.checks.tally_of.Goals as goal
 

@@ -1,6 +1,6 @@
 use Rattle.std.proofs.Common.{length}
-use Rattle.wb_model.specs.heap.Row.{headers}
-use Rattle.wb_model.proofs.heaps.Onward.{onward}
+use Rattle.wb_heap_model.specs.Row.{headers}
+use Rattle.wb_heap_model.proofs.Onward.{onward}
 use Rattle.wb_debug.proofs.Counting.{IsCounted}
 use Rattle.wb_debug.proofs.checks.tally_of.Given as goal
 

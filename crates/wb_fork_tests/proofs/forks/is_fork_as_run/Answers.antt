@@ -1,8 +1,8 @@
 use Rattle.std.proofs.Common.{◌+◌, ap, ◌∙◌, sym, subst}
-use Rattle.wb_model.specs.declared.heap.Rule.{Rule}
-use Rattle.wb_model.specs.runs.Rest.{SameSoFar}
-use Rattle.wb_model.specs.runs.Sweeps.{failing_at, rule_for, rule_of}
-use Rattle.wb_model.proofs.heaps.RuleLemmas.{failures-fit}
+use Rattle.wb_heap_model.specs.declared.heap.Rule.{Rule}
+use Rattle.wb_heap_model.specs.SameRules.{SameSoFar}
+use Rattle.wb_runs.specs.Sweeps.{failing_at, rule_for, rule_of}
+use Rattle.wb_runs.proofs.FailureRules.{failures-fit}
 use Rattle.wb_fork_tests.proofs.forks.is_fork_as_run.Goals as goal
 
 pub result_under-requires-clause-same : goal.result_under-requires-clause-same

@@ -1,5 +1,5 @@
 use Rattle.std.proofs.Common.{◌≡◌, ◌≤◌, false}
-use Rattle.wb_model.specs.runs.Sweeps.{rule_of}
+use Rattle.wb_runs.specs.Sweeps.{rule_of}
 use Rattle.wb_fork_tests.proofs.forks.walk.Given as goal
 
 -- the run goes on without failure, and a turn makes at most one attempt

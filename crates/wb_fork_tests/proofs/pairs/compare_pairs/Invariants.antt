@@ -1,5 +1,5 @@
 use Rattle.std.proofs.Common.{◌≡◌, ◌≤◌, false}
-use Rattle.wb_model.specs.declared.heap.Rule.TheVariants as rules
+use Rattle.wb_heap_model.specs.declared.heap.Rule.TheVariants as rules
 use Rattle.wb_fork_tests.proofs.pairs.compare_pairs.Given as goal
 
 -- the run goes on without failure, and a turn makes at most one attempt

@@ -1,12 +1,12 @@
 use Rattle.std.proofs.Common.{◌≡◌, ℕ, ◌+◌, ◌<◌, arith, ap, sym, subst, cond}
 use Rattle.std.proofs.lemmas.Bool.{lt-leb}
-use Rattle.wb_model.specs.declared.failures.Failing.TheVariants as failings
-use Rattle.wb_model.specs.declared.heap.Rule.{Rule}
-use Rattle.wb_model.specs.declared.heap.Rule.TheVariants.{Number, Pair}
-use Rattle.wb_model.specs.runs.Pairs.{failing_with}
-use Rattle.wb_model.specs.runs.Rest.{SameSoFar}
-use Rattle.wb_model.specs.runs.Sweeps.{rule_for}
-use Rattle.wb_model.proofs.runs.PairLemmas.{with-fits}
+use Rattle.wb_runs.specs.declared.failures.Failing.TheVariants as failings
+use Rattle.wb_heap_model.specs.declared.heap.Rule.{Rule}
+use Rattle.wb_heap_model.specs.declared.heap.Rule.TheVariants.{Number, Pair}
+use Rattle.wb_runs.specs.Pairs.{failing_with}
+use Rattle.wb_heap_model.specs.SameRules.{SameSoFar}
+use Rattle.wb_runs.specs.Sweeps.{rule_for}
+use Rattle.wb_runs.proofs.PairLemmas.{with-fits}
 use Rattle.wb_fork_tests.proofs.pairs.is_pair_as_run.Goals as goal
 
 is_pair : (i n : ℕ) → i < n → rule_for (failing_with i n) ≡ Pair i n

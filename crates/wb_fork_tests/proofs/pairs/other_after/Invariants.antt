@@ -1,6 +1,6 @@
 use Rattle.std.proofs.Common.{◌≡◌, ◌≤◌, ◌+◌, false}
 use Rattle.wb_fork_tests.specs.declared.results.TheConstants.{MOST_TURNS}
-use Rattle.wb_model.specs.declared.heap.Rule.TheVariants as rules
+use Rattle.wb_heap_model.specs.declared.heap.Rule.TheVariants as rules
 use Rattle.wb_fork_tests.proofs.pairs.other_after.Given as goal
 
 -- the first attempt is made, and a turn makes at most one more

@@ -1,7 +1,7 @@
 use Rattle.std.proofs.Common.{◌≡◌, ◌++◌, take, subst, arith}
 use Rattle.std.proofs.lemmas.List.{take_all}
-use Rattle.wb_model.specs.cells.TextCells.{text_at, max_at}
-use Rattle.wb_model.specs.meaning.Texts.{at_most}
+use Rattle.wb_heap_model.specs.TextCells.{text_at, max_at}
+use Rattle.wb_heap_model.specs.Texts.{at_most}
 use Rattle.wb_hbuf.specs.Drafts.{IsEdited}
 use Rattle.wb_hbuf.specs.Sources.{source_units}
 use Rattle.wb_hbuf.proofs.hbuf.append.Goals as goal

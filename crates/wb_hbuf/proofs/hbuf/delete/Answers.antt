@@ -1,6 +1,6 @@
 use Rattle.std.proofs.Common.{◌≡◌, ◌+◌, ◌-◌, ◌≤◌, ◌++◌, Ok, take, drop, ap, sym, ◌∙◌, arith}
-use Rattle.wb_model.specs.cells.TextCells.{text_at}
-use Rattle.wb_model.specs.meaning.Texts.{delete_text, units_of_part}
+use Rattle.wb_heap_model.specs.TextCells.{text_at}
+use Rattle.wb_heap_model.specs.Texts.{delete_text, units_of_part}
 use Rattle.wb_hbuf.specs.Drafts.{IsEdited}
 use Rattle.wb_hbuf.proofs.Drafts.{draft-has, draft-words}
 use Rattle.wb_hbuf.proofs.Edits.{edit-done, len, text-len, deleted, delete-within}

@@ -1,6 +1,6 @@
 use Rattle.std.proofs.Common.{◌≡◌, ◌+◌, ◌≤◌, ◌++◌, length, take, drop, sym, subst, ◌∙◌, arith}
-use Rattle.wb_model.specs.cells.TextCells.{text_at, max_at}
-use Rattle.wb_model.specs.meaning.Texts.{insert_text}
+use Rattle.wb_heap_model.specs.TextCells.{text_at, max_at}
+use Rattle.wb_heap_model.specs.Texts.{insert_text}
 use Rattle.wb_hbuf.specs.Drafts.{IsDraft, put}
 use Rattle.wb_hbuf.specs.Sources.{source_units}
 use Rattle.wb_hbuf.proofs.Drafts.{draft-has, draft-words}

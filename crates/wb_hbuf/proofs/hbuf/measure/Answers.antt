@@ -1,11 +1,11 @@
 use Rattle.std.proofs.Common.{◌≡◌, ℕ, ◌-◌, ◌/◌, List, Option, Some, option_map, ap, sym, ◌∙◌, arith}
-use Rattle.wb_model.specs.declared.heap.Header.{Header}
-use Rattle.wb_model.specs.declared.heap.Ptr.{Ptr}
-use Rattle.wb_model.specs.heap.Debug.{Debug}
-use Rattle.wb_model.specs.meaning.Reading.{max_units}
-use Rattle.wb_model.specs.heap.Row.{Cell, cell_at, usable_of}
-use Rattle.wb_model.specs.cells.TextCells.{IsTextAt, max_at, usable_or_none}
-use Rattle.wb_model.proofs.heaps.LimitedHeaps.{limit_under-ceiling}
+use Rattle.wb_heap_model.specs.declared.heap.Header.{Header}
+use Rattle.wb_heap_model.specs.declared.heap.Ptr.{Ptr}
+use Rattle.wb_heap_model.specs.Debug.{Debug}
+use Rattle.wb_heap_model.specs.Texts.{max_units}
+use Rattle.wb_heap_model.specs.Row.{Cell, cell_at, usable_of}
+use Rattle.wb_heap_model.specs.TextCells.{IsTextAt, max_at, usable_or_none}
+use Rattle.wb_heap_model.proofs.LimitedHeaps.{limit_under-ceiling}
 use Rattle.wb_hbuf.proofs.Drafts.{text-words, text-has}
 use Rattle.wb_hbuf.proofs.hbuf.measure.Goals as goal
 

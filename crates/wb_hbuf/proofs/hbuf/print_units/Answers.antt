@@ -1,7 +1,7 @@
 use Rattle.std.proofs.Common.{◌≡◌, [], length, map, take, ap, ◌∙◌, arith}
 use Rattle.std.specs.Prelude.{min}
 use Rattle.std.proofs.lemmas.List.{take_min}
-use Rattle.wb_model.specs.meaning.Reading.{printed_unit}
+use Rattle.wb_heap_model.specs.Texts.{printed_unit}
 use Rattle.wb_hbuf.specs.Sources.{source_units}
 use Rattle.wb_hbuf.proofs.WrittenUnits.{units-counted}
 use Rattle.wb_hbuf.proofs.hbuf.print_units.Goals as goal

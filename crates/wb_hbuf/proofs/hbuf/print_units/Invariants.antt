@@ -1,5 +1,5 @@
 use Rattle.std.proofs.Common.{◌≡◌, [], map, take}
-use Rattle.wb_model.specs.meaning.Reading.{printed_unit}
+use Rattle.wb_heap_model.specs.Texts.{printed_unit}
 use Rattle.wb_hbuf.specs.Sources.{source_units}
 use Rattle.wb_hbuf.proofs.hbuf.print_units.Given as goal
 

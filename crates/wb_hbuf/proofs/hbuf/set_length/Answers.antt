@@ -1,6 +1,6 @@
 use Rattle.std.proofs.Common.{Ok, arith}
-use Rattle.wb_model.specs.cells.TextCells.{text_at, max_at}
-use Rattle.wb_model.specs.meaning.Texts.{exactly, set_length_text}
+use Rattle.wb_heap_model.specs.TextCells.{text_at, max_at}
+use Rattle.wb_heap_model.specs.Texts.{exactly, set_length_text}
 use Rattle.wb_hbuf.specs.Drafts.{IsEdited}
 use Rattle.wb_hbuf.proofs.Edits.{edit-done, settled-at, set_length-fits}
 use Rattle.wb_hbuf.proofs.hbuf.set_length.Goals as goal

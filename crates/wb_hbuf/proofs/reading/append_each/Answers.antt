@@ -1,8 +1,8 @@
 use Rattle.std.proofs.Common.{◌++◌, ◌<◌, [], ◌∷◌, length, take, sym, ap, subst, ◌∙◌, arith, append_assoc}
 use Rattle.std.proofs.lemmas.List.{take_all, take_more}
 use Rattle.std.proofs.lemmas.List.Elements.{All-push}
-use Rattle.wb_model.specs.meaning.Texts.{AreUnits}
-use Rattle.wb_model.proofs.heaps.TextCells.{IsUnit}
+use Rattle.wb_heap_model.specs.Texts.{AreUnits}
+use Rattle.wb_heap_model.proofs.TextCells.{IsUnit}
 use Rattle.wb_hbuf.specs.Sources.{source_units}
 use Rattle.wb_hbuf.proofs.WrittenUnits.{units-counted}
 use Rattle.wb_hbuf.proofs.reading.append_each.Goals as goal

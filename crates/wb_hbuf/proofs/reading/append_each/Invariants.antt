@@ -1,6 +1,6 @@
 -- So far a number of units of the source were appended.
 use Rattle.std.proofs.Common.{◌≡◌, ◌++◌, [], take}
-use Rattle.wb_model.specs.meaning.Texts.{AreUnits}
+use Rattle.wb_heap_model.specs.Texts.{AreUnits}
 use Rattle.wb_hbuf.specs.Sources.{source_units}
 use Rattle.wb_hbuf.proofs.reading.append_each.Given as goal
 

@@ -1,5 +1,5 @@
 use Rattle.std.proofs.Common.{◌<◌, slice_index, arith}
-use Rattle.wb_model.specs.cells.CellRow.{payload_of}
+use Rattle.wb_heap_model.specs.CellRow.{payload_of}
 use Rattle.wb_hbuf.proofs.ReadUnits.{low-unit, high-unit}
 use Rattle.wb_hbuf.proofs.reading.text_unit.Goals as goal
 

@@ -2,12 +2,12 @@ use Rattle.std.proofs.Common.{◌≡◌, ◌+◌, ◌-◌, ◌≤◌, ℕ, List,
 use Rattle.std.proofs.lemmas.List.{length-drop, length-take-le, length-replicate}
 use Rattle.std.proofs.lemmas.List.Elements.{All-drop, All-take}
 use Rattle.wb_chunk.specs.Halves.{halves_from, with_halves}
-use Rattle.wb_model.specs.declared.heap.Ptr.{Ptr}
-use Rattle.wb_model.specs.cells.CellRow.{payload_of}
-use Rattle.wb_model.specs.heap.Debug.{Debug, debug_changed}
-use Rattle.wb_model.specs.cells.TextCells.{text_at}
-use Rattle.wb_model.specs.meaning.Texts.{units_of_part}
-use Rattle.wb_model.proofs.heaps.TextCells.{IsUnit, zeros}
+use Rattle.wb_heap_model.specs.declared.heap.Ptr.{Ptr}
+use Rattle.wb_heap_model.specs.CellRow.{payload_of}
+use Rattle.wb_heap_model.specs.Debug.{Debug, debug_changed}
+use Rattle.wb_heap_model.specs.TextCells.{text_at}
+use Rattle.wb_heap_model.specs.Texts.{units_of_part}
+use Rattle.wb_heap_model.proofs.TextCells.{IsUnit, zeros}
 use Rattle.wb_hbuf.specs.Drafts.{HasUnits, IsDraft, put}
 use Rattle.wb_hbuf.proofs.Drafts.{draft-none, draft-put, draft-words, is_live, payload-small, units-zeros}
 use Rattle.wb_hbuf.proofs.Units.{part-is, part-within, put-put, length-put, run-following}

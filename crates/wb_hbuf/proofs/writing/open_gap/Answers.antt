@@ -2,10 +2,10 @@ use Rattle.std.proofs.Common.{◌≡◌, ◌+◌, ◌-◌, ℕ, List, length, ta
 use Rattle.std.proofs.lemmas.List.{drop-take, length-drop}
 use Rattle.std.proofs.lemmas.List.Elements.{All-drop, All-take}
 use Rattle.wb_chunk.specs.Halves.{halves_from, with_halves}
-use Rattle.wb_model.specs.cells.CellRow.{payload_of}
-use Rattle.wb_model.specs.heap.Debug.{debug_changed}
-use Rattle.wb_model.specs.cells.TextCells.{text_at}
-use Rattle.wb_model.proofs.heaps.TextCells.{IsUnit}
+use Rattle.wb_heap_model.specs.CellRow.{payload_of}
+use Rattle.wb_heap_model.specs.Debug.{debug_changed}
+use Rattle.wb_heap_model.specs.TextCells.{text_at}
+use Rattle.wb_heap_model.proofs.TextCells.{IsUnit}
 use Rattle.wb_hbuf.proofs.Drafts.{draft-none, draft-put, is_live}
 use Rattle.wb_hbuf.proofs.Units.{run-following}
 use Rattle.wb_hbuf.proofs.WrittenUnits.{len, all, all-room, text-length}

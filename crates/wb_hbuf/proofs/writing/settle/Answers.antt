@@ -1,11 +1,11 @@
 use Rattle.std.proofs.Common.{◌≡◌, ◌+◌, ◌-◌, ◌≤◌, ℕ, length, ap, ◌∙◌, arith}
 use Rattle.std.proofs.lemmas.List.{length-replicate}
 use Rattle.wb_chunk.specs.Halves.{with_halves}
-use Rattle.wb_model.specs.cells.CellRow.{payload_of}
-use Rattle.wb_model.specs.heap.Debug.{Debug, debug_changed}
-use Rattle.wb_model.proofs.heaps.TextCells.{zeros}
+use Rattle.wb_heap_model.specs.CellRow.{payload_of}
+use Rattle.wb_heap_model.specs.Debug.{Debug, debug_changed}
+use Rattle.wb_heap_model.proofs.TextCells.{zeros}
 use Rattle.wb_hbuf.specs.Drafts.{HasUnits, IsDraft, put}
-use Rattle.wb_model.specs.declared.heap.Ptr.{Ptr}
+use Rattle.wb_heap_model.specs.declared.heap.Ptr.{Ptr}
 use Rattle.wb_hbuf.proofs.Drafts.{draft-none, draft-put, draft-words, draft-length-set, is_live, units-zeros}
 use Rattle.wb_hbuf.proofs.WrittenUnits.{len, all, all-room}
 use Rattle.wb_hbuf.proofs.writing.settle.Goals as goal

@@ -1,7 +1,7 @@
 use Rattle.std.proofs.Common.{◌≡◌, ◌+◌, ◌<◌, ◌≤◌, ℕ, List, length, take, drop, subst, refl, sym, ◌∙◌, arith}
 use Rattle.std.proofs.lemmas.List.{take_all}
-use Rattle.wb_model.specs.meaning.Texts.{units_of_part}
-use Rattle.wb_model.proofs.heaps.TextCells.{length-exactly}
+use Rattle.wb_heap_model.specs.Texts.{units_of_part}
+use Rattle.wb_heap_model.proofs.TextCells.{length-exactly}
 use Rattle.wb_hbuf.specs.Drafts.{IsDraft, put}
 use Rattle.wb_hbuf.proofs.Drafts.{draft-words, draft-set}
 use Rattle.wb_hbuf.proofs.Units.{put-more}

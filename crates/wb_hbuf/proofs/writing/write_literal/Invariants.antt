@@ -1,7 +1,7 @@
 use Rattle.std.proofs.Common.{take, slice_index}
-use Rattle.wb_model.specs.cells.CellRow.{payload_of}
-use Rattle.wb_model.specs.cells.TextCells.{units_after}
-use Rattle.wb_model.specs.meaning.Texts.{units_of_part}
+use Rattle.wb_heap_model.specs.CellRow.{payload_of}
+use Rattle.wb_heap_model.specs.TextCells.{units_after}
+use Rattle.wb_heap_model.specs.Texts.{units_of_part}
 use Rattle.wb_hbuf.specs.Drafts.{IsDraft, put}
 use Rattle.wb_hbuf.proofs.writing.write_literal.Given as goal
 

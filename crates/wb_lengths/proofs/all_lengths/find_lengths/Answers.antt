@@ -1,6 +1,6 @@
 -- Proof: find_lengths. The table is the right one, and says which lengths are bad and which runs are cut.
 use Rattle.std.proofs.Common.{rules, sym, ◌∙◌}
-use Rattle.wb_model.specs.runs.Lengths.{IsLengthTable}
+use Rattle.wb_runs.specs.Lengths.{IsLengthTable}
 use Rattle.wb_lengths.proofs.TableLemmas.{none_cut, some_cut}
 use Rattle.wb_lengths.proofs.all_lengths.find_lengths.Goals as goal
 

@@ -1,7 +1,7 @@
 -- Proof: find_table. The table is right from a length on, and the lengths below are to come.
 use Rattle.std.proofs.Common.{◌≡◌, ◌+◌, ◌≤◌, false, None}
-use Rattle.wb_model.specs.declared.limits.TheConstants.{CEILING}
-use Rattle.wb_model.specs.heap.Space.{is_shape}
+use Rattle.wb_basics.specs.declared.limits.TheConstants.{CEILING}
+use Rattle.wb_heap_model.specs.Space.{is_shape}
 use Rattle.wb_lengths.specs.Walk.{IsRightFrom}
 use Rattle.wb_lengths.proofs.all_lengths.find_table.Given as goal
 

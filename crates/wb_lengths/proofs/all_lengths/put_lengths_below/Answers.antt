@@ -1,7 +1,7 @@
 -- Proof: put_lengths_below. One run answers for all lengths from its greatest end up to its own.
 use Rattle.std.proofs.Common.{rules, ◌≡◌, ◌-◌}
-use Rattle.wb_model.specs.runs.Lengths.{run_in}
-use Rattle.wb_model.specs.runs.RunEnds.{end_of}
+use Rattle.wb_runs.specs.Lengths.{run_in}
+use Rattle.wb_runs.specs.RunEnds.{end_of}
 use Rattle.wb_lengths.specs.Walk.{range, IsPutBefore}
 use Rattle.wb_lengths.proofs.TableLemmas.{from_shorter, grants_within, put_right}
 use Rattle.wb_lengths.proofs.all_lengths.put_lengths_below.Goals as goal

@@ -1,5 +1,5 @@
 use Rattle.std.proofs.Common.{ℕ, ◌+◌, ap, sym, ◌∙◌, arith, drop}
-use Rattle.wb_model.specs.language.Lines.{lines_of}
+use Rattle.wb_language.specs.Lines.{lines_of}
 use Rattle.wb_lines.proofs.Foreign.{first_foreign, at_most, next_line, none_foreign, same_line}
 use Rattle.wb_lines.proofs.bytes.first_foreign_line.Goals as goal
 use Rattle.wb_lines.proofs.bytes.first_foreign_line.Goals.{then-byte-eq10, else-byte-eq10}

@@ -1,6 +1,6 @@
 use Rattle.std.proofs.Common.{◌≡◌, ◌+◌, ◌≤◌, drop}
 use Rattle.std.specs.List.{list_any, position_from}
-use Rattle.wb_model.specs.language.Lines.{is_foreign, lines_of, first_foreign_line}
+use Rattle.wb_language.specs.Lines.{is_foreign, lines_of, first_foreign_line}
 use Rattle.wb_lines.proofs.bytes.first_foreign_line.Given as goal
 
 abbrev pub invariant-loop-byte : goal.invariant-loop-byte

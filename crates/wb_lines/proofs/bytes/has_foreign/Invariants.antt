@@ -1,6 +1,6 @@
 use Rattle.std.proofs.Common.{◌≡◌, ◌||◌, drop}
 use Rattle.std.specs.List.{list_any}
-use Rattle.wb_model.specs.language.Lines.{is_foreign}
+use Rattle.wb_language.specs.Lines.{is_foreign}
 use Rattle.wb_lines.proofs.bytes.has_foreign.Given as goal
 
 abbrev pub invariant-loop-byte : goal.invariant-loop-byte

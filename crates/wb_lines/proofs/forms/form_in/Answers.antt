@@ -1,5 +1,5 @@
 use Rattle.std.proofs.Common.{refl}
-use Rattle.wb_model.specs.declared.script_lines.LineKind.TheVariants.{Class}
+use Rattle.wb_tree.specs.declared.script_lines.LineKind.TheVariants.{Class}
 use Rattle.wb_lines.specs.BytesOf.{bytes_of_texts}
 use Rattle.wb_lines.proofs.OperandPlaces.{form_here}
 use Rattle.wb_lines.proofs.forms.form_in.Goals as goal

@@ -1,5 +1,5 @@
 use Rattle.std.proofs.Common.{◌≡◌, drop}
-use Rattle.wb_model.specs.language.Forms.{form_in}
+use Rattle.wb_language.specs.Forms.{form_in}
 use Rattle.wb_lines.specs.BytesOf.{bytes_of_texts}
 use Rattle.wb_lines.proofs.forms.form_in.Given as goal
 

@@ -1,6 +1,6 @@
 use Rattle.std.proofs.Common.{take, ap, ◌∙◌, sym}
 use Rattle.std.proofs.lemmas.List.{map_more, map-append, take_all}
-use Rattle.wb_model.specs.language.Forms.{line_form, forms_of}
+use Rattle.wb_language.specs.Forms.{line_form, forms_of}
 use Rattle.wb_lines.specs.BytesOf.{bytes_of_text, bytes_of_texts}
 use Rattle.wb_lines.proofs.forms.forms.Goals as goal
 

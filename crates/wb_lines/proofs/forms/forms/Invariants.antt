@@ -1,5 +1,5 @@
 use Rattle.std.proofs.Common.{◌≡◌, take}
-use Rattle.wb_model.specs.language.Forms.{forms_of}
+use Rattle.wb_language.specs.Forms.{forms_of}
 use Rattle.wb_lines.specs.BytesOf.{bytes_of_texts, bytes_of_forms}
 use Rattle.wb_lines.proofs.forms.forms.Given as goal
 

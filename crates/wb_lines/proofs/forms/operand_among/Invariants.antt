@@ -1,5 +1,5 @@
 use Rattle.std.proofs.Common.{◌≡◌, drop}
-use Rattle.wb_model.specs.language.Forms.{operand_among}
+use Rattle.wb_language.specs.Forms.{operand_among}
 use Rattle.wb_lines.proofs.forms.operand_among.Given as goal
 
 abbrev pub invariant-loop-kind : goal.invariant-loop-kind

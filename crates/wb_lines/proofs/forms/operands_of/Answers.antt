@@ -2,7 +2,7 @@ use Rattle.std.proofs.Common.{◌≡◌, ◌∙◌, sym, ap, length, arith, appe
 use Rattle.std.specs.Option.{option_map}
 use Rattle.std.proofs.lemmas.List.{drop_all, length-map, map-append}
 use Rattle.std.proofs.lemmas.Bool.Decides.{nat_tests}
-use Rattle.wb_model.specs.language.LineKinds.{operand_places_with}
+use Rattle.wb_language.specs.LineKinds.{operand_places_with}
 use Rattle.wb_lines.specs.BytesOf.{bytes_of_text, bytes_of_texts, bytes_of_operand, bytes_of_operands}
 use Rattle.wb_lines.proofs.OperandPlaces.{as_many, operand_here, no_operand_here}
 use Rattle.wb_lines.proofs.forms.operands_of.Goals as goal

@@ -1,7 +1,7 @@
 use Rattle.std.proofs.Common.{◌≡◌, ◌++◌, drop, length}
 use Rattle.std.specs.Option.{option_map}
-use Rattle.wb_model.specs.language.Forms.{operands_of}
-use Rattle.wb_model.specs.language.LineKinds.{operand_places_with}
+use Rattle.wb_language.specs.Forms.{operands_of}
+use Rattle.wb_language.specs.LineKinds.{operand_places_with}
 use Rattle.wb_lines.specs.BytesOf.{bytes_of_texts, bytes_of_operands}
 use Rattle.wb_lines.proofs.forms.operands_of.Given as goal
 

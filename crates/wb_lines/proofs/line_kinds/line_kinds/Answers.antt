@@ -1,5 +1,5 @@
 use Rattle.std.proofs.Common.{refl}
-use Rattle.wb_model.specs.language.LineKinds.{line_kinds}
+use Rattle.wb_language.specs.LineKinds.{line_kinds}
 use Rattle.wb_lines.proofs.line_kinds.line_kinds.Goals as goal
 
 pub returns : goal.returns

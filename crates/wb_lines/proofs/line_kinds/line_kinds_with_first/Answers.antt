@@ -1,7 +1,7 @@
 use Rattle.std.proofs.Common.{◌≡◌, false, nat_eq, refl, sym, arith}
 use Rattle.std.specs.List.{list_any}
 use Rattle.std.proofs.lemmas.Bool.Decides.{nat_tests}
-use Rattle.wb_model.specs.language.LineKinds.{line_kinds}
+use Rattle.wb_language.specs.LineKinds.{line_kinds}
 use Rattle.wb_lines.specs.FirstBytes.{line_kinds_with_first}
 use Rattle.wb_lines.proofs.FirstBytes.{firsts, no_line_kinds}
 use Rattle.wb_lines.proofs.line_kinds.line_kinds_with_first.Goals as goal

@@ -1,5 +1,5 @@
 use Rattle.std.proofs.Common.{◌≡◌, take, drop}
-use Rattle.wb_model.specs.language.Lines.{pieces, pieces_from}
+use Rattle.wb_language.specs.Lines.{pieces, pieces_from}
 use Rattle.wb_lines.specs.Segments.{ends_of}
 use Rattle.wb_lines.proofs.FirstSegments.{onto_all}
 use Rattle.wb_lines.proofs.segments.first_segment.Given as goal

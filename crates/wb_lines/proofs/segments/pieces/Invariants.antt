@@ -1,5 +1,5 @@
 use Rattle.std.proofs.Common.{◌≡◌, ◌++◌, length}
-use Rattle.wb_model.specs.language.Lines.{pieces}
+use Rattle.wb_language.specs.Lines.{pieces}
 use Rattle.wb_lines.specs.BytesOf.{bytes_of_texts}
 use Rattle.wb_lines.specs.Segments.{ends_of}
 use Rattle.wb_lines.proofs.segments.pieces.Given as goal

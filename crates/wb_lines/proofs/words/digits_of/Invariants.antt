@@ -1,6 +1,6 @@
 use Rattle.std.proofs.Common.{◌≡◌, ◌<◌, ◌^◌, drop, fold}
 use Rattle.std.specs.List.{list_all}
-use Rattle.wb_model.specs.language.Words.{is_digit, with_digit}
+use Rattle.wb_language.specs.Words.{is_digit, with_digit}
 use Rattle.wb_lines.proofs.words.digits_of.Given as goal
 
 abbrev pub invariant-loop-byte : goal.invariant-loop-byte

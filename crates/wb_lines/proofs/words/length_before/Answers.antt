@@ -1,7 +1,7 @@
 use Rattle.std.proofs.Common.{◌≡◌, ℕ, suc, ◌+◌, ◌<◌, List, length, get_or, drop, drop-cons, add-one, arith}
 use Rattle.std.proofs.lemmas.Bool.Decides.{nat_tests}
 use Rattle.std.proofs.lemmas.List.{drop_all}
-use Rattle.wb_model.specs.language.Words.{length_before}
+use Rattle.wb_language.specs.Words.{length_before}
 use Rattle.wb_lines.proofs.words.length_before.Goals as goal
 
 later : (byte : ℕ) (word : List ℕ) (i : ℕ) → i < length word → (get_or word i 0 ≡ byte → ⊥) → length_before byte (drop i word) ≡ suc (length_before byte (drop (i + 1) word))

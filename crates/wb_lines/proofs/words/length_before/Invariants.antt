@@ -1,5 +1,5 @@
 use Rattle.std.proofs.Common.{◌≡◌, ◌+◌, drop}
-use Rattle.wb_model.specs.language.Words.{length_before}
+use Rattle.wb_language.specs.Words.{length_before}
 use Rattle.wb_lines.proofs.words.length_before.Given as goal
 
 abbrev pub invariant-loop-index : goal.invariant-loop-index

@@ -1,6 +1,6 @@
 use Rattle.std.proofs.Common.{ap, ◌∙◌, w32, FitsSigned, rules}
 use Rattle.std.proofs.lemmas.Int.{to_z-of_z}
-use Rattle.wb_model.specs.meaning.State.{pointer, number}
+use Rattle.wb_meaning.specs.State.{pointer, number}
 use Rattle.wb_machine.proofs.arguments.argument_slot.Goals as goal
 
 pub returns-in-Passed : goal.returns-in-Passed

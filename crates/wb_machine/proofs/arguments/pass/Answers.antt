@@ -1,13 +1,13 @@
 use Rattle.std.proofs.Common.{◌≡◌, ◌++◌, map, take, drop, length, ap, ◌∙◌, sym, arith, List, get_or}
 use Rattle.std.proofs.lemmas.List.{length-map, take_all}
 use Rattle.std.specs.Prelude.{slice_range}
-use Rattle.wb_model.specs.declared.script.Argument.{Argument}
-use Rattle.wb_model.specs.declared.script.Argument.TheVariants.{Passed}
-use Rattle.wb_model.specs.declared.script.Pointer.TheVariants.{Held}
-use Rattle.wb_model.specs.declared.script.Holder.TheVariants.{Local}
-use Rattle.wb_model.specs.meaning.Texts.{Buffer}
+use Rattle.wb_tree.specs.declared.script.Argument.{Argument}
+use Rattle.wb_tree.specs.declared.script.Argument.TheVariants.{Passed}
+use Rattle.wb_tree.specs.declared.script.Pointer.TheVariants.{Held}
+use Rattle.wb_tree.specs.declared.script.Holder.TheVariants.{Local}
+use Rattle.wb_heap_model.specs.Texts.{Buffer}
 use Rattle.wb_machine.specs.declared.locals.Stored.{Stored}
-use Rattle.wb_model.specs.meaning.State.{Value}
+use Rattle.wb_meaning.specs.State.{Value}
 use Rattle.wb_machine.specs.RunState.{Values}
 use Rattle.wb_machine.specs.LocalValues.{value_of, value_stored, values_stored, passed_over}
 use Rattle.wb_machine.proofs.frames.Frames.{one_more, frame_below}

@@ -1,5 +1,5 @@
 use Rattle.std.proofs.Common.{◌≡◌, ℕ, ◌≤◌, List, ◌++◌, map, take, drop, vec_len}
-use Rattle.wb_model.specs.meaning.Texts.{Buffer}
+use Rattle.wb_heap_model.specs.Texts.{Buffer}
 use Rattle.wb_machine.specs.LocalValues.{values_stored, AreAscending, passed_over}
 use Rattle.wb_machine.proofs.arguments.pass.Given as goal
 

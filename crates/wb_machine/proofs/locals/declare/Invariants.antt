@@ -1,5 +1,5 @@
 use Rattle.std.proofs.Common.{◌≡◌, ◌≤◌, ◌++◌, map, take, vec_len}
-use Rattle.wb_model.specs.meaning.State.{initial}
+use Rattle.wb_meaning.specs.State.{initial}
 use Rattle.wb_machine.specs.LocalValues.{values_stored, AreAscending}
 use Rattle.wb_machine.proofs.locals.declare.Given as goal
 

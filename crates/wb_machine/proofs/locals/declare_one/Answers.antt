@@ -1,5 +1,5 @@
 use Rattle.std.proofs.Common.{arith, ap, ◌∙◌, subst, sym, List, [], ◌∷◌, ◌++◌, vec_len}
-use Rattle.wb_model.specs.meaning.Texts.{Buffer}
+use Rattle.wb_heap_model.specs.Texts.{Buffer}
 use Rattle.wb_machine.specs.LocalValues.{AreAscending, values_stored, value_of_buffer}
 use Rattle.wb_machine.specs.declared.locals.Stored.{Stored}
 use Rattle.wb_machine.proofs.frames.Buffers.{wider, buffer_pushed, buffer_declared}

@@ -1,6 +1,6 @@
 use Rattle.std.proofs.Common.{rules, ◌≡◌, false, refl, ap, sym, subst, arith}
-use Rattle.wb_model.specs.heap.Debug.{keeps_rises}
-use Rattle.wb_model.specs.runs.Run.{WholeRun, whole_run}
+use Rattle.wb_heap_model.specs.Debug.{keeps_rises}
+use Rattle.wb_meaning.specs.Run.{WholeRun, whole_run}
 use Rattle.std.proofs.lemmas.List.Elements.{All-nil}
 use Rattle.wb_machine.specs.RunState.{RunState}
 use Rattle.wb_machine.specs.ObjectInvariant.{AreWhole}

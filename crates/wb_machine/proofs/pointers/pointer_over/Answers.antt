@@ -1,5 +1,5 @@
 use Rattle.std.proofs.Common.{ap, ◌∙◌}
-use Rattle.wb_model.specs.declared.heap.Ptr.{Ptr}
+use Rattle.wb_heap_model.specs.declared.heap.Ptr.{Ptr}
 use Rattle.wb_objects.specs.Objects.{words_found}
 use Rattle.wb_machine.specs.RunState.{field_count}
 use Rattle.wb_machine.specs.PointerOperands.{field_among}

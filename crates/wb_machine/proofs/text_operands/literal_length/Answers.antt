@@ -1,5 +1,5 @@
 use Rattle.std.proofs.Common.{◌≤◌, arith, length, sym}
-use Rattle.wb_model.specs.declared.limits.TheConstants.{LONGEST_LITERAL}
+use Rattle.wb_basics.specs.declared.limits.TheConstants.{LONGEST_LITERAL}
 use Rattle.wb_machine.proofs.turns.Scripts.{literal_short}
 use Rattle.wb_machine.proofs.text_operands.literal_length.Goals as goal
 

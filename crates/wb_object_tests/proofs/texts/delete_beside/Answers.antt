@@ -1,5 +1,5 @@
-use Rattle.wb_model.specs.cells.TextCells.{text_at}
-use Rattle.wb_model.specs.meaning.Texts.{delete_text}
+use Rattle.wb_heap_model.specs.TextCells.{text_at}
+use Rattle.wb_heap_model.specs.Texts.{delete_text}
 use Rattle.wb_object_tests.proofs.OtherTexts.{text-edited}
 use Rattle.wb_object_tests.proofs.texts.delete_beside.Goals as goal
 

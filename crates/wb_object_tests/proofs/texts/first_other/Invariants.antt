@@ -1,4 +1,4 @@
-use Rattle.wb_model.specs.cells.TextCells.{IsTextAt}
+use Rattle.wb_heap_model.specs.TextCells.{IsTextAt}
 use Rattle.wb_object_tests.proofs.texts.first_other.Given as goal
 
 -- both cells go on holding texts

@@ -1,15 +1,15 @@
 use Rattle.std.proofs.Common.{◌≡◌, ◌≢◌, ℕ, ◌+◌, ◌*◌, Option, Some, None, OnOk, ap, subst, ◌∙◌, arith}
-use Rattle.wb_model.specs.declared.heap.Ptr.{Ptr}
-use Rattle.wb_model.specs.declared.heap.Kind.TheVariants.{Text}
-use Rattle.wb_model.specs.declared.heap.Answer.{Answer}
-use Rattle.wb_model.specs.declared.heap.Answer.TheVariants.{Granted, Simulated, Refused}
-use Rattle.wb_model.specs.heap.Row.{cell_at, cell_length, headers}
-use Rattle.wb_model.specs.heap.Heap.{alloc_request, after_alloc, new_cell}
-use Rattle.wb_model.specs.heap.LimitedHeap.{zero_words}
-use Rattle.wb_model.specs.heap.Debug.{Debug, IsLiveIn, IsSoundDebug, alloc_made, answer_in, made_by, number_of_next}
-use Rattle.wb_model.specs.cells.TextCells.{IsTextAt}
-use Rattle.wb_model.proofs.heaps.Reallocations.{at-number, found-all, found-from, found-head}
-use Rattle.wb_model.proofs.heaps.TextCellsHeap.{text-beside}
+use Rattle.wb_heap_model.specs.declared.heap.Ptr.{Ptr}
+use Rattle.wb_heap_model.specs.declared.heap.Kind.TheVariants.{Text}
+use Rattle.wb_heap_model.specs.declared.heap.Answer.{Answer}
+use Rattle.wb_heap_model.specs.declared.heap.Answer.TheVariants.{Granted, Simulated, Refused}
+use Rattle.wb_heap_model.specs.Row.{cell_at, cell_length, headers}
+use Rattle.wb_heap_model.specs.Heap.{alloc_request, after_alloc, new_cell}
+use Rattle.wb_heap_model.specs.LimitedHeap.{zero_words}
+use Rattle.wb_heap_model.specs.Debug.{Debug, IsLiveIn, IsSoundDebug, alloc_made, answer_in, made_by, number_of_next}
+use Rattle.wb_heap_model.specs.TextCells.{IsTextAt}
+use Rattle.wb_heap_model.proofs.Reallocations.{at-number, found-all, found-from, found-head}
+use Rattle.wb_heap_model.proofs.TextCellsHeap.{text-beside}
 use Rattle.wb_object_tests.proofs.texts.grant_text_beside.Goals as goal
 
 -- a text's pointer has the number of an attempt that was made

@@ -1,5 +1,5 @@
-use Rattle.wb_model.specs.cells.TextCells.{max_at, text_at}
-use Rattle.wb_model.specs.meaning.Texts.{set_length_text}
+use Rattle.wb_heap_model.specs.TextCells.{max_at, text_at}
+use Rattle.wb_heap_model.specs.Texts.{set_length_text}
 use Rattle.wb_object_tests.proofs.OtherTexts.{text-edited}
 use Rattle.wb_object_tests.proofs.texts.set_length_beside.Goals as goal
 

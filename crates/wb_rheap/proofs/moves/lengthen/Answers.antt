@@ -1,6 +1,6 @@
 use Rattle.std.proofs.Common.{ap, ◌∙◌}
-use Rattle.wb_model.specs.heap.Row.{headers, pointer_to}
-use Rattle.wb_model.proofs.heaps.Reallocations.{found-from, found-head}
+use Rattle.wb_heap_model.specs.Row.{headers, pointer_to}
+use Rattle.wb_heap_model.proofs.Reallocations.{found-from, found-head}
 use Rattle.wb_rheap.proofs.Growing.{cell-of, whole-cell, words-of, in-place}
 use Rattle.wb_rheap.proofs.moves.lengthen.Goals as goal
 

@@ -1,7 +1,7 @@
 use Rattle.std.proofs.Common.{◌-◌, ◌/◌, ◌≤◌, length, IsSome, refl, sym, ap, subst, arith}
 use Rattle.std.proofs.lemmas.List.{length-replicate}
-use Rattle.wb_model.specs.cells.CellRow.{CellRow, content_or_nil, payload_of}
-use Rattle.wb_model.specs.heap.Row.{cell_at, pointer_to}
+use Rattle.wb_heap_model.specs.CellRow.{CellRow, content_or_nil, payload_of}
+use Rattle.wb_heap_model.specs.Row.{cell_at, pointer_to}
 use Rattle.wb_rheap.proofs.Moving.{old-there, new-there, still-live, moved-all}
 use Rattle.wb_rheap.proofs.moves.move_to.Goals as goal
 

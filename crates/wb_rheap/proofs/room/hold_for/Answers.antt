@@ -1,7 +1,7 @@
 use Rattle.std.proofs.Common.{◌≡◌, ap, sym, ◌/◌, ◌%◌, subst, arith}
 use Rattle.std.proofs.Math.Nat.{mul-mod_left}
-use Rattle.wb_model.specs.heap.Space.{space_below, bound_below}
-use Rattle.wb_model.proofs.heaps.LimitedHeaps.{shape_is, committed_by-is}
+use Rattle.wb_heap_model.specs.Space.{space_below, bound_below}
+use Rattle.wb_heap_model.proofs.LimitedHeaps.{shape_is, committed_by-is}
 use Rattle.wb_rheap.proofs.room.hold_for.Goals as goal
 
 pub reserve-requires-clause-rounded : goal.reserve-requires-clause-rounded

@@ -1,5 +1,5 @@
 use Rattle.std.proofs.Common.{arith}
-use Rattle.wb_model.specs.heap.Row.{headers}
+use Rattle.wb_heap_model.specs.Row.{headers}
 use Rattle.wb_rheap.proofs.LongestRuns.{longest_above}
 use Rattle.wb_rheap.proofs.space.longest_run.Goals as goal
 

@@ -1,7 +1,7 @@
 use Rattle.std.proofs.Common.{◌≡◌, ◌≤◌, length, take}
 use Rattle.wb_lines.specs.BytesOf.{bytes_of_forms}
 use Rattle.wb_script.specs.BytesOf.{bytes_of_items}
-use Rattle.wb_model.specs.language.Names.{items_before}
+use Rattle.wb_language.specs.Names.{items_before}
 use Rattle.wb_script.specs.Checks.{known_in, AreChecked}
 use Rattle.wb_script.proofs.checks.checked_lines.Given as goal
 

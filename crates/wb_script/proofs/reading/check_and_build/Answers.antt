@@ -2,15 +2,15 @@ use Rattle.std.proofs.Common.{◌≡◌, ◌∙◌, sym, ap, subst, map, length,
 use Rattle.std.specs.Prelude.{codes}
 use Rattle.std.specs.List.{list_all}
 use Rattle.std.proofs.lemmas.List.{length-map}
-use Rattle.wb_model.specs.declared.script_lines.ItemKind.TheVariants as item
-use Rattle.wb_model.specs.language.Forms.{role_of_form}
-use Rattle.wb_model.specs.language.Grammar.{IsGrammatical}
-use Rattle.wb_model.specs.language.Names.{nothing_known, known_after, count_among, items_of, literals_of}
-use Rattle.wb_model.specs.language.Resolved.{resolved_line, item_referent}
-use Rattle.wb_model.specs.language.Scripts.{main_of, procedure_referent}
-use Rattle.wb_model.specs.meaning.Quiet.{is_quiet}
-use Rattle.wb_model.specs.language.Sound.{Declared, is_literal_text, is_sound_script}
-use Rattle.wb_model.specs.language.Trees.{counted_from}
+use Rattle.wb_tree.specs.declared.script_lines.ItemKind.TheVariants as item
+use Rattle.wb_language.specs.Forms.{role_of_form}
+use Rattle.wb_language.specs.Grammar.{IsGrammatical}
+use Rattle.wb_language.specs.Names.{nothing_known, known_after, count_among, items_of, literals_of}
+use Rattle.wb_language.specs.Resolved.{resolved_line, item_referent}
+use Rattle.wb_language.specs.Scripts.{main_of, procedure_referent}
+use Rattle.wb_tree.specs.Quiet.{is_quiet}
+use Rattle.wb_tree.specs.Sound.{Declared, is_literal_text, is_sound_script}
+use Rattle.wb_language.specs.Trees.{counted_from}
 use Rattle.wb_script.specs.Building.{AllFit, counts_of}
 use Rattle.wb_script.specs.Checks.{AreChecked, IsFirstFault}
 use Rattle.wb_lines.specs.BytesOf.{bytes_of_text, bytes_of_texts, bytes_of_form, bytes_of_forms}

@@ -1,7 +1,7 @@
 use Rattle.std.proofs.Common.{List, ◌∙◌, sym, subst}
 use Rattle.std.specs.Prelude.{IfOk, MatchOption}
-use Rattle.wb_model.specs.declared.script_lines.Role.{Role}
-use Rattle.wb_model.specs.language.Grammar.{IsGrammatical, IsFirstMisfit}
+use Rattle.wb_tree.specs.declared.script_lines.Role.{Role}
+use Rattle.wb_language.specs.Grammar.{IsGrammatical, IsFirstMisfit}
 use Rattle.wb_lines.specs.BytesOf.{bytes_of_text}
 use Rattle.wb_script.proofs.names.ReadLemmas.{roles-renamed}
 use Rattle.wb_script.proofs.reading.misfit.Goals as goal

@@ -1,7 +1,7 @@
 use Rattle.std.proofs.Common.{◌∙◌, sym, ap, subst, length, arith}
 use Rattle.std.proofs.lemmas.List.{length-map}
-use Rattle.wb_model.specs.language.Forms.{forms_of}
-use Rattle.wb_model.specs.language.Lines.{lines_of}
+use Rattle.wb_language.specs.Forms.{forms_of}
+use Rattle.wb_language.specs.Lines.{lines_of}
 use Rattle.wb_lines.specs.BytesOf.{bytes_of_texts, bytes_of_forms}
 use Rattle.wb_lines.specs.Typed.{AreTyped}
 use Rattle.wb_lines.proofs.Cuts.{lines_within}

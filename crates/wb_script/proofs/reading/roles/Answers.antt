@@ -1,6 +1,6 @@
 use Rattle.std.proofs.Common.{ap, map, sym}
 use Rattle.std.proofs.lemmas.List.{take_all}
-use Rattle.wb_model.specs.language.Forms.{role_of_form}
+use Rattle.wb_language.specs.Forms.{role_of_form}
 use Rattle.wb_script.proofs.lists.Passes.{map_more}
 use Rattle.wb_script.proofs.reading.roles.Goals as goal
 

@@ -1,6 +1,6 @@
 use Rattle.std.proofs.Common.{IsTrue, ◌++◌, sym, ap, subst, ◌∙◌, Some}
-use Rattle.wb_model.specs.declared.script_lines.Form.TheVariants.{Line}
-use Rattle.wb_model.specs.language.LineKinds.{role_of}
+use Rattle.wb_tree.specs.declared.script_lines.Form.TheVariants.{Line}
+use Rattle.wb_language.specs.LineKinds.{role_of}
 use Rattle.wb_script.specs.declared.tree.bodies.BodyProgress.TheVariants.{Inside}
 use Rattle.wb_script.specs.Building.{fits, block_stack_places}
 use Rattle.wb_script.specs.Growing.{AddsWhereFit, Grows, counts_owned, declared_in_space, in_body, owner_places}

@@ -1,6 +1,6 @@
 use Rattle.std.proofs.Common.{sym, subst}
 use Rattle.std.specs.Prelude.{IfOk}
-use Rattle.wb_model.specs.declared.script_lines.Form.TheVariants.{Line}
+use Rattle.wb_tree.specs.declared.script_lines.Form.TheVariants.{Line}
 use Rattle.wb_script.specs.Growing.{GrowsWhereFit, declared_in_space, in_class}
 use Rattle.wb_script.proofs.tree.add_line.Goals as goal
 

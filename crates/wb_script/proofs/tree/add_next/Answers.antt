@@ -1,7 +1,7 @@
 use Rattle.std.proofs.Common.{◌≡◌, sym, ap, subst}
 use Rattle.std.specs.Prelude.{IfOk}
-use Rattle.wb_model.specs.declared.script_lines.Form.TheVariants.{Line}
-use Rattle.wb_model.specs.language.Trees.{Indexed}
+use Rattle.wb_tree.specs.declared.script_lines.Form.TheVariants.{Line}
+use Rattle.wb_language.specs.Trees.{Indexed}
 use Rattle.wb_script.specs.declared.tree.whole.Stage.{Stage}
 use Rattle.wb_script.specs.declared.tree.whole.Stage.TheVariants.{InBody}
 use Rattle.wb_script.specs.ResolvedLines.{form_of}

@@ -1,5 +1,5 @@
 use Rattle.std.proofs.Common.{◌≤◌, List, ℕ, IsTrue, length, sym, ap, subst, ◌∙◌}
-use Rattle.wb_model.specs.declared.limits.TheConstants.{MOST_CLASSES}
+use Rattle.wb_basics.specs.declared.limits.TheConstants.{MOST_CLASSES}
 use Rattle.wb_script.specs.BytesOf.{bytes_of_items, declared_by, fields_among}
 use Rattle.wb_script.proofs.counts.FewCounts.{are_small, few_counted, few_declared}
 use Rattle.wb_script.proofs.tree.bodies_of.Goals as goal

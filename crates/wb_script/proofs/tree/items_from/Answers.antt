@@ -1,6 +1,6 @@
 use Rattle.std.proofs.Common.{◌∙◌, sym, ap, subst, map, take, append-nil, ◌++◌, ◌+◌, IsTrue}
-use Rattle.wb_model.specs.language.Forms.{role_of_form}
-use Rattle.wb_model.specs.language.Trees.{all_lines, counted, counted_from}
+use Rattle.wb_language.specs.Forms.{role_of_form}
+use Rattle.wb_language.specs.Trees.{all_lines, counted, counted_from}
 use Rattle.wb_script.specs.Building.{Counts, counts_of, fits}
 use Rattle.wb_script.specs.Growing.{AreCounts, AreCountsWhere, GrowsWhereFit, building_places, declared_in_space, if_added, items_in_order, stage_lines}
 use Rattle.wb_script.specs.ResolvedLines.{form_of}

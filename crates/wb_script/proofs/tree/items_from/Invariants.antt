@@ -1,6 +1,6 @@
 use Rattle.std.proofs.Common.{◌≡◌, ◌+◌, map, take, Some}
-use Rattle.wb_model.specs.language.Forms.{role_of_form}
-use Rattle.wb_model.specs.language.Trees.{counted_from}
+use Rattle.wb_language.specs.Forms.{role_of_form}
+use Rattle.wb_language.specs.Trees.{counted_from}
 use Rattle.wb_script.specs.Building.{counts_of}
 use Rattle.wb_script.specs.Growing.{AreCounts, IsBelow, IsSound, building_lines, building_places, declared_in_space}
 use Rattle.wb_nesting.proofs.Misfits.{blocks_after}

@@ -1,11 +1,11 @@
 //! The operands of a line, by how many there are.
 
 ghost use Rattle.std.specs.Prelude.{◌≡◌, [], ◌∷◌, ℕ, false, MatchOption};
-ghost use Rattle.wb_model.specs.declared.script_lines.OperandPlace as model;
-ghost use Rattle.wb_model.specs.language.Sound.{Scope};
+ghost use Rattle.wb_tree.specs.declared.script_lines.OperandPlace as model;
+ghost use Rattle.wb_tree.specs.Sound.{Scope};
 ghost use Rattle.wb_script.specs.Fitting.{operand_places_fit};
 
-use wb_model::script_lines::{Operand, Referent};
+use wb_tree::script_lines::{Operand, Referent};
 
 /// The operand, if there is just one; `None` otherwise.
 pub(crate) fn one<'o>(operands: &'o [Operand<Referent>]) -> Option<&'o Operand<Referent>>

@@ -1,21 +1,21 @@
 //! What the operands of a line spell, in the body that the line is in: pointers, numbers, texts and classes.
 
 ghost use Rattle.std.specs.Prelude.{◌≡◌, ◌<◌, length, nat_lt, slice_get, false, IfSome, IsSome, IsTrue, MatchOption};
-ghost use Rattle.wb_model.specs.declared.script.Pointer.TheVariants as P;
-ghost use Rattle.wb_model.specs.declared.limits.TheConstants.{MOST_LOCALS};
-ghost use Rattle.wb_model.specs.declared.script_lines.LineKind.TheVariants as line_kind;
-ghost use Rattle.wb_model.specs.declared.script_lines.OperandPlace.TheVariants as operand_place;
-ghost use Rattle.wb_model.specs.language.Sound.{is_pointer, is_target, is_variable, is_number, is_view, is_writable};
-ghost use Rattle.wb_model.specs.language.Sound.{is_readable};
-ghost use Rattle.wb_model.specs.language.Trees.{class_operand, pointer_operand, variable_operand, number_operand};
-ghost use Rattle.wb_model.specs.language.Trees.{view_operand, writable_operand, text_operand, set_line_kind};
+ghost use Rattle.wb_tree.specs.declared.script.Pointer.TheVariants as P;
+ghost use Rattle.wb_basics.specs.declared.limits.TheConstants.{MOST_LOCALS};
+ghost use Rattle.wb_tree.specs.declared.script_lines.LineKind.TheVariants as line_kind;
+ghost use Rattle.wb_tree.specs.declared.script_lines.OperandPlace.TheVariants as operand_place;
+ghost use Rattle.wb_tree.specs.Sound.{is_pointer, is_target, is_variable, is_number, is_view, is_writable};
+ghost use Rattle.wb_tree.specs.Sound.{is_readable};
+ghost use Rattle.wb_tree.specs.Spellings.{class_operand, pointer_operand, variable_operand, number_operand};
+ghost use Rattle.wb_tree.specs.Spellings.{view_operand, writable_operand, text_operand, set_line_kind};
 ghost use Rattle.wb_script.specs.Fitting.{IsSpelled};
 ghost use Rattle.wb_script.specs.Stated.{IsFieldOf, IsHolderOf, IsPointerLocal, IsReceiver, scope_in};
 
 use crate::tree::scope::Scope;
-use wb_model::limits::NINE_DIGITS;
-use wb_model::script::{Holder, Local, Number, Pointer, Readable, Writable};
-use wb_model::script_lines::{Operand, Referent};
+use wb_basics::limits::NINE_DIGITS;
+use wb_tree::script::{Holder, Local, Number, Pointer, Readable, Writable};
+use wb_tree::script_lines::{Operand, Referent};
 
 impl<'a> Scope<'a> {
     /// The local with an index; `None` if there is no such local.
@@ -56,7 +56,7 @@ impl<'a> Scope<'a> {
     /// The class of `self`, or the one with which a local is declared; `None` if it has no class.
     fn class_of_holder(&self, holder: Holder) -> Option<u16>
         ensures { result
-            ≡ Rattle.wb_model.specs.language.Sound.class_of_holder (scope_in self.now) holder }
+            ≡ Rattle.wb_tree.specs.Sound.class_of_holder (scope_in self.now) holder }
     {
         match holder {
             Holder::Local(index) => match self.local(index as usize) {

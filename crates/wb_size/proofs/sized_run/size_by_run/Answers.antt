@@ -1,5 +1,5 @@
 use Rattle.std.proofs.Common.{ap}
-use Rattle.wb_model.specs.declared.run.RisesResult.{RisesResult}
+use Rattle.wb_meaning.specs.declared.run.RisesResult.{RisesResult}
 use Rattle.wb_size.proofs.Sized.{sized}
 use Rattle.wb_size.proofs.sized_run.size_by_run.Goals as goal
 

@@ -1,6 +1,6 @@
 -- What is left of both lists tells.
 use Rattle.std.proofs.Common.{◌≡◌, length}
-use Rattle.wb_model.specs.runs.Sets.{has_lesser_number}
+use Rattle.wb_runs.specs.Sets.{has_lesser_number}
 use Rattle.wb_states.proofs.order.has_lesser.Given as goal
 
 abbrev pub invariant-loop-left : goal.invariant-loop-left

@@ -1,9 +1,9 @@
 -- Proof: find_first. The run of the first bad number is made once more.
 use Rattle.std.proofs.Common.{rules, ◌≡◌, Some, ap, ◌∙◌}
-use Rattle.wb_model.specs.declared.heap.Rule.{Rule}
-use Rattle.wb_model.specs.runs.AllNumbers.{first_bad}
-use Rattle.wb_model.specs.runs.Run.{run}
-use Rattle.wb_model.specs.runs.Sweeps.{rule_for}
+use Rattle.wb_heap_model.specs.declared.heap.Rule.{Rule}
+use Rattle.wb_runs.specs.AllNumbers.{first_bad}
+use Rattle.wb_meaning.specs.Run.{run}
+use Rattle.wb_runs.specs.Sweeps.{rule_for}
 use Rattle.wb_sweep.proofs.all_numbers.find_first.Goals as goal
 
 pub returns-clause-found : goal.returns-clause-found

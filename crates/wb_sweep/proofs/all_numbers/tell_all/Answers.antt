@@ -1,15 +1,15 @@
 -- Proof: tell_all. What is told is of the numbers of the part, and what is found is the least bad one.
 use Rattle.std.proofs.Common.{rules, ◌≡◌, ◌≢◌, ◌++◌, false, Err, length, ap, ◌∙◌, sym, subst}
 use Rattle.std.proofs.lemmas.Bool.{true≢false}
-use Rattle.wb_model.specs.declared.heap.Rule.{Rule}
-use Rattle.wb_model.specs.declared.run.Outcome.TheVariants as outcomes
-use Rattle.wb_model.specs.declared.run.RunResult.{RunResult}
-use Rattle.wb_model.specs.declared.run.Why.TheVariants.{Ceiling}
-use Rattle.wb_model.specs.runs.Run.{run}
-use Rattle.wb_model.specs.runs.RunEnds.{end_of}
-use Rattle.wb_model.specs.runs.Sweeps.{is_cut_outcome, rule_for, rule_of, runs_of}
-use Rattle.wb_model.proofs.runs.SameRuns.{past_the_last}
-use Rattle.wb_model.proofs.runs.TraceLemmas.{run-numbered}
+use Rattle.wb_heap_model.specs.declared.heap.Rule.{Rule}
+use Rattle.wb_meaning.specs.declared.run.Outcome.TheVariants as outcomes
+use Rattle.wb_meaning.specs.declared.run.RunResult.{RunResult}
+use Rattle.wb_meaning.specs.declared.run.Why.TheVariants.{Ceiling}
+use Rattle.wb_meaning.specs.Run.{run}
+use Rattle.wb_runs.specs.RunEnds.{end_of}
+use Rattle.wb_runs.specs.Sweeps.{is_cut_outcome, rule_for, rule_of, runs_of}
+use Rattle.wb_runs.proofs.SameRuns.{past_the_last}
+use Rattle.wb_meaning.proofs.TraceLemmas.{run-numbered}
 use Rattle.wb_sweep.specs.declared.fault.SweepFault.TheVariants.{Cut}
 use Rattle.wb_sweep.specs.AllOfAPart.{line_of}
 use Rattle.wb_sweep.specs.Sweeping.{IsNumbered}

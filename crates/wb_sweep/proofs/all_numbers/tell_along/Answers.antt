@@ -1,12 +1,12 @@
 -- Proof: tell_along. What is told as the lead goes on is of the numbers up to the attempts that it has made.
 use Rattle.std.proofs.Common.{◌≡◌, ◌+◌, ◌-◌, ◌≤◌, ◌++◌, ℕ, true, arith, length, sym, ap, ◌∙◌, IfSome}
-use Rattle.wb_model.specs.declared.heap.Rule.{Rule}
-use Rattle.wb_model.specs.declared.heap.Shape.{Shape}
-use Rattle.wb_model.specs.declared.run.RunResult.{RunResult}
-use Rattle.wb_model.specs.declared.script.Script.{Script}
-use Rattle.wb_model.specs.runs.Run.{run}
-use Rattle.wb_model.specs.runs.RunEnds.{end_of}
-use Rattle.wb_model.specs.runs.Sweeps.{rule_of, runs_of}
+use Rattle.wb_heap_model.specs.declared.heap.Rule.{Rule}
+use Rattle.wb_heap_model.specs.declared.heap.Shape.{Shape}
+use Rattle.wb_meaning.specs.declared.run.RunResult.{RunResult}
+use Rattle.wb_tree.specs.declared.script.Script.{Script}
+use Rattle.wb_meaning.specs.Run.{run}
+use Rattle.wb_runs.specs.RunEnds.{end_of}
+use Rattle.wb_runs.specs.Sweeps.{rule_of, runs_of}
 use Rattle.wb_sweep.specs.AllOfAPart.{line_of, listed_numbers}
 use Rattle.wb_sweep.specs.Meetings.{IsAhead}
 use Rattle.wb_sweep.proofs.Further.{IsOfSameRun, of-same, same-runs, to-same}

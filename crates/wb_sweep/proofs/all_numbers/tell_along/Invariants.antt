@@ -1,5 +1,5 @@
 use Rattle.std.proofs.Common.{◌≡◌, ◌+◌, ◌-◌, ◌≤◌, false, true, cond, IfSome}
-use Rattle.wb_model.specs.runs.Sweeps.{rule_of, runs_of}
+use Rattle.wb_runs.specs.Sweeps.{rule_of, runs_of}
 use Rattle.wb_sweep.specs.Meetings.{IsAhead}
 use Rattle.wb_sweep.specs.AllOfAPart.{listed_numbers}
 use Rattle.wb_sweep.proofs.all_numbers.tell_along.Given as goal

@@ -2,9 +2,9 @@
 use Rattle.std.proofs.Common.{◌≡◌, ◌+◌, ◌-◌, ◌≤◌, ℕ, arith, min, ap, ◌∙◌, sym, subst}
 use Rattle.std.proofs.Math.Nat.{min-le_right}
 use Rattle.wb_machine.specs.Seen.{Seen}
-use Rattle.wb_model.specs.runs.Parts.{last_attempt}
-use Rattle.wb_model.specs.runs.RunEnds.{end_of}
-use Rattle.wb_model.specs.runs.Sweeps.{runs_of}
+use Rattle.wb_runs.specs.Parts.{last_attempt}
+use Rattle.wb_runs.specs.RunEnds.{end_of}
+use Rattle.wb_runs.specs.Sweeps.{runs_of}
 use Rattle.wb_sweep.specs.AllOfAPart.{listed_numbers}
 use Rattle.wb_sweep.proofs.all_numbers.tell_later.Goals as goal
 

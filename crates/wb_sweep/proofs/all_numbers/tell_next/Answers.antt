@@ -1,7 +1,7 @@
 -- Proof: tell_next. What is told is by the end of the fork's run.
 use Rattle.std.proofs.Common.{◌≡◌, ◌+◌, ◌++◌, ap, sym, ◌∙◌}
-use Rattle.wb_model.specs.runs.RunEnds.{end_of}
-use Rattle.wb_model.specs.runs.Sweeps.{runs_of}
+use Rattle.wb_runs.specs.RunEnds.{end_of}
+use Rattle.wb_runs.specs.Sweeps.{runs_of}
 use Rattle.wb_sweep.specs.AllOfAPart.{line_if_told, line_of}
 use Rattle.wb_sweep.proofs.AnswerLemmas.{map_ok}
 use Rattle.wb_sweep.proofs.TellLemmas.{line_by_end}

@@ -1,6 +1,6 @@
 -- Proof: search_every_set. What the search over states says where it gives up is what the sweep says.
 use Rattle.std.proofs.Common.{rules, ◌≡◌, ℕ, ◌≤◌, Ok, subst}
-use Rattle.wb_model.specs.runs.SetParts.{IsNoSetIn}
+use Rattle.wb_runs.specs.SetParts.{IsNoSetIn}
 use Rattle.wb_states.specs.declared.searching.Searched.TheVariants as found
 use Rattle.wb_sweep.proofs.every_set.search_every_set.Goals as goal
 

@@ -1,9 +1,9 @@
 -- Proof: follow_next. The fork's rule refuses of the attempts made so far what the lead's does.
 use Rattle.std.proofs.Common.{◌+◌, ap, ◌∙◌, sym, subst}
-use Rattle.wb_model.specs.declared.heap.Rule.{Rule}
-use Rattle.wb_model.specs.runs.Rest.{SameSoFar}
-use Rattle.wb_model.specs.runs.Sweeps.{failing_at, rule_for, rule_of}
-use Rattle.wb_model.proofs.heaps.RuleLemmas.{failures-fit}
+use Rattle.wb_heap_model.specs.declared.heap.Rule.{Rule}
+use Rattle.wb_heap_model.specs.SameRules.{SameSoFar}
+use Rattle.wb_runs.specs.Sweeps.{failing_at, rule_for, rule_of}
+use Rattle.wb_runs.proofs.FailureRules.{failures-fit}
 use Rattle.wb_sweep.proofs.followed.follow_next.Goals as goal
 
 pub fork_under-requires-clause-same : goal.fork_under-requires-clause-same

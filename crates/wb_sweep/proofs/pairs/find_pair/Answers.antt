@@ -1,11 +1,11 @@
 -- Proof: find_pair. The least set of at most two attempts is the least pair, since no single failure shows anything.
 use Rattle.std.proofs.Common.{rules, ◌≡◌, Err, ap, ◌∙◌, sym, subst}
-use Rattle.wb_model.specs.declared.failures.Failing.{Failing}
-use Rattle.wb_model.specs.declared.failures.Failures.TheVariants.{Pairs}
-use Rattle.wb_model.specs.declared.run.RunResult.{RunResult}
-use Rattle.wb_model.specs.runs.Parts.{IsFoundIn, IsLeastCutIn}
-use Rattle.wb_model.specs.runs.SetParts.{IsSetFoundIn}
-use Rattle.wb_model.proofs.runs.FewSets.{paired-none, single-none}
+use Rattle.wb_runs.specs.declared.failures.Failing.{Failing}
+use Rattle.wb_runs.specs.declared.failures.Failures.TheVariants.{Pairs}
+use Rattle.wb_meaning.specs.declared.run.RunResult.{RunResult}
+use Rattle.wb_runs.specs.Parts.{IsFoundIn, IsLeastCutIn}
+use Rattle.wb_runs.specs.SetParts.{IsSetFoundIn}
+use Rattle.wb_runs.proofs.FewSets.{paired-none, single-none}
 use Rattle.wb_sweep.specs.declared.fault.SweepFault.TheVariants.{Cut}
 use Rattle.wb_sweep.specs.PairSets.{failure_of}
 use Rattle.wb_sweep.proofs.PairSets.{cut-is-cut, pair-cut, pair-found}

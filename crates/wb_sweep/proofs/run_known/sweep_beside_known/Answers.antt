@@ -1,8 +1,8 @@
 -- Proof: sweep_beside_known. A part from number 0 on to the greatest number there is has all failures.
 use Rattle.std.proofs.Common.{rules, ◌≡◌, ◌≤◌, arith, inr, refl, Err}
-use Rattle.wb_model.specs.declared.part.Part.{Part}
-use Rattle.wb_model.specs.runs.Parts.{last_attempt}
-use Rattle.wb_model.proofs.runs.PartAnswers.{whole-cut, whole-found, whole-none}
+use Rattle.wb_runs.specs.declared.part.Part.{Part}
+use Rattle.wb_runs.specs.Parts.{last_attempt}
+use Rattle.wb_runs.proofs.PartAnswers.{whole-cut, whole-found, whole-none}
 use Rattle.wb_sweep.specs.declared.fault.SweepFault.TheVariants.{Cut}
 use Rattle.wb_sweep.proofs.AnswerLemmas.{map_some}
 use Rattle.wb_sweep.proofs.run_known.sweep_beside_known.Goals as goal

@@ -1,9 +1,9 @@
 -- Proof: find_least_set. What single numbers show, the sets of at most one number do.
 use Rattle.std.proofs.Common.{rules, ◌≡◌, ◌+◌, ◌≤◌, Err, None, ap, ◌∙◌, subst, sym}
-use Rattle.wb_model.specs.declared.failures.Failures.TheVariants.{Single}
-use Rattle.wb_model.specs.declared.run.RunResult.{RunResult}
-use Rattle.wb_model.specs.runs.Parts.{IsFoundIn}
-use Rattle.wb_model.proofs.runs.FewSets.{single-cut, single-found, single-none}
+use Rattle.wb_runs.specs.declared.failures.Failures.TheVariants.{Single}
+use Rattle.wb_meaning.specs.declared.run.RunResult.{RunResult}
+use Rattle.wb_runs.specs.Parts.{IsFoundIn}
+use Rattle.wb_runs.proofs.FewSets.{single-cut, single-found, single-none}
 use Rattle.wb_sweep.specs.declared.set_answer.SetFault.TheVariants.{Cut}
 use Rattle.wb_sweep.proofs.SetPartLemmas.{any-cut-weaker, found-weaker}
 use Rattle.wb_sweep.proofs.set_sweep.find_least_set.Goals as goal

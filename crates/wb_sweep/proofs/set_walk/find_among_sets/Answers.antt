@@ -1,15 +1,15 @@
 -- Proof: find_among_sets. What is found with one first number is the least set of the part, since those with a lesser one are fine.
 use Rattle.std.proofs.Common.{rules, ◌≡◌, ◌+◌, ◌-◌, ◌≤◌, ℕ, List, [], Err, arith, false, length, min, sym, subst, true, ap, ◌∙◌}
-use Rattle.wb_model.specs.declared.failures.Failures.TheVariants.{Single}
+use Rattle.wb_runs.specs.declared.failures.Failures.TheVariants.{Single}
 use Rattle.std.proofs.Math.Nat.{min-le_right}
-use Rattle.wb_model.specs.declared.heap.Rule.{Rule}
-use Rattle.wb_model.specs.declared.heap.Shape.{Shape}
-use Rattle.wb_model.specs.declared.run.RunResult.{RunResult}
-use Rattle.wb_model.specs.declared.script.Script.{Script}
-use Rattle.wb_model.specs.runs.Parts.{last_attempt, IsNumberOf}
-use Rattle.wb_model.specs.runs.Run.{run}
-use Rattle.wb_model.specs.runs.Sets.{set_run}
-use Rattle.wb_model.proofs.runs.SetLemmas.{none-fails}
+use Rattle.wb_heap_model.specs.declared.heap.Rule.{Rule}
+use Rattle.wb_heap_model.specs.declared.heap.Shape.{Shape}
+use Rattle.wb_meaning.specs.declared.run.RunResult.{RunResult}
+use Rattle.wb_tree.specs.declared.script.Script.{Script}
+use Rattle.wb_runs.specs.Parts.{last_attempt, IsNumberOf}
+use Rattle.wb_meaning.specs.Run.{run}
+use Rattle.wb_runs.specs.Sets.{set_run}
+use Rattle.wb_runs.proofs.SetLemmas.{none-fails}
 use Rattle.wb_sweep.specs.declared.set_answer.SetFault.TheVariants.{Cut}
 use Rattle.wb_sweep.specs.SetSearch.{AreFewerFineWith, AreFineWith, IsCutWith, IsFoundWith}
 use Rattle.wb_sweep.proofs.AnswerLemmas.{map_some, nothing}

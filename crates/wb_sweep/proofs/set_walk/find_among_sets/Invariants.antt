@@ -1,6 +1,6 @@
 use Rattle.std.proofs.Common.{◌≡◌, ◌+◌, ◌-◌, ◌≤◌, [], false, cond}
-use Rattle.wb_model.specs.declared.heap.Rule.TheVariants as rules
-use Rattle.wb_model.specs.runs.Sets.{set_run}
+use Rattle.wb_heap_model.specs.declared.heap.Rule.TheVariants as rules
+use Rattle.wb_runs.specs.Sets.{set_run}
 use Rattle.wb_sweep.proofs.SetSearchLemmas.{AreFineUpTo}
 use Rattle.wb_sweep.proofs.set_walk.find_among_sets.Given as goal
 

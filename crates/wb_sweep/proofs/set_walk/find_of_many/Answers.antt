@@ -1,8 +1,8 @@
 -- Proof: find_of_many. The lead is of the script, the budget and the shape that are given.
 use Rattle.std.proofs.Common.{◌≡◌, ◌+◌, ℕ, List, Err, None, IfOk, IfSome, sym, subst}
 use Rattle.wb_machine.specs.Seen.{Seen}
-use Rattle.wb_model.specs.declared.run.Why.{Why}
-use Rattle.wb_model.specs.runs.SetParts.{AreSetsFineIn, IsLeastCutSetIn, IsSetFoundIn}
+use Rattle.wb_meaning.specs.declared.run.Why.{Why}
+use Rattle.wb_runs.specs.SetParts.{AreSetsFineIn, IsLeastCutSetIn, IsSetFoundIn}
 use Rattle.wb_sweep.specs.declared.set_answer.SetFault.TheVariants.{Cut}
 use Rattle.wb_sweep.proofs.set_walk.find_of_many.Goals as goal
 

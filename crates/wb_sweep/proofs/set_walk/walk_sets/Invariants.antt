@@ -1,5 +1,5 @@
 use Rattle.std.proofs.Common.{◌≤◌}
-use Rattle.wb_model.specs.runs.SetParts.{AreSetsFineIn}
+use Rattle.wb_runs.specs.SetParts.{AreSetsFineIn}
 use Rattle.wb_sweep.proofs.set_walk.walk_sets.Given as goal
 
 -- the sets with so many numbers are fine

@@ -1,9 +1,9 @@
 -- Proof: find_along, find_next and find_with. What is found among the sets with one more number is the least, since those with a lesser one are fine.
 use Rattle.std.proofs.Common.{rules, ◌≡◌, ◌+◌, ◌-◌, ◌<◌, ℕ, List, Err, false, arith, length, sym, subst, ◌∙◌}
 use Rattle.std.proofs.lemmas.Bool.{true≢false}
-use Rattle.wb_model.specs.declared.heap.Shape.{Shape}
-use Rattle.wb_model.specs.declared.script.Script.{Script}
-use Rattle.wb_model.specs.runs.Sets.{set_run}
+use Rattle.wb_heap_model.specs.declared.heap.Shape.{Shape}
+use Rattle.wb_tree.specs.declared.script.Script.{Script}
+use Rattle.wb_runs.specs.Sets.{set_run}
 use Rattle.wb_sweep.specs.declared.set_answer.SetFault.TheVariants.{Cut}
 use Rattle.wb_sweep.specs.SetSearch.{AreFewerFine, AreFine, IsCutAfter, IsCutWith, IsFoundAfter, IsFoundWith}
 use Rattle.wb_sweep.proofs.AnswerLemmas.{map_ok, map_some}

@@ -1,7 +1,7 @@
 -- Proof: last_under. The lines of the run are numbered.
 use Rattle.std.proofs.Common.{ap, sym, subst, ◌∙◌}
-use Rattle.wb_model.specs.declared.run.RunResult.{RunResult}
-use Rattle.wb_model.proofs.runs.TraceLemmas.{run-numbered}
+use Rattle.wb_meaning.specs.declared.run.RunResult.{RunResult}
+use Rattle.wb_meaning.proofs.TraceLemmas.{run-numbered}
 use Rattle.wb_sweep.specs.Sweeping.{IsNumbered}
 use Rattle.wb_sweep.proofs.sets.last_under.Goals as goal
 

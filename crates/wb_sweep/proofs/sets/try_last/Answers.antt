@@ -1,12 +1,12 @@
 -- Proof: try_last. The copy comes to the run in which the set's attempts and this one fail.
 use Rattle.std.proofs.Common.{◌≡◌, ℕ, List, [], ◌∷◌, ◌++◌, ◌∙◌, ap, subst, sym}
-use Rattle.wb_model.specs.declared.heap.Rule.{Rule}
-use Rattle.wb_model.specs.declared.heap.Rule.TheVariants.{Set}
-use Rattle.wb_model.specs.declared.run.RunResult.{RunResult}
-use Rattle.wb_model.specs.declared.run.Outcome.TheVariants as outcomes
-use Rattle.wb_model.specs.runs.Run.{run}
-use Rattle.wb_model.specs.runs.Sets.{set_run}
-use Rattle.wb_model.specs.runs.Sweeps.{is_fine}
+use Rattle.wb_heap_model.specs.declared.heap.Rule.{Rule}
+use Rattle.wb_heap_model.specs.declared.heap.Rule.TheVariants.{Set}
+use Rattle.wb_meaning.specs.declared.run.RunResult.{RunResult}
+use Rattle.wb_meaning.specs.declared.run.Outcome.TheVariants as outcomes
+use Rattle.wb_meaning.specs.Run.{run}
+use Rattle.wb_runs.specs.Sets.{set_run}
+use Rattle.wb_runs.specs.Sweeps.{is_fine}
 use Rattle.wb_sweep.specs.declared.set_answer.SetFault.TheVariants.{Cut}
 use Rattle.wb_sweep.specs.SetSearch.{IsBadSet}
 use Rattle.wb_sweep.proofs.AnswerLemmas.{map_ok, map_some}

@@ -1,8 +1,8 @@
 -- Proof: find_later. Where no number of the part shows anything there is nothing, but for pairs, which come next.
 use Rattle.std.proofs.Common.{rules, ◌≡◌, Err, None, IfOk, subst, sym, ◌∙◌}
-use Rattle.wb_model.specs.declared.failures.Failures.{Failures}
-use Rattle.wb_model.specs.runs.Parts.{last_attempt, IsLeastCutIn, IsNoneIn, IsUncut}
-use Rattle.wb_model.specs.runs.Sweeps.{runs_of}
+use Rattle.wb_runs.specs.declared.failures.Failures.{Failures}
+use Rattle.wb_runs.specs.Parts.{last_attempt, IsLeastCutIn, IsNoneIn, IsUncut}
+use Rattle.wb_runs.specs.Sweeps.{runs_of}
 use Rattle.wb_sweep.specs.declared.fault.SweepFault.TheVariants.{Cut}
 use Rattle.wb_sweep.specs.Stretches.{AreNumbersFine}
 use Rattle.wb_sweep.proofs.AnswerLemmas.{nothing}

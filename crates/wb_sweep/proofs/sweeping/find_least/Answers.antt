@@ -1,15 +1,15 @@
 use Rattle.std.proofs.Common.{rules, ◌≡◌, ◌+◌, ◌≤◌, Option, Result, Err, IfErr, inl, inr, true, length, subst, sym, ap, ◌∙◌, ℕ}
-use Rattle.wb_model.specs.declared.failures.Failures.{Failures}
-use Rattle.wb_model.specs.declared.heap.Rule.{Rule}
-use Rattle.wb_model.specs.declared.heap.Shape.{Shape}
-use Rattle.wb_model.specs.declared.run.Outcome.TheVariants as outcomes
-use Rattle.wb_model.specs.declared.run.RunResult.{RunResult}
-use Rattle.wb_model.specs.declared.run.Why.{Why}
-use Rattle.wb_model.specs.declared.script.Script.{Script}
-use Rattle.wb_model.specs.runs.Parts.{last_attempt, IsFoundIn}
-use Rattle.wb_model.specs.runs.Run.{run, is_bad}
-use Rattle.wb_model.specs.runs.Sweeps.{failing_at, rule_for, rule_of, runs_of}
-use Rattle.wb_model.proofs.runs.TraceLemmas.{run-numbered}
+use Rattle.wb_runs.specs.declared.failures.Failures.{Failures}
+use Rattle.wb_heap_model.specs.declared.heap.Rule.{Rule}
+use Rattle.wb_heap_model.specs.declared.heap.Shape.{Shape}
+use Rattle.wb_meaning.specs.declared.run.Outcome.TheVariants as outcomes
+use Rattle.wb_meaning.specs.declared.run.RunResult.{RunResult}
+use Rattle.wb_meaning.specs.declared.run.Why.{Why}
+use Rattle.wb_tree.specs.declared.script.Script.{Script}
+use Rattle.wb_runs.specs.Parts.{last_attempt, IsFoundIn}
+use Rattle.wb_meaning.specs.Run.{run, is_bad}
+use Rattle.wb_runs.specs.Sweeps.{failing_at, rule_for, rule_of, runs_of}
+use Rattle.wb_meaning.proofs.TraceLemmas.{run-numbered}
 use Rattle.wb_sweep.specs.declared.fault.SweepFault.{SweepFault}
 use Rattle.wb_sweep.specs.declared.fault.SweepFault.TheVariants.{Cut}
 use Rattle.wb_sweep.specs.declared.found.Found.{Found}

@@ -1,8 +1,8 @@
 -- Proof: sweep. A part from number 0 on to the greatest number there is has all failures.
 use Rattle.std.proofs.Common.{◌≤◌, ◌+◌, arith, refl}
-use Rattle.wb_model.specs.declared.part.Part.{Part}
-use Rattle.wb_model.specs.runs.Parts.{last_attempt}
-use Rattle.wb_model.proofs.runs.PartAnswers.{whole-cut, whole-found, whole-none}
+use Rattle.wb_runs.specs.declared.part.Part.{Part}
+use Rattle.wb_runs.specs.Parts.{last_attempt}
+use Rattle.wb_runs.proofs.PartAnswers.{whole-cut, whole-found, whole-none}
 use Rattle.wb_sweep.specs.Sweeping.{IsSweepIn}
 use Rattle.wb_sweep.proofs.AnswerLemmas.{both_ok, map_ok, map_some}
 use Rattle.wb_sweep.proofs.sweeping.sweep.Goals as goal

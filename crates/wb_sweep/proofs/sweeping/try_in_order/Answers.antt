@@ -1,8 +1,8 @@
 -- Proof: try_in_order. What is found along the lead is so of the part.
 use Rattle.std.proofs.Common.{◌≡◌, true, arith, min, ap, ◌∙◌, subst}
 use Rattle.std.proofs.Math.Nat.{min-le_right}
-use Rattle.wb_model.specs.runs.Parts.{last_attempt}
-use Rattle.wb_model.specs.runs.Sweeps.{is_fine, runs_of}
+use Rattle.wb_runs.specs.Parts.{last_attempt}
+use Rattle.wb_runs.specs.Sweeps.{is_fine, runs_of}
 use Rattle.wb_sweep.proofs.AnswerLemmas.{map_ok, map_some}
 use Rattle.wb_sweep.proofs.PartFound.{cut-of-part, fine-of-part, found-of-part}
 use Rattle.wb_sweep.proofs.sweeping.try_in_order.Goals as goal

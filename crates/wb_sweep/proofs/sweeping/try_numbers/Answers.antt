@@ -1,10 +1,10 @@
 -- Proof: try_numbers. The lead is the run without failure at its start.
 use Rattle.std.proofs.Common.{rules, ◌≡◌, true, Err, None, Some, IfOk, IfSome, ap, ◌∙◌, sym, subst}
 use Rattle.wb_machine.specs.Seen.{Seen}
-use Rattle.wb_model.specs.declared.failures.Failing.{Failing}
-use Rattle.wb_model.specs.declared.run.Why.{Why}
-use Rattle.wb_model.specs.runs.Parts.{last_attempt, IsFoundIn, IsLeastCutIn}
-use Rattle.wb_model.specs.runs.Sweeps.{is_fine, rule_for, rule_of, runs_of}
+use Rattle.wb_runs.specs.declared.failures.Failing.{Failing}
+use Rattle.wb_meaning.specs.declared.run.Why.{Why}
+use Rattle.wb_runs.specs.Parts.{last_attempt, IsFoundIn, IsLeastCutIn}
+use Rattle.wb_runs.specs.Sweeps.{is_fine, rule_for, rule_of, runs_of}
 use Rattle.wb_sweep.specs.declared.fault.SweepFault.TheVariants.{Cut}
 use Rattle.wb_sweep.specs.Meetings.{IsFineRun, IsScout}
 use Rattle.wb_sweep.specs.Stretches.{AreNumbersFine}

@@ -1,6 +1,6 @@
 use Rattle.std.proofs.Common.{◌≡◌, ◌-◌, List, [], ◌∷◌, length, arith, Some, sym}
 use Rattle.std.specs.Prelude.{slice_get}
-use Rattle.wb_model.specs.declared.heap.Attempt.{Attempt}
+use Rattle.wb_heap_model.specs.declared.heap.Attempt.{Attempt}
 use Rattle.wb_sweep.specs.Sweeping.{IsNumbered}
 use Rattle.wb_sweep.proofs.walk.attempts_in.Goals as goal
 

@@ -1,11 +1,11 @@
 -- Proof: find_among. What is found as the lead goes on is the least, since those before are fine.
 use Rattle.std.proofs.Common.{rules, ◌≡◌, ◌⊎◌, ◌+◌, ◌≤◌, ℕ, Result, Option, Err, IfErr, IfSome, inl, inr, arith, sym, ◌∙◌, ap, subst}
-use Rattle.wb_model.specs.declared.heap.Shape.{Shape}
-use Rattle.wb_model.specs.declared.run.Outcome.TheVariants as outcomes
-use Rattle.wb_model.specs.declared.run.RunResult.{RunResult}
-use Rattle.wb_model.specs.declared.run.Why.{Why}
-use Rattle.wb_model.specs.declared.script.Script.{Script}
-use Rattle.wb_model.specs.runs.Run.{is_bad}
+use Rattle.wb_heap_model.specs.declared.heap.Shape.{Shape}
+use Rattle.wb_meaning.specs.declared.run.Outcome.TheVariants as outcomes
+use Rattle.wb_meaning.specs.declared.run.RunResult.{RunResult}
+use Rattle.wb_meaning.specs.declared.run.Why.{Why}
+use Rattle.wb_tree.specs.declared.script.Script.{Script}
+use Rattle.wb_meaning.specs.Run.{is_bad}
 use Rattle.wb_sweep.specs.declared.fault.SweepFault.{SweepFault}
 use Rattle.wb_sweep.specs.declared.fault.SweepFault.TheVariants.{Cut, NoMemory}
 use Rattle.wb_sweep.specs.declared.found.Found.{Found}

@@ -1,5 +1,5 @@
 use Rattle.std.proofs.Common.{◌≡◌, ◌+◌, ◌-◌, ◌≤◌, false, cond, IfSome}
-use Rattle.wb_model.specs.runs.Sweeps.{rule_of}
+use Rattle.wb_runs.specs.Sweeps.{rule_of}
 use Rattle.wb_sweep.specs.Beside.{runs_beside}
 use Rattle.wb_sweep.specs.Meetings.{IsScout}
 use Rattle.wb_sweep.specs.Stretches.{AreFineFrom}

@@ -1,7 +1,7 @@
 -- The units in front of a place are units, and stay so as others are appended.
 use Rattle.std.proofs.Common.{◌<◌, ◌^◌, sym, subst}
 use Rattle.std.proofs.lemmas.List.Elements.{All-take}
-use Rattle.wb_model.specs.meaning.Texts.{AreUnits}
+use Rattle.wb_heap_model.specs.Texts.{AreUnits}
 use Rattle.wb_text.proofs.buf.put_in.Goals as goal
 
 pub returns-clause-are_units : goal.returns-clause-are_units

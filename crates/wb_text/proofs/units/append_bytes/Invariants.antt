@@ -1,6 +1,6 @@
 -- So far a number of bytes were appended.
 use Rattle.std.proofs.Common.{◌≡◌, ◌++◌, take}
-use Rattle.wb_model.specs.meaning.Texts.{AreUnits}
+use Rattle.wb_heap_model.specs.Texts.{AreUnits}
 use Rattle.wb_text.proofs.units.append_bytes.Given as goal
 
 abbrev pub invariant-loop-byte : goal.invariant-loop-byte

@@ -1,5 +1,4 @@
-use Rattle.wb_worked.proofs.WorkedFaults.{declared-twice, end-alone, foreign-byte, is-undeclared, is-without-main, leaves-in-operation}
-use Rattle.wb_worked.proofs.WorkedFaults.{number-is-freed, text-too-large, too-many-bytes}
+use Rattle.wb_worked.proofs.WorkedFaults.{declared-twice, end-alone, foreign-byte, is-undeclared, is-without-main, leaves-in-operation, number-is-freed, text-too-large, too-many-bytes}
 use Rattle.wb_worked.proofs.fault_theorems.each_fault_is_met.Goals as goal
 
 pub returns : goal.returns

@@ -1,5 +1,4 @@
-use Rattle.wb_worked.proofs.WorkedRuns.{none-fails, one-fails, two-fail, three-fail, first-fails, unmade-alone, unmade-after-another, one-is-number}
-use Rattle.wb_worked.proofs.WorkedRuns.{two-are-pair, persistent-is-set, limit-is-set, numbers-ascend}
+use Rattle.wb_worked.proofs.WorkedRuns.{none-fails, one-fails, two-fail, three-fail, first-fails, unmade-alone, unmade-after-another, one-is-number, two-are-pair, persistent-is-set, limit-is-set, numbers-ascend}
 use Rattle.wb_worked.proofs.set_theorems.a_set_makes_its_attempts_fail.Goals as goal
 
 pub returns : goal.returns

@@ -1,5 +1,4 @@
-use Rattle.wb_worked.proofs.WorkedSweeps.{none-below, found-at-three, no-pair-at-three, none-past, found-at-two, no-pair-at-two, found-from-three}
-use Rattle.wb_worked.proofs.WorkedSweeps.{shorter-is-less, whole-finds-shorter}
+use Rattle.wb_worked.proofs.WorkedSweeps.{none-below, found-at-three, no-pair-at-three, none-past, found-at-two, no-pair-at-two, found-from-three, shorter-is-less, whole-finds-shorter}
 use Rattle.wb_worked.proofs.set_theorems.parts_find_their_sets.Goals as goal
 
 pub returns : goal.returns

@@ -1,5 +1,4 @@
-use Rattle.wb_worked.proofs.WorkedOrder.{empty-first, one-number, first-of-two, second-of-two, first-of-three, second-of-three, third-of-three}
-use Rattle.wb_worked.proofs.WorkedOrder.{one-before-two, two-before-three, not-before-itself, no-number-tells}
+use Rattle.wb_worked.proofs.WorkedOrder.{empty-first, one-number, first-of-two, second-of-two, first-of-three, second-of-three, third-of-three, one-before-two, two-before-three, not-before-itself, no-number-tells}
 use Rattle.wb_worked.proofs.set_theorems.sets_are_in_order.Goals as goal
 
 pub returns : goal.returns

@@ -2,7 +2,7 @@
 use Rattle.std.proofs.Common.{◌∙◌, ◌+◌, false, length, take, drop, sym, ap, arith, add-one, eq-eqb}
 use Rattle.std.proofs.lemmas.Bool.{ne_eqb}
 use Rattle.std.proofs.lemmas.List.{drop_all}
-use Rattle.wb_model.specs.language.Lines.{ends_line}
+use Rattle.wb_language.specs.Lines.{ends_line}
 use Rattle.wb_lines.proofs.FirstSegments.{last_piece, one_more, onto_all, piece_ends, to_end}
 use Rattle.workbench.proofs.JsonLemmas.{unquoted}
 use Rattle.workbench.proofs.json_report.first_line.Goals as goal

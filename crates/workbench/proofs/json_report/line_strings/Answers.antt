@@ -5,8 +5,8 @@ use Rattle.std.proofs.lemmas.List.Elements.{All-head, All-tail}
 use Rattle.serde_json.specs.Data.{array}
 use Rattle.serde_json.specs.View.{items_of, view}
 use Rattle.serde_json.proofs.Views.{view-Array}
-use Rattle.wb_model.specs.language.Lines.{lines_of}
-use Rattle.wb_model.specs.meaning.Printable.{ArePrintable}
+use Rattle.wb_language.specs.Lines.{lines_of}
+use Rattle.wb_meaning.specs.Printable.{ArePrintable}
 use Rattle.workbench.specs.Ascii.{HasPrintableLines}
 use Rattle.workbench.specs.JsonReport.{line_string}
 use Rattle.workbench.proofs.json_report.line_strings.Goals as goal

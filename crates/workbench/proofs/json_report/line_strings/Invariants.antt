@@ -1,7 +1,7 @@
 -- Proof: line_strings. The strings so far and those of the lines that are left are all of them.
 use Rattle.std.proofs.Common.{◌≡◌, ◌++◌, length, map}
 use Rattle.serde_json.specs.View.{view}
-use Rattle.wb_model.specs.language.Lines.{lines_of}
+use Rattle.wb_language.specs.Lines.{lines_of}
 use Rattle.workbench.specs.Ascii.{HasPrintableLines}
 use Rattle.workbench.specs.JsonReport.{line_string}
 use Rattle.workbench.proofs.json_report.line_strings.Given as goal

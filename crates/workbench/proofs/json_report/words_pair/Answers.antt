@@ -1,6 +1,6 @@
 -- Proof: words_pair. How a run ended is written in printable words.
 use Rattle.std.proofs.Common.{rules, ◌≡◌, subst, sym}
-use Rattle.wb_model.specs.meaning.Printable.{ArePrintable}
+use Rattle.wb_meaning.specs.Printable.{ArePrintable}
 use Rattle.workbench.specs.EndWords.{end_words}
 use Rattle.workbench.proofs.AsciiLemmas.{printable_end_words}
 use Rattle.workbench.proofs.json_report.words_pair.Goals as goal

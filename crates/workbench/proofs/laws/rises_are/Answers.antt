@@ -1,5 +1,5 @@
-use Rattle.wb_model.specs.declared.heap.Rule.TheVariants.{Unlimited}
-use Rattle.wb_model.specs.runs.Run.{run}
+use Rattle.wb_heap_model.specs.declared.heap.Rule.TheVariants.{Unlimited}
+use Rattle.wb_meaning.specs.Run.{run}
 use Rattle.workbench.proofs.RiseLemmas.{rises_in_words}
 use Rattle.workbench.proofs.laws.rises_are.Goals as goal
 

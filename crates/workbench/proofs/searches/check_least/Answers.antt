@@ -1,20 +1,20 @@
 -- Proof: check_least. The run without a limit is the run without failure, unless the ceiling cuts it.
 use Rattle.std.proofs.Common.{◌≡◌, ◌≢◌, ◌++◌, arith, inl, refl, sym, ap, ◌∙◌, ℕ, List, length}
-use Rattle.wb_model.specs.declared.failures.Failures.{Failures}
-use Rattle.wb_model.specs.declared.heap.Rule.TheVariants.{Unlimited}
-use Rattle.wb_model.specs.declared.heap.Shape.{Shape}
-use Rattle.wb_model.specs.declared.run.Outcome.TheVariants.{Cut}
-use Rattle.wb_model.specs.declared.run.RunResult.{RunResult}
-use Rattle.wb_model.specs.declared.run.Why.TheVariants.{Ceiling}
-use Rattle.wb_model.specs.declared.script.Script.{Script}
-use Rattle.wb_model.specs.runs.Agreement.{RefusesNoGrant}
-use Rattle.wb_model.specs.runs.Run.{run}
-use Rattle.wb_model.specs.runs.Sweeps.{rule_of, runs_of}
-use Rattle.wb_model.specs.runs.Traces.{end_of_attempt}
-use Rattle.wb_model.proofs.heaps.RuleLemmas.{failures-no_limit, zero-refuses_none}
-use Rattle.wb_model.proofs.runs.SameRuns.{same_run}
-use Rattle.wb_model.proofs.runs.SizeLemmas.{unlimited_least}
-use Rattle.wb_model.proofs.runs.TraceLemmas.{run-numbered}
+use Rattle.wb_runs.specs.declared.failures.Failures.{Failures}
+use Rattle.wb_heap_model.specs.declared.heap.Rule.TheVariants.{Unlimited}
+use Rattle.wb_heap_model.specs.declared.heap.Shape.{Shape}
+use Rattle.wb_meaning.specs.declared.run.Outcome.TheVariants.{Cut}
+use Rattle.wb_meaning.specs.declared.run.RunResult.{RunResult}
+use Rattle.wb_meaning.specs.declared.run.Why.TheVariants.{Ceiling}
+use Rattle.wb_tree.specs.declared.script.Script.{Script}
+use Rattle.wb_meaning.specs.Agreement.{RefusesNoGrant}
+use Rattle.wb_meaning.specs.Run.{run}
+use Rattle.wb_runs.specs.Sweeps.{rule_of, runs_of}
+use Rattle.wb_heap_model.specs.Reported.{end_of_attempt}
+use Rattle.wb_runs.proofs.FailureRules.{failures-no_limit, zero-refuses_none}
+use Rattle.wb_runs.proofs.SameRuns.{same_run}
+use Rattle.wb_runs.proofs.SizeLemmas.{unlimited_least}
+use Rattle.wb_meaning.proofs.TraceLemmas.{run-numbered}
 use Rattle.workbench.specs.TwoNumbers.{IsSized}
 use Rattle.workbench.proofs.searches.check_least.Goals as goal
 

@@ -1,9 +1,9 @@
 use Rattle.std.proofs.Common.{◌≡◌, ℕ, Result, Ok, Err, OnOk, OnErr, sym, subst}
-use Rattle.wb_model.specs.declared.heap.Gave.{Gave}
-use Rattle.wb_model.specs.declared.heap.Kind.{Kind}
-use Rattle.wb_model.specs.declared.heap.Kind.TheVariants.{Raw}
-use Rattle.wb_model.specs.declared.memory.NoMemory.{NoMemory}
-use Rattle.wb_model.specs.heap.Debug.{Debug, IsSoundDebug, alloc_made}
+use Rattle.wb_heap_model.specs.declared.heap.Gave.{Gave}
+use Rattle.wb_heap_model.specs.declared.heap.Kind.{Kind}
+use Rattle.wb_heap_model.specs.declared.heap.Kind.TheVariants.{Raw}
+use Rattle.wb_basics.specs.declared.memory.NoMemory.{NoMemory}
+use Rattle.wb_heap_model.specs.Debug.{Debug, IsSoundDebug, alloc_made}
 use Rattle.wb_cleanup.specs.declared.cleanup.Cleanup.{Cleanup}
 use Rattle.wb_cleanup.proofs.HeapBesideStack.{alloc-beside}
 use Rattle.wb_call_tests.specs.Stacked.{IsStacked}

@@ -1,7 +1,7 @@
 use Rattle.std.proofs.Common.{◌≡◌, ◌+◌, ◌*◌, ◌≤◌, length, subst, ap, sym, ◌∙◌, arith}
 use Rattle.wb_chunk.specs.Halves.{halves_from, with_halves}
 use Rattle.wb_chunk.proofs.WrittenHalves.{length-halves_from, length-with_halves}
-use Rattle.wb_model.specs.cells.CellRow.{payload_of, with_payload}
+use Rattle.wb_heap_model.specs.CellRow.{payload_of, with_payload}
 use Rattle.wb_cells.specs.Inside.{cells_in}
 use Rattle.wb_cells.proofs.Changing.{valid, some_cell, payload_within, view_changed}
 use Rattle.wb_cells.proofs.Indexed.{indexed_changed}

@@ -1,7 +1,7 @@
 use Rattle.std.proofs.Common.{◌≡◌, ◌+◌, ◌*◌, ◌/◌, ◌++◌, ◌≤◌, take, drop, length, subst, ap, sym, ◌∙◌, arith}
 use Rattle.std.specs.Prelude.{slice_range}
 use Rattle.std.specs.List.{replace_range}
-use Rattle.wb_model.specs.cells.CellRow.{payload_of, with_payload}
+use Rattle.wb_heap_model.specs.CellRow.{payload_of, with_payload}
 use Rattle.wb_cells.specs.Inside.{cells_in}
 use Rattle.wb_cells.proofs.Changing.{valid, some_cell, payload_within, copy_holds, length-copied, view_changed}
 use Rattle.wb_cells.proofs.Indexed.{indexed_changed}

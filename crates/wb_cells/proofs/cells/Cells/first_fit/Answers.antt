@@ -1,7 +1,7 @@
 use Rattle.std.proofs.Common.{Some, None, ap, sym, ◌∙◌, arith}
-use Rattle.wb_model.specs.heap.Row.{headers, place_of}
-use Rattle.wb_model.proofs.heaps.Places.{place_of-least}
-use Rattle.wb_model.proofs.heaps.Rows.{place_from-top}
+use Rattle.wb_heap_model.specs.Row.{headers, place_of}
+use Rattle.wb_heap_model.proofs.Places.{place_of-least}
+use Rattle.wb_heap_model.proofs.Rows.{place_from-top}
 use Rattle.wb_cells.proofs.Gaps.{place_of-gap}
 use Rattle.wb_cells.proofs.Listing.{first_place, first_within}
 use Rattle.wb_cells.proofs.Sound.{sound_now}

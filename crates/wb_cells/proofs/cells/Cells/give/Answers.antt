@@ -1,7 +1,7 @@
 use Rattle.std.proofs.Common.{◌≡◌, ◌+◌, ◌*◌, ◌/◌, refl, length, false, ap, sym, ◌∙◌, arith}
 use Rattle.std.proofs.lemmas.List.{length-set}
-use Rattle.wb_model.specs.heap.Row.{without}
-use Rattle.wb_model.specs.cells.Spelling.{spelled}
+use Rattle.wb_heap_model.specs.Row.{without}
+use Rattle.wb_heap_model.specs.Spelling.{spelled}
 use Rattle.wb_cells.specs.Inside.{IsLaid}
 use Rattle.wb_cells.proofs.NamedCells.{length_word}
 use Rattle.wb_cells.proofs.Listing.{listed_laid, released, length-closed}

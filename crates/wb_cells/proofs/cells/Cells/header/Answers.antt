@@ -2,7 +2,7 @@ use Rattle.std.proofs.Common.{◌≡◌, false, true, Some, option_map, refl, ap
 use Rattle.std.specs.Prelude.{nat_eq}
 use Rattle.std.proofs.lemmas.Bool.{eq-eqb, ne_eqb, cond-true, cond-false}
 use Rattle.std.proofs.lemmas.Option.{same_Some}
-use Rattle.wb_model.specs.heap.Row.{cell_at}
+use Rattle.wb_heap_model.specs.Row.{cell_at}
 use Rattle.wb_cells.proofs.Laying.{spelled-laid}
 use Rattle.wb_cells.proofs.Finding.{live_at, unnamed_unrounded, unnamed_off, within-live_at, state-live_at, header-live_at, cell_at-live_at}
 use Rattle.wb_cells.proofs.Sound.{sound_now}

@@ -1,6 +1,6 @@
 use Rattle.std.proofs.Common.{◌∙◌, ap}
-use Rattle.wb_model.specs.heap.Row.{headers, top_of}
-use Rattle.wb_model.specs.heap.Space.{free_runs, longest}
+use Rattle.wb_heap_model.specs.Row.{headers, top_of}
+use Rattle.wb_heap_model.specs.Space.{free_runs, longest}
 use Rattle.wb_cells.proofs.Listing.{longest_is}
 use Rattle.wb_cells.proofs.Sound.{sound_now}
 use Rattle.wb_cells.proofs.cells.Cells.longest_gap.Goals as goal

@@ -1,7 +1,7 @@
 use Rattle.std.proofs.Common.{◌≡◌, ◌+◌, ◌*◌, ◌/◌, ◌%◌, ℕ, get_or, false, ap, sym, ◌∙◌, arith}
 use Rattle.std.specs.Int.{div_ceil}
-use Rattle.wb_model.specs.heap.Row.{headers}
-use Rattle.wb_model.specs.heap.LimitedHeap.{next_live_of}
+use Rattle.wb_heap_model.specs.Row.{headers}
+use Rattle.wb_heap_model.specs.LimitedHeap.{next_live_of}
 use Rattle.wb_cells.proofs.Laying.{spelled-laid}
 use Rattle.wb_cells.proofs.Finding.{live_at, within-live_at, state-live_at, header-live_at}
 use Rattle.wb_cells.proofs.Searching.{none_from, some_from}

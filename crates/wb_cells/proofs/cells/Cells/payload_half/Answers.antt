@@ -1,6 +1,6 @@
 use Rattle.std.proofs.Common.{◌+◌, ◌*◌, ◌/◌, ◌<◌, length, ap, sym, ◌∙◌, arith}
 use Rattle.wb_chunk.specs.Halves.{half_of}
-use Rattle.wb_model.specs.cells.CellRow.{payload_of}
+use Rattle.wb_heap_model.specs.CellRow.{payload_of}
 use Rattle.wb_cells.proofs.Halving.{half_of-at}
 use Rattle.wb_cells.proofs.Changing.{reached, payload_within, word_of-payload}
 use Rattle.wb_cells.proofs.Sound.{sound_now}

@@ -1,7 +1,7 @@
 use Rattle.std.proofs.Common.{◌≡◌, ◌+◌, ◌-◌, ◌*◌, ◌/◌, length, max, replicate, ap, ◌∙◌, arith, length-append}
 use Rattle.std.proofs.lemmas.Bool.{false≢true}
 use Rattle.std.proofs.lemmas.List.{length-replicate}
-use Rattle.wb_model.specs.cells.Spelling.{spelled}
+use Rattle.wb_heap_model.specs.Spelling.{spelled}
 use Rattle.wb_cells.proofs.Growing.{spelled-grown}
 use Rattle.wb_cells.proofs.Indexed.{indexed_grown, indexed_listed, indexed_marked}
 use Rattle.wb_cells.proofs.Sound.{sound_laid}

@@ -1,7 +1,7 @@
 use Rattle.std.proofs.Common.{◌≡◌, ◌+◌, ◌*◌, ◌≤◌, length, refl, sym, ap, ◌∙◌, arith}
 use Rattle.std.proofs.lemmas.List.{length-set}
-use Rattle.wb_model.specs.cells.CellRow.{with_length}
-use Rattle.wb_model.specs.cells.Spelling.{spelled}
+use Rattle.wb_heap_model.specs.CellRow.{with_length}
+use Rattle.wb_heap_model.specs.Spelling.{spelled}
 use Rattle.wb_cells.specs.declared.free_list.Hole.{Hole}
 use Rattle.wb_cells.specs.Inside.{IsLaid}
 use Rattle.wb_cells.proofs.Listing.{listed_laid, relisted, relisted_bounds, length-closed}

@@ -1,7 +1,7 @@
 use Rattle.std.proofs.Common.{◌+◌, ◌*◌, ◌/◌, ◌<◌, length, get_or, ap, ◌∙◌, arith}
 use Rattle.std.proofs.lemmas.List.{length-set}
 use Rattle.wb_chunk.specs.Halves.{with_half}
-use Rattle.wb_model.specs.cells.CellRow.{payload_of}
+use Rattle.wb_heap_model.specs.CellRow.{payload_of}
 use Rattle.wb_cells.proofs.Halving.{mixed, with_half-at}
 use Rattle.wb_cells.proofs.Changing.{reached, payload_within, word_of-payload, set_holds, view_changed}
 use Rattle.wb_cells.proofs.Indexed.{indexed_changed}

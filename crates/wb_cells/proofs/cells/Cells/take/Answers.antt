@@ -1,8 +1,8 @@
 use Rattle.std.proofs.Common.{◌≡◌, ℕ, List, ◌+◌, ◌-◌, ◌*◌, ◌/◌, ◌<◌, ◌≤◌, ◌≢◌, All, [], ◌∷◌, length, replicate, subst, ap, sym, ◌∙◌, arith}
 use Rattle.std.specs.List.{replace_range}
-use Rattle.wb_model.specs.heap.Row.{Cell, headers, inserted}
-use Rattle.wb_model.specs.heap.LimitedHeap.{zero_words}
-use Rattle.wb_model.specs.cells.Spelling.{spelled}
+use Rattle.wb_heap_model.specs.Row.{Cell, headers, inserted}
+use Rattle.wb_heap_model.specs.LimitedHeap.{zero_words}
+use Rattle.wb_heap_model.specs.Spelling.{spelled}
 use Rattle.wb_cells.specs.Inside.{IsLaid, cells_in}
 use Rattle.wb_cells.specs.Segments.{state_of}
 use Rattle.wb_cells.proofs.Laying.{spelled-laid}

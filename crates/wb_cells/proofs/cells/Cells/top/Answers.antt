@@ -1,5 +1,5 @@
 use Rattle.std.proofs.Common.{sym, ◌∙◌, ap, zero-add}
-use Rattle.wb_model.specs.heap.Row.{headers, top_of}
+use Rattle.wb_heap_model.specs.Row.{headers, top_of}
 use Rattle.wb_cells.proofs.Laying.{spelled-laid, top_from-row}
 use Rattle.wb_cells.proofs.Sound.{sound_now}
 use Rattle.wb_cells.proofs.cells.Cells.top.Goals as goal

@@ -1,14 +1,14 @@
 use Rattle.std.proofs.Common.{rules, ◌≡◌, ◌≢◌, ◌⊎◌, ◌+◌, ◌*◌, ℕ, inl, inr, Bool, true, false, cond, Option, Some, None, List, [], ◌∷◌, ◌++◌, refl, sym, ap, ◌∙◌}
 use Rattle.std.specs.Prelude.{nat_lt}
-use Rattle.wb_model.specs.declared.heap.Answer.{Answer}
-use Rattle.wb_model.specs.declared.heap.Answer.TheVariants.{Granted, Simulated, Refused}
-use Rattle.wb_model.specs.declared.heap.Gave.{Gave}
-use Rattle.wb_model.specs.declared.heap.Gave.TheVariants as gave
-use Rattle.wb_model.specs.declared.heap.Item.{Item}
-use Rattle.wb_model.specs.cells.CellRow.{resized_words}
-use Rattle.wb_model.specs.heap.Debug.{Debug, answer_in, longer_made, made_by, shorter_made}
-use Rattle.wb_model.specs.heap.Heap.{after_realloc, realloc_request}
-use Rattle.wb_model.specs.heap.Row.{Cell, cell_at, cell_length}
+use Rattle.wb_heap_model.specs.declared.heap.Answer.{Answer}
+use Rattle.wb_heap_model.specs.declared.heap.Answer.TheVariants.{Granted, Simulated, Refused}
+use Rattle.wb_heap_model.specs.declared.heap.Gave.{Gave}
+use Rattle.wb_heap_model.specs.declared.heap.Gave.TheVariants as gave
+use Rattle.wb_heap_model.specs.declared.heap.Item.{Item}
+use Rattle.wb_heap_model.specs.CellRow.{resized_words}
+use Rattle.wb_heap_model.specs.Debug.{Debug, answer_in, longer_made, made_by, shorter_made}
+use Rattle.wb_heap_model.specs.Heap.{after_realloc, realloc_request}
+use Rattle.wb_heap_model.specs.Row.{Cell, cell_at, cell_length}
 use Rattle.wb_cleanup.specs.declared.cleanup.Cleanup.{Cleanup}
 use Rattle.wb_cleanup.specs.declared.cleanup.Pushed.{Pushed}
 use Rattle.wb_cleanup.specs.declared.cleanup.Pushed.TheVariants.{Fine, Leave, Ceiling}

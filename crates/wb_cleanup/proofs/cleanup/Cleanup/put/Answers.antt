@@ -1,5 +1,5 @@
 use Rattle.std.proofs.Common.{◌+◌, ◌∷◌, ◌++◌, [], refl, sym, ap, ◌∙◌, arith}
-use Rattle.wb_model.specs.heap.Debug.{debug_changed}
+use Rattle.wb_heap_model.specs.Debug.{debug_changed}
 use Rattle.wb_cleanup.specs.Stacks.{items_of}
 use Rattle.wb_cleanup.proofs.Rewriting.{payload-then}
 use Rattle.wb_cleanup.proofs.StackInHeap.{stack-more, Stands, stack-room}

@@ -3,7 +3,7 @@ use Rattle.std.proofs.Common.{◌≡◌, Bool, subst, true, false}
 use Rattle.std.specs.Prelude.{IfOk, OnErr, OnOk}
 use Rattle.std.specs.Str.Parse.{ExplainsUnsignedError, HasUnsignedDigitsIfOk, ParsesUnsigned}
 use Rattle.clap.specs.Words.{found_of, rows_of}
-use Rattle.wb_model.specs.declared.heap.Rule.{Rule}
+use Rattle.wb_heap_model.specs.declared.heap.Rule.{Rule}
 use Rattle.wb_command_line.proofs.MatchesLemmas.{every_is, fail_from_is, fail_is, limit_is, low_enough, rule_as, rule_read, several_as}
 use Rattle.wb_command_line.proofs.command_line.rules.numbered_rule_in.Goals as goal
 

@@ -1,7 +1,7 @@
 use Rattle.std.proofs.Common.{◌≡◌, Bool, subst, true, false}
 use Rattle.std.specs.Prelude.{IfOk, OnErr, OnOk}
 use Rattle.clap.specs.Words.{found_of, rows_of}
-use Rattle.wb_model.specs.declared.failures.Failures.{Failures}
+use Rattle.wb_runs.specs.declared.failures.Failures.{Failures}
 use Rattle.wb_command_line.specs.Spelled.{are_too_many, failures_by, failures_of, gives_too_many}
 use Rattle.wb_command_line.proofs.MatchesLemmas.{all_is, ends_is, pairs_is, persistent_is, rates_is}
 use Rattle.wb_command_line.proofs.command_line.searches.failures_in.Goals as goal

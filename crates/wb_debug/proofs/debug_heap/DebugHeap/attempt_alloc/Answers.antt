@@ -1,11 +1,12 @@
 use Rattle.std.proofs.Common.{◌≡◌, ◌+◌, Some, is_some, true, refl, ap, subst, sym, ◌∙◌, arith}
-use Rattle.wb_model.specs.declared.heap.Attempt.{Attempt}
-use Rattle.wb_model.specs.heap.Debug.{Debug, IsSoundDebug, answer_in, number_of_next, trace_line}
-use Rattle.wb_model.specs.heap.Heap.{after_alloc, alloc_request, request_at}
-use Rattle.wb_model.specs.heap.LimitedHeap.{zero_words}
-use Rattle.wb_model.specs.runs.Rises.{rises_with}
-use Rattle.wb_model.specs.heap.Rules.{Request}
-use Rattle.wb_model.specs.heap.Space.{limit_under}
+use Rattle.wb_heap_model.specs.declared.heap.Attempt.{Attempt}
+use Rattle.wb_heap_model.specs.Debug.{Debug, IsSoundDebug, answer_in, number_of_next}
+use Rattle.wb_heap_model.specs.Reported.{trace_line}
+use Rattle.wb_heap_model.specs.Heap.{after_alloc, alloc_request, request_at}
+use Rattle.wb_heap_model.specs.LimitedHeap.{zero_words}
+use Rattle.wb_heap_model.specs.Rises.{rises_with}
+use Rattle.wb_heap_model.specs.Rules.{Request}
+use Rattle.wb_heap_model.specs.Space.{limit_under}
 use Rattle.wb_debug.specs.declared.debug_heap.DebugHeap.TheInside.{Inside}
 use Rattle.wb_debug.specs.Debug.{IsKept}
 use Rattle.wb_debug.proofs.DebugFields.{kept-sound, tally-room, set-kept, granted-kept, refused-kept, on-ok, on-err}

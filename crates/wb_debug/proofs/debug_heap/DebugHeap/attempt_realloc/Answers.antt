@@ -1,10 +1,10 @@
 use Rattle.std.proofs.Common.{◌≡◌, IfSome, IsOk, true, refl, ap, subst, sym, ◌∙◌, arith}
-use Rattle.wb_model.specs.declared.heap.Attempt.{Attempt}
-use Rattle.wb_model.specs.declared.heap.Gave.{Gave}
-use Rattle.wb_model.specs.declared.heap.Gave.TheVariants.{Granted}
-use Rattle.wb_model.specs.heap.Debug.{Debug, IsSoundDebug, keeps_rises, realloc_made}
-use Rattle.wb_model.specs.heap.Row.{cell_at}
-use Rattle.wb_model.specs.heap.Rules.{after_attempt}
+use Rattle.wb_heap_model.specs.declared.heap.Attempt.{Attempt}
+use Rattle.wb_heap_model.specs.declared.heap.Gave.{Gave}
+use Rattle.wb_heap_model.specs.declared.heap.Gave.TheVariants.{Granted}
+use Rattle.wb_heap_model.specs.Debug.{Debug, IsSoundDebug, keeps_rises, realloc_made}
+use Rattle.wb_heap_model.specs.Row.{cell_at}
+use Rattle.wb_heap_model.specs.Rules.{after_attempt}
 use Rattle.wb_debug.specs.declared.debug_heap.DebugHeap.TheInside.{Inside}
 use Rattle.wb_debug.specs.Debug.{debug_of, IsKept}
 use Rattle.wb_debug.specs.Setting.{setting_of}

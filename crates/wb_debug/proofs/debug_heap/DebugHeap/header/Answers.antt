@@ -1,6 +1,6 @@
 use Rattle.std.proofs.Common.{◌∙◌, IfSome, ap, option_map, subst, sym}
-use Rattle.wb_model.specs.heap.Debug.{Debug, IsLiveIn, IsSoundDebug}
-use Rattle.wb_model.specs.heap.Row.{cell_at}
+use Rattle.wb_heap_model.specs.Debug.{Debug, IsLiveIn, IsSoundDebug}
+use Rattle.wb_heap_model.specs.Row.{cell_at}
 use Rattle.wb_debug.proofs.DebugFields.{kept-sound, cell-live}
 use Rattle.wb_debug.proofs.debug_heap.DebugHeap.header.Goals as goal
 

@@ -1,8 +1,8 @@
 use Rattle.std.proofs.Common.{subst, sym}
 use Rattle.std.proofs.lemmas.Result.{err_from_is_err_and}
-use Rattle.wb_model.specs.heap.Debug.{IsSoundDebug}
-use Rattle.wb_model.specs.heap.LimitedHeap.{LimitedHeap}
-use Rattle.wb_model.specs.heap.Row.{headers}
+use Rattle.wb_heap_model.specs.Debug.{IsSoundDebug}
+use Rattle.wb_heap_model.specs.LimitedHeap.{LimitedHeap}
+use Rattle.wb_heap_model.specs.Row.{headers}
 use Rattle.wb_debug.specs.Debug.{debug_of}
 use Rattle.wb_debug.specs.Tally.{IsTally}
 use Rattle.wb_debug.proofs.DebugFields.{kept-sound}

@@ -1,7 +1,7 @@
 use Rattle.std.proofs.Common.{ap, ◌∙◌, sym}
-use Rattle.wb_model.specs.heap.Debug.{Debug}
-use Rattle.wb_model.specs.heap.Space.{limit_under}
-use Rattle.wb_model.proofs.heaps.RuleLemmas.{same-limit}
+use Rattle.wb_heap_model.specs.Debug.{Debug}
+use Rattle.wb_heap_model.specs.Space.{limit_under}
+use Rattle.wb_heap_model.proofs.RuleLemmas.{same-limit}
 use Rattle.wb_debug.proofs.DebugFields.{kept-sound}
 use Rattle.wb_debug.proofs.debug_heap.DebugHeap.set_rule.Goals as goal
 

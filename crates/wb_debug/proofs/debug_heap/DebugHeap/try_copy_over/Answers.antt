@@ -1,6 +1,6 @@
 use Rattle.std.proofs.Common.{sym, subst}
-use Rattle.wb_model.specs.declared.heap.Rule.{Rule}
-use Rattle.wb_model.specs.heap.LimitedHeap.{LimitedHeap}
+use Rattle.wb_heap_model.specs.declared.heap.Rule.{Rule}
+use Rattle.wb_heap_model.specs.LimitedHeap.{LimitedHeap}
 use Rattle.wb_debug.specs.Debug.{IsKept}
 use Rattle.wb_debug.specs.Log.{Log}
 use Rattle.wb_debug.specs.Tally.{Tally}

@@ -1,5 +1,5 @@
 use Rattle.std.proofs.Common.{refl, sym, subst}
-use Rattle.wb_model.specs.heap.Row.{headers}
+use Rattle.wb_heap_model.specs.Row.{headers}
 use Rattle.wb_debug.specs.Tally.{Tally, IsTally}
 use Rattle.wb_debug.proofs.LoweredTallies.{tally-lowered}
 use Rattle.wb_debug.proofs.tally.Tally.lower.Goals as goal

@@ -1,6 +1,6 @@
 use Rattle.std.proofs.Common.{rules, ◌≡◌, ◌∙◌}
 use Rattle.std.specs.Prelude.{IsSome}
-use Rattle.wb_model.specs.heap.Row.{cell_at}
+use Rattle.wb_heap_model.specs.Row.{cell_at}
 use Rattle.wb_heap_tests.proofs.Levels.{level-stays}
 use Rattle.wb_heap_tests.proofs.debug_calls.Marked.realloc.Goals as goal
 

@@ -1,7 +1,7 @@
 use Rattle.std.proofs.Common.{◌<◌, sym, subst}
 use Rattle.std.specs.Prelude.{All}
-use Rattle.wb_model.specs.heap.LimitedHeap.{LimitedHeap}
-use Rattle.wb_model.specs.heap.Row.{headers}
+use Rattle.wb_heap_model.specs.LimitedHeap.{LimitedHeap}
+use Rattle.wb_heap_model.specs.Row.{headers}
 use Rattle.wb_heap_tests.proofs.heap_calls.NumberedCalled.try_copy.Goals as goal
 
 -- a heap that is equal has no cell with a number that is still to come

@@ -1,8 +1,8 @@
 use Rattle.std.proofs.Common.{ap, sym, subst, ◌∙◌}
-use Rattle.wb_model.specs.cells.CellRow.{content_or_nil}
-use Rattle.wb_model.specs.heap.Row.{cell_at}
-use Rattle.wb_model.specs.runs.SameButNumbers.{IsSameHeader}
-use Rattle.wb_model.proofs.renaming.SameNumbers.{header-later}
+use Rattle.wb_heap_model.specs.CellRow.{content_or_nil}
+use Rattle.wb_heap_model.specs.Row.{cell_at}
+use Rattle.wb_renaming.specs.SameButNumbers.{IsSameHeader}
+use Rattle.wb_renaming.proofs.SameNumbers.{header-later}
 use Rattle.wb_machine.specs.Alike.{AreWordsAlike}
 use Rattle.wb_machine.proofs.likeness.CellsAlike.{cell-alike, head-is}
 use Rattle.wb_machine.proofs.likeness.GrownMaps.{by-both}

@@ -1,8 +1,8 @@
 use Rattle.std.proofs.Common.{◌≡◌, ◌<◌, length, refl, ap, sym, subst, ◌∙◌}
-use Rattle.wb_model.specs.declared.script.Script.{Script}
-use Rattle.wb_model.specs.heap.Row.{headers, end_of, cell_at}
-use Rattle.wb_model.proofs.heaps.Onward.{onward, onward_next, onward_fewer}
-use Rattle.wb_model.proofs.renaming.SameHeaps.{end-same}
+use Rattle.wb_tree.specs.declared.script.Script.{Script}
+use Rattle.wb_heap_model.specs.Row.{headers, end_of, cell_at}
+use Rattle.wb_heap_model.proofs.Onward.{onward, onward_next, onward_fewer}
+use Rattle.wb_renaming.proofs.SameHeaps.{end-same}
 use Rattle.wb_machine.proofs.likeness.CellsAlike.{next-in, cells-first, cells-next, cells-done, AreCellsAlike, AreRowsAlike}
 use Rattle.wb_machine.proofs.likeness.GrownMaps.{LeadsTo, grown-same, grown-twice}
 use Rattle.wb_machine.proofs.alike.cells.same_cells.Goals as goal

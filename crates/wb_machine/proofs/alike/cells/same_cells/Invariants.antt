@@ -1,7 +1,7 @@
 use Rattle.std.proofs.Common.{length}
-use Rattle.wb_model.specs.declared.script.Script.{Script}
-use Rattle.wb_model.specs.heap.Row.{headers}
-use Rattle.wb_model.proofs.heaps.Onward.{onward}
+use Rattle.wb_tree.specs.declared.script.Script.{Script}
+use Rattle.wb_heap_model.specs.Row.{headers}
+use Rattle.wb_heap_model.proofs.Onward.{onward}
 use Rattle.wb_machine.specs.Alike.{IsGrown}
 use Rattle.wb_machine.proofs.likeness.CellsAlike.{AreCellsAlike, AreRowsAlike}
 use Rattle.wb_machine.proofs.likeness.GrownMaps.{LeadsTo}

@@ -1,5 +1,5 @@
 use Rattle.std.proofs.Common.{◌+◌, ◌*◌, ◌<◌, length, arith}
-use Rattle.wb_model.specs.cells.CellRow.{payload_of}
+use Rattle.wb_heap_model.specs.CellRow.{payload_of}
 use Rattle.wb_machine.proofs.likeness.CellsAlike.{pairs-next, pairs-done}
 use Rattle.wb_machine.proofs.likeness.GrownMaps.{grown-twice}
 use Rattle.wb_machine.proofs.alike.cells.same_fields.Goals as goal

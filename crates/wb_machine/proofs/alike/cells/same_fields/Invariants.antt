@@ -1,4 +1,4 @@
-use Rattle.wb_model.specs.cells.CellRow.{payload_of}
+use Rattle.wb_heap_model.specs.CellRow.{payload_of}
 use Rattle.wb_machine.specs.Alike.{ArePairsAlike, IsGrown}
 use Rattle.wb_machine.proofs.likeness.CellsAlike.{ArePairsFrom}
 use Rattle.wb_machine.proofs.likeness.GrownMaps.{LeadsTo}

@@ -1,6 +1,6 @@
-use Rattle.wb_model.specs.runs.SameButNumbers.{IsSameItem, same_free, same_delete, same_call}
+use Rattle.wb_renaming.specs.SameButNumbers.{IsSameItem, same_free, same_delete, same_call}
 use Rattle.std.proofs.Common.{subst}
-use Rattle.wb_model.specs.declared.heap.Item.TheVariants as I
+use Rattle.wb_heap_model.specs.declared.heap.Item.TheVariants as I
 use Rattle.wb_machine.proofs.likeness.GrownMaps.{by-both}
 use Rattle.wb_machine.proofs.alike.cells.same_item.Goals as goal
 

@@ -1,6 +1,6 @@
 use Rattle.std.proofs.Common.{◌<◌, ◌++◌, ◌∷◌, [], ap, sym, ◌∙◌, length, arith}
 use Rattle.std.proofs.lemmas.Bool.{eqb-true}
-use Rattle.wb_model.specs.runs.SameButNumbers.{AllBeside, IsSameItem}
+use Rattle.wb_renaming.specs.SameButNumbers.{AllBeside, IsSameItem}
 use Rattle.wb_cleanup.specs.Stacks.{items_of}
 use Rattle.wb_machine.proofs.likeness.GrownMaps.{grown-twice}
 use Rattle.wb_machine.proofs.likeness.ItemsAlike.{newest-last, newest-none, none-there, items-next, items-done}

@@ -1,4 +1,4 @@
-use Rattle.wb_model.specs.runs.SameButNumbers.{AllBeside, IsSameItem}
+use Rattle.wb_renaming.specs.SameButNumbers.{AllBeside, IsSameItem}
 use Rattle.wb_cleanup.specs.Stacks.{IsStack, count_of, items_of}
 use Rattle.wb_machine.specs.Alike.{IsGrown}
 use Rattle.wb_machine.proofs.likeness.GrownMaps.{LeadsTo}

@@ -4,7 +4,7 @@ use Rattle.wb_machine.specs.LocalValues.{is_small}
 use Rattle.wb_machine.specs.declared.pieces.Ending.TheVariants.{NoCleanup}
 use Rattle.wb_machine.specs.declared.pieces.PendingPiece.TheVariants.{Code}
 use Rattle.wb_machine.specs.declared.pieces.TheConstants.{IN_MAIN}
-use Rattle.wb_model.specs.heap.Debug.{Debug}
+use Rattle.wb_heap_model.specs.Debug.{Debug}
 use Rattle.wb_machine.specs.Flow.{AreOwn}
 use Rattle.wb_machine.specs.ObjectInvariant.{AreWhole}
 use Rattle.wb_machine.specs.SlotInvariant.{slots_for_all}

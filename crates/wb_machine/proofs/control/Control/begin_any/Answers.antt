@@ -1,13 +1,13 @@
 use Rattle.std.proofs.Common.{◌≡◌, List, ℕ, Some, refl, ap, ◌∙◌, sym}
-use Rattle.wb_model.specs.declared.heap.Panic.{Panic}
-use Rattle.wb_model.specs.declared.heap.Rule.{Rule}
-use Rattle.wb_model.specs.declared.script.Script.{Script}
-use Rattle.wb_model.specs.declared.script.Statement.TheOpen.{Statement-F}
-use Rattle.wb_model.specs.declared.script.Statement.TheViews.{out-Statement, outs-SetNumber, outs-Add, outs-Leave, outs-LeaveIfError, outs-Return, outs-If, outs-IfElse, outs-Call, outs-CallTo, outs-Alloc, outs-Free}
-use Rattle.wb_model.specs.meaning.Meaning.{meaning_of}
-use Rattle.wb_model.specs.meaning.Statements.{Context, Layer}
-use Rattle.wb_model.specs.runs.Rest.{resume}
-use Rattle.wb_model.specs.runs.Run.{whole_of}
+use Rattle.wb_heap_model.specs.declared.heap.Panic.{Panic}
+use Rattle.wb_heap_model.specs.declared.heap.Rule.{Rule}
+use Rattle.wb_tree.specs.declared.script.Script.{Script}
+use Rattle.wb_tree.specs.declared.script.Statement.TheOpen.{Statement-F}
+use Rattle.wb_tree.specs.declared.script.Statement.TheViews.{out-Statement, outs-SetNumber, outs-Add, outs-Leave, outs-LeaveIfError, outs-Return, outs-If, outs-IfElse, outs-Call, outs-CallTo, outs-Alloc, outs-Free}
+use Rattle.wb_meaning.specs.Meaning.{meaning_of}
+use Rattle.wb_meaning.specs.Statements.{Context, Layer}
+use Rattle.wb_meaning.specs.Rest.{resume}
+use Rattle.wb_meaning.specs.Run.{whole_of}
 use Rattle.wb_machine.specs.declared.pieces.Ending.{Ending}
 use Rattle.wb_machine.specs.declared.pieces.Ending.TheVariants.{Panics}
 use Rattle.wb_machine.specs.declared.pieces.PendingPiece.{PendingPiece}

@@ -1,9 +1,9 @@
 use Rattle.std.proofs.Common.{List, ◌∷◌, ◌+◌, take, drop, ap, ◌∙◌}
-use Rattle.wb_model.specs.declared.script.Local.{Local}
-use Rattle.wb_model.specs.declared.script.StatementAt.{StatementAt}
-use Rattle.wb_model.specs.declared.heap.Ptr.{Ptr}
-use Rattle.wb_model.specs.meaning.Statements.{all}
-use Rattle.wb_model.specs.runs.Rest.{Pending, doing, calling}
+use Rattle.wb_tree.specs.declared.script.Local.{Local}
+use Rattle.wb_tree.specs.declared.script.StatementAt.{StatementAt}
+use Rattle.wb_heap_model.specs.declared.heap.Ptr.{Ptr}
+use Rattle.wb_meaning.specs.Statements.{all}
+use Rattle.wb_meaning.specs.Rest.{Pending, doing, calling}
 use Rattle.wb_machine.specs.declared.pieces.PendingPiece.TheVariants.{Code, Call}
 use Rattle.wb_machine.specs.Effects.{framed_with}
 use Rattle.wb_machine.specs.LocalValues.{values_of_arguments}

@@ -1,7 +1,7 @@
 use Rattle.std.proofs.Common.{ap, ◌∙◌, sym, subst}
 use Rattle.std.specs.List.{list_all}
-use Rattle.wb_model.specs.declared.script.Body.{Body}
-use Rattle.wb_model.specs.meaning.Bodies.{procedure_at}
+use Rattle.wb_tree.specs.declared.script.Body.{Body}
+use Rattle.wb_tree.specs.Bodies.{procedure_at}
 use Rattle.wb_machine.specs.LocalValues.{is_small}
 use Rattle.wb_machine.specs.Flow.{context_of, AreOwn}
 use Rattle.wb_machine.proofs.effects.Outcomes.{on_ok_then}

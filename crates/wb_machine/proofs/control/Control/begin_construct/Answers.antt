@@ -1,11 +1,11 @@
 use Rattle.std.proofs.Common.{List, IsTrue, [], ap, ◌∙◌, sym, subst}
 use Rattle.std.specs.List.{list_all}
-use Rattle.wb_model.specs.declared.script.Local.{Local}
+use Rattle.wb_tree.specs.declared.script.Local.{Local}
 use Rattle.wb_machine.specs.LocalValues.{is_small}
 use Rattle.std.specs.Prelude.{unwrap_or}
-use Rattle.wb_model.specs.declared.heap.Ptr.{Ptr}
-use Rattle.wb_model.specs.runs.Rest.{nothing_more}
-use Rattle.wb_model.specs.meaning.Bodies.{class_at, no_body}
+use Rattle.wb_heap_model.specs.declared.heap.Ptr.{Ptr}
+use Rattle.wb_meaning.specs.Rest.{nothing_more}
+use Rattle.wb_tree.specs.Bodies.{class_at, no_body}
 use Rattle.wb_machine.specs.Bodies.{class_read}
 use Rattle.wb_machine.specs.Flow.{context_of, AreOwn, rest_of_body}
 use Rattle.wb_machine.proofs.effects.Outcomes.{on_ok_then}

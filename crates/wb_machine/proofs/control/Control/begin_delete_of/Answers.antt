@@ -1,7 +1,8 @@
 use Rattle.std.proofs.Common.{ap, ◌∙◌}
-use Rattle.wb_model.specs.declared.heap.Ptr.{Ptr}
-use Rattle.wb_model.specs.meaning.Statements.{destroyed_object, is_null}
-use Rattle.wb_model.specs.meaning.Meaning.{meaning_of}
+use Rattle.wb_heap_model.specs.declared.heap.Ptr.{Ptr}
+use Rattle.wb_meaning.specs.Statements.{destroyed_object}
+use Rattle.wb_heap_model.specs.Pointers.{is_null}
+use Rattle.wb_meaning.specs.Meaning.{meaning_of}
 use Rattle.wb_machine.specs.RunState.{state_of}
 use Rattle.wb_machine.specs.Flow.{context_of, rest_after}
 use Rattle.wb_machine.proofs.turns.Heads.{delete_asked}

@@ -2,7 +2,7 @@ use Rattle.std.proofs.Common.{◌≡◌, ap, ◌∙◌, sym, subst, arith}
 use Rattle.std.proofs.lemmas.Grind.{common_steps}
 use Rattle.std.proofs.lemmas.Bool.Decides.{nat_tests}
 use Rattle.std.proofs.lemmas.List.{nil_from_length}
-use Rattle.wb_model.specs.meaning.Statements.{choice}
+use Rattle.wb_meaning.specs.Statements.{choice}
 use Rattle.wb_machine.specs.declared.pieces.PendingPiece.TheVariants.{Code}
 use Rattle.wb_machine.specs.Effects.{condition_read}
 use Rattle.wb_machine.specs.Flow.{context_of, AreOwn, rest_from}

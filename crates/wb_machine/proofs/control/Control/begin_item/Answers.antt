@@ -1,11 +1,11 @@
 use Rattle.std.proofs.Common.{List, IsTrue, ap, ◌∙◌, sym, subst}
 use Rattle.std.specs.List.{list_all}
-use Rattle.wb_model.specs.declared.script.Local.{Local}
+use Rattle.wb_tree.specs.declared.script.Local.{Local}
 use Rattle.wb_machine.specs.LocalValues.{is_small}
-use Rattle.wb_model.specs.declared.heap.Item.{Item}
-use Rattle.wb_model.specs.meaning.Statements.{release, destroyed_item}
-use Rattle.wb_model.specs.meaning.Bodies.{operation_at}
-use Rattle.wb_model.specs.meaning.Meaning.{meaning_of}
+use Rattle.wb_heap_model.specs.declared.heap.Item.{Item}
+use Rattle.wb_meaning.specs.Statements.{release, destroyed_item}
+use Rattle.wb_tree.specs.Bodies.{operation_at}
+use Rattle.wb_meaning.specs.Meaning.{meaning_of}
 use Rattle.wb_machine.specs.RunState.{state_of}
 use Rattle.wb_machine.specs.Effects.{free_effect}
 use Rattle.wb_machine.specs.Flow.{context_of, AreOwn, rest_after}

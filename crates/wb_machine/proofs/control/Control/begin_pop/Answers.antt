@@ -1,6 +1,6 @@
 use Rattle.std.proofs.Common.{sym, ap, ◌∙◌, arith, rules, w32, FitsSigned}
 use Rattle.std.proofs.lemmas.Int.{to_z-of_z}
-use Rattle.wb_model.specs.meaning.Operands.{not_negative}
+use Rattle.wb_meaning.specs.Operands.{not_negative}
 use Rattle.wb_machine.specs.declared.pieces.PendingPiece.TheVariants.{Items}
 use Rattle.wb_machine.specs.Flow.{context_of, rest_from}
 use Rattle.wb_machine.proofs.turns.Heads.{pop_rest, pop_below, pop_refused}

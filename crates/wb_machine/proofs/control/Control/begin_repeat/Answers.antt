@@ -1,7 +1,7 @@
 use Rattle.std.proofs.Common.{sym, ap, ◌∙◌, rules, w32, FitsSigned}
 use Rattle.std.proofs.lemmas.Int.{to_z-of_z}
-use Rattle.wb_model.specs.declared.limits.TheConstants.{MOST_TURNS}
-use Rattle.wb_model.specs.meaning.Operands.{within}
+use Rattle.wb_basics.specs.declared.limits.TheConstants.{MOST_TURNS}
+use Rattle.wb_meaning.specs.Operands.{within}
 use Rattle.wb_machine.specs.declared.pieces.PendingPiece.TheVariants.{Turns}
 use Rattle.wb_machine.specs.Flow.{context_of, rest_from}
 use Rattle.wb_machine.proofs.turns.Heads.{turns_rest, turns_refused}

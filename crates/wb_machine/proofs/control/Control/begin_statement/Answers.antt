@@ -1,14 +1,14 @@
 use Rattle.std.proofs.Common.{◌≡◌, List, [], refl, ap, ◌∙◌, sym, subst, arith}
-use Rattle.wb_model.specs.declared.script.StatementAt.{StatementAt}
-use Rattle.wb_model.specs.declared.script.Statement.TheOpen.{Statement-F}
-use Rattle.wb_model.specs.declared.script.Argument.{Argument}
-use Rattle.wb_model.specs.meaning.Statements.{Layer}
-use Rattle.wb_model.specs.meaning.Meaning.{meaning_of}
-use Rattle.wb_model.specs.runs.Run.{whole_of}
-use Rattle.wb_model.specs.runs.Rest.{resume}
+use Rattle.wb_tree.specs.declared.script.StatementAt.{StatementAt}
+use Rattle.wb_tree.specs.declared.script.Statement.TheOpen.{Statement-F}
+use Rattle.wb_tree.specs.declared.script.Argument.{Argument}
+use Rattle.wb_meaning.specs.Statements.{Layer}
+use Rattle.wb_meaning.specs.Meaning.{meaning_of}
+use Rattle.wb_meaning.specs.Run.{whole_of}
+use Rattle.wb_meaning.specs.Rest.{resume}
 use Rattle.wb_machine.proofs.turns.Steps.{rest_known}
 use Rattle.wb_machine.specs.RunState.{Values}
-use Rattle.wb_model.specs.declared.script.Statement.TheViews.{out-Statement, outs-If, outs-IfElse, outs-Repeat, outs-Trap, outs-Call, outs-CallTo, outs-PopDestroy, outs-Construct, outs-Delete}
+use Rattle.wb_tree.specs.declared.script.Statement.TheViews.{out-Statement, outs-If, outs-IfElse, outs-Repeat, outs-Trap, outs-Call, outs-CallTo, outs-PopDestroy, outs-Construct, outs-Delete}
 use Rattle.wb_machine.specs.Flow.{context_of, pending_in, AreOwn, rest_of_statement}
 use Rattle.wb_machine.specs.PointerOperands.{first_refusal, of_arguments, operands_refusal}
 use Rattle.wb_machine.proofs.asking.NoRise.{asks_nothing}

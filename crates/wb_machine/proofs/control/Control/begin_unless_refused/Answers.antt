@@ -1,5 +1,5 @@
 use Rattle.std.proofs.Common.{sym, ◌∙◌}
-use Rattle.wb_model.specs.declared.script.Statement.TheViews.{out-Statement}
+use Rattle.wb_tree.specs.declared.script.Statement.TheViews.{out-Statement}
 use Rattle.wb_machine.specs.Flow.{context_of}
 use Rattle.wb_machine.proofs.turns.Heads.{refused_rest}
 use Rattle.wb_machine.proofs.control.Control.begin_unless_refused.Goals as goal

@@ -1,5 +1,5 @@
 use Rattle.std.proofs.Common.{sym}
-use Rattle.wb_model.specs.runs.SameButNumbers.{AllBeside}
+use Rattle.wb_renaming.specs.SameButNumbers.{AllBeside}
 use Rattle.wb_machine.specs.SamePieces.{IsSamePiece}
 use Rattle.wb_machine.proofs.likeness.GrownMaps.{by-both}
 use Rattle.wb_machine.proofs.likeness.PiecesAlike.{pending-alike}

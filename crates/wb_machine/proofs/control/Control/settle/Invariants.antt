@@ -1,6 +1,6 @@
 use Rattle.std.proofs.Common.{◌≡◌, ◌<◌, ◌≤◌, ◌⊎◌, ℕ, true, false, vec_len, vec_capacity}
-use Rattle.wb_model.specs.declared.heap.Rule.{Rule}
-use Rattle.wb_model.specs.declared.script.Script.{Script}
+use Rattle.wb_heap_model.specs.declared.heap.Rule.{Rule}
+use Rattle.wb_tree.specs.declared.script.Script.{Script}
 use Rattle.wb_machine.specs.Flow.{is_stop, AreSound, weight_of, rest_from}
 use Rattle.wb_machine.specs.Owed.{IsQuiet}
 use Rattle.wb_machine.specs.QuietTurns.{catches_first, is_leave}

@@ -1,10 +1,10 @@
 use Rattle.std.proofs.Common.{◌≡◌, ◌∷◌, ◌++◌, [], List, ◌-◌, take, drop, length, vec_len, Some, None, refl, ap, ◌∙◌, sym, subst, arith}
 use Rattle.std.specs.Prelude.{slice_get}
-use Rattle.wb_model.specs.declared.script.Statement.TheViews.{out-Statement}
+use Rattle.wb_tree.specs.declared.script.Statement.TheViews.{out-Statement}
 use Rattle.wb_machine.specs.QuietTurns.{catches_first}
-use Rattle.wb_model.specs.declared.script.StatementAt.{StatementAt}
-use Rattle.wb_model.specs.meaning.Statements.{all, turns, destroy_items, destroy_object}
-use Rattle.wb_model.specs.runs.Rest.{doing}
+use Rattle.wb_tree.specs.declared.script.StatementAt.{StatementAt}
+use Rattle.wb_meaning.specs.Statements.{all, turns, destroy_items, destroy_object}
+use Rattle.wb_meaning.specs.Rest.{doing}
 use Rattle.wb_machine.specs.declared.pieces.PendingPiece.{PendingPiece}
 use Rattle.wb_machine.specs.declared.pieces.PendingPiece.TheVariants.{Code, Turns, Items, Object}
 use Rattle.wb_machine.specs.Flow.{context_of, AreOwn, rest_from, rest_of_piece}

@@ -1,5 +1,5 @@
 use Rattle.std.proofs.Common.{rules, ap, ◌∙◌, sym, subst, arith}
-use Rattle.wb_model.specs.declared.script.Statement.TheViews.{out-Statement}
+use Rattle.wb_tree.specs.declared.script.Statement.TheViews.{out-Statement}
 use Rattle.wb_machine.specs.RunState.{RunState}
 use Rattle.wb_machine.specs.AttemptRises.{AsksForNoRise}
 use Rattle.wb_machine.specs.Flow.{context_of, FitsStep, rest_of_statement}

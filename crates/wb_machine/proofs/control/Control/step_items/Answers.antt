@@ -1,7 +1,8 @@
 use Rattle.std.proofs.Common.{◌-◌, refl, ap, ◌∙◌, sym, arith}
-use Rattle.wb_model.specs.declared.heap.TheConstants.Panic.{POP_BELOW_TRAP}
-use Rattle.wb_model.specs.meaning.Statements.{newest, destroyed_item}
-use Rattle.wb_model.specs.meaning.Meaning.{meaning_of}
+use Rattle.wb_heap_model.specs.declared.heap.TheConstants.Panic.{POP_BELOW_TRAP}
+use Rattle.wb_heap_model.specs.Pointers.{newest}
+use Rattle.wb_meaning.specs.Statements.{destroyed_item}
+use Rattle.wb_meaning.specs.Meaning.{meaning_of}
 use Rattle.wb_machine.specs.declared.pieces.Ending.TheVariants.{Panics}
 use Rattle.wb_machine.specs.declared.pieces.PendingPiece.TheVariants.{Items}
 use Rattle.wb_machine.specs.RunState.{RunState, state_of}

@@ -1,10 +1,10 @@
 use Rattle.std.proofs.Common.{List, IsTrue, [], refl, ap, ◌∙◌, sym, subst, arith}
 use Rattle.std.specs.List.{list_all}
-use Rattle.wb_model.specs.declared.script.Local.{Local}
+use Rattle.wb_tree.specs.declared.script.Local.{Local}
 use Rattle.wb_machine.specs.LocalValues.{is_small}
 use Rattle.std.specs.Prelude.{unwrap_or}
-use Rattle.wb_model.specs.runs.Rest.{releases}
-use Rattle.wb_model.specs.meaning.Bodies.{class_at, no_body}
+use Rattle.wb_meaning.specs.Rest.{releases}
+use Rattle.wb_tree.specs.Bodies.{class_at, no_body}
 use Rattle.wb_machine.specs.declared.pieces.Ending.TheVariants.{Panics}
 use Rattle.wb_machine.specs.RunState.{RunState}
 use Rattle.wb_machine.specs.Bodies.{class_read}

@@ -1,5 +1,5 @@
 use Rattle.std.proofs.Common.{◌≡◌, ℕ, ◌+◌, ◌-◌, ◌<◌, ◌≤◌, Bool, true, false, cond, refl, ◌∙◌, sym, subst, arith}
-use Rattle.wb_model.specs.runs.Rest.{Fits}
+use Rattle.wb_heap_model.specs.SameRules.{Fits}
 use Rattle.wb_machine.specs.Flow.{is_over}
 use Rattle.wb_machine.proofs.whole_runs.Fitting.{fits-before}
 use Rattle.wb_machine.proofs.control.Control.take_all_turns.Goals as goal

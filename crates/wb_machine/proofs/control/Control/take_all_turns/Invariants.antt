@@ -1,6 +1,6 @@
 use Rattle.std.proofs.Common.{◌≡◌, ◌+◌, ◌-◌, true, cond}
-use Rattle.wb_model.specs.runs.Rest.{Fits}
-use Rattle.wb_model.specs.declared.heap.Rule.{Rule}
+use Rattle.wb_heap_model.specs.SameRules.{Fits}
+use Rattle.wb_heap_model.specs.declared.heap.Rule.{Rule}
 use Rattle.wb_machine.specs.BetweenTurns.{IsBetweenTurns, KeepsSetting}
 use Rattle.wb_machine.specs.Flow.{is_over, rest_from}
 use Rattle.wb_machine.proofs.control.Control.take_all_turns.Given as goal

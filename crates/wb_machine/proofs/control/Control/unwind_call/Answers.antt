@@ -1,7 +1,7 @@
 use Rattle.std.proofs.Common.{◌≡◌, ◌∷◌, length, take, drop, ap, ◌∙◌, sym, arith, Some}
 use Rattle.wb_machine.specs.RunState.{RunState}
 use Rattle.wb_machine.specs.SlotInvariant.{after_leave}
-use Rattle.wb_model.specs.runs.Rest.{calling}
+use Rattle.wb_meaning.specs.Rest.{calling}
 use Rattle.wb_machine.specs.Flow.{frame_with, afterwards, pending_in, rest_from, rest_under}
 use Rattle.wb_machine.proofs.turns.Unwinding.{result_by, call_left, call_ends}
 use Rattle.wb_machine.proofs.control.Control.unwind_call.Goals.{in-GoesOn, in-Returns}

@@ -1,7 +1,7 @@
 use Rattle.std.proofs.Common.{◌∷◌, refl, ap, ◌∙◌, sym, arith, rules, w32, FitsSigned}
 use Rattle.std.proofs.lemmas.Int.{to_z-of_z}
-use Rattle.wb_model.specs.meaning.State.{number}
-use Rattle.wb_model.specs.runs.Rest.{caught}
+use Rattle.wb_meaning.specs.State.{number}
+use Rattle.wb_meaning.specs.Rest.{caught}
 use Rattle.wb_machine.specs.Effects.{stored}
 use Rattle.wb_machine.specs.Flow.{pending_in, rest_from, rest_under}
 use Rattle.wb_machine.proofs.turns.Unwinding.{caught_goes_on, caught_passes}

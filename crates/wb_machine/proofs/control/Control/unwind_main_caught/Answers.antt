@@ -1,7 +1,7 @@
 use Rattle.std.proofs.Common.{◌∷◌, refl, ap, ◌∙◌, sym, arith, rules, w32, FitsSigned}
 use Rattle.std.proofs.lemmas.Int.{to_z-of_z}
 use Rattle.wb_machine.specs.declared.pieces.Ending.TheVariants.{Leaves}
-use Rattle.wb_model.specs.runs.Rest.{main_caught}
+use Rattle.wb_meaning.specs.Rest.{main_caught}
 use Rattle.wb_machine.specs.SlotInvariant.{after_leave}
 use Rattle.wb_machine.specs.Flow.{pending_in, rest_from, rest_under}
 use Rattle.wb_machine.proofs.turns.Unwinding.{main_caught_goes_on, main_caught_passes}

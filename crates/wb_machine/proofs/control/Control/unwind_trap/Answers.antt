@@ -1,8 +1,8 @@
 use Rattle.std.proofs.Common.{◌∷◌, ◌-◌, length, refl, ap, ◌∙◌, sym, arith, rules, w32, FitsSigned}
 use Rattle.std.proofs.lemmas.Int.{to_z-of_z}
-use Rattle.wb_model.specs.declared.heap.TheConstants.Panic.{ITEMS_LEFT}
-use Rattle.wb_model.specs.meaning.Statements.{destroy_items}
-use Rattle.wb_model.specs.runs.Rest.{doing, catching, caught}
+use Rattle.wb_heap_model.specs.declared.heap.TheConstants.Panic.{ITEMS_LEFT}
+use Rattle.wb_meaning.specs.Statements.{destroy_items}
+use Rattle.wb_meaning.specs.Rest.{doing, catching, caught}
 use Rattle.wb_machine.specs.declared.pieces.Ending.TheVariants.{Panics}
 use Rattle.wb_machine.specs.Flow.{context_of, pending_in, rest_from, rest_under}
 use Rattle.wb_machine.proofs.turns.Unwinding.{trap_goes_on, trap_items_left, trap_left, trap_returns}

@@ -1,6 +1,6 @@
 use Rattle.std.proofs.Common.{arith}
 use Rattle.std.proofs.lemmas.List.{drop_all}
-use Rattle.wb_model.specs.runs.SameButNumbers.{AllBeside, none_beside, one_beside}
+use Rattle.wb_renaming.specs.SameButNumbers.{AllBeside, none_beside, one_beside}
 use Rattle.wb_machine.specs.SamePieces.{IsSamePiece}
 use Rattle.wb_machine.proofs.likeness.GrownMaps.{by-both, grown-twice}
 use Rattle.wb_machine.proofs.likeness.PiecesAlike.{piece-later}

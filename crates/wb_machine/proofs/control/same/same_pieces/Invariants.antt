@@ -1,5 +1,5 @@
 use Rattle.std.proofs.Common.{drop}
-use Rattle.wb_model.specs.runs.SameButNumbers.{AllBeside}
+use Rattle.wb_renaming.specs.SameButNumbers.{AllBeside}
 use Rattle.wb_machine.specs.Alike.{IsGrown}
 use Rattle.wb_machine.specs.SamePieces.{IsSamePiece}
 use Rattle.wb_machine.proofs.likeness.GrownMaps.{LeadsTo}

@@ -1,6 +1,6 @@
 use Rattle.std.proofs.Common.{take, drop, ap, sym, subst, ◌∙◌}
-use Rattle.wb_model.specs.runs.SameButNumbers.{AllBeside, IsSameValue}
-use Rattle.wb_model.proofs.renaming.SameNumbers.{take-beside}
+use Rattle.wb_renaming.specs.SameButNumbers.{AllBeside, IsSameValue}
+use Rattle.wb_renaming.proofs.SameNumbers.{take-beside}
 use Rattle.wb_machine.specs.LocalValues.{Frames, values_stored}
 use Rattle.wb_machine.proofs.likeness.GrownMaps.{by-both}
 use Rattle.wb_machine.proofs.likeness.PiecesAlike.{drop-beside}

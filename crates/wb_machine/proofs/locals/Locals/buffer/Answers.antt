@@ -1,6 +1,6 @@
 use Rattle.std.proofs.Common.{◌≡◌, ◌+◌, arith, ap, ◌∙◌, sym, List, vec_len}
 use Rattle.std.proofs.lemmas.List.{get_or_default}
-use Rattle.wb_model.specs.meaning.State.{Value}
+use Rattle.wb_meaning.specs.State.{Value}
 use Rattle.wb_machine.specs.declared.locals.Stored.{Stored}
 use Rattle.wb_machine.specs.declared.locals.Stored.TheVariants.{Small, Buffer}
 use Rattle.wb_machine.specs.LocalValues.{buffer_in, no_buffer, stored_at, value_stored}

@@ -1,6 +1,6 @@
 use Rattle.std.proofs.Common.{arith, ap, ◌∙◌, sym, drop, ◌++◌, map}
 use Rattle.std.proofs.lemmas.List.{length-map}
-use Rattle.wb_model.specs.meaning.State.{initial}
+use Rattle.wb_meaning.specs.State.{initial}
 use Rattle.wb_machine.specs.RunState.{Values}
 use Rattle.wb_machine.specs.LocalValues.{Frames, value_stored, values_stored, values_over}
 use Rattle.wb_machine.proofs.frames.Frames.{frame_added}

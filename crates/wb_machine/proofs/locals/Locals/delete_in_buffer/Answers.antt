@@ -1,6 +1,6 @@
 use Rattle.std.proofs.Common.{◌≡◌, ◌+◌, arith, ap, ◌∙◌, sym, List, vec_len}
 use Rattle.std.proofs.lemmas.List.{get_or_default}
-use Rattle.wb_model.specs.meaning.Texts.{Buffer, delete_text, answer_of}
+use Rattle.wb_heap_model.specs.Texts.{Buffer, delete_text, answer_of}
 use Rattle.wb_machine.specs.declared.locals.Stored.{Stored}
 use Rattle.wb_machine.specs.declared.locals.Stored.TheVariants as T
 use Rattle.wb_machine.specs.LocalValues.{no_buffer, stored_at}

@@ -1,7 +1,7 @@
 use Rattle.std.proofs.Common.{◌≡◌, ◌+◌, arith, ap, ◌∙◌, sym, List, vec_len}
 use Rattle.std.specs.Prelude.{slice_set as set}
-use Rattle.wb_model.specs.meaning.Reading.{max_in}
-use Rattle.wb_model.specs.meaning.State.{Value}
+use Rattle.wb_meaning.specs.Reading.{max_in}
+use Rattle.wb_meaning.specs.State.{Value}
 use Rattle.wb_machine.specs.declared.locals.Stored.{Stored}
 use Rattle.wb_machine.specs.declared.locals.Stored.TheVariants.{Small, Buffer}
 use Rattle.wb_machine.specs.LocalValues.{stored_at, value_of_buffer, value_stored, values_stored}

@@ -1,7 +1,7 @@
 use Rattle.std.proofs.Common.{subst}
 use Rattle.std.proofs.lemmas.Bool.{eqb-true}
-use Rattle.wb_model.specs.declared.text.Base.TheVariants as B
-use Rattle.wb_model.specs.runs.SameButNumbers.{IsSameBase, same_nothing, same_literal, same_local, same_cell}
+use Rattle.wb_heap_model.specs.declared.text.Base.TheVariants as B
+use Rattle.wb_renaming.specs.SameButNumbers.{IsSameBase, same_nothing, same_literal, same_local, same_cell}
 use Rattle.wb_machine.proofs.likeness.GrownMaps.{by-both}
 use Rattle.wb_machine.proofs.locals.same.same_base.Goals as goal
 

@@ -1,6 +1,6 @@
 use Rattle.std.proofs.Common.{[], sym, subst}
-use Rattle.wb_model.specs.meaning.State.{number}
-use Rattle.wb_model.specs.runs.SameButNumbers.{IsSameValue, IsSameView, same_pointer, same_number, same_buffer, same_view}
+use Rattle.wb_meaning.specs.State.{number}
+use Rattle.wb_renaming.specs.SameButNumbers.{IsSameValue, IsSameView, same_pointer, same_number, same_buffer, same_view}
 use Rattle.wb_machine.specs.declared.locals.Slot.{Slot}
 use Rattle.wb_machine.specs.LocalValues.{value_of}
 use Rattle.wb_machine.proofs.likeness.GrownMaps.{by-both}

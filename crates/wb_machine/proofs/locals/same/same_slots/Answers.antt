@@ -1,7 +1,7 @@
 use Rattle.std.proofs.Common.{arith, ap}
 use Rattle.std.proofs.lemmas.List.{drop_all}
-use Rattle.wb_model.specs.runs.SameButNumbers.{AllBeside, none_beside, one_beside, IsSameValue}
-use Rattle.wb_model.proofs.renaming.SameNumbers.{value-later}
+use Rattle.wb_renaming.specs.SameButNumbers.{AllBeside, none_beside, one_beside, IsSameValue}
+use Rattle.wb_renaming.proofs.SameNumbers.{value-later}
 use Rattle.wb_machine.specs.LocalValues.{values_stored}
 use Rattle.wb_machine.proofs.likeness.GrownMaps.{by-both, grown-twice}
 use Rattle.wb_machine.proofs.locals.same.same_slots.Goals as goal

@@ -1,5 +1,5 @@
 use Rattle.std.proofs.Common.{drop}
-use Rattle.wb_model.specs.runs.SameButNumbers.{AllBeside, IsSameValue}
+use Rattle.wb_renaming.specs.SameButNumbers.{AllBeside, IsSameValue}
 use Rattle.wb_machine.specs.Alike.{IsGrown}
 use Rattle.wb_machine.specs.LocalValues.{values_stored}
 use Rattle.wb_machine.proofs.likeness.GrownMaps.{LeadsTo}

@@ -1,6 +1,6 @@
 use Rattle.std.proofs.Common.{sym, subst}
-use Rattle.wb_model.specs.meaning.Texts.{Buffer}
-use Rattle.wb_model.specs.runs.SameButNumbers.{IsSameValue, same_buffer}
+use Rattle.wb_heap_model.specs.Texts.{Buffer}
+use Rattle.wb_renaming.specs.SameButNumbers.{IsSameValue, same_buffer}
 use Rattle.wb_machine.specs.declared.locals.Stored.{Stored}
 use Rattle.wb_machine.specs.LocalValues.{no_buffer, value_of_buffer, value_stored}
 use Rattle.wb_machine.proofs.likeness.GrownMaps.{by-both}

@@ -1,6 +1,6 @@
 use Rattle.std.proofs.Common.{◌≤◌, ◌+◌, ap, ◌∙◌, sym, subst}
-use Rattle.wb_model.specs.runs.Run.{WholeRun}
-use Rattle.wb_model.proofs.runs.AccountLemmas.{whole-attempts}
+use Rattle.wb_meaning.specs.Run.{WholeRun}
+use Rattle.wb_meaning.proofs.AccountLemmas.{whole-attempts}
 use Rattle.wb_machine.specs.Seen.{Seen}
 use Rattle.wb_machine.proofs.whole_runs.OverRuns.{few_attempts, run_over}
 use Rattle.wb_machine.proofs.machine.Machine.attempts.Goals as goal

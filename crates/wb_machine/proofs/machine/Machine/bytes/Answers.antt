@@ -1,8 +1,8 @@
 use Rattle.std.proofs.Common.{◌≡◌, ℕ, suc, List, [], ◌∷◌, Bool, true, false, cond, refl, sym, ap, subst, arith}
 use Rattle.std.specs.Prelude.{Option, None, Some, option_map, Any, IfSome}
-use Rattle.wb_model.specs.declared.heap.Header.{Header}
-use Rattle.wb_model.specs.declared.heap.Ptr.{Ptr}
-use Rattle.wb_model.specs.heap.Row.{Cell, cell_at, headers, is_at, usable_of}
+use Rattle.wb_heap_model.specs.declared.heap.Header.{Header}
+use Rattle.wb_heap_model.specs.declared.heap.Ptr.{Ptr}
+use Rattle.wb_heap_model.specs.Row.{Cell, cell_at, headers, is_at, usable_of}
 use Rattle.wb_machine.specs.Effects.{pointer_read}
 use Rattle.wb_machine.specs.Seen.{Seen}
 use Rattle.wb_machine.proofs.machine.Machine.bytes.Goals as goal

@@ -1,7 +1,7 @@
 use Rattle.std.proofs.Common.{sym, ap, ◌∙◌}
-use Rattle.wb_model.proofs.renaming.SameNumbers.{state-later, value-later}
-use Rattle.wb_model.proofs.renaming.SameNumbers as numbers
-use Rattle.wb_model.specs.runs.SameButNumbers.{Renaming}
+use Rattle.wb_renaming.proofs.SameNumbers.{state-later, value-later}
+use Rattle.wb_renaming.proofs.SameNumbers as numbers
+use Rattle.wb_renaming.specs.SameButNumbers.{Renaming}
 use Rattle.wb_machine.specs.Alike.{GoesOnLike}
 use Rattle.wb_machine.specs.Seen.{Seen}
 use Rattle.wb_machine.proofs.likeness.GrownMaps.{by-both}

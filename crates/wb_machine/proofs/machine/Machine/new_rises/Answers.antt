@@ -1,5 +1,5 @@
 use Rattle.std.proofs.Common.{ap, ◌∙◌}
-use Rattle.wb_model.specs.heap.Debug.{keeps_rises}
+use Rattle.wb_heap_model.specs.Debug.{keeps_rises}
 use Rattle.wb_machine.specs.RunState.{RunState}
 use Rattle.wb_machine.specs.Seen.{seen_at_start}
 use Rattle.wb_machine.proofs.machine.Machine.new_rises.Goals as goal

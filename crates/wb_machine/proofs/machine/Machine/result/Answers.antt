@@ -1,7 +1,7 @@
 use Rattle.std.proofs.Common.{◌≤◌, ◌+◌, false, length, ap, sym, subst, ◌∙◌}
-use Rattle.wb_model.specs.declared.run.RunResult.{RunResult}
-use Rattle.wb_model.specs.runs.Run.{whole_run}
-use Rattle.wb_model.proofs.runs.AccountLemmas.{whole-attempts}
+use Rattle.wb_meaning.specs.declared.run.RunResult.{RunResult}
+use Rattle.wb_meaning.specs.Run.{whole_run}
+use Rattle.wb_meaning.proofs.AccountLemmas.{whole-attempts}
 use Rattle.wb_machine.proofs.machine.Machine.result.Goals as goal
 
 pub returns-clause-run_result : goal.returns-clause-run_result

@@ -1,8 +1,8 @@
 use Rattle.std.proofs.Common.{rules, ◌≡◌, ℕ, is_ok, ap, ◌∙◌, sym, subst, Bool, true, false}
-use Rattle.wb_model.specs.runs.Rest.{Fits}
+use Rattle.wb_heap_model.specs.SameRules.{Fits}
 use Rattle.std.specs.Prelude.{not, ◌&&◌}
-use Rattle.wb_model.specs.heap.Debug.{keeps_rises}
-use Rattle.wb_model.specs.runs.Run.{whole_run}
+use Rattle.wb_heap_model.specs.Debug.{keeps_rises}
+use Rattle.wb_meaning.specs.Run.{whole_run}
 use Rattle.wb_machine.specs.Asks.{asks_next}
 use Rattle.wb_machine.specs.Flow.{is_stop, is_over, pending_in, progress_of, rest_at}
 use Rattle.wb_machine.specs.RunState.{state_of}

@@ -1,8 +1,8 @@
 use Rattle.std.proofs.Common.{◌≡◌, ap, ◌∙◌, sym, subst, false, true}
 use Rattle.std.specs.Prelude.{◌&&◌}
-use Rattle.wb_model.specs.heap.Debug.{keeps_rises}
-use Rattle.wb_model.specs.runs.Rest.{Fits}
-use Rattle.wb_model.specs.runs.Run.{whole_run}
+use Rattle.wb_heap_model.specs.Debug.{keeps_rises}
+use Rattle.wb_heap_model.specs.SameRules.{Fits}
+use Rattle.wb_meaning.specs.Run.{whole_run}
 use Rattle.wb_machine.specs.BetweenTurns.{IsBetweenTurns}
 use Rattle.wb_machine.specs.Flow.{is_stop, is_over, rest_at}
 use Rattle.wb_machine.specs.Seen.{Seen}

@@ -1,5 +1,5 @@
 use Rattle.std.proofs.Common.{List, sym, subst}
-use Rattle.wb_model.specs.declared.run.Leak.{Leak}
+use Rattle.wb_heap_model.specs.declared.reported.Leak.{Leak}
 use Rattle.wb_machine.specs.RunState.{RunState}
 use Rattle.wb_machine.specs.Whole.{IsMachine}
 use Rattle.wb_machine.proofs.turns.Copies.{same_control}

@@ -1,7 +1,7 @@
 use Rattle.std.proofs.Common.{sym, ◌∙◌}
-use Rattle.wb_model.specs.declared.script.Argument.TheVariants.{Passed}
-use Rattle.wb_model.specs.declared.script.Pointer.TheVariants.{Held}
-use Rattle.wb_model.specs.declared.script.Holder.TheVariants.{Local}
+use Rattle.wb_tree.specs.declared.script.Argument.TheVariants.{Passed}
+use Rattle.wb_tree.specs.declared.script.Pointer.TheVariants.{Held}
+use Rattle.wb_tree.specs.declared.script.Holder.TheVariants.{Local}
 use Rattle.wb_machine.proofs.effects.PointerOperands.{argument_fine, argument_refusal}
 use Rattle.wb_machine.proofs.state.State.arguments_refusal.Goals as goal
 

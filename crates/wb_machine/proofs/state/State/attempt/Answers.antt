@@ -1,5 +1,5 @@
 use Rattle.std.proofs.Common.{ap, ◌∙◌, sym}
-use Rattle.wb_model.specs.heap.Debug.{alloc_made, keeps_rises}
+use Rattle.wb_heap_model.specs.Debug.{alloc_made, keeps_rises}
 use Rattle.wb_machine.specs.AttemptRises.{alloc_rises}
 use Rattle.wb_machine.specs.RunState.{RunState}
 use Rattle.wb_machine.specs.StateView.{run_state}

@@ -1,7 +1,7 @@
 use Rattle.std.proofs.Common.{◌≡◌, ap, ◌∙◌, subst, sym, refl, IsSome, IfSome}
-use Rattle.wb_model.specs.declared.heap.Kind.TheVariants.{Raw}
-use Rattle.wb_model.specs.heap.Row.{cell_at}
-use Rattle.wb_model.specs.heap.Debug.{keeps_rises, realloc_made}
+use Rattle.wb_heap_model.specs.declared.heap.Kind.TheVariants.{Raw}
+use Rattle.wb_heap_model.specs.Row.{cell_at}
+use Rattle.wb_heap_model.specs.Debug.{keeps_rises, realloc_made}
 use Rattle.wb_machine.specs.AttemptRises.{cell_rises}
 use Rattle.wb_machine.proofs.asking.NoRise.{found_rises}
 use Rattle.wb_machine.specs.RunState.{RunState}

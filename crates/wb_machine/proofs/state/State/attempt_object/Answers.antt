@@ -1,8 +1,8 @@
 use Rattle.std.proofs.Common.{ap, ◌∙◌, sym}
-use Rattle.wb_model.specs.heap.Debug.{keeps_rises}
+use Rattle.wb_heap_model.specs.Debug.{keeps_rises}
 use Rattle.wb_machine.specs.AttemptRises.{new_rises}
 use Rattle.wb_machine.specs.RunState.{RunState}
-use Rattle.wb_model.specs.meaning.Bodies.{class_at}
+use Rattle.wb_tree.specs.Bodies.{class_at}
 use Rattle.wb_objects.specs.Objects.{object_made}
 use Rattle.wb_machine.specs.StateView.{run_state}
 use Rattle.wb_machine.proofs.effects.UnchangedByAttempts.{called_keeps}

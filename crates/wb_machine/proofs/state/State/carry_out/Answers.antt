@@ -1,6 +1,6 @@
 use Rattle.std.proofs.Common.{refl, ap, ◌∙◌, subst}
-use Rattle.wb_model.specs.declared.script.Statement.TheOpen.{Statement-F}
-use Rattle.wb_model.specs.declared.script.Statement.TheViews.{out-Statement, outs-Alloc, outs-Realloc, outs-PrintNumber, outs-NoteHeap, outs-NoteAvailable, outs-NoteCompress, outs-New, outs-Push, outs-PushObject, outs-PushOperation}
+use Rattle.wb_tree.specs.declared.script.Statement.TheOpen.{Statement-F}
+use Rattle.wb_tree.specs.declared.script.Statement.TheViews.{out-Statement, outs-Alloc, outs-Realloc, outs-PrintNumber, outs-NoteHeap, outs-NoteAvailable, outs-NoteCompress, outs-New, outs-Push, outs-PushObject, outs-PushOperation}
 use Rattle.wb_machine.specs.RunState.{RunState}
 use Rattle.wb_machine.specs.CleanupEffects.{IsStackThere}
 use Rattle.wb_machine.proofs.asking.NoRise.{asks_nothing, rises_as}

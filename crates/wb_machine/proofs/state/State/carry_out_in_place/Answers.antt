@@ -1,7 +1,7 @@
 use Rattle.std.proofs.Common.{ap, ◌∙◌, subst, rules, w32, FitsSigned}
 use Rattle.std.proofs.lemmas.Int.{to_z-of_z}
-use Rattle.wb_model.specs.declared.script.Statement.TheOpen.{Statement-F}
-use Rattle.wb_model.specs.declared.script.Statement.TheViews.{out-Statement, outs-Free, outs-AllocLen, outs-Store, outs-Load, outs-Set, outs-SetNumber, outs-SetNull, outs-Add, outs-Leave, outs-LeaveIfError, outs-LeaveIfNull, outs-Return, outs-ReturnPointer, outs-Mark, outs-MarkEnd, outs-Check, outs-CheckAll, outs-FailNext, outs-FailEvery, outs-FailNone, outs-Pop, outs-PopCheck}
+use Rattle.wb_tree.specs.declared.script.Statement.TheOpen.{Statement-F}
+use Rattle.wb_tree.specs.declared.script.Statement.TheViews.{out-Statement, outs-Free, outs-AllocLen, outs-Store, outs-Load, outs-Set, outs-SetNumber, outs-SetNull, outs-Add, outs-Leave, outs-LeaveIfError, outs-LeaveIfNull, outs-Return, outs-ReturnPointer, outs-Mark, outs-MarkEnd, outs-Check, outs-CheckAll, outs-FailNext, outs-FailEvery, outs-FailNone, outs-Pop, outs-PopCheck}
 use Rattle.wb_machine.specs.Effects.{pointer_read, number_read, store_effect}
 use Rattle.wb_machine.specs.Owed.{CarriesOut}
 use Rattle.wb_machine.proofs.effects.StatementEffects.{effect_of, effect_over}

@@ -1,6 +1,6 @@
 use Rattle.std.proofs.Common.{refl, ap, ◌∙◌}
-use Rattle.wb_model.specs.declared.script.Statement.TheOpen.{Statement-F}
-use Rattle.wb_model.specs.declared.script.Statement.TheViews.{out-Statement, outs-NewText, outs-ReallocText, outs-Copy, outs-Append, outs-Insert, outs-DeleteText, outs-SetLength, outs-Left, outs-Right, outs-Mid, outs-GetLength, outs-GetMaximum, outs-PrintText}
+use Rattle.wb_tree.specs.declared.script.Statement.TheOpen.{Statement-F}
+use Rattle.wb_tree.specs.declared.script.Statement.TheViews.{out-Statement, outs-NewText, outs-ReallocText, outs-Copy, outs-Append, outs-Insert, outs-DeleteText, outs-SetLength, outs-Left, outs-Right, outs-Mid, outs-GetLength, outs-GetMaximum, outs-PrintText}
 use Rattle.wb_machine.proofs.asking.NoRise.{asks_nothing, rises_as}
 use Rattle.wb_machine.proofs.effects.Outcomes.{if_ok_then}
 use Rattle.wb_machine.proofs.effects.TextCellEffects.{new_text_kept, realloc_text_kept}

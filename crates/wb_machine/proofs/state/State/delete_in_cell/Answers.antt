@@ -1,5 +1,5 @@
-use Rattle.wb_model.specs.cells.TextCells.{debug_edited, text_at}
-use Rattle.wb_model.specs.meaning.Texts.{delete_text}
+use Rattle.wb_heap_model.specs.TextCells.{debug_edited, text_at}
+use Rattle.wb_heap_model.specs.Texts.{delete_text}
 use Rattle.wb_machine.proofs.kept.StackBeside.{becomes, edit_called, memory_edited}
 use Rattle.wb_machine.proofs.kept.TextInvariant.{text_seen_at}
 use Rattle.wb_machine.proofs.state.State.delete_in_cell.Goals as goal

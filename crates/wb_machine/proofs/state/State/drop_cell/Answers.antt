@@ -1,7 +1,7 @@
 use Rattle.std.proofs.Common.{◌≡◌, subst, sym, false, IsSome, IfSome}
-use Rattle.wb_model.specs.heap.Row.{cell_at, without}
-use Rattle.wb_model.specs.heap.Heap.{is_cleanup}
-use Rattle.wb_model.specs.heap.Debug.{Debug, with_row}
+use Rattle.wb_heap_model.specs.Row.{cell_at, without}
+use Rattle.wb_heap_model.specs.Heap.{is_cleanup}
+use Rattle.wb_heap_model.specs.Debug.{Debug, with_row}
 use Rattle.wb_machine.specs.RunState.{RunState}
 use Rattle.wb_machine.specs.StackInvariant.{StandsIn}
 use Rattle.wb_machine.specs.TextInvariant.{AreTexts}

@@ -1,4 +1,4 @@
-use Rattle.wb_model.specs.cells.TextCells.{debug_edited}
+use Rattle.wb_heap_model.specs.TextCells.{debug_edited}
 use Rattle.wb_hbuf.specs.Sources.{cell_edited}
 use Rattle.wb_machine.proofs.kept.StackBeside.{becomes, edit_called, memory_edited}
 use Rattle.wb_machine.proofs.kept.TextInvariant.{text_seen_at}

@@ -1,4 +1,4 @@
-use Rattle.wb_model.specs.heap.Heap.{after_mark_end}
+use Rattle.wb_heap_model.specs.Heap.{after_mark_end}
 use Rattle.wb_machine.proofs.kept.StackBeside.{becomes_ok, mark_ended_beside}
 use Rattle.wb_machine.proofs.kept.TextInvariant.{texts_called, texts_lowered}
 use Rattle.wb_machine.proofs.state.State.end_mark.Goals as goal

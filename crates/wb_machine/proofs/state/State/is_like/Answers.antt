@@ -1,6 +1,6 @@
 use Rattle.std.proofs.Common.{sym}
-use Rattle.wb_model.specs.runs.SameButNumbers.{AllBeside, IsSamePointer, IsSameValue, IsSameCell}
-use Rattle.wb_model.proofs.renaming.SameNumbers.{Extends, all-weaker, pointer-later, value-later, item-later}
+use Rattle.wb_renaming.specs.SameButNumbers.{AllBeside, IsSamePointer, IsSameValue, IsSameCell}
+use Rattle.wb_renaming.proofs.SameNumbers.{Extends, all-weaker, pointer-later, value-later, item-later}
 use Rattle.wb_machine.specs.RunState.{RunState, read_row}
 use Rattle.wb_machine.proofs.likeness.GrownMaps.{by-both}
 use Rattle.wb_machine.proofs.state.State.is_like.Goals as goal

@@ -1,7 +1,7 @@
 use Rattle.std.proofs.Common.{subst, sym, ap, ◌∙◌}
-use Rattle.wb_model.specs.heap.Row.{cell_at}
-use Rattle.wb_model.specs.cells.CellRow.{payload_of}
-use Rattle.wb_model.specs.heap.Debug.{Debug, debug_changed}
+use Rattle.wb_heap_model.specs.Row.{cell_at}
+use Rattle.wb_heap_model.specs.CellRow.{payload_of}
+use Rattle.wb_heap_model.specs.Debug.{Debug, debug_changed}
 use Rattle.wb_objects.specs.Objects.{with_field}
 use Rattle.wb_machine.specs.Bodies.{class_read}
 use Rattle.wb_machine.specs.RunState.{RunState}

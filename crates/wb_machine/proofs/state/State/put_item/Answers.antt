@@ -1,5 +1,5 @@
 use Rattle.std.proofs.Common.{◌≡◌, ◌≢◌, IfOk, ap, ◌∙◌, sym, subst, refl, Option, Some}
-use Rattle.wb_model.specs.heap.Debug.{keeps_rises}
+use Rattle.wb_heap_model.specs.Debug.{keeps_rises}
 use Rattle.wb_machine.specs.AttemptRises.{push_rises}
 use Rattle.wb_cleanup.specs.declared.cleanup.Cleanup.{Cleanup}
 use Rattle.wb_cleanup.specs.declared.cleanup.Pushed.TheVariants.{Ceiling}

@@ -1,9 +1,9 @@
 use Rattle.std.proofs.Common.{◌≤◌, ◌+◌, ◌*◌, length, ap, ◌∙◌, subst, sym, refl, ◌≡◌, Some, None}
-use Rattle.wb_model.specs.heap.Row.{cell_at}
-use Rattle.wb_model.specs.heap.Debug.{keeps_rises, realloc_made}
+use Rattle.wb_heap_model.specs.Row.{cell_at}
+use Rattle.wb_heap_model.specs.Debug.{keeps_rises, realloc_made}
 use Rattle.wb_machine.specs.AttemptRises.{realloc_text_rises}
 use Rattle.wb_machine.proofs.asking.NoRise.{found_rises}
-use Rattle.wb_model.specs.cells.TextCells.{text_at}
+use Rattle.wb_heap_model.specs.TextCells.{text_at}
 use Rattle.wb_machine.specs.RunState.{RunState}
 use Rattle.wb_machine.specs.StateView.{run_state}
 use Rattle.wb_machine.specs.TextOperands.{text_refusal}

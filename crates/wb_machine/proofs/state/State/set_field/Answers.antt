@@ -1,7 +1,7 @@
 use Rattle.std.proofs.Common.{◌+◌, ◌*◌, length, ap, sym, ◌∙◌}
 use Rattle.std.specs.Prelude.{nat_le}
-use Rattle.wb_model.specs.heap.Row.{cell_at}
-use Rattle.wb_model.specs.cells.CellRow.{payload_of}
+use Rattle.wb_heap_model.specs.Row.{cell_at}
+use Rattle.wb_heap_model.specs.CellRow.{payload_of}
 use Rattle.wb_machine.specs.RunState.{RunState}
 use Rattle.wb_machine.proofs.kept.ObjectFields.{row_stays, no_room, no_object}
 use Rattle.wb_machine.proofs.state.State.set_field.Goals as goal

@@ -1,7 +1,7 @@
 use Rattle.std.proofs.Common.{ap, ◌∙◌, sym}
-use Rattle.wb_model.specs.declared.heap.Ptr.{Ptr}
-use Rattle.wb_model.specs.declared.script.Pointer.{Pointer}
-use Rattle.wb_model.specs.heap.Debug.{with_row}
+use Rattle.wb_heap_model.specs.declared.heap.Ptr.{Ptr}
+use Rattle.wb_tree.specs.declared.script.Pointer.{Pointer}
+use Rattle.wb_heap_model.specs.Debug.{with_row}
 use Rattle.wb_machine.specs.Effects.{pointer_stored}
 use Rattle.wb_machine.specs.PointerOperands.{row_with_field}
 use Rattle.wb_machine.specs.RunState.{with_debug}

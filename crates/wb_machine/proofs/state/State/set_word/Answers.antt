@@ -1,8 +1,8 @@
 use Rattle.std.proofs.Common.{◌≡◌, ◌<◌, true, length, slice_set, subst, sym, IfSome}
-use Rattle.wb_model.specs.heap.Row.{cell_at}
-use Rattle.wb_model.specs.cells.CellRow.{payload_of}
-use Rattle.wb_model.specs.meaning.Statements.{is_raw}
-use Rattle.wb_model.specs.heap.Debug.{Debug, debug_changed}
+use Rattle.wb_heap_model.specs.Row.{cell_at}
+use Rattle.wb_heap_model.specs.CellRow.{payload_of}
+use Rattle.wb_meaning.specs.Statements.{is_raw}
+use Rattle.wb_heap_model.specs.Debug.{Debug, debug_changed}
 use Rattle.wb_machine.specs.RunState.{RunState}
 use Rattle.wb_machine.specs.TextInvariant.{AreTexts}
 use Rattle.wb_machine.proofs.kept.StackBeside.{becomes, stored_beside}

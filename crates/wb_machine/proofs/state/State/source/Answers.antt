@@ -1,5 +1,5 @@
 use Rattle.std.proofs.Common.{subst}
-use Rattle.wb_model.specs.cells.TextCells.{IsTextAt}
+use Rattle.wb_heap_model.specs.TextCells.{IsTextAt}
 use Rattle.wb_machine.specs.RunState.{RunState}
 use Rattle.wb_machine.specs.StateView.{run_state}
 use Rattle.wb_machine.proofs.kept.TextInvariant.{text_of_base}

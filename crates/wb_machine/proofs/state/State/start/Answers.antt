@@ -1,6 +1,6 @@
 use Rattle.std.proofs.Common.{ap, ◌∙◌, subst, arith}
-use Rattle.wb_model.specs.declared.heap.Kind.TheVariants.{Cleanup}
-use Rattle.wb_model.specs.heap.Debug.{alloc_made}
+use Rattle.wb_heap_model.specs.declared.heap.Kind.TheVariants.{Cleanup}
+use Rattle.wb_heap_model.specs.Debug.{alloc_made}
 use Rattle.wb_machine.specs.Owed.{Stays}
 use Rattle.wb_machine.specs.RunState.{RunState}
 use Rattle.wb_machine.specs.StateView.{run_state}

@@ -1,6 +1,6 @@
 use Rattle.std.proofs.Common.{ap, ◌∙◌}
-use Rattle.wb_model.specs.declared.text.View.{View}
-use Rattle.wb_model.specs.meaning.Reading.{buffer_text, max_in}
+use Rattle.wb_heap_model.specs.declared.text.View.{View}
+use Rattle.wb_meaning.specs.Reading.{buffer_text, max_in}
 use Rattle.wb_hbuf.specs.Sources.{edit_text, source_units}
 use Rattle.wb_machine.specs.RunState.{RunState, value_in}
 use Rattle.wb_machine.specs.TextOperands.{window_units}

@@ -1,6 +1,6 @@
 use Rattle.std.proofs.Common.{ap, sym, ◌∙◌}
-use Rattle.wb_model.specs.declared.text.Base.TheVariants as B
-use Rattle.wb_model.specs.declared.text.View.{View}
+use Rattle.wb_heap_model.specs.declared.text.Base.TheVariants as B
+use Rattle.wb_heap_model.specs.declared.text.View.{View}
 use Rattle.wb_hbuf.specs.Sources.{edit_text}
 use Rattle.wb_machine.specs.TextOperands.{base_max, base_text, window_units}
 use Rattle.wb_machine.proofs.kept.TextInvariant.{same_units, cell_written}

@@ -1,9 +1,9 @@
 use Rattle.std.proofs.Common.{◌≡◌, ◌+◌, ◌∙◌, sym, ap, subst, arith}
-use Rattle.wb_model.specs.cells.CellRow.{CellRow, IsGap}
-use Rattle.wb_model.specs.heap.LimitedHeap.{LimitedHeap, IsSoundHeap, committed_with, space_in}
-use Rattle.wb_model.specs.heap.Row.{headers}
-use Rattle.wb_model.specs.heap.Space.{committed_by}
-use Rattle.wb_model.proofs.heaps.LimitedHeaps.{place_in-committed, place_in-least}
+use Rattle.wb_heap_model.specs.CellRow.{CellRow, IsGap}
+use Rattle.wb_heap_model.specs.LimitedHeap.{LimitedHeap, IsSoundHeap, committed_with, space_in}
+use Rattle.wb_heap_model.specs.Row.{headers}
+use Rattle.wb_heap_model.specs.Space.{committed_by}
+use Rattle.wb_heap_model.proofs.LimitedHeaps.{place_in-committed, place_in-least}
 use Rattle.wb_rheap.specs.Heap.{heap_of}
 use Rattle.wb_rheap.proofs.Counters.{total-within, count-within}
 use Rattle.wb_rheap.proofs.Finding.{place_in-gap}

@@ -1,8 +1,8 @@
 use Rattle.std.proofs.Common.{◌≡◌, ◌-◌, sum, ◌∙◌, ap, arith}
-use Rattle.wb_model.specs.heap.LimitedHeap.{runs_in}
-use Rattle.wb_model.specs.heap.Row.{headers}
-use Rattle.wb_model.proofs.heaps.FreeRuns.{free_runs-are}
-use Rattle.wb_model.proofs.heaps.LimitedHeaps.{top_of-committed}
+use Rattle.wb_heap_model.specs.LimitedHeap.{runs_in}
+use Rattle.wb_heap_model.specs.Row.{headers}
+use Rattle.wb_heap_model.proofs.FreeRuns.{free_runs-are}
+use Rattle.wb_heap_model.proofs.LimitedHeaps.{top_of-committed}
 use Rattle.wb_rheap.specs.Heap.{heap_of}
 use Rattle.wb_rheap.proofs.Counters.{total-within}
 use Rattle.wb_rheap.proofs.heap.Heap.available.Goals as goal

@@ -1,7 +1,7 @@
 use Rattle.std.proofs.Common.{◌∙◌, ap, arith}
-use Rattle.wb_model.specs.heap.Space.{compressed_to}
-use Rattle.wb_model.specs.heap.LimitedHeap.{space_in}
-use Rattle.wb_model.proofs.heaps.LimitedHeaps.{top_of-committed}
+use Rattle.wb_heap_model.specs.Space.{compressed_to}
+use Rattle.wb_heap_model.specs.LimitedHeap.{space_in}
+use Rattle.wb_heap_model.proofs.LimitedHeaps.{top_of-committed}
 use Rattle.wb_rheap.specs.Heap.{heap_of}
 use Rattle.wb_rheap.proofs.HeapFields.{compressed-kept}
 use Rattle.wb_rheap.proofs.heap.Heap.compress.Goals as goal

@@ -1,6 +1,6 @@
 use Rattle.std.proofs.Common.{◌≡◌, ◌≤◌, ◌++◌, ℕ, List, length, take, drop, arith, length-append, length-drop, ap, sym, subst}
 use Rattle.std.proofs.lemmas.List.{length-take-le}
-use Rattle.wb_model.specs.cells.CellRow.{payload_of}
+use Rattle.wb_heap_model.specs.CellRow.{payload_of}
 use Rattle.wb_rheap.proofs.HeapFields.{changed-kept}
 use Rattle.wb_rheap.proofs.heap.Heap.copy_payload.Goals as goal
 

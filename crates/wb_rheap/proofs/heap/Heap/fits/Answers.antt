@@ -1,7 +1,7 @@
 use Rattle.std.proofs.Common.{Some, None, ap, ◌∙◌, subst}
-use Rattle.wb_model.specs.cells.CellRow.{room_after}
-use Rattle.wb_model.specs.heap.LimitedHeap.{IsSoundHeap}
-use Rattle.wb_model.specs.heap.Row.{headers, pointer_to}
+use Rattle.wb_heap_model.specs.CellRow.{room_after}
+use Rattle.wb_heap_model.specs.LimitedHeap.{IsSoundHeap}
+use Rattle.wb_heap_model.specs.Row.{headers, pointer_to}
 use Rattle.wb_rheap.proofs.Growing.{fits-decided, room-left}
 use Rattle.wb_rheap.proofs.heap.Heap.fits.Goals as goal
 

@@ -1,5 +1,5 @@
 use Rattle.std.proofs.Common.{option_map, ap, ◌∙◌, arith}
-use Rattle.wb_model.specs.heap.Row.{cell_at}
+use Rattle.wb_heap_model.specs.Row.{cell_at}
 use Rattle.wb_rheap.proofs.HeapFields.{released, released-kept}
 use Rattle.wb_rheap.proofs.heap.Heap.free_cell.Goals as goal
 

@@ -1,9 +1,9 @@
 use Rattle.std.proofs.Common.{◌≡◌, ◌*◌, sym, ◌∙◌, ap, subst, length, option_map, IfSome}
-use Rattle.wb_model.specs.cells.CellRow.{payload_of}
-use Rattle.wb_model.specs.heap.LimitedHeap.{IsSoundHeap, IsLiveBelow}
-use Rattle.wb_model.specs.heap.Row.{is_at, cell_at, usable_of}
-use Rattle.wb_model.proofs.heaps.LimitedHeaps.{found-live}
-use Rattle.wb_model.proofs.heaps.Rows.{head-cell_at}
+use Rattle.wb_heap_model.specs.CellRow.{payload_of}
+use Rattle.wb_heap_model.specs.LimitedHeap.{IsSoundHeap, IsLiveBelow}
+use Rattle.wb_heap_model.specs.Row.{is_at, cell_at, usable_of}
+use Rattle.wb_heap_model.proofs.LimitedHeaps.{found-live}
+use Rattle.wb_heap_model.proofs.Rows.{head-cell_at}
 use Rattle.wb_rheap.proofs.Finding.{payload-filled}
 use Rattle.wb_rheap.proofs.heap.Heap.header.Goals as goal
 

@@ -1,8 +1,8 @@
 use Rattle.std.proofs.Common.{◌≡◌, ◌+◌, ◌≤◌, max, ◌∙◌, sym, ap, subst, arith}
-use Rattle.wb_model.specs.cells.CellRow.{CellRow, FitsInPlace, IsGap}
-use Rattle.wb_model.specs.heap.LimitedHeap.{LimitedHeap, IsSoundHeap, committed_grown, place_to_grow, space_in}
-use Rattle.wb_model.specs.heap.Row.{headers, pointer_to}
-use Rattle.wb_model.specs.heap.Space.{committed_by}
+use Rattle.wb_heap_model.specs.CellRow.{CellRow, FitsInPlace, IsGap}
+use Rattle.wb_heap_model.specs.LimitedHeap.{LimitedHeap, IsSoundHeap, committed_grown, place_to_grow, space_in}
+use Rattle.wb_heap_model.specs.Row.{headers, pointer_to}
+use Rattle.wb_heap_model.specs.Space.{committed_by}
 use Rattle.wb_rheap.specs.Heap.{heap_of}
 use Rattle.wb_rheap.proofs.Counters.{total-within}
 use Rattle.wb_rheap.proofs.Growing.{cell-of, whole-cell, fits-there, gap-elsewhere, grown-there, grows-aligned, grows-within}

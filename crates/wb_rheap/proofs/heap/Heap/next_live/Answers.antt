@@ -1,8 +1,8 @@
 use Rattle.std.proofs.Common.{sym, ◌∙◌, ap, subst, IfSome}
 use Rattle.std.specs.Prelude.{nat_le}
-use Rattle.wb_model.specs.heap.LimitedHeap.{IsSoundHeap, IsLiveBelow, next_live_of}
-use Rattle.wb_model.specs.heap.Row.{headers}
-use Rattle.wb_model.proofs.heaps.LimitedHeaps.{found-live}
+use Rattle.wb_heap_model.specs.LimitedHeap.{IsSoundHeap, IsLiveBelow, next_live_of}
+use Rattle.wb_heap_model.specs.Row.{headers}
+use Rattle.wb_heap_model.proofs.LimitedHeaps.{found-live}
 use Rattle.wb_rheap.proofs.heap.Heap.next_live.Goals as goal
 
 pub returns-clause-first : goal.returns-clause-first

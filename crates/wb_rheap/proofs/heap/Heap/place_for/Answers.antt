@@ -1,7 +1,7 @@
 use Rattle.std.proofs.Common.{◌≤◌, sym, ◌∙◌, ap, subst}
-use Rattle.wb_model.specs.heap.LimitedHeap.{IsSoundHeap}
-use Rattle.wb_model.specs.heap.Row.{IsLeastPlace, headers, place_of}
-use Rattle.wb_model.proofs.heaps.LimitedHeaps.{place_in-least, place_in-committed}
+use Rattle.wb_heap_model.specs.LimitedHeap.{IsSoundHeap}
+use Rattle.wb_heap_model.specs.Row.{IsLeastPlace, headers, place_of}
+use Rattle.wb_heap_model.proofs.LimitedHeaps.{place_in-least, place_in-committed}
 use Rattle.wb_rheap.proofs.heap.Heap.place_for.Goals as goal
 
 pub returns-clause-place : goal.returns-clause-place

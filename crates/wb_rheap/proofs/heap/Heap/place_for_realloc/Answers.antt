@@ -1,5 +1,5 @@
 use Rattle.std.proofs.Common.{◌∙◌, sym, subst}
-use Rattle.wb_model.specs.heap.Row.{IsLeastPlace, headers}
+use Rattle.wb_heap_model.specs.Row.{IsLeastPlace, headers}
 use Rattle.wb_rheap.proofs.Growing.{own-named, always-moves, stays-there, moves-least}
 use Rattle.wb_rheap.proofs.heap.Heap.place_for_realloc.Goals as goal
 

@@ -1,9 +1,9 @@
 use Rattle.std.proofs.Common.{◌≤◌, not, sym, subst}
 use Rattle.std.specs.Prelude.{◌&&◌}
 use Rattle.std.proofs.lemmas.Bool.{cond-true}
-use Rattle.wb_model.specs.heap.Placement.{fits_in_place}
-use Rattle.wb_model.specs.heap.LimitedHeap.{place_in}
-use Rattle.wb_model.specs.heap.Row.{headers, pointer_to}
+use Rattle.wb_heap_model.specs.Placement.{fits_in_place}
+use Rattle.wb_heap_model.specs.LimitedHeap.{place_in}
+use Rattle.wb_heap_model.specs.Row.{headers, pointer_to}
 use Rattle.wb_rheap.proofs.Growing.{grows-within, live-found}
 use Rattle.wb_rheap.proofs.heap.Heap.place_to_grow.Goals as goal
 

@@ -1,6 +1,6 @@
 use Rattle.std.proofs.Common.{ap, ◌∙◌, sym, subst, arith}
-use Rattle.wb_model.specs.heap.LimitedHeap.{LimitedHeap, heap_shortened}
-use Rattle.wb_model.specs.heap.Row.{pointer_to}
+use Rattle.wb_heap_model.specs.LimitedHeap.{LimitedHeap, heap_shortened}
+use Rattle.wb_heap_model.specs.Row.{pointer_to}
 use Rattle.wb_rheap.specs.Heap.{heap_of}
 use Rattle.wb_rheap.proofs.Growing.{Names, cell-of, live-within, shorter-there}
 use Rattle.wb_rheap.proofs.Reallocated.{less-by, shortened, shortened-kept}

@@ -1,4 +1,4 @@
-use Rattle.wb_model.specs.cells.CellRow.{payload_of}
+use Rattle.wb_heap_model.specs.CellRow.{payload_of}
 use Rattle.wb_chunk.proofs.WrittenHalves.{length-with_halves}
 use Rattle.wb_rheap.proofs.HeapFields.{changed-kept}
 use Rattle.wb_rheap.proofs.heap.Heap.write_halves.Goals as goal

@@ -1,5 +1,5 @@
 use Rattle.std.proofs.Common.{replicate}
-use Rattle.wb_model.specs.cells.CellRow.{payload_of}
+use Rattle.wb_heap_model.specs.CellRow.{payload_of}
 use Rattle.wb_chunk.proofs.WrittenHalves.{length-with_halves}
 use Rattle.wb_rheap.proofs.HeapFields.{changed-kept}
 use Rattle.wb_rheap.proofs.heap.Heap.zero_halves.Goals as goal

@@ -1,5 +1,5 @@
 use Rattle.std.proofs.Common.{◌≡◌, ◌+◌, ◌≤◌, drop}
-use Rattle.wb_model.specs.language.Names.{count_among}
+use Rattle.wb_language.specs.Names.{count_among}
 use Rattle.wb_script.specs.BytesOf.{bytes_of_items}
 use Rattle.wb_script.proofs.checks.items.count_among.Given as goal
 

@@ -1,5 +1,5 @@
 use Rattle.std.proofs.Common.{◌≡◌, ◌++◌, drop}
-use Rattle.wb_model.specs.language.Names.{following_fields}
+use Rattle.wb_language.specs.Names.{following_fields}
 use Rattle.wb_lines.specs.BytesOf.{bytes_of_texts, bytes_of_forms}
 use Rattle.wb_script.proofs.checks.items.following_fields.Given as goal
 

@@ -1,5 +1,5 @@
 use Rattle.std.proofs.Common.{◌≡◌, ◌++◌, drop}
-use Rattle.wb_model.specs.language.Names.{items_of}
+use Rattle.wb_language.specs.Names.{items_of}
 use Rattle.wb_lines.specs.BytesOf.{bytes_of_forms}
 use Rattle.wb_script.specs.BytesOf.{bytes_of_items}
 use Rattle.wb_script.proofs.checks.items.items_of.Given as goal

@@ -1,6 +1,6 @@
 use Rattle.std.proofs.Common.{map, ◌∙◌}
-use Rattle.wb_model.specs.language.Forms.{renamed_parameter_type}
-use Rattle.wb_model.specs.language.Names.{parameter_type_of}
+use Rattle.wb_language.specs.Forms.{renamed_parameter_type}
+use Rattle.wb_language.specs.Names.{parameter_type_of}
 use Rattle.wb_lines.specs.BytesOf.{bytes_of_text, bytes_of_operand}
 use Rattle.wb_lines.proofs.BytesOf.{map_some}
 use Rattle.wb_script.proofs.lists.ListLoops.{one_found, all_found}

@@ -1,7 +1,7 @@
 use Rattle.std.proofs.Common.{◌≡◌, ◌++◌, drop, map}
 use Rattle.std.specs.List.{flat_map}
-use Rattle.wb_model.specs.language.Forms.{renamed_parameter_type}
-use Rattle.wb_model.specs.language.Names.{parameter_type_of}
+use Rattle.wb_language.specs.Forms.{renamed_parameter_type}
+use Rattle.wb_language.specs.Names.{parameter_type_of}
 use Rattle.wb_lines.specs.BytesOf.{bytes_of_operands, bytes_of_text}
 use Rattle.wb_script.proofs.checks.items.parameters_among.Given as goal
 

@@ -1,6 +1,6 @@
 use Rattle.std.proofs.Common.{map, sym, ◌∙◌}
 use Rattle.std.proofs.lemmas.List.{length-map}
-use Rattle.wb_model.specs.language.Forms.{renamed_parameter_type}
+use Rattle.wb_language.specs.Forms.{renamed_parameter_type}
 use Rattle.wb_lines.specs.BytesOf.{bytes_of_text}
 use Rattle.wb_script.proofs.names.OperandPlaces.{given_differ}
 use Rattle.wb_script.proofs.checks.kinds.are_given.Goals as goal

@@ -1,6 +1,6 @@
 use Rattle.std.proofs.Common.{◌≡◌, drop, length, map}
-use Rattle.wb_model.specs.language.Forms.{renamed_parameter_type}
-use Rattle.wb_model.specs.language.Kinds.{are_given}
+use Rattle.wb_language.specs.Forms.{renamed_parameter_type}
+use Rattle.wb_language.specs.Kinds.{are_given}
 use Rattle.wb_lines.specs.BytesOf.{bytes_of_text}
 use Rattle.wb_script.proofs.checks.kinds.are_given.Given as goal
 

@@ -1,6 +1,6 @@
 use Rattle.std.proofs.Common.{true, false, length, sym, ap, ◌∙◌}
-use Rattle.wb_model.specs.language.LineKinds.{operand_places_with}
-use Rattle.wb_model.specs.language.Kinds.{are_right}
+use Rattle.wb_language.specs.LineKinds.{operand_places_with}
+use Rattle.wb_language.specs.Kinds.{are_right}
 use Rattle.wb_script.proofs.names.OperandPlaces.{right_here, right_past, right_short}
 use Rattle.wb_script.proofs.checks.kinds.are_right.Goals as goal
 

@@ -1,6 +1,6 @@
 use Rattle.std.proofs.Common.{◌≡◌, drop, length}
-use Rattle.wb_model.specs.language.LineKinds.{operand_places_with}
-use Rattle.wb_model.specs.language.Kinds.{are_right}
+use Rattle.wb_language.specs.LineKinds.{operand_places_with}
+use Rattle.wb_language.specs.Kinds.{are_right}
 use Rattle.wb_script.proofs.checks.kinds.are_right.Given as goal
 
 abbrev pub invariant-loop-index : goal.invariant-loop-index

@@ -1,7 +1,7 @@
 use Rattle.std.proofs.Common.{◌≡◌, drop}
 use Rattle.std.specs.List.{flat_map}
-use Rattle.wb_model.specs.language.Kinds.{is_nothing}
-use Rattle.wb_model.specs.language.Names.{parameter_type_of}
+use Rattle.wb_language.specs.Kinds.{is_nothing}
+use Rattle.wb_language.specs.Names.{parameter_type_of}
 use Rattle.wb_lines.specs.BytesOf.{bytes_of_operands}
 use Rattle.wb_script.proofs.checks.kinds.has_parameter.Given as goal
 

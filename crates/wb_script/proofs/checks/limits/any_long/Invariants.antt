@@ -1,6 +1,6 @@
 use Rattle.std.proofs.Common.{◌≡◌, drop}
 use Rattle.std.specs.List.{list_any}
-use Rattle.wb_model.specs.language.Names.{is_long}
+use Rattle.wb_language.specs.Names.{is_long}
 use Rattle.wb_lines.specs.BytesOf.{bytes_of_operands}
 use Rattle.wb_script.proofs.checks.limits.any_long.Given as goal
 

@@ -1,6 +1,6 @@
 use Rattle.std.proofs.Common.{◌≡◌, ◌+◌, ◌≤◌, drop, length}
 use Rattle.std.specs.List.{flat_map}
-use Rattle.wb_model.specs.language.Names.{parameter_type_of}
+use Rattle.wb_language.specs.Names.{parameter_type_of}
 use Rattle.wb_lines.specs.BytesOf.{bytes_of_operands}
 use Rattle.wb_script.proofs.checks.limits.parameter_count.Given as goal
 

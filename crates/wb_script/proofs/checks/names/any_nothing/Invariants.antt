@@ -1,6 +1,6 @@
 use Rattle.std.proofs.Common.{◌≡◌, drop}
 use Rattle.std.specs.List.{list_any}
-use Rattle.wb_model.specs.language.Resolved.{means_nothing}
+use Rattle.wb_language.specs.Resolved.{means_nothing}
 use Rattle.wb_script.proofs.checks.names.any_nothing.Given as goal
 
 abbrev pub invariant-loop-operand : goal.invariant-loop-operand

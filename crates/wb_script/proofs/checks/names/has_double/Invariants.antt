@@ -1,6 +1,6 @@
 use Rattle.std.proofs.Common.{◌≡◌, drop}
 use Rattle.std.specs.List.{flat_map}
-use Rattle.wb_model.specs.language.Names.{has_double, name_passed}
+use Rattle.wb_language.specs.Names.{has_double, name_passed}
 use Rattle.wb_lines.specs.BytesOf.{bytes_of_operands}
 use Rattle.wb_script.proofs.checks.names.has_double.Given as goal
 

@@ -1,6 +1,6 @@
 use Rattle.std.proofs.Common.{◌≡◌}
 use Rattle.std.specs.Str.{bytes_eq}
-use Rattle.wb_model.specs.language.Names.{first_declaration_of}
+use Rattle.wb_language.specs.Names.{first_declaration_of}
 use Rattle.wb_lines.specs.BytesOf.{bytes_of_text, bytes_of_texts}
 use Rattle.wb_script.proofs.lists.Passes.{found_from}
 use Rattle.wb_script.proofs.checks.names.place_of.Given as goal

@@ -1,5 +1,5 @@
 use Rattle.std.proofs.Common.{◌∙◌}
-use Rattle.wb_model.specs.language.Names.{literal_text}
+use Rattle.wb_language.specs.Names.{literal_text}
 use Rattle.wb_lines.specs.BytesOf.{bytes_of_text, bytes_of_texts, bytes_of_operand}
 use Rattle.wb_lines.proofs.BytesOf.{map_some}
 use Rattle.wb_script.proofs.lists.ListLoops.{one_found, all_found}

@@ -1,6 +1,6 @@
 use Rattle.std.proofs.Common.{◌≡◌, ◌++◌, drop}
 use Rattle.std.specs.List.{flat_map}
-use Rattle.wb_model.specs.language.Names.{literal_text}
+use Rattle.wb_language.specs.Names.{literal_text}
 use Rattle.wb_lines.specs.BytesOf.{bytes_of_texts, bytes_of_operands}
 use Rattle.wb_script.proofs.checks.names_so_far.add_literals.Given as goal
 

@@ -1,8 +1,8 @@
 use Rattle.std.proofs.Common.{◌++◌, ◌+◌, ◌∷◌, [], List, length, drop, sym, ap, ◌∙◌, append-nil, append_assoc}
-use Rattle.wb_model.specs.language.LineKinds.{operand_places_with}
-use Rattle.wb_model.specs.language.Resolved.{resolved_operands}
-use Rattle.wb_model.specs.declared.script_lines.Referent.{Referent}
-use Rattle.wb_model.specs.declared.script_lines.Operand.{Operand}
+use Rattle.wb_language.specs.LineKinds.{operand_places_with}
+use Rattle.wb_language.specs.Resolved.{resolved_operands}
+use Rattle.wb_tree.specs.declared.script_lines.Referent.{Referent}
+use Rattle.wb_tree.specs.declared.script_lines.Operand.{Operand}
 use Rattle.wb_script.specs.Checks.{known_in}
 use Rattle.wb_lines.specs.BytesOf.{bytes_of_operand, bytes_of_operands}
 use Rattle.wb_script.specs.BytesOf.{bytes_of_items}

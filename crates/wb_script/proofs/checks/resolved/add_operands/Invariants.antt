@@ -1,6 +1,6 @@
 use Rattle.std.proofs.Common.{◌≡◌, ◌++◌, drop, length}
-use Rattle.wb_model.specs.language.LineKinds.{operand_places_with}
-use Rattle.wb_model.specs.language.Resolved.{resolved_operands}
+use Rattle.wb_language.specs.LineKinds.{operand_places_with}
+use Rattle.wb_language.specs.Resolved.{resolved_operands}
 use Rattle.wb_lines.specs.BytesOf.{bytes_of_operands}
 use Rattle.wb_script.specs.BytesOf.{bytes_of_items}
 use Rattle.wb_script.specs.Checks.{known_in}

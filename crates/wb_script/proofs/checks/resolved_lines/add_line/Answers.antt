@@ -4,12 +4,12 @@ use Rattle.std.proofs.lemmas.List.{length-map}
 use Rattle.std.proofs.lemmas.Result.{on_ok_weaker}
 use Rattle.std.specs.Borrow.{Bor}
 use Rattle.wb_lines.specs.BytesOf.{bytes_of_form, bytes_of_operand, bytes_of_operands}
-use Rattle.wb_model.specs.declared.script_lines.Form.{Form}
-use Rattle.wb_model.specs.declared.script_lines.Form.TheVariants as form
-use Rattle.wb_model.specs.declared.script_lines.Referent.{Referent}
-use Rattle.wb_model.specs.language.LineKinds.{operand_places_for}
-use Rattle.wb_model.specs.language.Names.{Text}
-use Rattle.wb_model.specs.language.Resolved.{resolved_line, resolved_operands}
+use Rattle.wb_tree.specs.declared.script_lines.Form.{Form}
+use Rattle.wb_tree.specs.declared.script_lines.Form.TheVariants as form
+use Rattle.wb_tree.specs.declared.script_lines.Referent.{Referent}
+use Rattle.wb_language.specs.LineKinds.{operand_places_for}
+use Rattle.wb_language.specs.Names.{Text}
+use Rattle.wb_language.specs.Resolved.{resolved_line, resolved_operands}
 use Rattle.wb_script.specs.BytesOf.{bytes_of_items}
 use Rattle.wb_script.specs.Checks.{known_in}
 use Rattle.wb_script.specs.ResolvedLines.{counted_in, lines_of_rows, with_operands}

@@ -2,7 +2,7 @@ use Rattle.std.proofs.Common.{◌≡◌, ◌≤◌, length}
 use Rattle.std.specs.Borrow.{Bor}
 use Rattle.std.specs.HashMap.{get_by}
 use Rattle.std.specs.Str.{bytes_eq}
-use Rattle.wb_model.specs.language.Names.{Text}
+use Rattle.wb_language.specs.Names.{Text}
 use Rattle.wb_script.proofs.names.Tables.{named_from}
 use Rattle.wb_script.proofs.checks.tables.names_of.Given as goal
 

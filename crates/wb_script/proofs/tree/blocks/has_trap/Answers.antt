@@ -1,5 +1,5 @@
 use Rattle.std.proofs.Common.{sym, ap, ◌∙◌}
-use Rattle.wb_model.specs.language.Kinds.{is_trap}
+use Rattle.wb_language.specs.Kinds.{is_trap}
 use Rattle.wb_script.specs.Building.{head_line_kind}
 use Rattle.wb_script.proofs.building.Nests.{trap_found}
 use Rattle.wb_script.proofs.tree.blocks.has_trap.Goals as goal

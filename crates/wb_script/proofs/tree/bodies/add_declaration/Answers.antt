@@ -1,5 +1,5 @@
 use Rattle.std.proofs.Common.{sym, subst}
-use Rattle.wb_model.specs.declared.script_lines.Form.TheVariants.{Line}
+use Rattle.wb_tree.specs.declared.script_lines.Form.TheVariants.{Line}
 use Rattle.wb_script.specs.declared.tree.bodies.BodyProgress.TheVariants.{Inside}
 use Rattle.wb_script.specs.Growing.{Adds, declared_in_space}
 use Rattle.wb_script.proofs.building.Additions.{declared_adds}

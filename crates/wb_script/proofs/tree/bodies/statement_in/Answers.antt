@@ -1,6 +1,6 @@
 use Rattle.std.proofs.Common.{List, ℕ, subst}
 use Rattle.std.specs.Prelude.{IfOk}
-use Rattle.wb_model.specs.language.Sound.{Scope}
+use Rattle.wb_tree.specs.Sound.{Scope}
 use Rattle.wb_script.specs.declared.tree.blocks.OpenBlock.{OpenBlock}
 use Rattle.wb_script.specs.Building.{line_kinds_of_blocks}
 use Rattle.wb_script.specs.Growing.{declared_in_space, scope_in_body}

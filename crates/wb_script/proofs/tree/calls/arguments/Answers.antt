@@ -1,7 +1,8 @@
 use Rattle.std.proofs.Common.{◌≡◌, ◌<◌, ◌∙◌, sym, ap, subst, ◌+◌, length, length-append, get_or, take, map, Some, ◌∷◌, [], ◌++◌, IsTrue, arith}
 use Rattle.std.proofs.lemmas.List.{take_more}
-use Rattle.wb_model.specs.language.Sound.{is_passed, are_passed}
-use Rattle.wb_model.specs.language.Trees.{all_spelled, argument_operand}
+use Rattle.wb_tree.specs.Sound.{is_passed, are_passed}
+use Rattle.wb_language.specs.Trees.{all_spelled}
+use Rattle.wb_tree.specs.Spellings.{argument_operand}
 use Rattle.wb_script.specs.Stated.{bytes_of_parameter, scope_in}
 use Rattle.wb_script.proofs.building.PassedArguments.{spelled_more, passed_more, arguments_differ, one_differs}
 use Rattle.wb_script.proofs.tree.calls.arguments.Goals as goal

@@ -1,7 +1,8 @@
 use Rattle.std.proofs.Common.{◌≡◌, ◌≤◌, List, length, map, take, Some, IsTrue}
-use Rattle.wb_model.specs.language.Names as model
-use Rattle.wb_model.specs.language.Sound.{are_passed}
-use Rattle.wb_model.specs.language.Trees.{all_spelled, argument_operand}
+use Rattle.wb_language.specs.Names as model
+use Rattle.wb_tree.specs.Sound.{are_passed}
+use Rattle.wb_language.specs.Trees.{all_spelled}
+use Rattle.wb_tree.specs.Spellings.{argument_operand}
 use Rattle.wb_script.specs.Stated.{bytes_of_parameter, scope_in}
 use Rattle.wb_script.proofs.tree.calls.arguments.Given as goal
 

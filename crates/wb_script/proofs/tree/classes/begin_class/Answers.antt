@@ -2,10 +2,10 @@ use Rattle.std.proofs.Common.{◌≡◌, ◌∷◌, [], None, IsTrue, true, fals
 use Rattle.std.specs.Prelude.{is_some}
 use Rattle.wb_script.specs.Building.{declares, scope_at}
 use Rattle.wb_script.specs.Growing.{Grows, declared_in_space, in_class, outside}
-use Rattle.wb_model.specs.declared.script_lines.Form.TheVariants.{Line}
-use Rattle.wb_model.specs.declared.script_lines.LineKind.TheVariants as line_kind
-use Rattle.wb_model.specs.declared.script_lines.Referent.TheVariants as referent
-use Rattle.wb_model.specs.declared.script_lines.Operand.TheVariants.{Name, Size}
+use Rattle.wb_tree.specs.declared.script_lines.Form.TheVariants.{Line}
+use Rattle.wb_tree.specs.declared.script_lines.LineKind.TheVariants as line_kind
+use Rattle.wb_tree.specs.declared.script_lines.Referent.TheVariants as referent
+use Rattle.wb_tree.specs.declared.script_lines.Operand.TheVariants.{Name, Size}
 use Rattle.wb_script.proofs.building.ItemGrowth.{class_grows}
 use Rattle.wb_script.proofs.building.FittingHeads.{class_index, fit_class}
 use Rattle.wb_script.proofs.tree.classes.begin_class.Goals as goal

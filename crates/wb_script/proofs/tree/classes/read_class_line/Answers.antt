@@ -1,5 +1,5 @@
 use Rattle.std.proofs.Common.{sym, subst}
-use Rattle.wb_model.specs.declared.script_lines.Form.TheVariants.{Line}
+use Rattle.wb_tree.specs.declared.script_lines.Form.TheVariants.{Line}
 use Rattle.wb_script.specs.Growing.{SaysWhereFit, declared_in_space}
 use Rattle.wb_script.proofs.building.OpenPlaces.{no_part}
 use Rattle.wb_script.proofs.tree.classes.read_class_line.Goals as goal

@@ -1,6 +1,6 @@
 use Rattle.std.proofs.Common.{[], sym, subst, ◌∙◌}
-use Rattle.wb_model.specs.declared.script_lines.Form.TheVariants.{Line}
-use Rattle.wb_model.specs.declared.script_lines.LineKind.TheVariants as line_kind
+use Rattle.wb_tree.specs.declared.script_lines.Form.TheVariants.{Line}
+use Rattle.wb_tree.specs.declared.script_lines.LineKind.TheVariants as line_kind
 use Rattle.wb_script.specs.declared.tree.classes.ClassLine.TheVariants as says
 use Rattle.wb_script.specs.Growing.{Grows, building_after, declared_in_space, in_class}
 use Rattle.wb_script.proofs.building.FittingHeads.{absent}

@@ -1,6 +1,6 @@
 use Rattle.std.proofs.Common.{sym, subst}
-use Rattle.wb_model.specs.declared.script_lines.Form.TheVariants.{Line}
-use Rattle.wb_model.specs.declared.script_lines.LineKind.TheVariants as line_kind
+use Rattle.wb_tree.specs.declared.script_lines.Form.TheVariants.{Line}
+use Rattle.wb_tree.specs.declared.script_lines.LineKind.TheVariants as line_kind
 use Rattle.wb_script.specs.Growing.{Grows, declared_in_space, in_class, outside, with_class}
 use Rattle.wb_script.proofs.building.ClassGrowth.{end_grows}
 use Rattle.wb_script.proofs.lists.Tests.{nothing}

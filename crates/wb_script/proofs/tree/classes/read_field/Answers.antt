@@ -1,7 +1,7 @@
 use Rattle.std.proofs.Common.{◌≡◌, List, ℕ, IsTrue, true, false, length, sym, ap, subst, ◌∙◌, arith}
 use Rattle.std.specs.Prelude.{is_some}
-use Rattle.wb_model.specs.language.Sound.{is_class_among}
-use Rattle.wb_model.specs.language.Trees.{field_line}
+use Rattle.wb_tree.specs.Sound.{is_class_among}
+use Rattle.wb_language.specs.Trees.{field_line}
 use Rattle.wb_script.specs.Building.{declares, scope_at}
 use Rattle.wb_script.specs.Growing.{declared_in_space}
 use Rattle.wb_script.proofs.building.FittingHeads.{absent, field_index, fit_field}

@@ -1,7 +1,7 @@
 use Rattle.std.proofs.Common.{refl, ap}
-use Rattle.wb_model.specs.declared.script_lines.LineKind.TheVariants as line_kind
-use Rattle.wb_model.specs.declared.script_lines.Keyword.TheVariants as keyword
-use Rattle.wb_model.specs.language.Trees.{line_or_unknown}
+use Rattle.wb_tree.specs.declared.script_lines.LineKind.TheVariants as line_kind
+use Rattle.wb_tree.specs.declared.script_lines.Keyword.TheVariants as keyword
+use Rattle.wb_language.specs.Trees.{line_or_unknown}
 use Rattle.wb_script.proofs.tree.heads.if_less.Goals as goal
 
 pub returns-in-Some : goal.returns-in-Some

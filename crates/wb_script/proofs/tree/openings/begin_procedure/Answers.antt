@@ -1,6 +1,6 @@
 use Rattle.std.proofs.Common.{◌≡◌, List, ℕ, None, true, false, length, sym, ap, subst, ◌∙◌}
-use Rattle.wb_model.specs.declared.script_lines.Form.TheVariants.{Line}
-use Rattle.wb_model.specs.declared.script_lines.LineKind.TheVariants as line_kind
+use Rattle.wb_tree.specs.declared.script_lines.Form.TheVariants.{Line}
+use Rattle.wb_tree.specs.declared.script_lines.LineKind.TheVariants as line_kind
 use Rattle.wb_script.specs.declared.tree.whole.Owner.TheVariants as of
 use Rattle.wb_script.specs.Growing.{AreParametersOf, Grows, declared_in_space, in_body, is_procedure_head, new_body, outside}
 use Rattle.wb_script.proofs.building.FittingHeads.{fit_procedure, procedure_index}

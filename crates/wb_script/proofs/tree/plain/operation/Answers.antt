@@ -1,5 +1,5 @@
 use Rattle.std.proofs.Common.{◌<◌, subst, arith}
-use Rattle.wb_model.specs.declared.script_lines.ItemKind.TheVariants as kind
+use Rattle.wb_tree.specs.declared.script_lines.ItemKind.TheVariants as kind
 use Rattle.wb_script.proofs.names.Indexes.{index_fits}
 use Rattle.wb_script.proofs.tree.plain.operation.Goals as goal
 

@@ -1,5 +1,5 @@
 use Rattle.std.proofs.Common.{refl, sym, subst}
-use Rattle.wb_model.specs.declared.script_lines.LineKind.TheVariants as line_kind
+use Rattle.wb_tree.specs.declared.script_lines.LineKind.TheVariants as line_kind
 use Rattle.wb_script.specs.Building.{line_kinds_of_blocks}
 use Rattle.wb_script.specs.BytesOf.{declared_by}
 use Rattle.wb_script.specs.Stated.{IsStatedWhereFit, scope_in}

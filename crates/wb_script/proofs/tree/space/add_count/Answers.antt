@@ -1,6 +1,6 @@
 use Rattle.std.proofs.Common.{sym, ap, ◌∙◌, ◌++◌, append-nil}
-use Rattle.wb_model.specs.declared.script_lines.ItemKind.TheVariants as kind
-use Rattle.wb_model.specs.language.Names.{is_same_kind}
+use Rattle.wb_tree.specs.declared.script_lines.ItemKind.TheVariants as kind
+use Rattle.wb_language.specs.Names.{is_same_kind}
 use Rattle.wb_script.proofs.counts.FieldCounts.{other_counted}
 use Rattle.wb_script.proofs.tree.space.add_count.Goals as goal
 

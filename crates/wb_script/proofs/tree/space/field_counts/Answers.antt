@@ -1,6 +1,6 @@
 use Rattle.std.proofs.Common.{◌≤◌, sym, ap, subst, ◌∙◌, ◌++◌, ◌∷◌, [], take, length}
 use Rattle.std.proofs.lemmas.List.{take_more}
-use Rattle.wb_model.specs.declared.limits.TheConstants.{MOST_FIELDS}
+use Rattle.wb_basics.specs.declared.limits.TheConstants.{MOST_FIELDS}
 use Rattle.wb_script.specs.declared.checks.items.Declaration.{Declaration}
 use Rattle.wb_script.specs.BytesOf.{fields_among, bytes_of_items}
 use Rattle.wb_script.proofs.counts.FieldCounts.{counted_more, few_fields}

@@ -1,5 +1,5 @@
 use Rattle.std.proofs.Common.{sym, subst}
-use Rattle.wb_model.specs.declared.script_lines.OperandPlace.TheVariants as operand_place
+use Rattle.wb_tree.specs.declared.script_lines.OperandPlace.TheVariants as operand_place
 use Rattle.wb_script.specs.Stated.{IsTripleSpelled, scope_in}
 use Rattle.wb_script.proofs.tree.statements.pointers_and_number.Goals as goal
 

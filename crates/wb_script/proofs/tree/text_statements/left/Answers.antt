@@ -1,6 +1,6 @@
 use Rattle.std.proofs.Common.{sym, subst}
-use Rattle.wb_model.specs.declared.script_lines.LineKind.TheVariants as line_kind
-use Rattle.wb_model.specs.declared.script_lines.OperandPlace.TheVariants as operand_place
+use Rattle.wb_tree.specs.declared.script_lines.LineKind.TheVariants as line_kind
+use Rattle.wb_tree.specs.declared.script_lines.OperandPlace.TheVariants as operand_place
 use Rattle.wb_script.specs.Stated.{IsStatementOf, scope_in}
 use Rattle.wb_script.proofs.tree.text_statements.left.Goals as goal
 

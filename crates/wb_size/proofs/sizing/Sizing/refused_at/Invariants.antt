@@ -1,5 +1,5 @@
 use Rattle.std.proofs.Common.{◌≡◌, drop}
-use Rattle.wb_model.specs.runs.Run.{first_rise_above}
+use Rattle.wb_meaning.specs.Run.{first_rise_above}
 use Rattle.wb_size.proofs.sizing.Sizing.refused_at.Given as goal
 
 -- the rises to come tell as much as all of them

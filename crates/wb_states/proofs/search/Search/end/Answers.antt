@@ -1,7 +1,7 @@
 -- Proof: end. The run is that of its set.
 use Rattle.std.proofs.Common.{rules, ◌≡◌, ℕ, arith, List, true, false, length, sym, ◌∙◌, ap}
-use Rattle.wb_model.specs.declared.run.RunResult.{RunResult}
-use Rattle.wb_model.specs.runs.Sweeps.{is_fine}
+use Rattle.wb_meaning.specs.declared.run.RunResult.{RunResult}
+use Rattle.wb_runs.specs.Sweeps.{is_fine}
 use Rattle.wb_states.specs.Ground.{run_of, Ground}
 use Rattle.wb_states.specs.States.{ground_of}
 use Rattle.wb_states.proofs.EndLemmas.{none-goes-on, whole-of}

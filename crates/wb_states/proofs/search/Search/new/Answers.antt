@@ -1,7 +1,7 @@
 -- The first state is the run without failure before its first attempt.
 use Rattle.std.proofs.Common.{ℕ, List, false, [], ◌∷◌, ◌++◌, refl, sym, ◌∙◌, ap}
 use Rattle.wb_machine.specs.Seen.{seen_at_start}
-use Rattle.wb_model.specs.declared.heap.Rule.TheVariants.{Set}
+use Rattle.wb_heap_model.specs.declared.heap.Rule.TheVariants.{Set}
 use Rattle.wb_states.specs.declared.state.State.{State}
 use Rattle.wb_states.proofs.GrowLemmas.{on-ok, sound-first}
 use Rattle.wb_states.proofs.search.Search.new.Goals as goal

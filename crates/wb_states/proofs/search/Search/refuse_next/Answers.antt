@@ -2,7 +2,7 @@
 use Rattle.std.proofs.Common.{◌≡◌, ◌+◌, ◌++◌, ◌∷◌, [], ap, refl, ◌∙◌}
 use Rattle.std.proofs.lemmas.Result.{IfOk-weaker}
 use Rattle.wb_machine.specs.Seen.{Seen}
-use Rattle.wb_model.specs.declared.heap.Rule.TheVariants.{Set}
+use Rattle.wb_heap_model.specs.declared.heap.Rule.TheVariants.{Set}
 use Rattle.wb_states.specs.Ground.{turns_of}
 use Rattle.wb_states.specs.States.{ground_of}
 use Rattle.wb_states.proofs.GrowLemmas.{about-failed, fits-next, goes-refused, set-next, untried-failed}

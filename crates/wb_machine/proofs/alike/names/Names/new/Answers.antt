@@ -1,6 +1,6 @@
 use Rattle.std.proofs.Common.{◌≡◌, List, [], sym, subst}
-use Rattle.wb_model.specs.runs.SameButNumbers.{IsRenaming, since_fork}
-use Rattle.wb_model.proofs.renaming.SameForks.{forked-renaming}
+use Rattle.wb_renaming.specs.SameButNumbers.{IsRenaming, since_fork}
+use Rattle.wb_renaming.proofs.SameForks.{forked-renaming}
 use Rattle.wb_machine.specs.declared.alike.names.Name.{Name}
 use Rattle.wb_machine.specs.Alike.{names_of}
 use Rattle.wb_machine.proofs.likeness.Maps.{none-added}

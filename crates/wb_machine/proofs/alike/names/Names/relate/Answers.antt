@@ -1,6 +1,6 @@
 use Rattle.std.proofs.Common.{◌≡◌, ◌≤◌, List, ap, sym, ◌∙◌, subst, arith, Some, None, OnErr, Result, Ok, Err}
 use Rattle.std.proofs.lemmas.Bool.{eqb-true}
-use Rattle.wb_model.specs.runs.SameButNumbers.{Renames, Renaming, up_to, since_fork}
+use Rattle.wb_renaming.specs.SameButNumbers.{Renames, Renaming, up_to, since_fork}
 use Rattle.wb_machine.specs.declared.alike.names.Name.{Name}
 use Rattle.wb_machine.specs.Alike.{names_of, pair_of, IsGrown}
 use Rattle.wb_machine.proofs.likeness.Maps.{shared-renames, found-renames, among_first, kept-or-added, added-renames}

@@ -1,6 +1,6 @@
 use Rattle.std.proofs.Common.{◌≡◌, ◌++◌, drop, map}
 use Rattle.std.specs.List.{flat_map}
-use Rattle.wb_model.specs.language.Names.{kind_of_parameter, parameter_type_of, name_passed}
+use Rattle.wb_language.specs.Names.{kind_of_parameter, parameter_type_of, name_passed}
 use Rattle.wb_script.specs.Checks.{AreSameItems}
 use Rattle.wb_lines.specs.BytesOf.{bytes_of_kind, bytes_of_texts, bytes_of_operands}
 use Rattle.wb_script.proofs.checks.names_so_far.NamesSoFar.add_parameters.Given as goal

@@ -1,0 +1,9 @@
+//! What all else is said with: lists that contracts see as their elements, printed lines, the limits of everything, and the error for a
+//! workbench that itself runs out of memory.
+#![tactic(auto)]
+
+pub mod items;
+pub mod limit_laws;
+pub mod limits;
+pub mod memory;
+pub mod printed_line;

@@ -1,0 +1,3 @@
+pub mod LineExamples
+pub mod WordLemmas
+pub mod WritingLemmas

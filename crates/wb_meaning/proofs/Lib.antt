@@ -1,0 +1,16 @@
+pub mod AccountLemmas
+pub mod AgreementLemmas
+pub mod AlikeFrames
+pub mod AlikeLemmas
+pub mod AlikePieces
+pub mod EachStatement
+pub mod FreeSlotLemmas
+pub mod FreeSlots
+pub mod KeptCells
+pub mod MeaningLemmas
+pub mod PrintableLemmas
+pub mod QuietRuns
+pub mod QuietWays
+pub mod ResumeLemmas
+pub mod ThroughoutLemmas
+pub mod TraceLemmas

@@ -1,0 +1,15 @@
+pub mod Account
+pub mod Agreement
+pub mod Attempts
+pub mod Destructions
+pub mod FreeSlots
+pub mod Meaning
+pub mod Operands
+pub mod Printable
+pub mod Reading
+pub mod Rest
+pub mod Run
+pub mod State
+pub mod Statements
+pub mod Throughout
+pub mod Traces

@@ -1,5 +1,0 @@
-use Rattle.wb_model.proofs.runs.EverySetAnswers.{whole-every-cut, whole-every-found, whole-every-none}
-use Rattle.wb_model.proofs.every_set_laws.a_whole_part_has_every_set.Goals as goal
-
-pub returns : goal.returns
-returns c = record { found = whole-every-found; cut = whole-every-cut; none = whole-every-none }

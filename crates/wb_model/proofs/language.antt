@@ -1,4 +1,0 @@
--- Laws of words, lines and forms.
-pub mod LineExamples
-pub mod WordLemmas
-pub mod WritingLemmas

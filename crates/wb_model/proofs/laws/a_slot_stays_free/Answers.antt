@@ -1,8 +1,0 @@
-use Rattle.wb_model.proofs.meaning.FreeSlotLemmas.{run-has_free_slot, piece-has_free_slot}
-use Rattle.wb_model.proofs.laws.a_slot_stays_free.Goals as goal
-
-pub returns-clause-run : goal.returns-clause-run
-returns-clause-run c = run-has_free_slot
-
-pub returns-clause-pieces : goal.returns-clause-pieces
-returns-clause-pieces c = piece-has_free_slot

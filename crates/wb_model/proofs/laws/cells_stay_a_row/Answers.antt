@@ -1,8 +1,0 @@
-use Rattle.wb_model.proofs.runs.ThroughoutLemmas.{process-throughout, run-leaks}
-use Rattle.wb_model.proofs.laws.cells_stay_a_row.Goals as goal
-
-pub returns-clause-throughout : goal.returns-clause-throughout
-returns-clause-throughout c = process-throughout
-
-pub returns-clause-leaks : goal.returns-clause-leaks
-returns-clause-leaks c = run-leaks

@@ -1,5 +1,0 @@
-use Rattle.wb_model.proofs.runs.SweepLemmas.{least-some, least-none}
-use Rattle.wb_model.proofs.laws.sweeps_end.Goals as goal
-
-pub returns : goal.returns
-returns c = record { some = least-some; none = least-none }

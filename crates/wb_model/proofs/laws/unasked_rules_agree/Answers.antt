@@ -1,5 +1,0 @@
-use Rattle.wb_model.proofs.runs.SameRuns.{same_run, past_the_last}
-use Rattle.wb_model.proofs.laws.unasked_rules_agree.Goals as goal
-
-pub returns : goal.returns
-returns c = record { rules = same_run; failures = past_the_last }

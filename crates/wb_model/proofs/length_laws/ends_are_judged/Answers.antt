@@ -1,5 +1,0 @@
-use Rattle.wb_model.proofs.runs.LengthTables.{bad-end, cut-end}
-use Rattle.wb_model.proofs.length_laws.ends_are_judged.Goals as goal
-
-pub returns : goal.returns
-returns c = record { bad = bad-end; cut = cut-end }

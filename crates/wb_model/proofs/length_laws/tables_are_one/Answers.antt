@@ -1,5 +1,0 @@
-use Rattle.wb_model.proofs.runs.LengthTables.{last-range, one-table}
-use Rattle.wb_model.proofs.length_laws.tables_are_one.Goals as goal
-
-pub returns : goal.returns
-returns c = record { one = one-table; last = last-range }

@@ -1,5 +1,0 @@
-use Rattle.wb_model.proofs.language.WordLemmas.{made_of_words}
-use Rattle.wb_model.proofs.line_laws.lines_are_made_of_words.Goals as goal
-
-pub returns : goal.returns
-returns c = made_of_words

@@ -1,5 +1,0 @@
-use Rattle.wb_model.proofs.language.WritingLemmas.{reads_literals}
-use Rattle.wb_model.proofs.line_laws.literals_are_read.Goals as goal
-
-pub returns : goal.returns
-returns c = reads_literals

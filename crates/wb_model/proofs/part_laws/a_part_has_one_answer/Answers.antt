@@ -1,5 +1,0 @@
-use Rattle.wb_model.proofs.runs.OneAnswer.{once-of-part}
-use Rattle.wb_model.proofs.part_laws.a_part_has_one_answer.Goals as goal
-
-pub returns : goal.returns
-returns c = record { one = once-of-part }

@@ -1,5 +1,0 @@
-use Rattle.wb_model.proofs.runs.PartLines.{bad-more, lines-in-a-row}
-use Rattle.wb_model.proofs.part_laws.lines_of_parts_add_up.Goals as goal
-
-pub returns : goal.returns
-returns c = record { lines = lines-in-a-row; bad = bad-more }

@@ -1,5 +1,0 @@
-use Rattle.wb_model.proofs.renaming.SameForks.{forked-renaming, shared-are}
-use Rattle.wb_model.proofs.renaming_laws.forked_runs_are_renamed.Goals as goal
-
-pub returns : goal.returns
-returns c = record { renamed = forked-renaming; shared = shared-are }

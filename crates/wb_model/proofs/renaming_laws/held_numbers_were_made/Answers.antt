@@ -1,5 +1,0 @@
-use Rattle.wb_model.proofs.renaming.HeldNumbers.{progress-made, statement-made}
-use Rattle.wb_model.proofs.renaming_laws.held_numbers_were_made.Goals as goal
-
-pub returns : goal.returns
-returns c = record { runs = progress-made; statements = statement-made }

@@ -1,5 +1,0 @@
-use Rattle.wb_model.proofs.renaming.SameTurned.{end-same, judged-same}
-use Rattle.wb_model.proofs.renaming_laws.renamed_outcomes_are_judged_alike.Goals as goal
-
-pub returns : goal.returns
-returns c = record { words = λ one other same. end-same same; judged = judged-same }

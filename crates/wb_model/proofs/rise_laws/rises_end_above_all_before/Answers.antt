@@ -1,6 +1,0 @@
-use Rattle.std.proofs.Common.{refl}
-use Rattle.wb_model.proofs.runs.RiseLemmas.{no_rise, one_rise}
-use Rattle.wb_model.proofs.rise_laws.rises_end_above_all_before.Goals as goal
-
-pub returns : goal.returns
-returns c = record { nothing = refl; rise = one_rise; other = no_rise }

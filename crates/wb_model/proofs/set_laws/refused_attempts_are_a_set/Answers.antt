@@ -1,5 +1,0 @@
-use Rattle.wb_model.proofs.runs.RefusedSets.{fine-by-sets, refused-ascending, refused-same}
-use Rattle.wb_model.proofs.set_laws.refused_attempts_are_a_set.Goals as goal
-
-pub returns : goal.returns
-returns c = record { ascend = refused-ascending; same = refused-same; fine = fine-by-sets }

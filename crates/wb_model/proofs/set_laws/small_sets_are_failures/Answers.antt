@@ -1,5 +1,0 @@
-use Rattle.wb_model.proofs.runs.SetLemmas.{none-fails, one-fails, two-fail}
-use Rattle.wb_model.proofs.set_laws.small_sets_are_failures.Goals as goal
-
-pub returns : goal.returns
-returns c = record { none = none-fails; one = one-fails; two = two-fail }

@@ -1,5 +1,0 @@
-use Rattle.wb_model.proofs.runs.SetPartsTogether.{least-sets-together}
-use Rattle.wb_model.proofs.set_part_laws.the_least_set_is_of_both.Goals as goal
-
-pub returns : goal.returns
-returns c = record { least = least-sets-together }

@@ -1,8 +1,0 @@
-use Rattle.std.proofs.Common.{sym, ◌∙◌, ap}
-use Rattle.wb_model.specs.runs.Rises.{top_of_rises}
-use Rattle.wb_model.proofs.runs.AccountLemmas.{top-last}
-use Rattle.wb_model.proofs.size.top_of_rises.Goals as goal
-
-pub returns-in-Some : goal.returns-in-Some
-returns-in-Some c =
-    sym (top-last 0 c.as_slice.result.now c.in-Some.rise.now (sym c.in-Some.ensures.value)) ∙ ap top_of_rises c.as_slice.ensures

@@ -1,0 +1,13 @@
+pub mod AllNumbers
+pub mod EverySet
+pub mod Lengths
+pub mod Met
+pub mod Pairs
+pub mod Parts
+pub mod RunEnds
+pub mod SetAnswers
+pub mod SetParts
+pub mod Sets
+pub mod Sizes
+pub mod SweepAnswers
+pub mod Sweeps

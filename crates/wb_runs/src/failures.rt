@@ -1,0 +1,60 @@
+//! Which failures a sweep tries, and how it names one of them.
+
+ghost use Rattle.std.specs.Prelude.{◌≡◌};
+ghost use Rattle.wb_runs.specs.Sweeps.{failing_at, rule_for};
+
+use wb_heap_model::heap::Rule;
+
+/// Which failures a sweep tries one by one, the least first. Source: this project's profile.
+#[derive(Clone, Copy, Debug, PartialEq, Eq)]
+pub enum Failures {
+    /// One attempt fails. The sweep tries each attempt number.
+    Single,
+    /// Every n-th attempt fails. The sweep tries each rate n.
+    Every,
+    /// One attempt fails, as for `Single`. If no single failure shows anything, the sweep goes on to all pairs of attempts.
+    Pairs,
+    /// The n-th attempt and all after it fail. The sweep tries each number n.
+    Persistent,
+}
+
+impl Failures {
+    /// Returns the failure that is tried for the number or rate `n`; for `Pairs` it is a single failure, since these are tried before any
+    /// pair. For `n` 0, each kind gives the run without failure.
+    pub fn at(self, n: u32) -> Failing
+        ensures { result ≡ failing_at self n }
+    {
+        match self {
+            Failures::Single | Failures::Pairs => Failing::Number(n),
+            Failures::Every => Failing::Every(n),
+            Failures::Persistent => Failing::From(n),
+        }
+    }
+}
+
+/// A failure: which attempts the rule of a run makes fail.
+#[derive(Clone, Copy, Debug, PartialEq, Eq)]
+pub enum Failing {
+    /// The attempt with this number fails. Attempts count from 1, so with number 0 none fails.
+    Number(u32),
+    /// Each attempt whose number is a multiple of this rate fails; with rate 0 none fails.
+    Every(u32),
+    /// The attempts with these two numbers fail. The second number is the greater.
+    Pair(u32, u32),
+    /// Each attempt whose number is this or greater fails; with number 0 none fails.
+    From(u32),
+}
+
+impl Failing {
+    /// Returns the rule that makes exactly these attempts fail.
+    pub fn rule(self) -> Rule
+        ensures { result ≡ rule_for self }
+    {
+        match self {
+            Failing::Number(number) => Rule::Number(number),
+            Failing::Every(rate) => Rule::Every(rate),
+            Failing::Pair(first, second) => Rule::Pair(first, second),
+            Failing::From(first) => Rule::From(first),
+        }
+    }
+}

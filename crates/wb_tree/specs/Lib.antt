@@ -1,0 +1,5 @@
+pub mod Bodies
+pub mod Quiet
+pub mod QuietLines
+pub mod Sound
+pub mod Spellings
