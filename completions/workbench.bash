@@ -23,24 +23,24 @@ _workbench()
     fi
     case ${COMP_WORDS[1]} in
         run)
-            options='--limit --fail --also --every --fail-from --set --follow --follow-steps --follow-around --budget --min --step --moving --json --picture --help'
-            values='--limit --fail --also --every --fail-from --set --follow-steps --follow-around --budget --min --step --picture'
+            options='--limit --fail --also --every --fail-from --set --follow --follow-steps --follow-around --budget --min --step --moving --json --picture --sarif --help'
+            values='--limit --fail --also --every --fail-from --set --follow-steps --follow-around --budget --min --step --picture --sarif'
             ;;
         size)
-            options='--budget --min --step --moving --json --picture --help'
-            values='--budget --min --step --picture'
+            options='--budget --min --step --moving --json --picture --sarif --help'
+            values='--budget --min --step --picture --sarif'
             ;;
         lengths)
-            options='--budget --min --step --moving --json --picture --help'
-            values='--budget --min --step --picture'
+            options='--budget --min --step --moving --json --picture --sarif --help'
+            values='--budget --min --step --picture --sarif'
             ;;
         sweep)
-            options='--every --persistent --pairs --all --ends --failures --sets --states --from --to --budget --min --step --moving --json --picture --help'
-            values='--failures --states --from --to --budget --min --step --picture'
+            options='--every --persistent --pairs --all --ends --failures --sets --states --from --to --budget --min --step --moving --json --picture --sarif --help'
+            values='--failures --states --from --to --budget --min --step --picture --sarif'
             ;;
         check)
-            options='--every --persistent --pairs --all --ends --failures --sets --states --budget --min --step --moving --json --picture --help'
-            values='--failures --states --budget --min --step --picture'
+            options='--every --persistent --pairs --all --ends --failures --sets --states --budget --min --step --moving --json --picture --sarif --help'
+            values='--failures --states --budget --min --step --picture --sarif'
             ;;
         help)
             _workbench_words 'run size lengths sweep check help' "$word"
@@ -57,6 +57,7 @@ _workbench()
     if [[ " $values " == *" ${COMP_WORDS[at - 1]} "* ]]; then
         # a number is not completed
         [[ " --picture " == *" ${COMP_WORDS[at - 1]} "* ]] && _workbench_files '*.svg' "$word"
+        [[ " --sarif " == *" ${COMP_WORDS[at - 1]} "* ]] && _workbench_files '*.sarif' "$word"
     elif [[ $word == -* ]]; then
         # an option may be given once
         for given in "${COMP_WORDS[@]:2:COMP_CWORD - 2}"; do

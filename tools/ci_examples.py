@@ -4,9 +4,10 @@
     ./tools/dev ci-examples --write     writes the required lengths of all examples to examples/ci/required-lengths.txt
 
 The required lengths of all examples must be those of that file. In the copy one script is missing, one is rejected, one needs a longer heap
-than it did, one is cut, and one is new: each must have its line, and the whole its status. Of some examples, and of scripts without a
+than it did, one is cut, and one is new: each must have its line, and the whole its status. One log must have what was found in all. Of some examples, and of scripts without a
 sweep, `sweep-parts` must print what the whole sweep does, with the same status."""
 
+import json
 import os
 import subprocess
 import tempfile
@@ -118,6 +119,20 @@ def try_faults(tests: Tests, folder: Folder) -> None:
     tests.expect("all lines", len(told.lines), 5)
 
 
+def try_log(tests: Tests, folder: Folder) -> None:
+    """Whether one log has what was found in all scripts, by the rules that it names, and whether the lines are those without it."""
+    for name in ("second-phase-leaks.oom", "album-leaks.oom"):
+        folder.put(name)
+    told = folder.call("scripts", "--quick", "--sarif", "all.sarif")
+    tests.expect("the lines beside a log", told, folder.call("scripts", "--quick"))
+    (run,) = json.loads((folder.room / "all.sarif").read_text(encoding="utf-8"))["runs"]
+    rules = [it["id"] for it in run["tool"]["driver"]["rules"]]
+    tests.expect("the rules of the log", sorted(rules), ["cut", "leak", "left"])
+    found = [(rules[it["ruleIndex"]], it["locations"][0]["physicalLocation"]["artifactLocation"]) for it in run["results"]]
+    wanted = [("cut", "long"), ("left", "second-phase-leaks"), ("leak", "second-phase-leaks")]
+    tests.expect("the results of the log", found, [(rule, {"uri": f"scripts/{name}.oom"}) for rule, name in wanted])
+
+
 def try_parts(tests: Tests, folder: Folder) -> None:
     """Whether a sweep in parts prints what a whole one does, also where there is no sweep."""
     scripts = [*map(folder.put, SWEPT), *(folder.room / "scripts" / name for name in ("retry.oom", "long.oom"))]
@@ -150,6 +165,6 @@ def main(words: list[str]) -> int:
     tests = Tests()
     try_examples(tests, given.program)
     with tempfile.TemporaryDirectory() as room:
-        for part in (try_baseline, try_faults, try_parts, try_words):
+        for part in (try_baseline, try_faults, try_log, try_parts, try_words):
             part(tests, Folder(given.program, Path(room)))
     return tests.end()

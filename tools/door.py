@@ -18,6 +18,7 @@ COMMANDS = {
     "progress": "progress",
     "failing-allocations": "failing_allocations",
     "pictures": "documents.pictures",
+    "sarif": "documents.sarif",
     "mistakes": "mistakes",
     "compare": "comparisons.compare",
     "fuzz": "fuzz",

@@ -13,13 +13,13 @@ from tools.paths import PROGRAM_CRATE
 # the name by which the program calls itself
 NAME = "workbench"
 
-# the option whose file is written
-PICTURE = "--picture"
+# the options whose files are written
+WRITTEN = ("--picture", "--sarif")
 
 # the commands that read a script, and the options that take a further word; those of the second set do so of `run` alone, those of
 # the third of `sweep` alone
 COMMANDS = {"run", "size", "lengths", "sweep", "check"}
-WITH_VALUE = {"--min", "--step", "--budget", "--limit", "--fail", "--failures", "--states", PICTURE}
+WITH_VALUE = {"--min", "--step", "--budget", "--limit", "--fail", "--failures", "--states", *WRITTEN}
 OF_RUN = {"--also", "--every", "--fail-from", "--set", "--follow-steps", "--follow-around"}
 OF_SWEEP = {"--from", "--to"}
 
@@ -55,17 +55,17 @@ def reads_standard_input(words: list[str]) -> bool:
     return bool(words) and words[0] in COMMANDS and not asks_for_help and script_in(words) is None
 
 
-def with_whole_picture(words: list[str]) -> list[str]:
-    """The words with the whole path of the picture's file, since the run has a folder of its own."""
+def with_whole_files(words: list[str]) -> list[str]:
+    """The words with the whole paths of the files that are written, since the run has a folder of its own."""
     whole: list[str] = []
     for word in words:
         name, is_joined, file = word.partition("=")
         if "--" in whole:
             whole.append(word)
-        elif name == PICTURE and is_joined:
-            whole.append(f"{PICTURE}={whole_path(file)}")
+        elif name in WRITTEN and is_joined:
+            whole.append(f"{name}={whole_path(file)}")
         else:
-            whole.append(whole_path(word) if whole[-1:] == [PICTURE] else word)
+            whole.append(whole_path(word) if whole and whole[-1] in WRITTEN else word)
     return whole
 
 
@@ -90,7 +90,7 @@ def handed_on(words: list[str]) -> tuple[list[str], list[str]]:
 def answer_of_try(room: Path, words: list[str]) -> int | str:
     """Has `rt try` compile the sources in a room and run them on these words, and gives the status that they end with; or why there is no
     answer."""
-    words, data = handed_on(with_whole_picture(words))
+    words, data = handed_on(with_whole_files(words))
     with (room / "input").open("wb") as given:
         given.write(sys.stdin.buffer.read(LONGEST_INPUT) if reads_standard_input(words) else b"")
     with (room / "input").open("rb") as given:

@@ -33,6 +33,8 @@ COMPARED = {
     ZSH: re.compile(r"\w+\)|'(?:[a-z]+:|--|\(- ).*"),
     FISH: re.compile(r"complete .*"),
 }
+# how the names of the files end that options name
+ENDINGS = {"picture": "svg", "sarif": "sarif"}
 # what a man page has between its words: how lines are laid out, and in which type words are
 LAID_OUT = re.compile(r"^\.(?:B |\w+.*$)|\\f[BIR]|[\\'`]", re.MULTILINE)
 STATUS = re.compile(r"^\| (\d+) \| (.*) \|$", re.MULTILINE)
@@ -105,7 +107,8 @@ def of_bash(told: Told) -> Iterator[str]:
             yield f"options='{' '.join(f'--{option.name}' for option in it.options)}'"
             yield f"values='{' '.join(f'--{option.name}' for option in it.options if option.value)}'"
     yield f"_workbench_words '{names}' \"$word\""
-    yield """[[ " --picture " == *" ${COMP_WORDS[at - 1]} "* ]] && _workbench_files '*.svg' "$word\""""
+    for name, ending in ENDINGS.items():
+        yield f"""[[ " --{name} " == *" ${{COMP_WORDS[at - 1]}} "* ]] && _workbench_files '*.{ending}' "$word\""""
 
 
 def of_zsh(told: Told) -> Iterator[str]:
@@ -115,7 +118,7 @@ def of_zsh(told: Told) -> Iterator[str]:
         yield from [f"{command})"] if command else []
         for option in it.options:
             about = re.sub(r"[:\[\]]", r"\\\g<0>", option.about).replace("'", "'\\''")
-            value = f":{option.value}:" + ('_files -g "*.svg"' if option.value == "FILE" else " ") if option.value else ""
+            value = f":{option.value}:" + (f'_files -g "*.{ENDINGS[option.name]}"' if option.name in ENDINGS else " ") if option.value else ""
             name = f"(- *)'{{-{option.letter},--{option.name}}}'" if option.letter else f"--{option.name}{'=' if value else ''}"
             yield f"'{name}[{about}]{value}' \\"
         yield from [] if command else ["command)", "argument)"]
@@ -130,7 +133,8 @@ def of_fish(told: Told) -> Iterator[str]:
         where = f"{begin} -n '__fish_seen_subcommand_from {command}'" if command else at_first
         for option in it.options:
             letter, about = f" -s {option.letter}" if option.letter else "", option.about.replace("'", "\\'")
-            value = " -r -k -a '(__fish_complete_suffix .svg)'" if option.value == "FILE" else " -x" if option.value else ""
+            ending = ENDINGS.get(option.name)
+            value = f" -r -k -a '(__fish_complete_suffix .{ending})'" if ending else " -x" if option.value else ""
             yield f"{where}{letter} -l {option.name}{value} -d '{about}'"
         if not command:
             yield from (f"{at_first} -a {name} -d '{its.about}'" for name, its in told.items() if name)

@@ -24,7 +24,7 @@ from tools.tally import Tally, read_tally, summed
 # the commands that the gate runs on the program, and what some are given
 RUN = """
 cases, lost-messages, broken-streams, progress, compare sets, compare steps, compare failures, compare lengths, compare lists,
-compare moving, compare parts, compare pairs, compare every, compare persistent, compare forks, mistakes, pictures, failing-allocations,
+compare moving, compare parts, compare pairs, compare every, compare persistent, compare forks, mistakes, pictures, sarif, failing-allocations,
 failing-allocations --same, ci-examples, help-files, pages --runs
 """
 

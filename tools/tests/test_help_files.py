@@ -21,7 +21,7 @@ print(textwrap.fill("Finds what is the case " * 5, columns, break_long_words=Fal
 BREAKS = {"columns, break": "columns + 1, break", "* 5, columns": "* (3 + columns // 60), columns", '"80")': '"70")', "else 80": "else 50"}
 # changes of each file, of each sort of lines or section one, which are seen
 CHANGES = {
-    BASH: {" --states": "", "check help -": "help -", "check help'": "help'", "values='--limit": "values='", '" --picture "': '" "'},
+    BASH: {" --states": "", "check help -": "help -", "check help'": "help'", "values='--limit": "values='", '" --picture "': '" "', "'*.sarif'": "'*.json'"},
     ZSH: {":LIST:": ":N:", "'check:Runs": "'check:Makes", "16777216]": "16777217]", "'--limit=[": "'--limit[", "-V,--": "-V,--v"},
     FISH: {" -l states -x": " -l states", " -a check": " -a checks", " -r -k": " -r", "complete -c workbench -f\n": ""},
     MAN_PAGE: {
@@ -41,6 +41,7 @@ COMPLETED = {
     "run --l": "--limit",
     "run --limit ": "",
     **{f"run --picture {it}": "picture.svg" for it in ("", "=", "= p")},
+    "check --sarif ": "log.sarif",
     **{it: "script.oom" for it in ("check ", "sweep --every ", "run --limit 5 s", "run --limit = 5 s")},
 }
 
@@ -88,7 +89,7 @@ class InBash(unittest.TestCase):
         call = 'source "$1"; shift; COMP_WORDS=("$@"); COMP_CWORD=$(($# - 1)); _workbench; printf "%s\\n" "${COMPREPLY[@]}"'
         for words, wanted in COMPLETED.items():
             with self.subTest(words=words), tempfile.TemporaryDirectory() as room:
-                for name in ("script.oom", "picture.svg", "notes.txt"):
+                for name in ("script.oom", "picture.svg", "log.sarif", "notes.txt"):
                     Path(room, name).touch()
                 shell = ["bash", "--norc", "-c", call, "bash", str(BASH), "workbench", *words.split(" ")]
                 ran = subprocess.run(shell, cwd=room, capture_output=True, text=True, check=True)

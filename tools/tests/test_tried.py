@@ -11,7 +11,7 @@ from unittest import mock
 
 from tools import tried
 from tools.paths import ROOT
-from tools.tried import answer_of_try, reads_standard_input, script_in, with_whole_picture
+from tools.tried import answer_of_try, reads_standard_input, script_in, with_whole_files
 
 
 class Words(unittest.TestCase):
@@ -28,12 +28,13 @@ class Words(unittest.TestCase):
                     self.assertIsNone(script_in(words))
                     self.assertEqual(script_in([*words, "a.oom"]), "a.oom")
 
-    def test_file_of_a_picture(self) -> None:
+    def test_files_that_are_written(self) -> None:
         here = os.path.join(os.getcwd(), "a.svg")
-        self.assertEqual(with_whole_picture(["run", "--picture", "a.svg", "x.oom"]), ["run", "--picture", here, "x.oom"])
-        self.assertEqual(with_whole_picture(["run", "--picture=a.svg"]), ["run", f"--picture={here}"])
+        self.assertEqual(with_whole_files(["run", "--picture", "a.svg", "x.oom"]), ["run", "--picture", here, "x.oom"])
+        self.assertEqual(with_whole_files(["run", "--picture=a.svg"]), ["run", f"--picture={here}"])
+        self.assertEqual(with_whole_files(["run", "--sarif", "a.svg", "--picture", "-"]), ["run", "--sarif", here, "--picture", "-"])
         for same in (["run", "--picture", ""], ["run", "--picture", "-"], ["run", "--picture=-"], ["run", "--", "--picture", "a.svg"]):
-            self.assertEqual(with_whole_picture(same), same)
+            self.assertEqual(with_whole_files(same), same)
 
 
 class Answers(unittest.TestCase):

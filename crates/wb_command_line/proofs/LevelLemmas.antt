@@ -59,7 +59,8 @@ level_long called taking.Rule name e =
     let moving = first_false (bytes_eq (codes "moving") name) _ step.1 in
     let json = first_false (bytes_eq (codes "json") name) _ moving.1 in
     let picture = first_false (bytes_eq (codes "picture") name) _ json.1 in
-    rw (limit.0, fail.0, also.0, every.0, fail_from.0, set.0, follow.0, follow_steps.0, follow_around.0, budget.0, min.0, step.0, moving.0, json.0, picture.0) (help_asks (bytes_eq (codes "help") name))
+    let sarif = first_false (bytes_eq (codes "sarif") name) _ picture.1 in
+    rw (limit.0, fail.0, also.0, every.0, fail_from.0, set.0, follow.0, follow_steps.0, follow_around.0, budget.0, min.0, step.0, moving.0, json.0, picture.0, sarif.0) (help_asks (bytes_eq (codes "help") name))
 level_long called taking.Failures name e =
     let every = first_false (bytes_eq (codes "every") name) _ e in
     let persistent = first_false (bytes_eq (codes "persistent") name) _ every.1 in
@@ -75,7 +76,8 @@ level_long called taking.Failures name e =
     let moving = first_false (bytes_eq (codes "moving") name) _ step.1 in
     let json = first_false (bytes_eq (codes "json") name) _ moving.1 in
     let picture = first_false (bytes_eq (codes "picture") name) _ json.1 in
-    rw (every.0, persistent.0, pairs.0, all.0, ends.0, failures.0, sets.0, states.0, budget.0, min.0, step.0, moving.0, json.0, picture.0) (help_asks (bytes_eq (codes "help") name))
+    let sarif = first_false (bytes_eq (codes "sarif") name) _ picture.1 in
+    rw (every.0, persistent.0, pairs.0, all.0, ends.0, failures.0, sets.0, states.0, budget.0, min.0, step.0, moving.0, json.0, picture.0, sarif.0) (help_asks (bytes_eq (codes "help") name))
 level_long called taking.Part name e =
     let every = first_false (bytes_eq (codes "every") name) _ e in
     let persistent = first_false (bytes_eq (codes "persistent") name) _ every.1 in
@@ -93,7 +95,8 @@ level_long called taking.Part name e =
     let moving = first_false (bytes_eq (codes "moving") name) _ step.1 in
     let json = first_false (bytes_eq (codes "json") name) _ moving.1 in
     let picture = first_false (bytes_eq (codes "picture") name) _ json.1 in
-    rw (every.0, persistent.0, pairs.0, all.0, ends.0, failures.0, sets.0, states.0, from.0, to.0, budget.0, min.0, step.0, moving.0, json.0, picture.0) (help_asks (bytes_eq (codes "help") name))
+    let sarif = first_false (bytes_eq (codes "sarif") name) _ picture.1 in
+    rw (every.0, persistent.0, pairs.0, all.0, ends.0, failures.0, sets.0, states.0, from.0, to.0, budget.0, min.0, step.0, moving.0, json.0, picture.0, sarif.0) (help_asks (bytes_eq (codes "help") name))
 level_long called taking.Neither name e =
     let budget = first_false (bytes_eq (codes "budget") name) _ e in
     let min = first_false (bytes_eq (codes "min") name) _ budget.1 in
@@ -101,7 +104,8 @@ level_long called taking.Neither name e =
     let moving = first_false (bytes_eq (codes "moving") name) _ step.1 in
     let json = first_false (bytes_eq (codes "json") name) _ moving.1 in
     let picture = first_false (bytes_eq (codes "picture") name) _ json.1 in
-    rw (budget.0, min.0, step.0, moving.0, json.0, picture.0) (help_asks (bytes_eq (codes "help") name))
+    let sarif = first_false (bytes_eq (codes "sarif") name) _ picture.1 in
+    rw (budget.0, min.0, step.0, moving.0, json.0, picture.0, sarif.0) (help_asks (bytes_eq (codes "help") name))
 
 pub level_short : (called : Text) (takes : Takes) (x : ℕ) → IsAsking (arg_by_short (level called takes).rules x)
 level_short called taking.Rule x = help_asks (104 == x)

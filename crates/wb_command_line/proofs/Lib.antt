@@ -17,5 +17,6 @@ pub mod WorkedMoving
 pub mod WorkedPairs
 pub mod WorkedParts
 pub mod WorkedPersistent
+pub mod WorkedSarif
 pub mod WorkedSets
 pub mod WorkedWords

@@ -62,6 +62,10 @@ json_flag = flag (codes "json") (codes "json")
 abbrev pub picture_option : Rule
 picture_option = record (new_rule (codes "picture")) { long = Some (codes "picture"); value_names = 1 }
 
+-- `--sarif FILE`, where FILE is any text
+abbrev pub sarif_option : Rule
+sarif_option = record (new_rule (codes "sarif")) { long = Some (codes "sarif"); value_names = 1 }
+
 -- `--every` of a subcommand that tries failures is a flag, and takes no number, so that it has an id of
 -- its own
 abbrev pub rates_flag : Rule
@@ -133,9 +137,13 @@ own_options taking.Neither = []
 abbrev pub number_options : List Rule
 number_options = budget_option ∷ min_option ∷ step_option ∷ []
 
+-- those that name files for what is written beside its report
+abbrev pub file_options : List Rule
+file_options = picture_option ∷ sarif_option ∷ []
+
 -- those that say how its report is written, and what is written beside it
 abbrev pub report_options : List Rule
-report_options = json_flag ∷ picture_option ∷ []
+report_options = json_flag ∷ file_options
 
 -- those of every subcommand
 abbrev pub shared_options : List Rule
@@ -149,8 +157,9 @@ abbrev pub line_with : Text → List Rule → App
 line_with name options = with_rules (new_app name) (file_argument ∷ options ++ shared_options)
 
 -- `NAME [--limit L] [--fail N] [--also J] [--every N] [--fail-from N] [--set LIST] [--follow] [--follow-steps N] [--follow-around N]
--- [--budget B] [--min M] [--step G] [--moving] [--json] [--picture FILE] [FILE]`, the same with `--every`, `--persistent`, `--pairs`, `--all`, `--ends`,
--- `--failures K`, `--sets` and `--states N` in the place of a rule and of the steps, with these and `[--from I] [--to J]`, or with none
+-- [--budget B] [--min M] [--step G] [--moving] [--json] [--picture FILE] [--sarif FILE] [FILE]`, the same with `--every`, `--persistent`,
+-- `--pairs`, `--all`, `--ends`, `--failures K`, `--sets` and `--states N` in the place of a rule and of the steps, with these and
+-- `[--from I] [--to J]`, or with none
 abbrev pub subcommand_line : Text → Takes → App
 subcommand_line name takes = line_with name (own_options takes)
 

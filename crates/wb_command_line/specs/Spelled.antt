@@ -209,6 +209,7 @@ command_with rows task = record {
   shape = shape_of rows;
   json = flag_of (codes "json") rows;
   picture = first_of (codes "picture") rows;
+  sarif = first_of (codes "sarif") rows;
   follow = follow_of rows;
   around = around_of rows;
 }

@@ -27,7 +27,7 @@ is_flag _ = false
 
 -- the options that every subcommand has
 abbrev pub shared_names : List Text
-shared_names = codes "budget" ∷ codes "min" ∷ codes "step" ∷ codes "moving" ∷ codes "json" ∷ codes "picture" ∷ []
+shared_names = codes "budget" ∷ codes "min" ∷ codes "step" ∷ codes "moving" ∷ codes "json" ∷ codes "picture" ∷ codes "sarif" ∷ []
 
 -- those that say which failures are tried
 abbrev pub failure_names : List Text
@@ -70,7 +70,7 @@ file_named _ = None
 abbrev pub plain_trial : Trial
 plain_trial = record { failures = Single; part = whole; all = false; ends = false; most = None; states = None }
 
--- a task on the file, or on standard input, with the default budget and shape, as lines, without a picture, and no step is followed
+-- a task on the file, or on standard input, with the default budget and shape, as lines, without a picture and a log, and no step is followed
 abbrev pub plain_command : Task → Option Text → Command
 plain_command task file = record {
   task = task;
@@ -79,6 +79,7 @@ plain_command task file = record {
   shape = default_shape;
   json = false;
   picture = None;
+  sarif = None;
   follow = None;
   around = None;
 }

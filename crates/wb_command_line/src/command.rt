@@ -60,6 +60,8 @@ pub struct Command {
     pub json: bool,
     /// The file that a picture of the runs is written to; `None` if none is wanted.
     pub picture: Option<FileName>,
+    /// The file that what is explained is written to as a SARIF log; `None` if none is wanted.
+    pub sarif: Option<FileName>,
     /// How many of the run's first steps are followed, which is also how many of its last, from 1 to 1,000,000; `None` if none are
     /// followed. If `around` is an attempt, how many before it, and how many after it.
     pub follow: Option<u32>,

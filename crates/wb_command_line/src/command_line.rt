@@ -4,7 +4,7 @@
 //! [--follow-around N]`.
 //! `sweep` and `check` take `--every`, `--persistent`, `--pairs`, `--all`, `--ends`, `--failures K`, `--sets` and `--states N` instead, and
 //! `sweep` also takes `[--from I] [--to J]`. `size` and `lengths` take none of these. All five take `[--budget B] [--min M] [--step G]
-//! [--moving] [--json] [--picture FILE] [FILE]`.
+//! [--moving] [--json] [--picture FILE] [--sarif FILE] [FILE]`.
 ghost use Rattle.std.specs.Prelude.{◌≡◌, ◌≤◌, All, IfErr, IfOk, IsSome, IsTrue, List, Some, OnErr, OnOk, codes, false};
 ghost use Rattle.std.specs.Prelude.{map, true};
 ghost use Rattle.std.specs.Str.{IsUtf8};
@@ -91,6 +91,7 @@ fn command_in(alloc: Global, name: &str, options: &ArgMatches) -> Result<Command
         shape,
         json: json_in(options),
         picture: picture_in(alloc, options)?,
+        sarif: sarif_in(alloc, options)?,
         follow: follow_in(options),
         around: around_in(options),
     })
@@ -244,6 +245,17 @@ fn picture_in(alloc: Global, options: &ArgMatches) -> Result<Option<FileName>, A
         (λ picture. picture ≡ first_of (codes "picture") (rows_of (found_of options.now))) }
 {
     match options.get_str("picture") {
+        Some(name) => Ok(Some(FileName::copy_of(alloc, name)?)),
+        None => Ok(None),
+    }
+}
+
+/// Returns the file for a SARIF log; `None` if the options name none. The only error is that memory ran out.
+fn sarif_in(alloc: Global, options: &ArgMatches) -> Result<Option<FileName>, AllocError>
+    ensures { IfOk result
+        (λ sarif. sarif ≡ first_of (codes "sarif") (rows_of (found_of options.now))) }
+{
+    match options.get_str("sarif") {
         Some(name) => Ok(Some(FileName::copy_of(alloc, name)?)),
         None => Ok(None),
     }

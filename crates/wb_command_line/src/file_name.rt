@@ -1,4 +1,4 @@
-//! The name of a file, of the script or of a picture, as the command line gives it.
+//! The name of a file, of the script, of a picture or of a log, as the command line gives it.
 ghost use Rattle.std.specs.Prelude.{◌≡◌, IfOk};
 
 use std::alloc::{AllocError, Global};

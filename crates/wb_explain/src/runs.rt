@@ -10,6 +10,7 @@ mod cuts;
 mod destroyed;
 mod end_words;
 mod ends;
+mod explanation;
 mod failures;
 mod heap_checks;
 mod heaps;
@@ -44,9 +45,11 @@ use crate::runs::shell_words::RuleOption;
 use crate::runs::states::put_many_states;
 use crate::runs::unasked::{put_nothing_else, put_shown, put_undecided};
 use crate::runs::worse::put_worse;
+pub use explanation::{Explanation, Finding, FindingKind, Parts, Told};
 pub use heaps::greatest_bad;
 pub use lengths::last_named;
 pub use numbers::last_bad;
+pub use panics::panic_in_symbian;
 pub use shell_words::{ShellFile, ShellOptions};
 pub use states::ManyStates;
 use std::alloc::{AllocError, Global};
@@ -65,10 +68,10 @@ pub fn run_found(
     alloc: Global,
     lines: &ScriptLines<'_>,
     run: &WatchedRun<'_>,
-) -> Result<String, AllocError> {
+) -> Result<Explanation, AllocError> {
     let mut page = ScriptPage::new(alloc, lines);
     put_findings(&mut page, run)?;
-    page.whole_text()
+    page.whole()
 }
 
 /// Returns which line made each attempt that a shorter heap refuses first: each attempt of `rises`. `attempts` are those of the run without
@@ -78,10 +81,10 @@ pub fn lengths_found(
     lines: &ScriptLines<'_>,
     attempts: &Attempts<'_>,
     rises: &[Rise],
-) -> Result<String, AllocError> {
+) -> Result<Explanation, AllocError> {
     let mut page = ScriptPage::new(alloc, lines);
     put_lengths(&mut page, attempts, rises);
-    page.whole_text()
+    page.whole()
 }
 
 /// Returns which line's attempt is refused first in the heaps whose runs leak or panic, in which heaps runs are cut, and where a longer heap
@@ -95,13 +98,13 @@ pub fn heaps_found(
     better: Option<&Attempts<'_>>,
     budget: u32,
     ranges: &[LengthRange],
-) -> Result<String, AllocError> {
+) -> Result<Explanation, AllocError> {
     let mut page = ScriptPage::new(alloc, lines);
     put_heaps(&mut page, alloc, attempts, budget, ranges)?;
     if let Some(better) = better {
         put_worse(&mut page, ranges, better)?;
     }
-    page.whole_text()
+    page.whole()
 }
 
 /// Returns at which lines a failed attempt leads to a leak or a panic, according to the ends of all runs of a sweep; empty if none does.
@@ -112,10 +115,10 @@ pub fn numbers_found(
     attempts: &Attempts<'_>,
     failures: Failures,
     ends: &[NumberEnd],
-) -> Result<String, AllocError> {
+) -> Result<Explanation, AllocError> {
     let mut page = ScriptPage::new(alloc, lines);
     put_numbers(&mut page, alloc, attempts, failures, ends)?;
-    page.whole_text()
+    page.whole()
 }
 
 /// Returns what is known after a search met more states than it may. The only error is that memory ran out.
@@ -123,10 +126,10 @@ pub fn states_found(
     alloc: Global,
     lines: &ScriptLines<'_>,
     met: ManyStates,
-) -> Result<String, AllocError> {
+) -> Result<Explanation, AllocError> {
     let mut page = ScriptPage::new(alloc, lines);
     put_many_states(&mut page, met);
-    page.whole_text()
+    page.whole()
 }
 
 /// Returns what was shown by one of the further questions that a check tries unasked if it finds nothing, and the command that shows it.
@@ -136,10 +139,10 @@ pub fn unasked_found(
     lines: &ScriptLines<'_>,
     shown: Shown<'_>,
     options: ShellOptions,
-) -> Result<String, AllocError> {
+) -> Result<Explanation, AllocError> {
     let mut page = ScriptPage::new(alloc, lines);
     put_shown(&mut page, shown, options);
-    page.whole_text()
+    page.whole()
 }
 
 /// Returns which further question of a check wasn't decided, and the command that asks it. The only error is that memory ran out.
@@ -148,17 +151,17 @@ pub fn undecided_question(
     lines: &ScriptLines<'_>,
     question: Question,
     options: ShellOptions,
-) -> Result<String, AllocError> {
+) -> Result<Explanation, AllocError> {
     let mut page = ScriptPage::new(alloc, lines);
     put_undecided(&mut page, question, options);
-    page.whole_text()
+    page.whole()
 }
 
 /// Returns the message that no further question of a check shows a leak or a panic. The only error is that memory ran out.
-pub fn nothing_else(alloc: Global, lines: &ScriptLines<'_>) -> Result<String, AllocError> {
+pub fn nothing_else(alloc: Global, lines: &ScriptLines<'_>) -> Result<Explanation, AllocError> {
     let mut page = ScriptPage::new(alloc, lines);
     put_nothing_else(&mut page);
-    page.whole_text()
+    page.whole()
 }
 
 /// Returns the command that shows a run of this script step by step. The only error is that memory ran out.
@@ -168,11 +171,11 @@ pub fn steps_shown(
     rule: &Rule,
     options: ShellOptions,
     file: ShellFile<'_>,
-) -> Result<String, AllocError> {
+) -> Result<Explanation, AllocError> {
     let mut page = ScriptPage::new(alloc, lines);
     let rule = RuleOption(rule);
     page.page.write_help(format_args!(
         "see it step by step: `workbench run{rule}{options} --follow{file}`"
     ));
-    page.whole_text()
+    page.whole()
 }

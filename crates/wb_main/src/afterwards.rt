@@ -1,14 +1,29 @@
 //! What is done once the answer is written, each part once and in this order: writing the steps of the run, explaining the answer, and
-//! putting its picture into a file. How each part is done is elsewhere.
+//! putting its picture and then its log into files. How each part is done is elsewhere.
 
 ghost use Rattle.wb_main.specs.Afterwards.{IsFinished};
 ghost use Rattle.workbench.specs.declared.program.Exit.{Exit};
 
+use crate::log::{LogFiles, put_log};
 use crate::picture::{PictureFiles, put_picture};
 use workbench::program::Exit;
 
+/// What is put into files beside the report; `None` for what isn't.
+#[derive(Drop)]
+pub struct Beside {
+    pub picture: Option<String>,
+    pub log: Option<String>,
+}
+
+impl Beside {
+    pub const NOTHING: Beside = Beside {
+        picture: None,
+        log: None,
+    };
+}
+
 /// The receiver of what comes after an answer.
-pub trait Afterwards: PictureFiles {
+pub trait Afterwards: PictureFiles + LogFiles {
     /// What writing the steps of a run does, as a relation between the receiver before, the answer, and the receiver after.
     ghost steps: { Self → Exit → Self → Type 0 };
 
@@ -19,17 +34,18 @@ pub trait Afterwards: PictureFiles {
     fn put_steps(&mut self, exit: &Exit)
         ensures { steps self.old exit.now self.new };
 
-    /// Explains the answer, and returns its picture; `None` if there is none.
-    fn explain(&mut self, exit: &Exit) -> Option<String>
+    /// Explains the answer, and returns what is put into files.
+    fn explain(&mut self, exit: &Exit) -> Beside
         ensures { explains self.old exit.now self.new };
 }
 
-/// Does all that comes after an answer. Returns the exit status: that of the answer, or `READ_OR_WRITE_FAULT` if the picture can't be put
-/// into its file.
+/// Does all that comes after an answer. Returns the exit status: that of the answer, or `READ_OR_WRITE_FAULT` if the picture or the log
+/// can't be put into its file.
 pub fn finish<A: Afterwards>(exit: &Exit, afterwards: &mut A) -> u8
-    ensures { IsFinished A.steps A.explains A.puts exit.now afterwards.old afterwards.new result }
+    ensures { IsFinished A.steps A.explains A.puts A.logs exit.now afterwards.old afterwards.new result }
 {
     afterwards.put_steps(exit);
-    let picture = afterwards.explain(exit);
-    put_picture(exit, picture.as_deref(), afterwards)
+    let Beside { picture, log } = afterwards.explain(exit);
+    let status = put_picture(exit, picture.as_deref(), afterwards);
+    put_log(exit, status, log.as_deref(), afterwards)
 }

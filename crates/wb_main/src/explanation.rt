@@ -1,4 +1,4 @@
-//! The text on standard error that explains an answer.
+//! What explains an answer: the text on standard error, and the findings in it.
 
 ghost use Rattle.std.specs.Prelude.{IsTrue};
 ghost use Rattle.wb_tree.specs.Sound.{is_script};
@@ -13,8 +13,8 @@ use wb_basics::limits::CEILING;
 use wb_basics::memory::NoMemory;
 use wb_explain::files::{Deed, file_fault};
 use wb_explain::runs::{
-    greatest_bad, heaps_found, last_bad, last_named, lengths_found, longest_better, numbers_found,
-    states_found,
+    Explanation, greatest_bad, heaps_found, last_bad, last_named, lengths_found, longest_better,
+    numbers_found, states_found,
 };
 use wb_heap_model::heap::Rule;
 use wb_heap_model::size::Rise;
@@ -68,29 +68,29 @@ pub fn explain_fault(
     Ok(file_fault(alloc, name, deed, kind)?)
 }
 
-/// Returns the text on these runs. The only error is that memory ran out.
+/// Returns what is explained of these runs. The only error is that memory ran out.
 pub fn explain_runs(
     alloc: Global,
     answer: Answer<'_>,
     script: &Script,
     lines: &ScriptLines<'_>,
     runs: &Runs<'_>,
-) -> Result<String, NoMemory>
+) -> Result<Explanation, NoMemory>
     requires { IsTrue (is_script script.now) }
 {
     let command = answer.command;
     let mut said = explain_all(alloc, answer, script, lines, runs)?;
     if let Some(run) = &runs.found {
         let found = explain_run(alloc, command, lines, run)?;
-        said.push_str(found.as_str())?;
+        said.add(&found)?;
     }
     if let Some(met) = many_states(command, answer.findings) {
         let states = states_found(alloc, lines, met)?;
-        said.push_str(states.as_str())?;
+        said.add(&states)?;
     }
     if matches!(&command.task, Task::Check(_)) && answer.status == NOTHING_FOUND {
         let more = explain_unasked(alloc, command, script, lines)?;
-        said.push_str(more.as_str())?;
+        said.add(&more)?;
     }
     Ok(said)
 }
@@ -104,7 +104,7 @@ fn explain_all(
     script: &Script,
     lines: &ScriptLines<'_>,
     runs: &Runs<'_>,
-) -> Result<String, NoMemory>
+) -> Result<Explanation, NoMemory>
     requires { IsTrue (is_script script.now) }
 {
     let Answer {
@@ -117,7 +117,7 @@ fn explain_all(
     }
     let numbers = numbers_to_explain(&command.task, findings);
     if findings.rises.is_none() && numbers.is_none() {
-        return Ok(String::new(alloc));
+        return Ok(Explanation::new(alloc));
     }
     if let Some(plain) = plain_run(answer, runs) {
         let attempts = &plain.history.attempts;
@@ -128,7 +128,7 @@ fn explain_all(
     let parameters = parameters_of(command, Rule::Unlimited);
     match watch_attempts(alloc, script, parameters, Until::Attempt(last))? {
         Some(attempts) => explain_attempts(alloc, findings, numbers, &attempts, lines),
-        None => Ok(String::new(alloc)),
+        None => Ok(Explanation::new(alloc)),
     }
 }
 
@@ -147,14 +147,14 @@ fn explain_attempts(
     numbers: Option<(Failures, &[NumberEnd])>,
     attempts: &Attempts<'_>,
     lines: &ScriptLines<'_>,
-) -> Result<String, NoMemory> {
+) -> Result<Explanation, NoMemory> {
     let mut found = match &findings.rises {
         Some(rises) => lengths_found(alloc, lines, attempts, rises.as_slice())?,
-        None => String::new(alloc),
+        None => Explanation::new(alloc),
     };
     if let Some((failures, ends)) = numbers {
         let text = numbers_found(alloc, lines, attempts, failures, ends)?;
-        found.push_str(text.as_str())?;
+        found.add(&text)?;
     }
     Ok(found)
 }
@@ -166,7 +166,7 @@ fn explain_heaps(
     ranges: &[LengthRange],
     script: &Script,
     lines: &ScriptLines<'_>,
-) -> Result<String, NoMemory>
+) -> Result<Explanation, NoMemory>
     requires { IsTrue (is_script script.now) }
 {
     let parameters = parameters_of(command, Rule::Limit(CEILING));

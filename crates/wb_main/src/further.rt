@@ -8,7 +8,9 @@ use crate::run_shown::explain_run;
 use crate::unasked::{Verdict, ask, is_open};
 use std::alloc::Global;
 use wb_basics::memory::NoMemory;
-use wb_explain::runs::{Question, ShellOptions, nothing_else, unasked_found, undecided_question};
+use wb_explain::runs::{
+    Explanation, Question, ShellOptions, nothing_else, unasked_found, undecided_question,
+};
 use wb_heap_model::heap::{Numbers, Rule, Shape};
 use wb_history::{Keep, RunParameters, ScriptLines, watch_run};
 use wb_tree::script::Script;
@@ -25,10 +27,10 @@ pub fn explain_unasked(
     command: &Command,
     script: &Script,
     lines: &ScriptLines<'_>,
-) -> Result<String, NoMemory>
+) -> Result<Explanation, NoMemory>
     requires { IsTrue (is_script script.now) }
 {
-    let mut said = String::new(alloc);
+    let mut said = Explanation::new(alloc);
     let (mut asked, mut all_fine) = (false, true);
     for question in QUESTIONS {
         if !is_open(command, question) {
@@ -39,20 +41,20 @@ pub fn explain_unasked(
         let verdict = ask(alloc, command, script, question);
         if let Some(shown) = verdict.shows() {
             let found = unasked_found(alloc, lines, shown, options)?;
-            said.push_str(found.as_str())?;
+            said.add(&found)?;
             let run = explain_verdict(alloc, command, script, lines, &verdict)?;
-            said.push_str(run.as_str())?;
+            said.add(&run)?;
             return Ok(said);
         }
         if let Verdict::Undecided = verdict {
             all_fine = false;
             let open = undecided_question(alloc, lines, question, options)?;
-            said.push_str(open.as_str())?;
+            said.add(&open)?;
         }
     }
     if asked && all_fine {
         let nothing = nothing_else(alloc, lines)?;
-        said.push_str(nothing.as_str())?;
+        said.add(&nothing)?;
     }
     Ok(said)
 }
@@ -76,11 +78,11 @@ fn explain_verdict(
     script: &Script,
     lines: &ScriptLines<'_>,
     verdict: &Verdict,
-) -> Result<String, NoMemory>
+) -> Result<Explanation, NoMemory>
     requires { IsTrue (is_script script.now) }
 {
     let (rule, question) = match verdict {
-        Verdict::Fine | Verdict::Undecided => return Ok(String::new(alloc)),
+        Verdict::Fine | Verdict::Undecided => return Ok(Explanation::new(alloc)),
         Verdict::From(first, _) => (Rule::From(*first), Question::Persistent),
         Verdict::Length(_, length) => (Rule::Limit(*length), Question::Lengths),
         Verdict::Set(numbers, _) => (rule_of_set(numbers)?, Question::Sets),
@@ -91,7 +93,7 @@ fn explain_verdict(
     };
     match watch_run(alloc, script, parameters, Keep::Named)? {
         Some(run) => explain_run(alloc, command, lines, &run),
-        None => Ok(String::new(alloc)),
+        None => Ok(Explanation::new(alloc)),
     }
 }
 

@@ -1,5 +1,5 @@
-//! The program: hands the process's own words, files and streams to the workbench, explains the answer on standard error, and draws the
-//! picture that is asked for. On standard error it also writes how far a long sweep has come, and the steps of a run if they are asked for.
+//! The program: hands the process's own words, files and streams to the workbench, explains the answer on standard error, and writes the
+//! picture and the log that are asked for. On standard error it also writes how far a long sweep has come, and the steps of a run if they are asked for.
 #![tactic(auto)]
 
 mod afterwards;
@@ -7,9 +7,9 @@ mod asked;
 mod explanation;
 mod following;
 mod further;
+mod log;
 mod messages;
 mod picture;
-mod picture_file;
 mod picture_name;
 mod process_afterwards;
 mod progress_line;
@@ -19,14 +19,15 @@ mod runs;
 mod set_work;
 mod told;
 mod unasked;
+mod whole_file;
 mod work;
 
 use crate::afterwards::finish;
 use crate::messages::ProcessMessages;
-use crate::picture_file::ProcessFiles;
 use crate::process_afterwards::ProcessAfterwards;
 use crate::progress_line::ProgressLine;
 use crate::recorded::{Recorded, RecordedHost};
+use crate::whole_file::ProcessFiles;
 use std::cell::RefCell;
 use std::process::ExitCode;
 use std::{env, io};

@@ -2,13 +2,14 @@
 
 ghost use Rattle.std.specs.Prelude.{⊤};
 
-use crate::afterwards::Afterwards;
+use crate::afterwards::{Afterwards, Beside};
 use crate::following::put_steps;
+use crate::log::LogFiles;
 use crate::picture::PictureFiles;
-use crate::picture_file::ProcessFiles;
 use crate::picture_name::{say_if_no_picture, say_if_script};
 use crate::recorded::FirstFault;
 use crate::told::tell_answer;
+use crate::whole_file::ProcessFiles;
 use std::cell::RefCell;
 use std::io::Write;
 use workbench::FileName;
@@ -35,6 +36,14 @@ impl<'a> PictureFiles for ProcessAfterwards<'a> {
     }
 }
 
+impl<'a> LogFiles for ProcessAfterwards<'a> {
+    ghost logs = { λ _ _ _ _. ⊤ };
+
+    fn put_log(&mut self, name: &FileName, log: &str) -> bool {
+        self.files.put_log(name, log)
+    }
+}
+
 impl<'a> Afterwards for ProcessAfterwards<'a> {
     ghost steps = { λ _ _ _. ⊤ };
 
@@ -44,9 +53,9 @@ impl<'a> Afterwards for ProcessAfterwards<'a> {
         put_steps(self.rt, exit);
     }
 
-    fn explain(&mut self, exit: &Exit) -> Option<String> {
+    fn explain(&mut self, exit: &Exit) -> Beside {
         let Ok(first) = self.first.try_borrow() else {
-            return None;
+            return Beside::NOTHING;
         };
         match tell_answer(self.rt.alloc(), exit, *first) {
             Ok(told) => {
@@ -54,9 +63,9 @@ impl<'a> Afterwards for ProcessAfterwards<'a> {
                 if let Some(command) = &exit.command {
                     say_if_script(self.rt, command);
                 }
-                told.picture
+                told.beside
             }
-            Err(_) => None,
+            Err(_) => Beside::NOTHING,
         }
     }
 }

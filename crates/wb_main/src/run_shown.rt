@@ -2,7 +2,7 @@
 
 use std::alloc::Global;
 use wb_basics::memory::NoMemory;
-use wb_explain::runs::{ShellFile, ShellOptions, run_found, steps_shown};
+use wb_explain::runs::{Explanation, ShellFile, ShellOptions, run_found, steps_shown};
 use wb_history::{RunParameters, ScriptLines, WatchedRun};
 use wb_runs::run_end::RunEnd;
 use workbench::{Command, FileName};
@@ -14,7 +14,7 @@ pub fn explain_run(
     command: &Command,
     lines: &ScriptLines<'_>,
     run: &WatchedRun<'_>,
-) -> Result<String, NoMemory> {
+) -> Result<Explanation, NoMemory> {
     let mut said = run_found(alloc, lines, run)?;
     if RunEnd::of(&run.outcome).is_bad() && command.follow.is_none() {
         let RunParameters {
@@ -28,7 +28,7 @@ pub fn explain_run(
         };
         let file = ShellFile(command.file.as_ref().map(FileName::as_str));
         let steps = steps_shown(alloc, lines, rule, options, file)?;
-        said.push_str(steps.as_str())?;
+        said.add(&steps)?;
     }
     Ok(said)
 }

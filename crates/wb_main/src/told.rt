@@ -1,18 +1,21 @@
-//! What is made of an answer beside the answer itself: the text for standard error, and the picture. For both, the script is read once
-//! more, and each run that the text or the picture is about is watched once.
+//! What is made of an answer beside the answer itself: the text for standard error, the picture, and the log. For all, the script is read
+//! once more, and each run that they are about is watched once.
 
 ghost use Rattle.std.specs.Prelude.{IsTrue};
 ghost use Rattle.wb_tree.specs.Sound.{is_script};
 
+use crate::afterwards::Beside;
 use crate::asked::script_name;
 use crate::explanation::{explain_fault, explain_runs, has_nothing_to_say};
 use crate::recorded::FirstFault;
 use crate::runs::{Answer, Runs, runs_of};
 use std::alloc::Global;
 use wb_basics::memory::NoMemory;
+use wb_explain::runs::Explanation;
 use wb_history::{ScriptFile, ScriptLines};
 use wb_mistakes::refused_script;
 use wb_picture::{ShownRuns, Table, draw};
+use wb_sarif::log_of;
 use wb_tree::script::Script;
 use workbench::Task;
 use workbench::exit_status::READ_OR_WRITE_FAULT;
@@ -24,16 +27,16 @@ use workbench::program::Exit;
 pub struct Told {
     /// The text for standard error; empty if there is nothing to say.
     pub text: String,
-    /// The picture; `None` if none is wanted, if there is no report, if the script is rejected, or if memory ran out. It is empty if there
-    /// is no run to draw.
-    pub picture: Option<String>,
+    /// The picture and the log; `None` for one that isn't wanted, and for both if there is no report or if the script is rejected. What
+    /// there is no memory for is `None` too. The picture is empty if there is no run to draw.
+    pub beside: Beside,
 }
 
 impl Told {
     fn of_text(text: String) -> Told {
         Told {
             text,
-            picture: None,
+            beside: Beside::NOTHING,
         }
     }
 }
@@ -59,23 +62,24 @@ pub fn tell_answer(alloc: Global, exit: &Exit, first: FirstFault) -> Result<Told
     tell_findings(alloc, answer)
 }
 
-/// Returns what is made of a report. If there is nothing to say and no picture is wanted, the script isn't read once more.
+/// Returns what is made of a report. If there is nothing to say, and no picture and no log is wanted, the script isn't read once more.
 fn tell_findings(alloc: Global, answer: Answer<'_>) -> Result<Told, NoMemory> {
-    if answer.command.picture.is_none() && has_nothing_to_say(answer) {
+    let command = answer.command;
+    if command.picture.is_none() && command.sarif.is_none() && has_nothing_to_say(answer) {
         return Ok(Told::of_text(String::new(alloc)));
     }
     let bytes = answer.findings.bytes.as_slice();
     match wb_script::read(alloc, bytes) {
         Ok(script) => tell_runs(alloc, answer, &script),
         Err(fault) => {
-            let name = script_name(answer.command);
+            let name = script_name(command);
             let text = refused_script(alloc, name, bytes, &fault)?;
             Ok(Told::of_text(text))
         }
     }
 }
 
-/// Returns the text on the runs of a report, and their picture if it is wanted. The only error is that memory ran out.
+/// Returns the text on the runs of a report, and their picture and log if these are wanted. The only error is that memory ran out.
 fn tell_runs(alloc: Global, answer: Answer<'_>, script: &Script) -> Result<Told, NoMemory>
     requires { IsTrue (is_script script.now) }
 {
@@ -85,28 +89,50 @@ fn tell_runs(alloc: Global, answer: Answer<'_>, script: &Script) -> Result<Told,
     let name = script_name(answer.command);
     let lines = ScriptLines::of(alloc, ScriptFile { name, text })?;
     let runs = runs_of(alloc, answer, script)?;
-    let text = say_runs(alloc, answer, script, &lines, &runs);
+    let said = say_runs(alloc, answer, script, &lines, &runs);
     let picture = draw_runs(alloc, answer, &lines, &runs);
-    Ok(Told { text, picture })
+    Ok(match said {
+        Ok(said) => tell_said(alloc, answer, &lines, said, picture),
+        Err(_) => Told {
+            text: String::new(alloc),
+            beside: Beside { picture, log: None },
+        },
+    })
 }
 
-/// The text on these runs; empty if there is nothing to say, or if memory runs out.
+/// Returns the text of what is explained, and its log if this is wanted, beside the picture.
+fn tell_said(
+    alloc: Global,
+    answer: Answer<'_>,
+    lines: &ScriptLines<'_>,
+    said: Explanation,
+    picture: Option<String>,
+) -> Told {
+    let log = if answer.command.sarif.is_some() {
+        log_of(alloc, lines, &said).ok()
+    } else {
+        None
+    };
+    Told {
+        text: said.text,
+        beside: Beside { picture, log },
+    }
+}
+
+/// What is explained of these runs; nothing if there is nothing to say. The only error is that memory ran out.
 fn say_runs(
     alloc: Global,
     answer: Answer<'_>,
     script: &Script,
     lines: &ScriptLines<'_>,
     runs: &Runs<'_>,
-) -> String
+) -> Result<Explanation, NoMemory>
     requires { IsTrue (is_script script.now) }
 {
     if has_nothing_to_say(answer) {
-        return String::new(alloc);
+        return Ok(Explanation::new(alloc));
     }
-    match explain_runs(alloc, answer, script, lines, runs) {
-        Ok(said) => said,
-        Err(_) => String::new(alloc),
-    }
+    explain_runs(alloc, answer, script, lines, runs)
 }
 
 /// The picture of these runs; `None` if none is wanted, or if memory runs out. It is empty if there are no runs.

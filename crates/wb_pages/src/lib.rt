@@ -4,11 +4,13 @@
 #![tactic(auto)]
 
 pub mod page;
+pub mod parts;
 pub mod shown;
 pub mod spots;
 pub mod words;
 
 pub use page::Page;
+pub use parts::{Part, PartKind};
 pub use shown::Shown;
 pub use spots::{Span, Spot};
 pub use words::Word;

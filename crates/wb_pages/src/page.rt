@@ -5,6 +5,7 @@ ghost use Rattle.std.specs.Prelude.{◌≡◌, ◌++◌, [], ◌∷◌, codes, f
 ghost use Rattle.std.specs.Char.{encode_utf8};
 ghost use Rattle.std.specs.Fmt.{decimal};
 
+use crate::parts::{Part, PartKind};
 use crate::shown::{ELLIPSIS, MOST_COLUMNS, Visible};
 use crate::spots::{Span, Spot};
 use std::alloc::{AllocError, Global};
@@ -21,6 +22,7 @@ const INDENT: &str = "    ";
 pub struct Page<'f> {
     file: &'f str,
     text: String,
+    parts: Vec<Part>,
     is_cut: bool,
 }
 
@@ -32,6 +34,7 @@ impl<'f> Page<'f> {
         Page {
             file,
             text: String::new(alloc),
+            parts: Vec::new(alloc),
             is_cut: false,
         }
     }
@@ -45,6 +48,45 @@ impl<'f> Page<'f> {
             Err(AllocError)
         } else {
             Ok(self.text)
+        }
+    }
+
+    /// Returns what was written, and its parts. The only error is that memory ran out.
+    pub fn whole_parts(self) -> Result<(String, Vec<Part>), AllocError> {
+        if self.is_cut {
+            return Err(AllocError);
+        }
+        Ok((self.text, self.parts))
+    }
+
+    /// Returns how many parts were begun.
+    pub fn part_count(&self) -> usize {
+        self.parts.len()
+    }
+
+    /// Returns the number of the line that a part is about, by its index; 0 if it is about none, and `None` if there is no such part.
+    pub fn line_of_part(&self, index: usize) -> Option<usize> {
+        match self.parts.get(index) {
+            Some(part) => Some(part.line),
+            None => None,
+        }
+    }
+
+    /// Begins a part, whose words come next; `line` is the number of the line that it is about, or 0.
+    fn begin_part(&mut self, kind: PartKind, line: usize)
+        ensures before { self.new.is_cut ≡ false → self.old.is_cut ≡ false }
+        ensures text { self.new.is_cut ≡ false → string_bytes self.new.text
+            ≡ string_bytes self.old.text }
+        ensures file { self.new.file ≡ self.old.file }
+    {
+        if !self.is_cut {
+            let part = Part {
+                kind,
+                line,
+                span: None,
+                from: self.text.len(),
+            };
+            self.is_cut = self.parts.push(part).is_err();
         }
     }
 
@@ -144,6 +186,7 @@ impl<'f> Page<'f> {
     {
         self.write_text(self.file);
         self.add_text(": ");
+        self.begin_part(PartKind::OfFile, 0);
     }
 
     /// Begins a message about a line of the file, by its number.
@@ -158,6 +201,7 @@ impl<'f> Page<'f> {
         self.add_text(":");
         self.add_number(number);
         self.add_text(": ");
+        self.begin_part(PartKind::OfLine, number);
     }
 
     /// Begins a line that says what to do.
@@ -168,6 +212,18 @@ impl<'f> Page<'f> {
         ensures file { self.new.file ≡ self.old.file }
     {
         self.add_text("help: ");
+        self.begin_part(PartKind::Help, 0);
+    }
+
+    /// Begins a line that says what else there is to know.
+    pub fn begin_note(&mut self)
+        ensures before { self.new.is_cut ≡ false → self.old.is_cut ≡ false }
+        ensures text { self.new.is_cut ≡ false → string_bytes self.new.text
+            ≡ string_bytes self.old.text ++ codes "note: " }
+        ensures file { self.new.file ≡ self.old.file }
+    {
+        self.add_text("note: ");
+        self.begin_part(PartKind::Note, 0);
     }
 
     /// Writes a message about the whole file, given as one text.
@@ -223,6 +279,9 @@ impl<'f> Page<'f> {
         self.add_line(spot.text, from);
         self.end_line();
         self.add_carets(spot.span, from);
+        if let Some(part) = self.parts.last_mut() {
+            part.span = Some(spot.span);
+        }
     }
 
     /// Writes the line of carets under a part of a line that is shown from a column on.
@@ -242,6 +301,7 @@ impl<'f> Page<'f> {
         ensures file { self.new.file ≡ self.old.file }
     {
         self.write_text(INDENT);
+        self.begin_part(PartKind::Row, 0);
     }
 
     /// Writes a row of a table, below a message.
@@ -279,7 +339,7 @@ impl<'f> Page<'f> {
             ++ 10 ∷ [] }
         ensures file { self.new.file ≡ self.old.file }
     {
-        self.add_text("note: ");
+        self.begin_note();
         self.add_text(text);
         self.end_line();
     }

@@ -165,6 +165,7 @@ fn command_in(of_lengths: bool, json: bool) -> Command
         shape: SHAPE,
         json,
         picture: None,
+        sarif: None,
         follow: None,
         around: None,
     }

@@ -99,6 +99,7 @@ fn command_of(wanted: &Wanted) -> Command
         shape: SHAPE,
         json: wanted.json,
         picture: None,
+        sarif: None,
         follow: None,
         around: None,
     }

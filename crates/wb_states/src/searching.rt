@@ -73,10 +73,14 @@ impl<'a> Search<'a> {
     /// The answer that no set of at most `most` attempts has a run that is bad or cut; `None` if the runs that were followed don't tell.
     fn answer_to(&self, alloc: Global, most: u32) -> Result<Option<Searched>, NoMemory>
         requires sound { IsSound self.now }
-        ensures { IfOk result (λ answer. IfSome answer (IsAnswer (ground_of self.now))) }
+        ensures fine { IfOk result (λ answer. IfSome answer (IsAnswer (ground_of self.now))) }
+        ensures whole { IfOk result (λ answer. IfSome answer (λ one. one ≡ found.FineTo most)) }
     {
-        let none = self.shows_none_within(alloc, &Bound::AtMost(most))?;
-        Ok(none.then_some(Searched::FineTo(most)))
+        if self.shows_none_within(alloc, &Bound::AtMost(most))? {
+            Ok(Some(Searched::FineTo(most)))
+        } else {
+            Ok(None)
+        }
     }
 
     /// The answer that more states were met than are allowed, once the runs of all sets of at most `fewer` attempts were followed; `None` if

@@ -5,7 +5,13 @@ ghost use Rattle.clap.specs.Words.{app_of, rule_of, with_rule, with_subcommand};
 ghost use Rattle.clap.specs.declared.builder.command.Command.TheViews.{out-Command as fields_of};
 ghost use Rattle.wb_command_line.specs.CommandLine.{command_line, file_argument, json_flag, line_of};
 ghost use Rattle.wb_command_line.specs.CommandLine.{moving_flag, number_option, option_rule, own_options, part_options};
-ghost use Rattle.wb_command_line.specs.CommandLine.{picture_option, report_options, rule_options};
+ghost use Rattle.wb_command_line.specs.CommandLine.{
+  file_options,
+  picture_option,
+  report_options,
+  rule_options,
+  sarif_option,
+};
 ghost use Rattle.wb_command_line.specs.CommandLine.{shared_options, with_level, with_option, with_rules};
 
 use crate::command_line::failures::with_failures;
@@ -263,7 +269,17 @@ fn with_report_options<'a>(
     ensures own { IfOk result
         (λ more. (fields_of more).has_globals ≡ (fields_of line.entry).has_globals) }
 {
-    with_argument(with_argument(line, json(alloc))?, picture(alloc))
+    with_files(alloc, with_argument(line, json(alloc))?)
+}
+
+/// The subcommand with the options that name files for what is written beside the report.
+fn with_files<'a>(alloc: Global, line: clap::Command<'a>) -> Result<clap::Command<'a>, AllocError>
+    ensures added { IfOk result
+        (λ more. app_of more ≡ with_rules (app_of line.entry) file_options) }
+    ensures own { IfOk result
+        (λ more. (fields_of more).has_globals ≡ (fields_of line.entry).has_globals) }
+{
+    with_argument(with_argument(line, picture(alloc))?, sarif(alloc))
 }
 
 /// The subcommand with more options that take numbers.
@@ -337,6 +353,17 @@ fn picture<'a>(alloc: Global) -> Arg<'a>
         .long("picture")
         .value_name("FILE")
         .help("Also writes a picture of the heap over time to FILE, as SVG")
+}
+
+/// The option that asks for a SARIF log.
+fn sarif<'a>(alloc: Global) -> Arg<'a>
+    ensures rule { rule_of result ≡ sarif_option }
+    ensures own { result.global ≡ false }
+{
+    Arg::new(alloc, "sarif")
+        .long("sarif")
+        .value_name("FILE")
+        .help("Also writes what is explained to FILE, as a SARIF log")
 }
 
 /// The command with one more argument.

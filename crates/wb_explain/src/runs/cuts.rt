@@ -1,6 +1,7 @@
 //! What is said of a run that was cut: where, and what to raise.
 
 use crate::runs::counts::Many;
+use crate::runs::explanation::{FindingKind, Told};
 use crate::runs::script_page::{ScriptPage, Written};
 use wb_basics::limits::{CEILING, LARGEST_BUDGET};
 use wb_history::WatchedRun;
@@ -9,6 +10,7 @@ use wb_meaning::run::Why;
 /// Says where a run was cut, and what to do.
 pub fn put_cut(page: &mut ScriptPage<'_>, why: Why, run: &WatchedRun<'_>) -> Written {
     let line = run.history.last_line();
+    page.begin_finding(FindingKind::Cut, Told::Unordered)?;
     match why {
         Why::Budget => put_budget(page, line, run.parameters.budget),
         Why::Ceiling => put_ceiling(page, line),

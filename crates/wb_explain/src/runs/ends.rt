@@ -5,6 +5,7 @@ use crate::runs::blame::{class_of, line_of};
 use crate::runs::cuts::put_cut;
 use crate::runs::destroyed::{OF_OBJECT, of_item};
 use crate::runs::end_words::PanicName;
+use crate::runs::explanation::{FindingKind, Told};
 use crate::runs::heap_checks::{meaning_of_check, put_counted, put_counts};
 use crate::runs::item_gone::{cure_of_gone, put_item_gone, put_user};
 use crate::runs::items_left::{
@@ -56,6 +57,7 @@ fn refuses(rule: &Rule) -> bool {
 /// Says where `main` left, and with which code.
 fn put_left(page: &mut ScriptPage<'_>, code: i32, run: &WatchedRun<'_>) -> Written {
     let line = run.history.calls.line_at(1);
+    page.begin_finding(FindingKind::Left, Told::Unordered)?;
     match name_of(code) {
         "" => page.mark(line, format_args!("`main` left here with {code}"))?,
         name => page.mark(line, format_args!("`main` left here with {name} ({code})"))?,
@@ -91,6 +93,7 @@ fn name_of(code: i32) -> &'static str {
 fn put_panic(page: &mut ScriptPage<'_>, raised: Raised, run: &WatchedRun<'_>) -> Written {
     let line = line_of(raised, run);
     let name = page.word(line, 0);
+    page.begin_finding(FindingKind::Panic(raised.panic), order_of(run))?;
     page.page.begin_message(line as usize);
     page.page
         .write(format_args!("{}: {name}: ", PanicName(raised.panic)));
@@ -103,6 +106,15 @@ fn put_panic(page: &mut ScriptPage<'_>, raised: Raised, run: &WatchedRun<'_>) ->
     put_traps(page, run.history.traps.open_traps());
     put_remarks(page, symbian_note(raised, run), help_of(line, raised, run));
     Ok(())
+}
+
+/// In which order the lines that led to a panic are told. The cells that a check counted come by their places.
+fn order_of(run: &WatchedRun<'_>) -> Told {
+    if run.end.counted.is_some() {
+        Told::Unordered
+    } else {
+        Told::Backwards
+    }
 }
 
 /// Says what raised the panic: the pointer or the values that it is about, or else what the panic means. Returns the index of the

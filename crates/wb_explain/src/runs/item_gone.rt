@@ -38,6 +38,7 @@ pub fn put_item_gone(
     run: &WatchedRun<'_>,
     ended: Option<Ended>,
 ) -> Written {
+    page.tell_unordered();
     if let Some(item) = run.history.last_item {
         page.mark_new(item.pushed.line, 1, said_of_push(ended))?;
     }
@@ -64,6 +65,7 @@ fn said_of_push(ended: Option<Ended>) -> &'static str {
 
 /// Tells where the item destroyed last was pushed, whose destruction used a cell that was gone.
 pub fn put_user(page: &mut ScriptPage<'_>, run: &WatchedRun<'_>) -> Written {
+    page.tell_unordered();
     match run.history.last_item {
         Some(item) => page.mark_new(
             item.pushed.line,

@@ -81,17 +81,18 @@ pub fn put_items(page: &mut ScriptPage<'_>, raised: Raised, run: &WatchedRun<'_>
 
 /// Tells which line popped an item that a calling body had pushed, if one did.
 fn put_of_caller(page: &mut ScriptPage<'_>, run: &WatchedRun<'_>) -> Written {
-    match run.history.items.of_caller {
-        Some(popped) => page.mark_new(
-            popped.line.number(),
-            0,
-            format_args!(
-                "this popped the item that line {} had pushed, in a calling body",
-                popped.pushed.number()
-            ),
+    let Some(popped) = run.history.items.of_caller else {
+        return Ok(());
+    };
+    page.tell_unordered();
+    page.mark_new(
+        popped.line.number(),
+        0,
+        format_args!(
+            "this popped the item that line {} had pushed, in a calling body",
+            popped.pushed.number()
         ),
-        None => Ok(()),
-    }
+    )
 }
 
 /// What to do about more items to be popped than the innermost TRAP has.
@@ -158,6 +159,7 @@ fn put_caller(
     if depth as usize <= run.end.path.len() || last == 0 {
         return Ok(());
     }
+    page.tell_unordered();
     let name = body_name(page, call, run);
     page.mark_new(
         last,
@@ -185,6 +187,7 @@ fn put_top(page: &mut ScriptPage<'_>, run: &WatchedRun<'_>) -> Written {
     }
     match run.history.lives.find(run.end.names) {
         Some(life) if life.popped.is_some() => {
+            page.tell_unordered();
             let line = life.popped.number();
             page.mark_new(line, 0, "the item that is meant was popped here")
         }

@@ -1,5 +1,6 @@
 //! What is said of each leak: which line made the cell, how it was lost, and what to do.
 
+use crate::runs::explanation::{FindingKind, Told};
 use crate::runs::paths::{AfterLine, before_name, put_path};
 use crate::runs::pointers::cure_of_failed;
 use crate::runs::script_page::{ScriptPage, Written};
@@ -34,12 +35,14 @@ pub fn put_leaks(page: &mut ScriptPage<'_>, leaks: &[Leak], run: &WatchedRun<'_>
     let (listed, _) = leaks.split_at_checked(MOST_LEAKS).unwrap_or((leaks, &[]));
     for leak in listed {
         if let Some(life) = life_of(*leak, run) {
+            page.begin_finding(FindingKind::Leak, Told::Forwards)?;
             put_leak(page, *leak, life)?;
             if is_first(*leak, life.made, listed, run) {
                 put_loss(page, life, run)?;
             }
         }
     }
+    page.share_ways();
     match leaks.len().saturating_sub(MOST_LEAKS) {
         0 => {}
         1 => page.page.write_file_text("1 more cell leaks"),
@@ -170,7 +173,7 @@ fn put_cure(page: &mut ScriptPage<'_>, loss: Loss, life: Life, run: &WatchedRun<
         Loss::OwnerLeaks(owner) => {
             let (line, class) = (owner.made.number(), class_name(page, owner));
             let field = name.split('.').nth(1).unwrap_or(name);
-            page.page.write_text("note: ");
+            page.page.begin_note();
             page.page.write(format_args!(
                 "it was lost with the object that line {line} made, whose field `{field}` named it: when that is deleted, the `destroy` of `{class}` is to free it"
             ));

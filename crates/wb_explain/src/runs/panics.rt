@@ -54,6 +54,11 @@ pub const CHECK_IN_DESTRUCTOR: &str =
 pub const LOOK_AT_CODE: &str =
     "the lines that were to make it were left, and the run went on: look at the code that the TRAP gave, for example with `leaveiferror`";
 
+/// Returns where Symbian raises a panic of this category and number; empty for a panic that only this project has.
+pub fn panic_in_symbian(panic: Panic) -> &'static str {
+    symbian_of(panic, None)
+}
+
 /// Where Symbian raises a panic of this category and number, or which panic a developer would meet there instead; empty for a panic that
 /// only this project has. `counted` are the cells that a failed check counted.
 pub fn symbian_of(panic: Panic, counted: Option<&Counted>) -> &'static str {

@@ -15,7 +15,8 @@ pub fn put_path(page: &mut ScriptPage<'_>, bodies: &Bodies, lines: &[u32]) {
         return;
     }
     let end = lines.len().saturating_sub(CALLS_SHOWN);
-    page.page.write_text("note: call path: ");
+    page.page.begin_note();
+    page.page.write_text("call path: ");
     for (index, line) in lines.iter().enumerate() {
         if index < CALLS_SHOWN || index >= end {
             if index > 0 {
@@ -65,10 +66,11 @@ pub fn put_traps(page: &mut ScriptPage<'_>, open: &[OpenTrap]) {
     if count == 0 {
         return;
     }
+    page.page.begin_note();
     page.page.write_text(if count == 1 {
-        "note: inside the TRAP of line "
+        "inside the TRAP of line "
     } else {
-        "note: inside the TRAPs of lines "
+        "inside the TRAPs of lines "
     });
     for (index, trap) in open.iter().enumerate() {
         let joint = joint(index, index.saturating_add(1) == count);

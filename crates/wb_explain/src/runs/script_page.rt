@@ -1,5 +1,6 @@
 //! A page about a script: messages about its lines, which are shown with carets under the word that is meant.
 
+use crate::runs::explanation::{Explanation, Finding, FindingKind, Parts, Told};
 use std::alloc::{AllocError, Global};
 use std::fmt::Display;
 use wb_history::ScriptLines;
@@ -17,6 +18,9 @@ pub struct ScriptPage<'a> {
     pub page: Page<'a>,
     /// The lines that were shown for what led to the last finding, so that none is shown twice.
     told: Vec<u32>,
+    findings: Vec<Finding>,
+    /// Whether what is written next belongs to the last finding.
+    is_in_finding: bool,
 }
 
 impl<'a> ScriptPage<'a> {
@@ -27,12 +31,93 @@ impl<'a> ScriptPage<'a> {
             lines,
             page: Page::new(alloc, lines.name),
             told: Vec::new(alloc),
+            findings: Vec::new(alloc),
+            is_in_finding: false,
         }
     }
 
     /// Returns what was written. The only error is that memory ran out.
-    pub fn whole_text(self) -> Result<String, AllocError> {
-        self.page.whole_text()
+    pub fn whole(self) -> Result<Explanation, AllocError> {
+        let mut page = self;
+        page.end_finding();
+        let ScriptPage { page, findings, .. } = page;
+        let (text, parts) = page.whole_parts()?;
+        Ok(Explanation::of(text, parts, findings))
+    }
+
+    /// Begins a finding: its own message comes next, and then how it came about, told in this order.
+    pub fn begin_finding(&mut self, kind: FindingKind, told: Told) -> Written {
+        self.end_finding();
+        let own = self.page.part_count();
+        let before = match self.findings.first() {
+            Some(first) => first.before,
+            None => Parts { from: 0, to: own },
+        };
+        let after = own.saturating_add(1);
+        let way = Parts {
+            from: after,
+            to: after,
+        };
+        self.findings.push(Finding {
+            kind,
+            own,
+            before,
+            way,
+            told,
+        })?;
+        self.is_in_finding = true;
+        Ok(())
+    }
+
+    /// Ends the last finding: what is written next doesn't belong to it.
+    pub fn end_finding(&mut self) {
+        let end = self.page.part_count();
+        if self.is_in_finding
+            && let Some(last) = self.findings.last_mut()
+        {
+            last.way.to = end;
+        }
+        self.is_in_finding = false;
+    }
+
+    /// Says that what is said of the last finding is in no order of time.
+    pub fn tell_unordered(&mut self) {
+        if self.is_in_finding
+            && let Some(last) = self.findings.last_mut()
+        {
+            last.told = Told::Unordered;
+        }
+    }
+
+    /// Ends the last finding. A leak below whose message nothing is said came about as another did whose cell the same line made.
+    pub fn share_ways(&mut self) {
+        self.end_finding();
+        for index in 0..self.findings.len() {
+            let Some(way) = self.way_at_line_of(index) else {
+                continue;
+            };
+            if let Some(finding) = self.findings.get_mut(index) {
+                finding.way = way;
+            }
+        }
+    }
+
+    /// What is said of another leak at the line of this one, if this is a leak of which nothing is said; `None` if there is no such leak.
+    fn way_at_line_of(&self, index: usize) -> Option<Parts> {
+        let finding = self.findings.get(index)?;
+        if finding.kind != FindingKind::Leak || !finding.way.is_empty() {
+            return None;
+        }
+        let line = self.page.line_of_part(finding.own)?;
+        for other in self.findings.as_slice() {
+            if other.kind == FindingKind::Leak
+                && !other.way.is_empty()
+                && self.page.line_of_part(other.own) == Some(line)
+            {
+                return Some(other.way);
+            }
+        }
+        None
     }
 
     /// Returns a line without the blanks around it, by its number from 1; empty if there is none.

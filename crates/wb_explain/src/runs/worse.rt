@@ -44,7 +44,7 @@ pub fn put_worse(
     let Some((shorter, longer, code)) = first_worse(ranges) else {
         return Ok(());
     };
-    page.page.write_text("note: ");
+    page.page.begin_note();
     page.page.write(format_args!(
         "a longer heap does worse: in one of {shorter} this script comes to its end, in one of {longer} it leaves with {code}"
     ));
