@@ -42,7 +42,8 @@ pub trait Afterwards: PictureFiles + LogFiles {
 /// Does all that comes after an answer. Returns the exit status: that of the answer, or `READ_OR_WRITE_FAULT` if the picture or the log
 /// can't be put into its file.
 pub fn finish<A: Afterwards>(exit: &Exit, afterwards: &mut A) -> u8
-    ensures { IsFinished A.steps A.explains A.puts A.logs exit.now afterwards.old afterwards.new result }
+    ensures { IsFinished A.steps A.explains A.puts A.logs exit.now
+        afterwards.old afterwards.new result }
 {
     afterwards.put_steps(exit);
     let Beside { picture, log } = afterwards.explain(exit);
