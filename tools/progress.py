@@ -22,9 +22,9 @@ from typing import Any, NamedTuple
 from tools.program import Answer, answer_of, program_parser
 from tools.tally import Tally, summed
 
-# how long a sweep goes on before anything is said of it, the shortest time between two lines, and for how much longer a sweep
-# that is looked at goes on, in seconds
-QUIET, PAUSE, LONGER = 2.0, 0.1, 0.4
+# how long a sweep goes on before anything is said of it, the shortest time between two lines, for how much longer a sweep that is
+# looked at goes on, and how late the first line may be, in seconds
+QUIET, PAUSE, LONGER, LATE = 2.0, 0.1, 0.4, 1.0
 # how long a run may take; how long one takes at most that shows no line, before that counts as a fault; and a budget that is enough
 LIMIT, PATIENCE, BUDGET = 60, 20.0, ("--budget", "1000000")
 
@@ -192,7 +192,9 @@ def look_at_lines(checks: Checks, kind: Kind, name: str, attempts: int, shown: S
     lines = kind.lines(shown)
     numbers = [int(it["at"]) for it in lines]
     checks.look(f"{name}: a line", len(lines) > 0, shown.bytes()[:200])
-    checks.look(f"{name}: none before two seconds", all(at >= QUIET - PAUSE for at, piece in shown.pieces if b"trying" in piece))
+    said_at = [at for at, piece in shown.pieces if b"trying" in piece]
+    checks.look(f"{name}: none before two seconds", all(at >= QUIET - PAUSE for at in said_at))
+    checks.look(f"{name}: the first soon after them", min(said_at, default=0.0) <= QUIET + LATE, said_at[:1])
     checks.look(f"{name}: no more than ten a second", len(lines) <= 1 + (shown.seconds - QUIET + PAUSE) / PAUSE, len(lines))
     if kind.calls == "heap":
         checks.look(f"{name}: each shorter", numbers == sorted(set(numbers), reverse=True), numbers)
