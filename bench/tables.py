@@ -7,7 +7,7 @@ from collections.abc import Iterable
 from datetime import date
 from pathlib import Path
 
-from tools.paths import DOCS, ROOT
+from tools.common import DOCS, ROOT
 
 PAGE = DOCS / "MEASUREMENTS.md"
 

@@ -4,7 +4,7 @@ from collections.abc import Callable
 from math import comb
 from typing import NamedTuple
 
-from tools.paths import programs
+from tools.common import programs
 
 ARITHMETIC = """
 proc main

@@ -23,23 +23,23 @@ _workbench()
     fi
     case ${COMP_WORDS[1]} in
         run)
-            options='--limit --fail --also --every --fail-from --set --follow --follow-steps --follow-around --budget --min --step --moving --json --picture --sarif --help'
+            options='--limit --fail --also --every --fail-from --set --follow --follow-steps --follow-around --budget --min --step --moving --json --quiet --picture --sarif --help'
             values='--limit --fail --also --every --fail-from --set --follow-steps --follow-around --budget --min --step --picture --sarif'
             ;;
         size)
-            options='--budget --min --step --moving --json --picture --sarif --help'
+            options='--brief --budget --min --step --moving --json --quiet --picture --sarif --help'
             values='--budget --min --step --picture --sarif'
             ;;
         lengths)
-            options='--budget --min --step --moving --json --picture --sarif --help'
+            options='--brief --budget --min --step --moving --json --quiet --picture --sarif --help'
             values='--budget --min --step --picture --sarif'
             ;;
         sweep)
-            options='--every --persistent --pairs --all --ends --failures --sets --states --from --to --budget --min --step --moving --json --picture --sarif --help'
+            options='--every --persistent --pairs --all --ends --failures --sets --states --from --to --budget --min --step --moving --json --quiet --picture --sarif --help'
             values='--failures --states --from --to --budget --min --step --picture --sarif'
             ;;
         check)
-            options='--every --persistent --pairs --all --ends --failures --sets --states --budget --min --step --moving --json --picture --sarif --help'
+            options='--every --persistent --pairs --all --ends --failures --sets --states --brief --budget --min --step --moving --json --quiet --picture --sarif --help'
             values='--failures --states --budget --min --step --picture --sarif'
             ;;
         help)

@@ -16,8 +16,7 @@ from pathlib import Path
 from threading import Thread
 from typing import Any
 
-from tools.program import COMMAND_LINE_FAULT, FOUND, READ_OR_WRITE_FAULT, REFUSED, NoAnswer, Word, answer_of, program_parser
-from tools.tally import Tally
+from tools.common import COMMAND_LINE_FAULT, FOUND, READ_OR_WRITE_FAULT, REFUSED, NoAnswer, Trials, Word, program_parser
 
 SCRIPT = b"proc main\nptr a\nalloc a 16\nend\n"
 ATTEMPTS = b"attempt 1 length 144 place 0 granted\nattempt 2 length 32 place 144 granted\n"
@@ -69,42 +68,42 @@ def fed(path: str | int, pieces: list[bytes]) -> Iterator[None]:
     writer.join()
 
 
-class Runs(Tally):
+class Runs(Trials):
     """Runs of a program, and how many came to what they must."""
 
-    def make(self, program: Path, what: str, wanted: Told, words: list[Word], of_messages: bool = False, **streams: Any) -> None:
+    def make(self, what: str, wanted: Told, *words: Word, of_messages: bool = False, **streams: Any) -> None:
         """Makes a run, which must come to this: on standard output, or on standard error where that is asked for."""
         try:
-            answer = answer_of(program, *words, script=SCRIPT, seconds=LIMIT, **streams)
+            answer = self.run(*words, script=SCRIPT, seconds=LIMIT, **streams)
             told: object = (answer.messages if of_messages else answer.output, answer.status)
         except NoAnswer as late:
             told = late
-        self.check(told == wanted, f"{what}: wanted {wanted}, got {told}")
+        self.expect(what, told, wanted)
 
 
-def give_input(runs: Runs, program: Path, room: Path) -> None:
+def give_input(runs: Runs, room: Path) -> None:
     """Makes runs with input that is broken."""
     big, fifo, directory = room / "big", room / "fifo", os.open(room, os.O_RDONLY)
     with big.open("wb") as file:
         file.truncate(4 << 30)
     for command, name in (("run", ""), ("lengths", "lengths of ")):
-        runs.make(program, f"{name}a directory", READ_FAULT, [command, room])
-        runs.make(program, f"{name}closed standard input", READ_FAULT, [command], stdin=None, preexec_fn=lambda: os.close(0))
-        runs.make(program, f"{name}nothing", NOTHING, [command], stdin=subprocess.DEVNULL)
-    runs.make(program, "a directory as standard input", READ_FAULT, ["run"], stdin=directory)
-    runs.make(program, "a file of 4 GiB", (b"refused 1\n", REFUSED), ["run", big])
+        runs.make(f"{name}a directory", READ_FAULT, command, room)
+        runs.make(f"{name}closed standard input", READ_FAULT, command, stdin=None, preexec_fn=lambda: os.close(0))
+        runs.make(f"{name}nothing", NOTHING, command, stdin=subprocess.DEVNULL)
+    runs.make("a directory as standard input", READ_FAULT, "run", stdin=directory)
+    runs.make("a file of 4 GiB", (b"refused 1\n", REFUSED), "run", big)
     for what, wanted, command, pieces in PIPES:
         reader, end = os.pipe()
         with fed(end, pieces), open(reader, "rb") as given:
-            runs.make(program, what, wanted, [command], stdin=given)
+            runs.make(what, wanted, command, stdin=given)
     os.mkfifo(fifo)
     with fed(str(fifo), [SCRIPT]):
-        runs.make(program, "a FIFO", FOUND_RUN, ["run", fifo])
+        runs.make("a FIFO", FOUND_RUN, "run", fifo)
     for what, wanted, words in WORDS:
-        runs.make(program, what, wanted, words)
+        runs.make(what, wanted, *words)
 
 
-def take_output(runs: Runs, program: Path, missing: Path) -> None:
+def take_output(runs: Runs, missing: Path) -> None:
     """Makes runs with output that is broken, of two reports, each in both forms, with SIGPIPE as it is by default, or ignored; and looks
     which fault is named: the first of what was read and written."""
     of_missing = f"workbench: {missing}: no such file\n".encode(), READ_OR_WRITE_FAULT
@@ -113,22 +112,22 @@ def take_output(runs: Runs, program: Path, missing: Path) -> None:
     os.close(reader)
     with open("/dev/full", "wb") as full, open(writer, "wb") as unread:
         for words in ("run", "run --json", "lengths", "lengths --json"):
-            asked: list[Word] = [*words.split()]
-            runs.make(program, f"closed standard output {words}", UNWRITTEN, asked, stdout=None, preexec_fn=lambda: os.close(1))
-            runs.make(program, f"a full device {words}", UNWRITTEN, asked, stdout=full)
+            asked = words.split()
+            runs.make(f"closed standard output {words}", UNWRITTEN, *asked, stdout=None, preexec_fn=lambda: os.close(1))
+            runs.make(f"a full device {words}", UNWRITTEN, *asked, stdout=full)
             for restore in (True, False):
                 what = f"a pipe without a reader {words}, with SIGPIPE {restore}"
-                runs.make(program, what, UNWRITTEN, asked, stdout=unread, restore_signals=restore)
-        runs.make(program, "no such file, named", of_missing, ["run", missing], True, stdout=subprocess.DEVNULL)
-        runs.make(program, "a full device, named", of_full, ["run"], True, stdout=full)
-        runs.make(program, "no such file and a full device", of_missing, ["run", missing], True, stdout=full)
-        runs.make(program, "the same as JSON", of_missing, ["run", "--json", missing], True, stdout=full)
+                runs.make(what, UNWRITTEN, *asked, stdout=unread, restore_signals=restore)
+        runs.make("no such file, named", of_missing, "run", missing, of_messages=True, stdout=subprocess.DEVNULL)
+        runs.make("a full device, named", of_full, "run", of_messages=True, stdout=full)
+        runs.make("no such file and a full device", of_missing, "run", missing, of_messages=True, stdout=full)
+        runs.make("the same as JSON", of_missing, "run", "--json", missing, of_messages=True, stdout=full)
 
 
 def main(words: list[str]) -> int:
     """Makes the runs, and prints the totals."""
-    program, runs = program_parser(__doc__).parse_args(words).program, Runs()
+    runs = Runs(program_parser(__doc__).parse_args(words).program)
     with tempfile.TemporaryDirectory() as folder:
-        give_input(runs, program, Path(folder))
-        take_output(runs, program, Path(folder, "none"))
+        give_input(runs, Path(folder))
+        take_output(runs, Path(folder, "none"))
     return runs.end()

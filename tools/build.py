@@ -3,9 +3,8 @@
     ./build
     ./build --install PREFIX    and copies it below PREFIX, with its man page and its completions
 
-It says how far it is: on a terminal in one line, else in a line for each crate. Where a crate isn't proved, it shows what the
-prover says of it. The exit status is 0 where the program is built, and installed if that is asked for, and else 70. `RT_JOBS` says how
-many processors to use, in the place of all.
+It says how far it is, in a line for each crate. Where a crate isn't proved, it shows what the prover says of it. The exit status is 0 where
+the program is built, and installed if that is asked for, and else 70. `RT_JOBS` says how many processors to use, in the place of all.
 
 `rt` builds the libraries of a program one after another. This takes the same steps by the module behind `rt`, and then
 calls `rt run`, which builds whatever is missing."""
@@ -19,14 +18,12 @@ import time
 from collections.abc import Callable
 from functools import partial
 from pathlib import Path
-from threading import Event, Lock, Thread
+from threading import Lock
 from typing import IO
 
-from tools.crates import NOT_BUILT, Crates, Step, building, processors, run_steps
+from tools.common import PROGRAM, PROGRAM_CRATE, ROOT, parser_of
+from tools.crates import NOT_BUILT, Crates, Step, building, kit, processors, run_steps
 from tools.documents.help_files import BASH, FISH, MAN_PAGE, NAME, ZSH
-from tools.kit import kit
-from tools.paths import PROGRAM, PROGRAM_CRATE, ROOT
-from tools.program import parser_of
 
 # the most processes for one crate: further ones would find nothing to do
 AT_ONCE = 8
@@ -52,66 +49,16 @@ class Unproved(Exception):
     """That a crate isn't proved."""
 
 
-class Progress:
-    """Says how far a build is, on standard error: on a terminal in one line, which is written anew, and else in a line for each crate."""
-
-    def __init__(self, count: int) -> None:
-        self.count, self.begun, self.done = count, time.monotonic(), 0
-        self.running: list[str] = []
-        self.lock, self.ended = Lock(), Event()
-        # what removes the line
-        self.wiped = "\r\033[K" if sys.stderr.isatty() else ""
-        if self.wiped:
-            Thread(target=self.keep_true, daemon=True).start()
-
-    def keep_true(self) -> None:
-        """Writes the line anew from time to time, until the build has ended."""
-        while not self.ended.wait(5):
-            with self.lock:
-                self.show()
-
-    def show(self, proved: str = "") -> None:
-        """Says how far the build is, once this crate is proved."""
-        minutes, seconds = divmod(round(time.monotonic() - self.begun), 60)
-        if self.wiped:
-            now = f", now {', '.join(self.running)}" if self.running else ""
-            line = f"{self.done} of {self.count} crates proved{now}, {minutes} min {seconds:02} s"
-            print(f"{self.wiped}{line[: os.get_terminal_size(2).columns - 1]}", end="", file=sys.stderr, flush=True)
-        elif proved:
-            print(f"{proved} proved, {self.done} of {self.count}, {minutes} min {seconds:02} s", file=sys.stderr, flush=True)
-
-    def prove(self, crate: str, is_proved_by: Callable[[IO[str]], bool]) -> None:
-        """Has a crate proved by what writes into a log; shows that and raises `Unproved` where it isn't."""
-        with tempfile.TemporaryFile("w+", errors="replace") as log:
-            with self.lock:
-                self.running.append(crate)
-                self.show()
-            is_proved = is_proved_by(log)
-            with self.lock:
-                self.running.remove(crate)
-                self.done += is_proved
-                if is_proved:
-                    self.show(crate)
-                    return
-                log.seek(0)
-                print(f"{self.wiped}{log.read()}{crate} is not proved", file=sys.stderr, flush=True)
-        raise Unproved(f"{crate} is not proved")
-
-    def close(self) -> None:
-        """Removes the line."""
-        self.ended.set()
-        with self.lock:
-            print(self.wiped, end="", file=sys.stderr, flush=True)
-
-
 class Build:
-    """Builds the libraries below some crates, and says how far it is."""
+    """Builds the libraries that some crates stand on, and the program where its crate is among them; says how far it is."""
 
     def __init__(self, crates: Crates, names: list[str]) -> None:
         self.crates, self.names = crates, names
         self.libraries = list(dict.fromkeys(it for name in names for it in crates.below(name)))
         self.asked = kit().crates(crates.root, self.libraries)
-        self.progress = Progress(len(self.libraries) + names.count(PROGRAM_CRATE))
+        self.count, self.begun, self.done = len(self.libraries) + names.count(PROGRAM_CRATE), time.monotonic(), 0
+        self.running: list[str] = []
+        self.lock = Lock()
 
     def steps(self, lanes: int) -> list[Step]:
         """The steps that build the libraries. Where the way from a crate up is long, by its lines, it is built soon."""
@@ -131,9 +78,30 @@ class Build:
             for crate in self.libraries
         ]
 
+    def prove(self, crate: str, is_proved_by: Callable[[IO[str]], bool]) -> None:
+        """Has a crate proved by what writes into a log; shows that and raises `Unproved` where it isn't, and else says how far the build
+        is."""
+        with tempfile.TemporaryFile("w+", errors="replace") as log:
+            with self.lock:
+                self.running.append(crate)
+            is_proved = is_proved_by(log)
+            with self.lock:
+                self.running.remove(crate)
+                self.done += is_proved
+                minutes, seconds = divmod(round(time.monotonic() - self.begun), 60)
+                said = f"{crate} proved, {self.done} of {self.count}, {minutes} min {seconds:02} s"
+                if not is_proved:
+                    log.seek(0)
+                    said = f"{log.read()}{crate} is not proved"
+                elif self.running:
+                    said += f"; now {', '.join(self.running)}"
+                print(said, file=sys.stderr, flush=True)
+        if not is_proved:
+            raise Unproved(f"{crate} is not proved")
+
     def build_library(self, name: str, jobs: int) -> None:
         """Builds a library."""
-        self.progress.prove(name, lambda log: kit().build(self.asked[name], jobs, log))
+        self.prove(name, lambda log: kit().build(self.asked[name], jobs, log))
 
     def build_program(self, jobs: int, log: IO[str]) -> bool:
         """Builds the program once its libraries are built. `rt` does so as it runs it: an empty script is refused, so that the
@@ -144,21 +112,12 @@ class Build:
         return PROGRAM.exists()
 
     def run(self, lanes: int) -> None:
-        """Builds the libraries while no other `rt` works on them, and then the program if it is wanted."""
+        """Builds the libraries while no other `rt` works on them, and then the program if it is wanted; raises `Unproved` where a crate
+        isn't proved."""
         with kit().alone_with(self.asked.values()):
             run_steps(self.steps(lanes), lanes)
         if PROGRAM_CRATE in self.names:
-            self.progress.prove(PROGRAM_CRATE, partial(self.build_program, lanes))
-
-
-def build_below(crates: Crates, names: list[str], lanes: int) -> None:
-    """Builds the libraries that these crates stand on, and the program where its crate is among them; raises `Unproved`
-    where a crate isn't proved."""
-    build = Build(crates, names)
-    try:
-        build.run(lanes)
-    finally:
-        build.progress.close()
+            self.prove(PROGRAM_CRATE, partial(self.build_program, lanes))
 
 
 def build_if_older() -> int:
@@ -169,7 +128,7 @@ def build_if_older() -> int:
             print(f"{PROGRAM.relative_to(ROOT)} is built, and newer than its sources")
             return 0
         try:
-            build_below(crates, [PROGRAM_CRATE], processors())
+            Build(crates, [PROGRAM_CRATE]).run(processors())
         except Unproved as why:
             print(f"the program was not built: {why}", file=sys.stderr, flush=True)
             # what is still being proved ends with this process

@@ -19,8 +19,7 @@ from itertools import groupby
 from pathlib import Path
 from typing import Any, NamedTuple
 
-from tools.paths import CASES, ROOT, TOOLS
-from tools.program import CEILING, CUT, FINE, FOUND, parser_of
+from tools.common import CASES, CEILING, CUT, FINE, FOUND, ROOT, TOOLS, parser_of
 from tools.terms import Reader, UnknownWord, among, apply, cut_term, end_term, listed, rises_term, run_term
 from tools.worked_cases import Case, CaseError, files_in, read
 
@@ -35,9 +34,9 @@ TRIED = {"every": "every", "pairs": "pair", "persistent": "persistent"}
 # longer runs are left out, which may pass the checker's limits, and longer tables of lengths, since each range is two runs to compute
 MOST_STEPS = 100_000
 MOST_RANGES = 10
-# the groups that are left out: what stands on standard error; scripts that are as long as they may be, each of them a long term; and
-# what `proofs/PersistentExamples.antt` has
-LEFT_OUT = ("explained", "limits", "persistent-and-ends")
+# the groups that are left out: reports without rows; what stands on standard error; scripts that are as long as they may be, each of them
+# a long term; and what `proofs/PersistentExamples.antt` has
+LEFT_OUT = ("brief", "explained", "limits", "persistent-and-ends")
 
 WORKED = ROOT / "crates/wb_worked"
 # the module of what all have in common, which definitions cite too, and the one that names the others, which are in a folder of its name
@@ -184,15 +183,6 @@ def rule_of(a: argparse.Namespace) -> str:
     return next((rule for value, rule in given if value is not None), "R.Unlimited")
 
 
-def lines_of_report(text: str, version: str | None) -> list[str]:
-    """The lines of a report; in JSON of a version, if there is one."""
-    if not version:
-        return text.removesuffix("\n").split("\n")
-    report = json.loads(text)
-    among((version,), str(report["version"]), "the version of a JSON report")
-    return list(report["lines"])
-
-
 def accepted(case: Case, name: str) -> tuple[Accepted, str] | str:
     """An accepted case with the text of its script, or why it is left out."""
     if case.name.split(".")[-1] not in TASKS:
@@ -204,8 +194,11 @@ def accepted(case: Case, name: str) -> tuple[Accepted, str] | str:
     a, files = arguments_of(case.args)
     if a.failures is not None or a.sets:
         return "sets of failures"
-    version = "3" if a.task == "lengths" or a.all or a.persistent else "2"
-    report = lines_of_report(case.stdout.decode(), version if a.json else None)
+    report = case.stdout.decode().removesuffix("\n").split("\n")
+    if a.json:
+        held = json.loads(case.stdout)
+        among(("3" if a.task == "lengths" or a.all or a.persistent else "2",), str(held["version"]), "the version of a JSON report")
+        report = list(held["lines"])
     shape = f"{a.budget} ({'shaped_moving' if a.moving else 'shaped'} {a.min} {a.step})"
     it = Accepted(f"script_{name}", shape, a, report)
     if a.task == "run" and int(report[-1].removeprefix("steps ")) > MOST_STEPS:

@@ -8,27 +8,27 @@ from importlib import import_module
 from pathlib import Path
 from typing import NamedTuple
 
-from tools.paths import TOOLS
+from tools.common import TOOLS
 
-# the module of each command, in the order in which they are listed
+# the module of each command, with its function if that isn't `main`, in the order in which they are listed
 COMMANDS = {
     "cases": "run_cases",
-    "lost-messages": "lost_messages",
+    "lost-messages": "run_cases:lose_messages",
     "broken-streams": "broken_streams",
     "progress": "progress",
     "failing-allocations": "failing_allocations",
     "pictures": "documents.pictures",
-    "sarif": "documents.sarif",
-    "mistakes": "mistakes",
+    "sarif": "documents.ci:check_logs",
+    "mistakes": "damaged_scripts:count_mistakes",
     "compare": "comparisons.compare",
-    "fuzz": "fuzz",
+    "fuzz": "damaged_scripts:fuzz",
     "theorems": "cases_to_theorems",
     "wrong-bodies": "edits.wrong_bodies",
     "pages": "documents.pages",
     "editors": "documents.editors",
     "help-files": "documents.help_files",
-    "ci-examples": "ci_examples",
-    "style": "style",
+    "ci-examples": "documents.ci:try_examples_for_ci",
+    "style": "layout:look_at_style",
     "layout": "layout",
     "build": "build",
     "workbench": "workbench",
@@ -38,9 +38,11 @@ HELP = ("-h", "--help", "help")
 
 
 def about(command: str) -> str:
-    """What a command does: the first paragraph of what its module says of itself, as one line."""
-    text = ast.get_docstring(ast.parse((TOOLS / f"{COMMANDS[command].replace('.', '/')}.py").read_text(encoding="utf-8"))) or ""
-    return " ".join(text.partition("\n\n")[0].split())
+    """What a command does: the first paragraph of what its module or its function says of itself, as one line."""
+    module, _, function = COMMANDS[command].partition(":")
+    tree = ast.parse((TOOLS / f"{module.replace('.', '/')}.py").read_text(encoding="utf-8"))
+    found = next((it for it in tree.body if isinstance(it, ast.FunctionDef) and it.name == function), tree)
+    return " ".join((ast.get_docstring(found) or "").partition("\n\n")[0].split())
 
 
 def listed() -> str:
@@ -61,7 +63,8 @@ def main(words: list[str]) -> int:
         return 2
     # the name that its help has
     sys.argv[0] = f"dev {command}"
-    return int(import_module(f"tools.{COMMANDS[command]}").main(rest))
+    module, _, function = COMMANDS[command].partition(":")
+    return int(getattr(import_module(f"tools.{module}"), function or "main")(rest))
 
 
 class Said(NamedTuple):

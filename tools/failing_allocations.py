@@ -34,10 +34,20 @@ from itertools import accumulate, pairwise, takewhile, zip_longest
 from pathlib import Path
 from typing import Any
 
+from tools.common import (
+    PROGRAM,
+    READ_OR_WRITE_FAULT,
+    ROOT,
+    TOOLS,
+    WANT_OF_MEMORY,
+    Answer,
+    NoAnswer,
+    Tally,
+    answer_of,
+    examples,
+    program_parser,
+)
 from tools.crates import RUN_MEMORY, processors
-from tools.paths import PROGRAM, ROOT, TOOLS, examples
-from tools.program import READ_OR_WRITE_FAULT, WANT_OF_MEMORY, Answer, NoAnswer, answer_of, program_parser
-from tools.tally import Tally
 from tools.worked_cases import case_called
 
 SOURCE = TOOLS / "failing_allocation.c"
@@ -84,6 +94,9 @@ ATTEMPT_OF_RUN = re.compile(r"attempt (\d+) of the run, at line \d+")
 NO_RISE = re.compile(r"(?:re)?alloc .*, rise false, trace 0")
 FEWEST_WITHOUT_RISE = 180
 
+# makes runs by their numbers, one by one or side by side
+Each = Callable[[Callable[[int], Answer], Iterable[int]], Iterable[Answer]]
+
 NO_MEMORY = Answer(b"no memory\n", b"", WANT_OF_MEMORY)
 NO_MEMORY_FOR_THE_COMMAND = (Answer(b"", b"error: no memory\n", WANT_OF_MEMORY), Answer(b"", b"", WANT_OF_MEMORY))
 
@@ -98,13 +111,6 @@ def says_less(answer: Answer, plain: Answer) -> bool:
     return answer._replace(messages=b"") == plain._replace(messages=b"") and all(is_fine)
 
 
-def stops_early(answer: Answer, plain: Answer) -> bool:
-    """Whether an answer is some of the plain one's lines, from the first one on, and then `no memory`."""
-    written = answer.output.removesuffix(NO_MEMORY.output)
-    begins = plain.output.startswith(written) and (not written or written.endswith(b"\n"))
-    return begins and answer == NO_MEMORY._replace(output=written + NO_MEMORY.output)
-
-
 def shown(answer: Answer, plain: Answer) -> str:
     """What a wrong answer says: the first line that is another one, and its messages."""
     pairs = zip_longest(answer.output.splitlines(), plain.output.splitlines())
@@ -113,18 +119,17 @@ def shown(answer: Answer, plain: Answer) -> str:
 
 
 class Trial:
-    """A program that is given a script, with the library that refuses allocations."""
+    """A program that is given a script, with the library that refuses allocations; or that is given nothing, and makes a call once more
+    where it found no memory."""
 
-    # how many allocations are tried from the first one on
-    first = FIRST
-
-    def __init__(self, program: Path, script: Path, room: Path) -> None:
-        self.program, self.library, self.count = program, room / "failing_allocation.so", room / f"{script.stem}.count"
-        self.words, self.given = ["check", str(script.resolve())], b""
-        # makes runs by their numbers, one by one or side by side
-        self.each: Callable[[Callable[[int], Answer], Iterable[int]], Iterable[Answer]] = map
-        # what is no file is a case by its place
-        if not script.is_absolute() and not script.exists():
+    def __init__(self, program: Path, script: Path | None, room: Path, each: Each = map) -> None:
+        self.program, self.library, self.each = program, room / "failing_allocation.so", each
+        self.words, self.given, self.is_same = list[str](), b"", script is None
+        self.count = room / f"{(script or program).stem}.count"
+        if script and (script.is_absolute() or script.exists()):
+            self.words = ["check", str(script.resolve())]
+        elif script:
+            # what is no file is a case by its place
             case = case_called(script.as_posix())
             self.words, self.given = case.args, case.script
 
@@ -138,8 +143,9 @@ class Trial:
 
     def numbers(self, last: int) -> list[int]:
         """Which allocations are tried of so many."""
-        later = range(self.first + 1, last + 1)
-        return [*range(1, min(self.first, last) + 1), *later[:: max(1, len(later) // LATER)]]
+        first = last if self.is_same else min(FIRST, last)
+        later = range(first + 1, last + 1)
+        return [*range(1, first + 1), *later[:: max(1, len(later) // LATER)]]
 
     def unwritten(self, how: str, wanted: list[int]) -> str | None:
         """What is wrong where some of the runs that ended for want of memory have a standard output that takes nothing, or None."""
@@ -152,23 +158,24 @@ class Trial:
         return None
 
     def wants(self, answer: Answer, plain: Answer) -> bool:
-        """Whether a run ended for want of memory."""
-        return answer == NO_MEMORY
+        """Whether a run ended for want of memory; where it makes calls once more, it may have written some of the plain one's lines before,
+        from the first one on."""
+        written = answer.output.removesuffix(NO_MEMORY.output) if self.is_same else b""
+        begins = plain.output.startswith(written) and (not written or written.endswith(b"\n"))
+        return begins and answer == NO_MEMORY._replace(output=written + NO_MEMORY.output)
 
     def is_fine(self, how: str, answer: Answer, plain: Answer, was_read: bool) -> bool:
         """Whether a run may give this answer; earlier numbers showed whether the command had been read by then."""
+        if self.is_same:
+            return answer == plain or how != "once" and self.wants(answer, plain)
         is_early = answer in NO_MEMORY_FOR_THE_COMMAND and not was_read
         return self.wants(answer, plain) or is_early or says_less(answer, plain)
-
-    def asked_needlessly(self, plain: Answer) -> str | None:
-        """Which line is of what takes no memory, and made an allocation; None if none did."""
-        return None
 
     def fault(self) -> tuple[str | None, int, int]:
         """What is wrong with an answer, or None; how many allocations the plain run makes, and how many runs ended for want of memory."""
         plain = self.run("once", 0)
         last, wanting = int(self.count.read_text().splitlines()[-1]), 0
-        if asked := self.asked_needlessly(plain):
+        if self.is_same and (asked := self.asked_needlessly(plain)):
             return asked, last, 0
         for how in WAYS:
             was_read, wanted, numbers = False, list[int](), self.numbers(last)
@@ -178,31 +185,13 @@ class Trial:
                 if not self.is_fine(how, answer, plain, was_read):
                     return f"{how} {number} of {last}: status {answer.status}, {shown(answer, plain)}", last, wanting
             wanting += len(wanted)
-            if unwritten := self.unwritten(how, wanted):
+            # one that makes calls once more ends with 4 whether its last line is written or not
+            if not self.is_same and (unwritten := self.unwritten(how, wanted)):
                 return unwritten, last, wanting
         return None, last, wanting
 
-
-class SameTrial(Trial):
-    """A program that is given nothing, and makes a call once more where it found no memory. Its runs go side by side, and all are made."""
-
-    first = sys.maxsize
-
-    def __init__(self, program: Path, room: Path, pool: ThreadPoolExecutor) -> None:
-        super().__init__(program, program, room)
-        self.words, self.each = [], pool.map
-
-    def unwritten(self, how: str, wanted: list[int]) -> str | None:
-        # it ends with 4 whether its last line is written or not
-        return None
-
-    def wants(self, answer: Answer, plain: Answer) -> bool:
-        return stops_early(answer, plain)
-
-    def is_fine(self, how: str, answer: Answer, plain: Answer, was_read: bool) -> bool:
-        return answer == plain or (how != "once" and self.wants(answer, plain))
-
     def asked_needlessly(self, plain: Answer) -> str | None:
+        """Which line is of what takes no memory, and made an allocation; None if none did."""
         lines = plain.output.decode().splitlines()
         rises = {it[1] for it in map(RISE_OF_RUN.match, lines) if it}
         # the run ends with the turn of its last attempt, which lists the leaks
@@ -260,7 +249,7 @@ def main(words: list[str]) -> int:
         room = Path(folder)
         subprocess.run(["cc", "-O1", "-shared", "-fPIC", "-o", room / "failing_allocation.so", SOURCE, "-ldl"], check=True)
         if given.same:
-            tally.check(passes(SameTrial(program, room, pool), program))
+            tally.check(passes(Trial(program, None, room, pool.map), program))
         else:
             for is_fine in pool.map(lambda it: passes(Trial(program, it, room), it), scripts):
                 tally.check(is_fine)

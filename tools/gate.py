@@ -19,9 +19,8 @@ from pathlib import Path
 from threading import Lock
 from typing import NamedTuple
 
+from tools.common import ROOT, TOOLS, Tally, tally_of
 from tools.crates import Crates, Step, run_steps
-from tools.paths import ROOT, TOOLS
-from tools.tally import Tally, tally_of
 
 # the line by which a crate ends, or its tests; where a library of it failed, more stands behind it, and nothing was proved
 ENDED = re.compile(r"rt: (\w+)(: its tests are)? (?:proved|NOT PROVED)\n?")
@@ -108,52 +107,40 @@ class ToolRuns:
             yield f"    {it.name:{width}} {it.seconds:6.1f} s, and {it.processor_seconds:6.1f} s of processor time"
 
 
-class Proof(NamedTuple):
-    """A crate that was proved in a run, or its tests."""
-
-    name: str
-    # nothing where it is tests, for which nothing waits
-    crate: str
-    # the proof of the crate below that ended last, if one was proved in this run
-    awaited: "Proof | None"
-    # the seconds since which it waited for no crate, and in which it ended
-    free: float
-    ended: float
-
-
 class ProofChain:
     """The proofs of a run of `rt ci`, as they end."""
 
     def __init__(self, crates: Crates) -> None:
         self.crates = crates
-        self.proofs: list[Proof] = []
+        # the second in which each crate or its tests ended, and the proof of the crate below that ended last, if one was done in this run
+        self.ended: dict[str, tuple[float, str]] = {}
 
     def hear(self, line: str, second: float) -> None:
         """Takes a line that came in this second of the run."""
         told = ENDED.fullmatch(line)
         if told and told[1] in self.crates.lines:
-            below = self.crates.below(told[1])
-            awaited = max((it for it in self.proofs if it.crate in below), key=lambda it: it.ended, default=None)
-            names = (f"{told[1]}'s tests", "") if told[2] else (told[1], told[1])
-            self.proofs.append(Proof(*names, awaited, awaited.ended if awaited else 0.0, second))
+            below = [it for it in self.crates.below(told[1]) if it in self.ended]
+            awaited = max(below, key=lambda it: self.ended[it][0], default="")
+            self.ended[f"{told[1]}'s tests" if told[2] else told[1]] = second, awaited
 
     def lines(self, seconds: float) -> Iterator[str]:
         """What is said of a run of so many seconds: what was proved, in the order in which it ended, and the longest chain."""
-        if not self.proofs:
+        if not self.ended:
             yield "no proof was done in this run, so there is no chain"
             return
-        width = max(len(it.name) for it in self.proofs)
+        width, none = max(map(len, self.ended)), (0.0, "")
         yield "what was proved, with the minutes of the run at which its last library had ended and it ended itself:"
-        for it in self.proofs:
-            awaited = it.awaited.name if it.awaited else "no crate"
-            yield f"    {it.name:{width}} {minutes(it.free)} {minutes(it.ended)}  waited for {awaited}"
+        for name, (second, awaited) in self.ended.items():
+            free = self.ended.get(awaited, none)[0]
+            yield f"    {name:{width}} {minutes(free)} {minutes(second)}  waited for {awaited or 'no crate'}"
         yield "the longest chain, from what ended last down, with minutes of proof and of waiting for a processor, which look alike:"
-        last = max(self.proofs, key=lambda it: it.ended)
-        link: Proof | None = last
+        link = max(self.ended, key=lambda it: self.ended[it][0])
+        last = self.ended[link][0]
         while link:
-            yield f"    {link.name:{width}} {minutes(link.ended - link.free)}"
-            link = link.awaited
-        yield f"    {'in all':{width}} {minutes(last.ended)}, and {minutes(seconds - last.ended).strip()} more until the run ended"
+            second, awaited = self.ended[link]
+            yield f"    {link:{width}} {minutes(second - self.ended.get(awaited, none)[0])}"
+            link = awaited
+        yield f"    {'in all':{width}} {minutes(last)}, and {minutes(seconds - last).strip()} more until the run ended"
 
 
 def minutes(seconds: float) -> str:

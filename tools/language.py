@@ -7,7 +7,7 @@ from dataclasses import dataclass
 from functools import cache
 from pathlib import Path
 
-from tools.paths import ROOT
+from tools.common import ROOT
 
 SOURCE = ROOT / "crates/wb_lines/src/line_kinds.rt"
 

@@ -1,8 +1,9 @@
 """Runs long sweeps of the program, and looks at what is said of their progress on standard error.
 
-They are of single failures, rates, pairs, sets and lengths. On a terminal one line says which failure or length is being tried. It
-appears once a sweep has taken two seconds, is rewritten in place, and is wiped before the report. Elsewhere nothing is said, nor of a
-sweep that is shorter. The scripts are made longer and longer until their sweeps take long enough on this machine.
+They are of single failures, rates, pairs, sets and lengths. On a terminal one line says which failure or length is being tried, and what
+is known to show nothing. It appears once a sweep has taken two seconds, is rewritten in place, and is wiped before the report. Elsewhere a
+line is written each minute, and with --quiet nothing. Nor is anything said of a sweep that is shorter. The scripts are made longer and
+longer until their sweeps take long enough on this machine.
 
 A script that is typed on a terminal is announced there, since the program would wait without a word.
 """
@@ -19,21 +20,23 @@ from concurrent.futures import ThreadPoolExecutor
 from pathlib import Path
 from typing import Any, NamedTuple
 
-from tools.program import Answer, answer_of, program_parser
-from tools.tally import Tally, summed
+from tools.common import CEILING, Answer, Trials, answer_of, program_parser, summed
 
 # how long a sweep goes on before anything is said of it, the shortest time between two lines, for how much longer a sweep that is
 # looked at goes on, and how late the first line may be, in seconds
 QUIET, PAUSE, LONGER, LATE = 2.0, 0.1, 0.4, 1.0
+# how often a line is written where standard error is no terminal, in seconds
+MINUTE = 60.0
 # how long a run may take; how long one takes at most that shows no line, before that counts as a fault; and a budget that is enough
 LIMIT, PATIENCE, BUDGET = 60, 20.0, ("--budget", "1000000")
 
 LEFT = r"(?:, (?P<done>\d+)% done, (?P<left>\d+) (?:s|min|h) left)?"
-LINE = re.compile(rf"trying (?P<what>attempt|rate) (?P<at>\d+) of (?P<of>\d+){LEFT}")
+FINE = r"(?:, (?:nothing|none) up to (?P<fine>\d+))?"
+LINE = re.compile(rf"trying (?P<what>attempt|rate) (?P<at>\d+) of (?P<of>\d+){FINE}{LEFT}")
 # the line of what is tried, where that is neither an attempt nor a rate
 LINES = {
-    "heap": re.compile(r"trying a heap of (?P<at>\d+) bytes"),
-    "set": re.compile(rf"trying (?P<size>\d+) attempts, attempt (?P<at>\d+) of (?P<of>\d+) first{LEFT}"),
+    "heap": re.compile(r"trying a heap of (?P<at>\d+) bytes, (?P<done>\d+)% of the lengths done"),
+    "set": re.compile(rf"trying (?P<size>\d+) attempts, attempt (?P<at>\d+) of (?P<of>\d+) first{FINE}{LEFT}"),
 }
 TYPED = b"workbench: the script is read from the terminal; end it with Ctrl-D on a line of its own\r\n"
 
@@ -42,8 +45,8 @@ class Kind(NamedTuple):
     """A kind of sweep, or of a search through all lengths."""
 
     words: list[str]
-    # the script, of which so many attempts fail one by one
-    script: Callable[[int], str]
+    # the script, with a place for how many attempts fail one by one
+    text: str
     # how many attempts are begun with, and by which power of them the time grows
     attempts: int
     power: int
@@ -51,19 +54,21 @@ class Kind(NamedTuple):
     calls: str
     # for how many seconds at most a command goes on without a line once the sweep is over
     after: float = 0.0
+    # of how many attempts the largest sets are
+    most: int = 1
 
     @property
     def least(self) -> float:
         """How many seconds a run takes at least of which the sweep is long enough."""
         return QUIET + LONGER + self.after
 
+    def script(self, attempts: int) -> bytes:
+        """The script of so many attempts."""
+        return self.text.format(attempts).encode()
+
     def lines(self, shown: "Shown") -> list[re.Match[str]]:
         """What was said of what was tried."""
         return list(LINES.get(self.calls, LINE).finditer(shown.bytes().decode("ascii")))
-
-    def is_told(self, shown: "Shown") -> bool:
-        """Whether something was said of what was tried, and of how much of it was done, but for heaps."""
-        return any(self.calls == "heap" or it["done"] for it in self.lines(shown))
 
     def run(self, program: Path, script: bytes, **streams: Any) -> Answer:
         """A run with standard error no terminal."""
@@ -82,46 +87,31 @@ class Shown(NamedTuple):
         return b"".join(piece for _, piece in self.pieces)
 
 
-def script_of(attempts: int, ends: str = "") -> str:
-    """A script of so many attempts, and the sum of the turns in which they fail: so no run under a failure ends early, and few are ever in
-    the same state, so that sets must be tried one by one. No failure shows anything, unless the statements at its end do."""
-    turns = f"repeat {attempts}\nadd turn 1\nalloc a 16\nif null a\nadd failed turn\nend\nfree a\nend\n"
-    return f"proc main\nptr a\nptr b\nint turn\nint failed\n{turns}{ends}end\n"
-
-
-def leaking(attempts: int) -> str:
-    """A script that leaks where its last attempt fails: a cell grows, and its only pointer is overwritten."""
-    return script_of(attempts, "alloc b 16\nalloc a 16\nif some a\nfree b\nend\nfree a\n")
-
-
-def growing(attempts: int) -> str:
-    """A script that no other heap serves from one attempt to the next: a cell grows at its place."""
-    return f"proc main\nptr a\nint n\nalloc a 16\nset n 16\nrepeat {attempts}\nadd n 16\nrealloc a a n\nend\nfree a\nend\n"
-
-
-def slow_failures(turns: int) -> str:
-    """A script of which only the runs take long in which attempt 4 or 5 fails: each copies a long text so many times."""
-    makes = "hnewl s 500000\npush s\nhnewl t 500000\npush t\nsetlength s 500000\n"
-    falls_back = f"alloc a 16\nif null a\nrepeat {turns}\ncopy t s\nend\nend\nfree a\n"
-    return f"proc main\nptr a\nptr s\nptr t\n{makes}{falls_back}{falls_back}popdestroy 2\nend\n"
-
+# scripts of so many attempts, and the sum of the turns in which they fail: so no run under a failure ends early, and few are ever in the
+# same state, so that sets must be tried one by one. No failure shows anything, unless the last one leaks: a cell grows, and its only
+# pointer is overwritten
+QUIET_SCRIPT = (
+    "proc main\nptr a\nptr b\nint turn\nint failed\n"
+    "repeat {0}\nadd turn 1\nalloc a 16\nif null a\nadd failed turn\nend\nfree a\nend\nend\n"
+)
+LEAKING = QUIET_SCRIPT.removesuffix("end\n") + "alloc b 16\nalloc a 16\nif some a\nfree b\nend\nfree a\nend\n"
+# a script that no other heap serves from one attempt to the next: a cell grows at its place
+GROWING = "proc main\nptr a\nint n\nalloc a 16\nset n 16\nrepeat {0}\nadd n 16\nrealloc a a n\nend\nfree a\nend\n"
+# a script of which only the runs take long in which attempt 4 or 5 fails: each copies a long text so many times
+FALLING_BACK = "alloc a 16\nif null a\nrepeat {0}\ncopy t s\nend\nend\nfree a\n"
+SLOW_FAILURES = (
+    "proc main\nptr a\nptr s\nptr t\nhnewl s 500000\npush s\nhnewl t 500000\npush t\nsetlength s 500000\n"
+    f"{FALLING_BACK}{FALLING_BACK}popdestroy 2\nend\n"
+)
 
 KINDS = [
-    Kind(["sweep"], leaking, 100, 2, "attempt"),
-    Kind(["check", "--every"], script_of, 100, 2, "rate", after=2.5),
-    Kind(["sweep", "--pairs", "--json"], script_of, 20, 3, "set"),
-    Kind(["lengths"], growing, 200, 2, "heap"),
-    Kind(["sweep", "--failures", "3"], script_of, 10, 4, "set"),
+    Kind(["sweep"], LEAKING, 100, 2, "attempt"),
+    Kind(["check", "--every"], QUIET_SCRIPT, 100, 2, "rate", after=2.5),
+    Kind(["sweep", "--pairs", "--json"], QUIET_SCRIPT, 20, 3, "set", most=2),
+    Kind(["lengths"], GROWING, 200, 2, "heap"),
+    Kind(["sweep", "--failures", "3"], QUIET_SCRIPT, 10, 4, "set", most=3),
 ]
-SLOW = Kind(["sweep"], slow_failures, 20, 1, "attempt")
-
-
-class Checks(Tally):
-    """How much passed and failed of what is looked at."""
-
-    def look(self, what: str, holds: bool, shown: object = "") -> None:
-        """Counts whether it holds, and says so where it doesn't."""
-        self.check(holds, f"{what}: not so: {shown!r}")
+SLOW = Kind(["sweep"], SLOW_FAILURES, 20, 1, "attempt")
 
 
 def longer(size: int, seconds: float, wanted: float, power: int) -> int:
@@ -139,17 +129,6 @@ def pieces_from(master: int, seconds: float, stop: Callable[[], None]) -> Iterat
     else:
         stop()
     os.close(master)
-
-
-def long_sweep(program: Path, kind: Kind, attempts: int) -> tuple[int, Answer]:
-    """How many attempts, at least these, a sweep has that takes long enough, and what came of it."""
-    while True:
-        begun = time.monotonic()
-        ran = kind.run(program, kind.script(attempts).encode())
-        seconds = time.monotonic() - begun
-        if seconds >= kind.least:
-            return attempts, ran
-        attempts = longer(attempts, seconds, kind.least, kind.power)
 
 
 def show(program: Path, kind: Kind, script: bytes) -> Shown:
@@ -187,7 +166,7 @@ def screen(written: bytes) -> list[str]:
     return lines
 
 
-def look_at_lines(checks: Checks, kind: Kind, name: str, attempts: int, shown: Shown) -> None:
+def look_at_lines(checks: Trials, kind: Kind, name: str, attempts: int, shown: Shown) -> None:
     """What is said while a sweep goes on."""
     lines = kind.lines(shown)
     numbers = [int(it["at"]) for it in lines]
@@ -198,6 +177,8 @@ def look_at_lines(checks: Checks, kind: Kind, name: str, attempts: int, shown: S
     checks.look(f"{name}: no more than ten a second", len(lines) <= 1 + (shown.seconds - QUIET + PAUSE) / PAUSE, len(lines))
     if kind.calls == "heap":
         checks.look(f"{name}: each shorter", numbers == sorted(set(numbers), reverse=True), numbers)
+        shares = [100 * (CEILING - number) // CEILING for number in numbers]
+        checks.look(f"{name}: the share of the lengths", shares == [int(it["done"]) for it in lines], numbers)
         return
     # sets come by their sizes, those of one size by their first attempts; more and more is done of each size, and never yet all
     is_set = kind.calls == "set"
@@ -208,20 +189,26 @@ def look_at_lines(checks: Checks, kind: Kind, name: str, attempts: int, shown: S
     checks.look(f"{name}: one after another", places == sorted(places if is_set else set(places)), said)
     checks.look(f"{name}: what is done, more and more", len(done) > 0 and done == sorted(done), said)
     checks.look(f"{name}: not yet all", all(percent < 100 for _, percent in done), done)
+    checks.look(f"{name}: no estimate before the last sets", all(size == kind.most for size, _ in done), done)
+    fine = [int(it["fine"] or 0) == int(it["at"]) - 1 for it in lines]
+    checks.look(f"{name}: what shows nothing", all(fine), said)
     checks.look(f"{name}: what is left", is_set or all(int(it["left"]) >= 1 for it in lines if it["done"]), said)
     checks.look(f"{name}: its kind", is_set or all(it["what"] == kind.calls for it in lines), said)
 
 
-def look_at(program: Path, kind: Kind) -> Checks:
+def look_at(program: Path, kind: Kind) -> Trials:
     """A kind of sweep: long ones and a short one, on a terminal and elsewhere."""
-    checks, name, attempts = Checks(), " ".join(kind.words), kind.attempts
+    checks, name, attempts = Trials(program), " ".join(kind.words), kind.attempts
     while True:
-        attempts, ran = long_sweep(program, kind, attempts)
-        script = kind.script(attempts).encode()
+        script, begun = kind.script(attempts), time.monotonic()
+        ran = kind.run(program, script)
+        if (seconds := time.monotonic() - begun) < kind.least:
+            attempts = longer(attempts, seconds, kind.least, kind.power)
+            continue
         with ThreadPoolExecutor() as beside:
             lost = beside.submit(losing_terminal, program, kind, script)
             shown, gone = show(program, kind, script), lost.result()
-        if kind.is_told(shown) or shown.seconds >= PATIENCE:
+        if any(it["done"] for it in kind.lines(shown)) or shown.seconds >= PATIENCE:
             break
         # most of the time was taken by what comes before or after the sweep, or the machine has become quicker meanwhile
         attempts += attempts // 4
@@ -232,44 +219,69 @@ def look_at(program: Path, kind: Kind) -> Checks:
     checks.look(f"{name}: the status", shown.status == ran.status, shown.status)
     whole = (ran.output + ran.messages).decode("ascii").split("\n")
     checks.look(f"{name}: the line is wiped, and the report whole", screen(shown.bytes()) == whole)
-    short = kind.script(3).encode()
+    short = kind.script(3)
     ran, shown = kind.run(program, short), show(program, kind, short)
     wanted = (ran.output + ran.messages).replace(b"\n", b"\r\n")
     checks.look(f"{name}: a short one", shown.bytes() == wanted and shown.status == ran.status, shown)
     return checks
 
 
-def look_at_slow_failures(program: Path) -> Checks:
+def look_at_quiet(program: Path) -> Trials:
+    """A long sweep that is to show no progress: a terminal shows nothing but the report."""
+    checks, attempts = Trials(program), KINDS[0].attempts
+    kind = KINDS[0]._replace(words=[*KINDS[0].words, "--quiet"])
+    while (shown := show(program, kind, kind.script(attempts))).seconds < kind.least:
+        attempts = longer(attempts, shown.seconds, kind.least, kind.power)
+    ran = kind.run(program, kind.script(attempts))
+    checks.look("quiet: nothing but the report", shown.bytes() == (ran.output + ran.messages).replace(b"\n", b"\r\n"), shown)
+    return checks
+
+
+def look_at_minutes(program: Path) -> Trials:
+    """A sweep of hours whose standard error is no terminal: a line after a minute, and none before."""
+    checks, words = Trials(program), ["sweep", "--pairs", *BUDGET]
+    running = subprocess.Popen([program, *words], stdin=subprocess.PIPE, stdout=subprocess.DEVNULL, stderr=subprocess.PIPE)
+    assert running.stdin and running.stderr
+    with running.stdin as given:
+        given.write(QUIET_SCRIPT.format(20_000).encode())
+    begun = time.monotonic()
+    with running.stderr as said:
+        early = select.select([said], [], [], MINUTE - 2 * PAUSE)[0]
+        line = b"" if early or not select.select([said], [], [], LATE + 2)[0] else os.read(said.fileno(), 65_536)
+        checks.look("minutes: none before the first", not early and running.poll() is None)
+        checks.look("minutes: a line of its own", re.fullmatch(rb"workbench: trying [ -~]+\n", line) is not None, line)
+        checks.look("minutes: after one", MINUTE - PAUSE <= time.monotonic() - begun <= MINUTE + LATE + 2)
+        running.kill()
+    running.wait(LIMIT)
+    return checks
+
+
+def look_at_slow_failures(program: Path) -> Trials:
     """A failure is named before its run and not after it: where the last two runs take two seconds each, the last one alone is
     named, since the one before it begins too early."""
-    checks, turns = Checks(), SLOW.attempts
+    checks, turns = Trials(program), SLOW.attempts
     # half of it is the last run
-    while (shown := show(program, SLOW, SLOW.script(turns).encode())).seconds < 2 * (QUIET + LONGER):
+    while (shown := show(program, SLOW, SLOW.script(turns))).seconds < 2 * (QUIET + LONGER):
         turns = longer(turns, shown.seconds, 2 * (QUIET + LONGER), SLOW.power)
     named = [(it["at"], it["of"]) for it in LINE.finditer(shown.bytes().decode("ascii"))]
     checks.look("a failure is named before its run", named == [("5", "5")], named)
     return checks
 
 
-def type_script(program: Path, script: bytes, told: bool) -> tuple[bytes, bytes]:
-    """The report of a script that is typed on a terminal, and what that shows; what is said goes there too, or is dropped."""
-    master, slave = pty.openpty()
-    modes = termios.tcgetattr(slave)
-    modes[3] &= ~termios.ECHO
-    termios.tcsetattr(slave, termios.TCSANOW, modes)
-    running = subprocess.Popen([program, "run"], stdin=slave, stdout=subprocess.PIPE, stderr=slave if told else subprocess.DEVNULL)
-    os.close(slave)
-    os.write(master, script + b"\x04")
-    report, _ = running.communicate(timeout=LIMIT)
-    return report, b"".join(pieces_from(master, 0, running.kill))
-
-
-def look_at_typed_scripts(program: Path) -> Checks:
-    """A script that is typed: it is announced where what is said goes to the terminal, and nowhere else."""
-    checks, script = Checks(), script_of(3).encode()
+def look_at_typed_scripts(program: Path) -> Trials:
+    """A script that is typed on a terminal: it is announced where what is said goes there too, and nowhere else."""
+    checks, script = Trials(program), QUIET_SCRIPT.format(3).encode()
     wanted = answer_of(program, "run", script=script, seconds=LIMIT)
-    for told, line in ((True, TYPED), (False, b"")):
-        report, shown = type_script(program, script, told)
+    for is_told, line in ((True, TYPED), (False, b"")):
+        master, slave = pty.openpty()
+        modes = termios.tcgetattr(slave)
+        modes[3] &= ~termios.ECHO
+        termios.tcsetattr(slave, termios.TCSANOW, modes)
+        running = subprocess.Popen([program, "run"], stdin=slave, stdout=subprocess.PIPE, stderr=slave if is_told else subprocess.DEVNULL)
+        os.close(slave)
+        os.write(master, script + b"\x04")
+        report, _ = running.communicate(timeout=LIMIT)
+        shown = b"".join(pieces_from(master, 0, running.kill))
         checks.look("a typed script", report == wanted.output, report)
         checks.look("a typed script is announced", shown == line, shown)
     checks.look("a script that isn't typed", wanted.messages == b"", wanted.messages)
@@ -280,7 +292,6 @@ def main(words: list[str]) -> int:
     """Looks at all kinds side by side, and prints the totals."""
     program = program_parser(__doc__).parse_args(words).program
     with ThreadPoolExecutor() as beside:
-        slow = beside.submit(look_at_slow_failures, program)
-        typed = beside.submit(look_at_typed_scripts, program)
-        looked = [*beside.map(lambda kind: look_at(program, kind), KINDS), slow.result(), typed.result()]
+        others = [beside.submit(look, program) for look in (look_at_slow_failures, look_at_typed_scripts, look_at_quiet, look_at_minutes)]
+        looked = [*beside.map(lambda kind: look_at(program, kind), KINDS), *(other.result() for other in others)]
     return summed(looked).end()

@@ -8,6 +8,7 @@ written has passed. Nothing is written by a program of ./build that is older tha
 be typed in a shell.
 """
 
+import os
 import re
 import shlex
 import sys
@@ -19,11 +20,9 @@ from itertools import islice
 from pathlib import Path
 from typing import Any, NamedTuple
 
+from tools.common import CASES, CUT, FINE, FOUND, PROGRAM, REFUSED, ROOT, Answer, NoAnswer, Tally, answer_of, program_parser
 from tools.crates import Crates
-from tools.paths import CASES, PROGRAM, ROOT
-from tools.program import CUT, FINE, FOUND, REFUSED, Answer, NoAnswer, answer_of, program_parser
-from tools.tally import Tally
-from tools.worked_cases import SUFFIX, Block, Case, CaseError, Group, files_in, meaning, read, spelled
+from tools.worked_cases import SUFFIX, Block, Case, CaseError, Group, cases_of, files_in, meaning, read, spelled
 
 # a longer difference is cut
 MOST_LINES = 100
@@ -263,3 +262,33 @@ def main(words: list[str]) -> int:
                 if is_fine and said:
                     print(said)
     return tally.end() if not given.show or tally.failed else 0
+
+
+def ways_to_lose() -> Iterator[tuple[str, dict[str, Any]]]:
+    """Each way in which standard error may fail, by its name."""
+    yield "closed", {"stderr": None, "preexec_fn": lambda: os.close(2)}
+    with open("/dev/full", "wb") as full:
+        yield "full", {"stderr": full}
+    read_end, write_end = os.pipe()
+    os.close(read_end)
+    yield "unread", {"stderr": write_end}
+    os.close(write_end)
+
+
+def lose_messages(words: list[str]) -> int:
+    """Runs worked cases that have standard error while that is lost.
+
+    Standard error is closed, then a device without room, then a pipe that nobody reads. Standard output and status must be the same.
+    """
+    parser = program_parser(lose_messages.__doc__)
+    parser.add_argument("groups", nargs="*", metavar="GROUP", default=[""])
+    given, tally = parser.parse_args(words), Tally()
+    cases, failed = [case for group in given.groups for case in cases_of(group) if case.stderr is not None], set()
+    for way, streams in ways_to_lose():
+        for case in cases:
+            _, fault = tried(given.program, case.args, case.script, partial(fault_of, replace(case, stderr=None)), **streams)
+            if fault is not None:
+                print(f"{case.place}: standard error {way}: {fault}")
+                failed.add(case.place)
+    tally.add(len(cases) - len(failed), len(failed))
+    return tally.end()

@@ -218,16 +218,16 @@ class Reader:
                     term = self.class_term(words[1], line, words[2])
                 case "proc":
                     given = dict(map(parameter, words[2:], range(len(words))))
-                    term = apply("procedure", line, listed(list(map(self.parameter_term, given.values()))), self.body(given, None))
+                    parameters = [
+                        "Par.OfNumber" if it.sort == "int" else apply("Par.OfPointer", self.class_option(it.class_name))
+                        for it in given.values()
+                    ]
+                    term = apply("procedure", line, listed(parameters), self.body(given, None))
                 case _:
                     term = apply("operation", line, self.body({words[2]: Local("ptr", 0)}, None))
             items[words[0]].append(term)
         literals = listed(list(map(text_term, self.literals)))
         return apply("script", *map(listed, items.values()), literals, self.index("a procedure", "main"))
-
-    def parameter_term(self, of: Local) -> str:
-        """A parameter."""
-        return "Par.OfNumber" if of.sort == "int" else apply("Par.OfPointer", self.class_option(of.class_name))
 
     def class_term(self, name: str, line: str, extra: str) -> str:
         """A class, of which the first line has been read."""

@@ -2,7 +2,7 @@
 
 Where the program isn't built, or is older than what it is made of, its sources are compiled without their proof. What is compiled is kept
 below the repository until its sources or the toolchain change; where it can't be kept, it gives one answer. Where the toolchain leaves no
-program, it runs the sources itself (`tools/tried.py`).
+program, it runs the sources itself.
 
 `rt try` compiles a program, runs it once and removes it. So it is run on a script that is a pipe, and the program is copied while it waits
 for the script."""
@@ -10,6 +10,7 @@ for the script."""
 import contextlib
 import hashlib
 import os
+import re
 import shutil
 import signal
 import subprocess
@@ -21,10 +22,81 @@ from contextlib import contextmanager
 from pathlib import Path
 from typing import NoReturn
 
+from tools.common import PROGRAM, PROGRAM_CRATE, REFUSED, ROOT
 from tools.crates import NOT_BUILT, Crates, alone_in, is_being_built
-from tools.paths import PROGRAM, PROGRAM_CRATE, ROOT
-from tools.program import REFUSED
-from tools.tried import NAME, answer_of_try
+
+# the name by which the program calls itself
+NAME = "workbench"
+
+# the options whose files are written
+WRITTEN = ("--picture", "--sarif")
+
+# the commands that read a script
+COMMANDS = {"run", "size", "lengths", "sweep", "check"}
+
+# the program reads one byte more than the longest script has
+LONGEST_INPUT = 65_537
+
+# how the toolchain ends: how the run ended, and before that how each of its ways to run did
+ENDED = re.compile(rb"run=ended status=(\d+)\b.*proved=no\n?\Z")
+CLOSING = re.compile(rb"(?:checked|interpreter|races|run)\b[:=].*")
+NO_ANSWER = re.compile(rb"(?m)^checked: no-answer: (.*)$")
+# the toolchain runs what it compiles under another name
+OTHER_NAME = re.compile(rb"^Usage: program\b")
+
+
+def handed_on(words: list[str]) -> tuple[list[str], list[str], bool]:
+    """The words for a run in a folder of its own: with the whole paths of the files that are written; those that hand the script on under
+    its own name there, or that has a whole path too if it leads out of the folder; and whether standard input is the script."""
+    handed: list[str] = []
+    script = ""
+    for before, word in zip(["", *words], words):
+        name, is_joined, file = word.partition("=")
+        is_option = "--" not in handed
+        if is_option and before in WRITTEN:
+            word = whole_path(word)
+        elif is_option and is_joined and name in WRITTEN:
+            word = f"{name}={whole_path(file)}"
+        elif not script and (Path(word).is_file() or word.endswith(".oom")):
+            script = word
+        handed.append(word)
+    is_read = bool(words) and words[0] in COMMANDS and not script and {"-h", "--help"}.isdisjoint(words)
+    inside = os.path.normpath(script)
+    if not Path(script).is_file():
+        return handed, [], is_read
+    if os.path.isabs(script) or inside.startswith("..") or "=" in script:
+        return [str(Path(it).resolve()) if it == script else it for it in handed], [], is_read
+    return handed, ["--data", f"{inside}={Path(script).resolve()}"], is_read
+
+
+def whole_path(file: str) -> str:
+    """The whole path of a file. The names of no file, an empty one and `-`, stay as they are."""
+    return file if file in ("", "-") else os.path.join(os.getcwd(), file)
+
+
+def answer_of_try(room: Path, words: list[str]) -> int | str:
+    """Has `rt try` compile the sources in a room and run them on these words, and gives the status that they end with; or why there is no
+    answer."""
+    words, data, is_read = handed_on(words)
+    (room / "input").write_bytes(sys.stdin.buffer.read(LONGEST_INPUT) if is_read else b"")
+    with (room / "input").open("rb") as given:
+        command = ["rt", "try", *data, "--", *words]
+        ran = subprocess.run(command, cwd=room / "crates" / PROGRAM_CRATE, stdin=given, capture_output=True)
+    ended = ENDED.search(ran.stderr)
+    if not ended:
+        found = NO_ANSWER.search(ran.stderr)
+        said = found[1] if found else b"; ".join(ran.stderr.splitlines()[-3:]) or b"nothing was said"
+        return said.decode(errors="replace")
+    sys.stdout.buffer.write(ran.stdout)
+    sys.stdout.flush()
+    # without the toolchain's own lines at the end, and by the program's own name
+    lines = ran.stderr.splitlines(keepends=True)
+    while lines and CLOSING.match(lines[-1]):
+        lines.pop()
+    sys.stderr.buffer.write(b"".join(OTHER_NAME.sub(b"Usage: " + NAME.encode(), it) for it in lines))
+    sys.stderr.flush()
+    return int(ended[1])
+
 
 # where the programs are kept, below the repository, and how many: those that were used last
 FOLDER = Path("out", "unproved")
@@ -238,21 +310,15 @@ def answer_unproved(why: str, crates: Crates, words: list[str]) -> int:
     try:
         program = program or compiled(unproved, can_keep)
     except NoProgram as refused:
-        return answer_tried(unproved, words) if refused.ran else say_no_answer(str(refused))
+        answer: int | str = str(refused)
+        if refused.ran:
+            with unproved.room() as room:
+                answer = answer_of_try(room, words)
+        if isinstance(answer, int):
+            return answer
+        say(f"this way there is no answer: {answer}")
+        return NOT_BUILT
     become([*unproved.words(program), *words], environment())
-
-
-def answer_tried(unproved: Unproved, words: list[str]) -> int:
-    """The answer of `rt try` itself, and its status."""
-    with unproved.room() as room:
-        answer = answer_of_try(room, words)
-    return answer if isinstance(answer, int) else say_no_answer(answer)
-
-
-def say_no_answer(why: str) -> int:
-    """Says why the toolchain gave no answer, and gives the status for that."""
-    say(f"this way there is no answer: {why}")
-    return NOT_BUILT
 
 
 def compiled(unproved: Unproved, can_keep: bool) -> Path:

@@ -13,7 +13,7 @@ from itertools import pairwise, product, zip_longest
 from pathlib import Path
 from string import ascii_lowercase
 
-from tools.paths import CASES
+from tools.common import CASES
 
 SUFFIX, TABLE = ".cases", " (table)"
 MARKER = re.compile(r"(?:===|---|\$) |\$$")

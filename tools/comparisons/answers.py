@@ -5,7 +5,7 @@ from collections.abc import Sequence
 from pathlib import Path
 from typing import NamedTuple
 
-from tools.program import CUT, FINE, FOUND, Answer, answer_of
+from tools.common import CUT, FINE, FOUND, Answer, answer_of
 
 # the numbers of attempts that fail together, in ascending order; or one other number that a run is given, a rate for example
 Numbers = tuple[int, ...]
@@ -90,11 +90,12 @@ class Script:
         size = self.answer("size")
         return self.compare(size if size.status == CUT else Report(size.lines + sweep.lines, sweep.status), "check", *flags)
 
-    def compare_object(self, plain: Report, values: dict[str, object], *words: str | int) -> None:
-        """Whether the JSON of a command holds these values, and what the command says without it."""
+    def compare_object(self, plain: Report, values: dict[str, object], *words: str | int, is_all: bool = False) -> None:
+        """Whether the JSON of a command holds these values, and what the command says without it; whether it holds no more, if so asked."""
         told, wanted = self.answer(*words, "--json"), values | {"lines": plain.lines, "status": plain.status}
-        held = json.loads(told.lines[0])
-        found = {key: held.get(key, "no such key") for key in wanted}
+        (line,) = told.lines
+        held = json.loads(line)
+        found = held if is_all else {key: held.get(key, "no such key") for key in wanted}
         self.must(found == wanted and told.status == plain.status, f"`{spelled(*words)} --json` gives {found}")
 
 

@@ -15,14 +15,12 @@ from fnmatch import fnmatchcase
 from functools import partial
 from pathlib import Path
 
-from tools.comparisons.answers import Difference, Numbers, Script
+from tools.common import CUT, PROGRAM, ROOT, NoAnswer, Tally, examples, parser_of, program_at, programs
+from tools.comparisons.answers import Difference, Script
 from tools.comparisons.made_scripts import SCRIPTS, SEED, SORTS, scripts
 from tools.comparisons.single_runs import compare_lengths, compare_lists, compare_moving, compare_steps
 from tools.comparisons.sweeps import BY_NUMBER, FAILURES, LISTINGS, PAIRS, SETS, SINGLE, Sweep, Swept
 from tools.crates import RUN_MEMORY, processors
-from tools.paths import PROGRAM, ROOT, examples, programs
-from tools.program import CUT, NoAnswer, parser_of, program_at
-from tools.tally import Tally
 from tools.worked_cases import case_called
 
 # the program that compares forks of a run, which `rt run` in its crate builds
@@ -61,31 +59,27 @@ class Kind:
 
 
 def compare_sweep(script: Script, sweep: Sweep) -> list[str]:
-    """Compares all that is answered of a sweep."""
+    """Compares all that is answered of a sweep, and says what is found in the words of `wanted`: alone is a number where no single failure
+    shows anything, and late are numbers of which the run without failure doesn't make the last."""
     swept = Swept(sweep, script)
     found = swept.compare()
-    outcomes = [outcome_of(swept, found), *map(swept.compare_listing, LISTINGS if sweep.lists else ())]
-    if sweep.runs_all:
+    if found is None:
+        outcome = "none"
+    elif swept.told.status == CUT:
+        outcome = f"cut {f'{len(found)} numbers' if len(found) > 1 else 'number'} at the {swept.told.lines[0].split(' ')[-1]}"
+    elif len(found) > 1:
+        outcome = f"{len(found)} numbers{' late' if found[-1] > swept.attempts else ''}"
+    elif sweep.one != SINGLE.one and script.answer("sweep").lines[1:2] == ["number none"]:
+        outcome = "number alone"
+    else:
+        number = (found or (0,))[0]
+        outcome = f"number {number}" if number < 3 else "number above 2"
+    outcomes = [outcome, *map(swept.compare_listing, LISTINGS if sweep.most == 1 else ())]
+    if sweep == SETS:
         outcomes += swept.compare_states(found)
         if found is None or len(found) > 1:
             outcomes.append("each set run" if swept.compare_each(found) else "too many sets to run")
     return outcomes
-
-
-def outcome_of(swept: Swept, found: Numbers | None) -> str:
-    """What a sweep finds, in the words of `wanted`: alone is a number where no single failure shows anything, and late are numbers of which
-    the run without failure doesn't make the last."""
-    if found is None:
-        return "none"
-    many = f"{len(found)} numbers" if len(found) > 1 else "number"
-    if swept.told.status == CUT:
-        return f"cut {many} at the {swept.told.lines[0].split(' ')[-1]}"
-    if len(found) > 1:
-        return f"{many} late" if found[-1] > swept.attempts else many
-    if swept.sweep.one != SINGLE.one and swept.script.answer("sweep").lines[1:2] == [SINGLE.none]:
-        return "number alone"
-    number = (found or (0,))[0]
-    return f"number {number}" if number < 3 else "number above 2"
 
 
 def compare_parts(script: Script) -> list[str]:

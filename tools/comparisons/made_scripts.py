@@ -11,8 +11,8 @@ import re
 from collections.abc import Iterator
 from typing import NamedTuple
 
+from tools.common import TOOLS
 from tools.language import words_of_roles
-from tools.paths import TOOLS
 
 SCRIPTS, SEED = 300, 1
 
@@ -102,11 +102,6 @@ PARTS = dict(parts_in((TOOLS / "comparisons/made-parts.txt").read_text(encoding=
 SORTS = "one two"
 
 
-def setting(chance: random.Random) -> str:
-    """A setting of the script's own."""
-    return chance.choice((f"failnext {chance.randint(1, 9)}", f"failevery {chance.randint(2, 7)}", "failnone"))
-
-
 def indented(body: list[str]) -> list[str]:
     """The lines of a body, each as deep as its block."""
     written, depth, opening = [], 1, words_of_roles("If", "Loop")
@@ -127,7 +122,8 @@ def script(number: int, seed: int = SEED, sorts: str = SORTS) -> str:
     main = ["int code"]
     for at, part in enumerate(parts):
         written += [f"proc part{at}", *indented(part.body(chance, at == wrong)), "end"]
-        main += [setting(chance)] if is_set else []
+        if is_set:
+            main.append(chance.choice((f"failnext {chance.randint(1, 9)}", f"failevery {chance.randint(2, 7)}", "failnone")))
         main += ["mark"] if is_marked else []
         main += ["trap code", f"call part{at}", "end", "print code"]
         main += ["markend 0"] if is_marked else []

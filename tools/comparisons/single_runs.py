@@ -25,16 +25,15 @@ number of the attempt that made or moved it last. With `--follow-steps 3` the fi
 between them must count the others. No row has more than 80 columns.
 """
 
-import json
 import random
 import re
 from collections.abc import Callable, Iterable
 from itertools import pairwise
 from typing import NamedTuple
 
+from tools.common import CEILING, CUT, FINE, FOUND
 from tools.comparisons.answers import Numbers, Report, Script, Words, spelled
-from tools.comparisons.sweeps import first_and_second, listed
-from tools.program import CEILING, CUT, FINE, FOUND
+from tools.comparisons.sweeps import PAIRS, listed
 
 # which attempts fail by an option with a number, as far as a list goes, which has at most so many
 LONGEST = 256
@@ -85,7 +84,7 @@ def compare_lists(script: Script) -> list[str]:
     last = min(attempts, MOST)
     runs = [same_run(script, (option, number), rule(number)) for option, rule in RULES.items() for number in range(1, last + 1)]
     pairs: set[Numbers] = {(first, second) for second in range(2, last + 1) for first in (1, second - 1) if first < second}
-    runs += [same_run(script, first_and_second(pair), pair) for pair in sorted(pairs)]
+    runs += [same_run(script, PAIRS.run(pair), pair) for pair in sorted(pairs)]
     runs += [run_of_list(script, range(first, attempts + 2, step)) for first in (2, 3) for step in DISTANCES]
     statuses = {it.status for it in runs}
     if CUT in statuses:
@@ -151,29 +150,35 @@ class Range(NamedTuple):
     last: int
     words: str
 
-    def is_bad(self) -> bool:
-        """Whether the runs leak or panic."""
-        return self.words.startswith(("leaks ", "panic "))
-
 
 def compare_lengths(script: Script) -> list[str]:
     """Compares what is told of all lengths with runs in heaps of single ones, and gives what comes of it."""
-    told = script.answer("lengths")
+    told, chance = script.answer("lengths"), random.Random(script.text)
     table, rest = table_of(script, told.lines)
-    for length in sorted(lengths_to_try(table, random.Random(script.text))):
+    tried = {length for it in table for length in (it.first, it.last, chance.randint(it.first, it.last))}
+    nearby = min(2 * table[-1].first, CEILING)
+    for length in sorted(tried | {chance.randint(0, nearby if at % 2 else CEILING) for at in range(DRAWN)}):
         end, wanted = script.run("--limit", length).end(), next(it.words for it in table if it.first <= length <= it.last)
         script.must(end == wanted, f"a run in a heap of {length} bytes is `{end}`, and the table says `{wanted}`")
-    bad = next((it.first for it in table if it.is_bad()), None)
-    found = ["length none"] if bad is None else [f"length {bad}", *script.run("--limit", bad).lines]
+    bad = [it.first for it in table if it.words.startswith(("leaks ", "panic "))]
+    found = [f"length {bad[0]}", *script.run("--limit", bad[0]).lines] if bad else ["length none"]
     script.must(rest == found, f"`lengths` says {rest[:4]} in place of {found[:4]}")
-    status = FOUND if bad is not None else CUT if any(it.words.startswith("cut ") for it in table) else FINE
+    status = FOUND if bad else CUT if any(it.words.startswith("cut ") for it in table) else FINE
     script.must(told.status == status, f"`lengths` ends with {told.status} in place of {status}")
-    compare_with_size(script, told, table, "none" if bad is None else bad)
-    if told.status != FOUND:
+    values: dict[str, object] = {"attempts": None, "kind": "lengths", "required": None, "rises": None, "version": 3}
+    values |= {"number": bad[0] if bad else "none", "ranges": [[it.first, it.words] for it in table]}
+    script.compare_object(told, values, "lengths", is_all=True)
+    script.compare_check(script.answer("sweep"))
+    size = script.answer("size")
+    if size.status == FINE:
+        required, end = int(size.lines[0].removeprefix("required ")), script.run().end()
+        script.must(table[-1].first <= required, f"the last range begins at {table[-1].first}, past the required {required}")
+        script.must(end == table[-1].words, f"the run without a limit is `{end}`, and the last range says `{table[-1].words}`")
+    if not bad:
         return ["a cut and no bad length" if told.status == CUT else "no bad length"]
     if script.answer("sweep").lines[1:2] == ["number none"]:
         return ["a bad length alone"]
-    return ["bad lengths up to the ceiling" if table[-1].is_bad() else "a bad length below good ones"]
+    return ["bad lengths up to the ceiling" if bad[-1] == table[-1].first else "a bad length below good ones"]
 
 
 def table_of(script: Script, lines: list[str]) -> tuple[list[Range], list[str]]:
@@ -186,26 +191,6 @@ def table_of(script: Script, lines: list[str]) -> tuple[list[Range], list[str]]:
     script.must(all(one[1] != other[1] for one, other in pairwise(rows)), f"neighbours of the table say the same: {lines[:count]}")
     lasts = [first - 1 for first in firsts[1:]] + [CEILING]
     return [Range(first, last, words) for first, last, (_, words) in zip(firsts, lasts, rows)], lines[count:]
-
-
-def lengths_to_try(table: list[Range], chance: random.Random) -> set[int]:
-    """The ends of each range, a length between them, and lengths at random."""
-    ends = {length for it in table for length in (it.first, it.last, chance.randint(it.first, it.last))}
-    nearby = min(2 * table[-1].first, CEILING)
-    return ends | {chance.randint(0, nearby if at % 2 else CEILING) for at in range(DRAWN)}
-
-
-def compare_with_size(script: Script, told: Report, table: list[Range], number: int | str) -> None:
-    """Whether the JSON says the same, the table fits the length that `size` finds, and `check` is what it would be without it."""
-    values: dict[str, object] = {"attempts": None, "kind": "lengths", "lines": told.lines, "number": number}
-    values |= {"ranges": [[it.first, it.words] for it in table], "required": None, "rises": None, "status": told.status, "version": 3}
-    script.compare(Report([json.dumps(values, separators=(",", ":"))], told.status), "lengths", "--json")
-    script.compare_check(script.answer("sweep"))
-    size = script.answer("size")
-    if size.status == FINE:
-        required, end = int(size.lines[0].removeprefix("required ")), script.run().end()
-        script.must(table[-1].first <= required, f"the last range begins at {table[-1].first}, past the required {required}")
-        script.must(end == table[-1].words, f"the run without a limit is `{end}`, and the last range says `{table[-1].words}`")
 
 
 class Cell(NamedTuple):
@@ -232,7 +217,13 @@ def compare_rows(script: Script, *words: str | int) -> list[str]:
     attempts = [it for row in rows for it in ATTEMPT.finditer(row)]
     found = [f"attempt {it[1]} length {it[6]} place {it[7]} {ANSWERS.get(it[2], 'granted')}" for it in attempts]
     script.must(found == plain.begins("attempt"), f"the rows tell of {found[:4]} .., and the report of {plain.lines[:4]} ..")
-    compare_cells(script, plain, rows)
+    live: dict[str, Cell] = {}
+    for row in rows:
+        see_row(script, live, row)
+    if any(it == "ended" or it.startswith("left ") for it in plain.lines):
+        leaks = {it[3]: Cell(it[1], it[2]) for it in map(LEAK.fullmatch, plain.lines) if it}
+        others = {place: cell for place, cell in live.items() if leaks.get(place) != cell}
+        script.must(len(live) == len(leaks) + 1 and len(others) == 1, f"the rows leave {live}, and the report {leaks}")
     left_out = steps - 2 * FEW
     counted = "1 step is" if left_out == 1 else f"{left_out} steps are"
     marked = f"{'..':>{max(4, len(str(steps)))}}  {'..':>4}  {counted} left out"
@@ -267,17 +258,6 @@ def joined(lines: list[str], column: int) -> list[str]:
             rows[-1] += between + line[column:]
             between = " "
     return rows
-
-
-def compare_cells(script: Script, plain: Report, rows: list[str]) -> None:
-    """Whether what rows say of cells comes to the leaks of a report, and to the cell of the cleanup stack."""
-    live: dict[str, Cell] = {}
-    for row in rows:
-        see_row(script, live, row)
-    if any(it == "ended" or it.startswith("left ") for it in plain.lines):
-        leaks = {it[3]: Cell(it[1], it[2]) for it in map(LEAK.fullmatch, plain.lines) if it}
-        others = {place: cell for place, cell in live.items() if leaks.get(place) != cell}
-        script.must(len(live) == len(leaks) + 1 and len(others) == 1, f"the rows leave {live}, and the report {leaks}")
 
 
 def see_row(script: Script, live: dict[str, Cell], row: str) -> None:

@@ -1,15 +1,14 @@
-"""Compares what a sweep finds with the single runs that it stands for. Each sweep is a row: what it must answer follows from its row.
+"""Compares what a sweep claims with the single runs that it stands for. Each sweep is a row: what it must answer follows from its row.
 
 The numbers that a sweep makes fail are tried in the order of their count, and those of one count in the order of the numbers. The least
 whose run leaks, panics or is cut must be what the sweep tells, with just the lines of that run. Numbers before it must show nothing: all
 single ones are run, and of greater sets all, or some from all over them where these are very many. A number past the last attempt of a
-run must change nothing. Sweeps over fewer numbers must find the same as far as they go; the least of the answers to parts of the numbers
-must be the whole answer; `check` must have the lines of `size` and of the sweep, and `--json` the same lines, with the numbers as
-`number`.
+run must change nothing. Sweeps over fewer numbers must find the same as far as they go. What is found in a part of the numbers must be one
+of them and have the lines of its run, and the least of these answers must be the whole answer. `check` must have the lines of `size` and
+of the sweep, and `--json` the same lines, with the numbers as `number`.
 
 `--all` must have a line for each number up to the last attempt whose run leaks, panics or is cut, with the words for its end, and `--ends`
-one for each number; then how many leak or panic, and the lines of the least such run. The lines of parts must be those of the whole, one
-part after the other, and their counts must add up.
+one for each number; then how many leak or panic, and the lines of the least such run. So must each part, for its numbers.
 
 With `--states 1` a sweep over all sets must tell a single number, or `set none to 1` and `cut states`. With more states it must tell what
 it tells without the option, or `cut states` after a number of failures which grows with the states, to which `--failures` finds nothing.
@@ -19,12 +18,12 @@ has made when it asks for another.
 
 import math
 from collections.abc import Callable, Iterable, Iterator
-from dataclasses import dataclass, field
+from dataclasses import dataclass
 from itertools import islice
-from typing import Any, TypeVar
+from typing import TypeVar
 
+from tools.common import CEILING, CUT, FINE, FOUND
 from tools.comparisons.answers import Numbers, Report, Script, Words, spelled
-from tools.program import CUT, FINE, FOUND
 
 T = TypeVar("T")
 
@@ -40,37 +39,49 @@ LISTINGS: dict[str, Callable[[Report], bool]] = {"--all": lambda run: run.status
 STATES, ATTEMPTS_PAST_ONE, MOST_COMPARED = (1, 20, 60), 2, 4
 
 
+def listed(numbers: Iterable[int]) -> Words:
+    """The words of a run in which the attempts of a list fail."""
+    text = ",".join(map(str, numbers))
+    return ("--set", text) if text else ()
+
+
 @dataclass(frozen=True)
 class Sweep:
     """A sweep, and the runs that it stands for."""
 
-    # its flags, and the options of the run in which these numbers fail
+    # how its JSON calls it, its flags, and the version of its JSON
+    kind: str
     flags: Words
-    run: Callable[[Numbers], Words]
-    # the line that tells of none, and how those begin that tell of one number and of more
-    none: str
+    version: int = 2
+    # the option of a run in which one number fails, and how lines begin that tell of one number and of more
+    option: str = "--fail"
     one: str = "number"
     more: str = ""
     # how many numbers fail at most
     most: float = 1
-    # what its JSON has beside the lines of all sweeps
-    values: dict[str, object] = field(default_factory=dict)
-    # sweeps that must find the same, up to as many numbers as they try
+    # sweeps that must find the same, up to as many numbers as they try; and others that must find none where this one does
     fewer: tuple["Sweep", ...] = ()
-    # sweeps over other numbers that must find none where this one does
     none_of: tuple["Sweep", ...] = ()
     # how many sets before the one that is found are run, of each size, and how large those are that are run where none is found
     before: int = MET
     largest: int = 3
-    # whether all sets are run where the script makes few attempts
-    runs_all: bool = False
-    # whether --all and --ends tell of each number
-    lists: bool = False
+
+    def run(self, numbers: Numbers) -> Words:
+        """The words of the run in which these numbers fail; an option that takes one makes nothing fail with 0."""
+        if self.kind == "sets":
+            return listed(numbers)
+        return (self.option, *(numbers or (0,))) if len(numbers) < 2 else ("--fail", numbers[0], "--also", numbers[1])
+
+    def values(self) -> dict[str, object]:
+        """What its JSON has beside the lines of all sweeps."""
+        most = {"most": None if self.most == math.inf else self.most} if self.kind == "sets" else {}
+        return {"kind": self.kind, "version": self.version, **most}
 
     def answer(self, attempts: int, numbers: Numbers | None, run: Report) -> Report:
         """What it must answer where these are the least numbers whose run isn't fine, and this is that run."""
         if numbers is None:
-            return Report([f"attempts {attempts}", self.none], FINE)
+            last = f" to {self.most}" if self.kind == "sets" and self.most < math.inf else ""
+            return Report([f"attempts {attempts}", f"{self.more or self.one} none{last}"], FINE)
         told = spelled(*numbers or (0,))
         if run.status == CUT:
             return Report([f"cut {told} {run.begins('cut')[0].removeprefix('cut ')}"], CUT)
@@ -86,50 +97,22 @@ class Sweep:
         return Report([f"attempts {plain.attempts()}", *lines, f"bad {len(bad)}", *(bad[0].lines if bad else [])], status)
 
 
-def option(name: str) -> Callable[[Numbers], Words]:
-    """The words of a run by an option that takes one number, with which 0 makes nothing fail."""
-    return lambda numbers: (name, *(numbers or (0,)))
-
-
-def first_and_second(numbers: Numbers) -> Words:
-    """The words of a run in which one or two attempts fail."""
-    return ("--fail", *(numbers or (0,))) if len(numbers) < 2 else ("--fail", numbers[0], "--also", numbers[1])
-
-
-def listed(numbers: Iterable[int]) -> Words:
-    """The words of a run in which the attempts of a list fail."""
-    text = ",".join(map(str, numbers))
-    return ("--set", text) if text else ()
-
-
-def by_number(flag: str, run_option: str, word: str, version: int = 2) -> Sweep:
-    """A sweep with this flag over the numbers of an option of `run`, each of which it calls by this word; its JSON has this version."""
-    kind = {"kind": flag.removeprefix("--") or "single", "version": version}
-    return Sweep((flag,) if flag else (), option(run_option), f"{word} none", word, values=kind, lists=True)
-
-
-def of_sets(flags: Words, most: float, **others: Any) -> Sweep:
-    """A sweep over sets of at most so many attempts."""
-    none = "set none" if most == math.inf else f"set none to {most}"
-    values = {"kind": "sets", "version": 3, "most": None if most == math.inf else most}
-    return Sweep(flags, listed, none, more="set", most=most, values=values, before=400, **others)
-
-
 def failures(most: int, *fewer: Sweep) -> Sweep:
     """The sweep over sets of at most so many attempts, and others that try fewer."""
-    return of_sets(("--failures", most), most, fewer=fewer)
+    return Sweep("sets", ("--failures", most), 3, more="set", most=most, fewer=fewer, before=400)
 
 
-SINGLE = by_number("", "--fail", "number")
+SINGLE = Sweep("single", ())
 # the sweeps over numbers of which each makes attempts of all the run fail
 BY_NUMBER = {
-    "every": by_number("--every", "--every", "every"),
-    "persistent": by_number("--persistent", "--fail-from", "persistent", 3),
+    "every": Sweep("every", ("--every",), option="--every", one="every"),
+    "persistent": Sweep("persistent", ("--persistent",), 3, "--fail-from", "persistent"),
 }
-PAIRS = Sweep(("--pairs",), first_and_second, "pair none", more="pair", most=2, values={"kind": "pairs", "version": 2}, fewer=(SINGLE,))
+PAIRS = Sweep("pairs", ("--pairs",), more="pair", most=2, fewer=(SINGLE,))
 FAILURES = failures(3, SINGLE, PAIRS, failures(1), failures(2))
-SETS = of_sets(
-    ("--sets",), math.inf, fewer=(SINGLE, PAIRS, failures(4)), none_of=tuple(BY_NUMBER.values()), largest=2, runs_all=True
+SETS = Sweep(
+    "sets", ("--sets",), 3, more="set", most=math.inf, before=400, largest=2,
+    fewer=(SINGLE, PAIRS, failures(4)), none_of=tuple(BY_NUMBER.values()),
 )
 
 
@@ -155,14 +138,20 @@ class Swept:
         """Compares all that a sweep answers, and gives the numbers that it finds."""
         self.must(self.plain == self.script.run(), f"`run {spelled(*self.sweep.run(()))}` isn't the run without failure")
         self.must(not is_bounded(self.told), f"`{self.words}` gives {self.told.shown()}, and so many states aren't met")
-        self.compare_forms(self.told, self.sweep.flags, self.sweep.values, lambda plain: number_of(plain.status, self.told))
-        self.compare_said()
+        self.compare_forms(self.told, self.sweep.flags, self.sweep.values(), lambda plain: number_of(plain.status, self.told))
+        # what the script says of itself in a comment, if it does
+        line = self.told.lines[0 if self.told.status == CUT else 1]
+        said = [it for it in self.script.text.decode("utf-8", "replace").splitlines() if it.startswith(f"# {self.words}: ")]
+        self.must(said in ([], [f"# {self.words}: {line}"]), f"`{self.words}` gives `{line}`, and the script says {said}")
         found = found_in(self.told)
-        self.must(found is None or self.is_made(found), f"`{self.words}` finds {found}, which no run makes")
+        is_set = found is None or len(found) <= self.sweep.most and list(found) == sorted(set(found))
+        self.must(is_set, f"`{self.words}` finds {found}, which is no such set")
         for numbers in self.to_try(found):
             self.must(self.run(numbers).status == FINE, f"`{self.words}` passes over {numbers}")
-        wanted = self.sweep.answer(self.attempts, found, self.run(found or ()))
-        self.must(self.told == wanted, f"`{self.words}` gives {self.told.shown()} in place of {wanted.shown()}")
+        bad = self.run(found or ())
+        wanted = self.sweep.answer(self.attempts, found, bad)
+        is_right = self.told == wanted and (found is None or bad.status != FINE)
+        self.must(is_right, f"`{self.words}` gives {self.told.shown()} in place of {wanted.shown()}")
         # no set that lacks one number of those that are found shows anything
         for number in (found or ()) if self.sweep.most > 1 else ():
             fewer = tuple(it for it in found or () if it != number)
@@ -178,17 +167,6 @@ class Swept:
         """Whether `check` with the same flags and the JSON of both say the same; the JSON may hold more of a report."""
         for command, plain in (("sweep", told), ("check", self.script.compare_check(told, *flags))):
             self.script.compare_object(plain, values | more(plain), command, *flags)
-
-    def compare_said(self) -> None:
-        """Whether the answer is what the script says of itself in a comment, if it does."""
-        line = self.told.lines[0 if self.told.status == CUT else 1]
-        said = [it for it in self.script.text.decode("utf-8", "replace").splitlines() if it.startswith(f"# {self.words}: ")]
-        self.must(said in ([], [f"# {self.words}: {line}"]), f"`{self.words}` gives `{line}`, and the script says {said}")
-
-    def is_made(self, numbers: Numbers) -> bool:
-        """Whether a run makes attempts with these numbers, no more than may fail, each where those before it fail."""
-        is_ascending = list(numbers) == sorted(set(numbers)) and len(numbers) <= self.sweep.most
-        return numbers == () or is_ascending and numbers[0] >= 1 and numbers[-1] <= self.run(numbers[:-1]).attempts()
 
     def sets(self, many: int) -> Iterator[Numbers]:
         """All numbers of this count of which runs make attempts, in their order."""
@@ -236,28 +214,35 @@ class Swept:
             self.must(is_none, f"`lengths` gives {told.shown()}, and `{self.words}` none")
 
     def compare_parts(self, found: Numbers | None) -> None:
-        """Whether the least of the answers to parts is the whole answer, and each that of a sweep with fewer failures that finds some."""
-        answers: list[tuple[tuple[float, Numbers], Report]] = []
-        later: list[Words] = [("--from", (found or (0,))[0] + 1)] if found is not None and len(found) < 2 else []
-        for part in (*parts_of(0 if self.told.status == CUT else self.attempts), *later):
-            told = self.part(*part)
-            is_short = is_bounded(told)
-            self.must(not is_short or found is not None and len(found) < 2, f"`{self.words} {spelled(*part)}` gives {told.shown()}")
-            answers.append((rank(None if is_short else found_in(told)), told))
-            for other in self.sweep.fewer[-1:] if self.sweep.runs_all else ():
-                few = self.script.answer("sweep", *other.flags, *part)
-                is_right = told == few if found_in(few) is not None else is_short or answers[-1][0][0] > other.most
-                self.must(is_right, f"`{self.words} {spelled(*part)}` gives {told.shown()}, and `{spelled(*other.flags)}` {few.shown()}")
-        least = min(answers, key=lambda it: it[0])[1]
-        self.must(least == self.told, f"parts of `{self.words}` give {least.shown()} in place of {self.told.shown()}")
+        """Whether each part finds the least of its numbers with the lines of its run, as far as single numbers and what the whole finds
+        show it. A part may meet too many states past a single number that the whole finds; else sets of few find the same in it."""
+        singles, is_cut = [(), *self.first_sets(1)], self.plain.status == CUT
+        later = [(found[0] + 1 if found else 1, CEILING)] if found is not None and len(found) < 2 else []
+        for first, last in (*parts_of(0 if self.told.status == CUT else self.attempts), *later):
+            inside = [it for it in (*singles, *([] if found is None else [found])) if is_cut or first <= (it or (0,))[0] <= last]
+            least = next((it for it in inside if self.run(it).status != FINE), None)
+            words = part_words(first, last)
+            told = self.part(*words)
+            its, is_short = found_in(told), is_bounded(told)
+            if is_short:
+                is_right = least is None and found is not None and len(found) < 2
+            else:
+                is_later = its is None or found is not None and first <= (its or (0,))[0] <= last and (len(its), its) > (len(found), found)
+                is_least = its == least if least is not None else is_later
+                is_right = is_least and told == self.sweep.answer(self.attempts, its, self.run(its or ()))
+            self.must(is_right, f"`{self.words} {spelled(*words)}` gives {told.shown()}")
+            for other in self.sweep.fewer[-1:] if self.sweep == SETS else ():
+                few = self.script.answer("sweep", *other.flags, *words)
+                is_none = few == other.answer(self.attempts, None, self.plain) and (is_short or its is None or len(its) > other.most)
+                is_same = is_none if found_in(few) is None else told == few
+                self.must(is_same, f"`{self.words} {spelled(*words)}` gives {told.shown()}, and `{spelled(*other.flags)}` {few.shown()}")
 
     def compare_each(self, found: Numbers | None) -> bool:
         """Runs the sets in their order, up to the one that is found, or all; False where these would be too many."""
         if self.attempts > FEW_ATTEMPTS:
             return False
         many = 0
-        sets: list[Numbers] = [()]
-        while sets:
+        while sets := self.first_sets(many):
             for numbers in sets:
                 if len(self.script.known) > RUNS:
                     return False
@@ -265,29 +250,24 @@ class Swept:
                     self.must(numbers == found, f"`{self.words}` passes over {numbers}")
                     return True
             many += 1
-            sets = self.first_sets(many)
         self.must(found is None, f"`{self.words}` finds {found}, whose attempts no run makes")
         return True
 
     def compare_listing(self, flag: str) -> str:
-        """Compares what the sweep lists with this flag, and gives what comes of it."""
-        words, flags = f"{self.words} {flag}", (*self.sweep.flags, flag)
+        """Compares what the sweep and its parts list with this flag, and gives what comes of it."""
+        flags, is_cut = (*self.sweep.flags, flag), self.plain.status == CUT
         runs = {number: self.run((number,) if number else ()) for number in range(self.attempts + 1)}
+        told = [[number, run.end()] for number, run in runs.items() if LISTINGS[flag](run)]
         whole = self.script.compare(self.sweep.listed(self.plain, runs, flag), "sweep", *flags)
-        rows = rows_of(whole)
-        pairs = [[int(number), end] for _, number, end in (line.split(" ", 2) for line in rows[0])] if rows else None
-        self.compare_forms(whole, flags, {"version": 3, "kind": self.sweep.values["kind"], "all": pairs})
-        answers = [self.part(flag, *part) for part in parts_of(self.attempts)]
-        if not rows:
-            self.must(all(it == whole for it in answers), f"a part of `{words}` isn't {whole.shown()}")
+        self.compare_forms(whole, flags, {"version": 3, "kind": self.sweep.kind, "all": None if is_cut else told})
+        for first, last in parts_of(self.attempts):
+            some = {number: run for number, run in runs.items() if first <= number <= last}
+            self.script.compare(self.sweep.listed(self.plain, some, flag), "sweep", *flags, *part_words(first, last))
+        if is_cut:
             return f"{flag}: a cut run without failure"
-        parts = [it for it in map(rows_of, answers) if it]
-        lines, bad = [line for it, _ in parts for line in it], sum(count for _, count in parts)
-        self.must(lines == rows[0], f"parts of `{words}` tell {lines[:4]}, and the whole {rows[0][:4]}")
-        self.must(bad == rows[1], f"parts of `{words}` count {bad} bad, and the whole {rows[1]}")
-        if bad and any(" cut " in line for line in lines):
+        if {CUT, FOUND} <= {run.status for run in runs.values()}:
             return f"{flag}: a cut beside others"
-        return f"{flag}: {('nothing', 'one number', 'more numbers')[min(2, len(lines))]}"
+        return f"{flag}: {('nothing', 'one number', 'more numbers')[min(2, len(told))]}"
 
     def compare_states(self, found: Numbers | None) -> list[str]:
         """Compares the answers with few states, and gives what comes of them: whether some are cut, and some past one failure."""
@@ -348,31 +328,21 @@ def found_in(sweep: Report) -> Numbers | None:
     return None if words[0] == "none" else () if numbers == (0,) else numbers
 
 
-def rows_of(listed: Report) -> tuple[list[str], int] | None:
-    """The lines of a list that tell of numbers, and how many it counts as bad; None where the run without failure is cut."""
-    if listed.lines[0].startswith("cut "):
-        return None
-    count = next(at for at, line in enumerate(listed.lines) if line.startswith("bad "))
-    return listed.lines[1:count], int(listed.lines[count].removeprefix("bad "))
-
-
 def is_bounded(sweep: Report) -> bool:
     """Whether more states are met than may be."""
     return sweep.status == CUT and sweep.lines[-1] == "cut states"
 
 
-def rank(numbers: Numbers | None) -> tuple[float, Numbers]:
-    """The place of numbers in the order of a sweep; none comes last."""
-    return (math.inf, ()) if numbers is None else (len(numbers), numbers)
+def parts_of(last: int) -> list[tuple[int, int]]:
+    """The first and the last number of three parts that have all numbers up to the last attempt and past it together; fewer where there
+    are few numbers."""
+    ends = sorted({last // 3, 2 * last // 3})
+    return list(zip([0, *(it + 1 for it in ends)], [*ends, CEILING]))
 
 
-def parts_of(last: int) -> Iterator[Words]:
-    """The options of three parts that have all numbers up to the last attempt and past it together; fewer where there are few numbers."""
-    begin = 0
-    for end in sorted({last // 3, 2 * last // 3}):
-        yield "--from", begin, "--to", end
-        begin = end + 1
-    yield "--from", begin
+def part_words(first: int, last: int) -> Words:
+    """The options of a part."""
+    return ("--from", first) if last == CEILING else ("--from", first, "--to", last)
 
 
 def spread(given: list[T], count: int) -> list[T]:

@@ -10,10 +10,8 @@ from collections.abc import Iterator
 from pathlib import Path
 from typing import Any, NamedTuple
 
+from tools.common import ROOT, Tally, parser_of
 from tools.language import Line, lines_by_kind
-from tools.paths import ROOT
-from tools.program import parser_of
-from tools.tally import Tally
 
 EDITORS = ROOT / "editors"
 VIM, INDENT, GRAMMAR, CONFIGURATION = (

@@ -12,9 +12,7 @@ from difflib import unified_diff
 from pathlib import Path
 from typing import NamedTuple
 
-from tools.paths import DOCS, ROOT
-from tools.program import COLUMNS, ENVIRONMENT, answer_of, program_parser
-from tools.tally import Tally
+from tools.common import COLUMNS, DOCS, ENVIRONMENT, ROOT, Tally, answer_of, program_parser
 
 # more columns than any line of the help has, those where nothing says how many, and some that are said, or aren't
 WIDE, USUAL = "10000", "80"
@@ -118,7 +116,8 @@ def of_zsh(told: Told) -> Iterator[str]:
         yield from [f"{command})"] if command else []
         for option in it.options:
             about = re.sub(r"[:\[\]]", r"\\\g<0>", option.about).replace("'", "'\\''")
-            value = f":{option.value}:" + (f'_files -g "*.{ENDINGS[option.name]}"' if option.name in ENDINGS else " ") if option.value else ""
+            files = f'_files -g "*.{ENDINGS[option.name]}"' if option.name in ENDINGS else " "
+            value = f":{option.value}:{files}" if option.value else ""
             name = f"(- *)'{{-{option.letter},--{option.name}}}'" if option.letter else f"--{option.name}{'=' if value else ''}"
             yield f"'{name}[{about}]{value}' \\"
         yield from [] if command else ["command)", "argument)"]
@@ -154,11 +153,6 @@ def sections_of(page: str) -> dict[str, list[str]]:
     return {name: [it for it in texts if it] for name, texts in paragraphs.items()}
 
 
-def synopsis_of(told: Help) -> str:
-    """The options that a command may be given, but for that of help."""
-    return " ".join(f"--{it.name} {it.value}" for it in told.options if not it.letter)
-
-
 def wanted_sections(told: Told, reports: str) -> dict[str, list[str]]:
     """What the man page must say, beside a page with the exit statuses."""
     commands = {command: it for command, it in told.items() if it.options and command}
@@ -170,9 +164,12 @@ def wanted_sections(told: Told, reports: str) -> dict[str, list[str]]:
     options = [f"{it.letter and f'-{it.letter}'} --{it.name} {it.value} {of} {it.about}" for it, of in of_some.items()]
     statuses = STATUS.findall(reports.partition("\n## Status\n")[2])
     about = told[""].about
+    # the options that a command may be given, but for that of help
+    given = {name: [f"--{option.name} {option.value}" for option in it.options if not option.letter] for name, it in commands.items()}
+    synopsis = (f"{NAME} {name} {' '.join(options)} FILE" for name, options in given.items())
     wanted = {
         "NAME": [f"{NAME} - {about[:1].lower()}{about[1:]}"],
-        "SYNOPSIS": [*(f"{NAME} {name} {synopsis_of(it)} FILE" for name, it in commands.items()), f"{NAME} help COMMAND"],
+        "SYNOPSIS": [*synopsis, f"{NAME} help COMMAND"],
         "DESCRIPTION": told[""].texts,
         "COMMANDS": [text for command, it in told.items() if command for text in (f"{command} {it.about}", *it.texts)],
         "OPTIONS": [*sorted(options, key=lambda it: " Of " not in it), "FILE Script file [default: standard input]"],

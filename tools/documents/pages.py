@@ -29,14 +29,228 @@ that is named and isn't there, and where the README has another number of open w
 
 import re
 import shlex
-from collections.abc import Iterator
+from collections.abc import Callable, Iterable, Iterator
+from functools import cache
+from itertools import pairwise
 from pathlib import Path
+from typing import NamedTuple, NoReturn
 
-from tools.documents.page_blocks import WRITERS, faults_of_promises
+from tools.common import ROOT, Tally, answer_of, program_parser
+from tools.crates import FUNCTION_HEAD, Crates
+from tools.edits.seen_code import Definitions, name_of
 from tools.edits.verdicts import fault_of_readme
-from tools.paths import ROOT
-from tools.program import answer_of, program_parser
-from tools.tally import Tally
+from tools.edits.wrong_body_edits import MUST_FAIL, WRONG_BODIES, WrittenEdit, written_edits
+from tools.worked_cases import case_called
+
+HEAD = re.compile(FUNCTION_HEAD + r"(\w+)")
+IMPL = re.compile(r"(?:impl|pub trait|trait)\b(?:<[^{]*?>)? (?:[^{]*? for )?(?:\w+::)*(\w+)")
+CLAUSE = re.compile(r" *(requires|ensures)(?: (\w+))? \{")
+PROMISE = re.compile(r"`(\w+)::((?:\w+::)*)(\w+)`: ((?:`\w+`(?:, )?)+)")
+COMMENT = re.compile(r"\s*(?://|--|#)")
+# the files that change with the language, by their crate or folder: the endings that they have, and where no such file stands
+SEARCHED = re.compile(r"(crates/\w+|tools|bench)/((?:.*/)?[^.]*(?:\.(?:rt|antt|py|rs))?)")
+APART = re.compile(r"_tests/|/(?:wrong-bodies|must-fail|tests|out|__pycache__)[/.]|/WorkedCases")
+
+
+class Function(NamedTuple):
+    """A function without its body: the type or trait that it is of, its comment, its lines up to its first clause, and its clauses, of
+    which one without a name has that of its sort."""
+
+    of: str
+    name: str
+    about: str
+    signature: str
+    clauses: dict[str, str]
+
+    def has_contract(self) -> bool:
+        """Whether it promises something of its own."""
+        return any("ensures" in it for it in (self.signature, *self.clauses.values()))
+
+
+def functions_in(code: str) -> Iterator[Function]:
+    """The functions of a file but for its tests."""
+    lines, about, of, is_test = code.splitlines(), list[str](), "", False
+    for at, line in enumerate(lines):
+        of = found[1] if (found := IMPL.match(line)) else "" if line == "}" else of
+        if head := HEAD.match(line):
+            end = next(it for it in range(at, len(lines)) if re.match(rf"{head[1]}(?:\S.*)?[{{}};]$", lines[it]))
+            text = [*lines[at:end], lines[end].rstrip(" {};")] if lines[end].strip(" {}") else lines[at:end]
+            starts = [it for it, row in enumerate(text) if CLAUSE.match(row)] + [len(text)]
+            parts = ["\n".join(text[a:b]) for a, b in pairwise(starts)]
+            clauses = {found[2] or found[1]: it for it in parts if (found := CLAUSE.match(it))}
+            if not is_test:
+                yield Function(of, head[2], " ".join(about), "\n".join(text[: starts[0]]), clauses)
+        is_test = "#[test]" in line or (is_test and not head)
+        about = [*about, line.strip()[4:]] if "///" in line else about if "#[" in line else []
+
+
+@cache
+def functions_of(crate: str) -> list[Function]:
+    """The functions of a crate but for its tests."""
+    files = sorted((Crates().folder(crate) / "src").rglob("*.rt"))
+    return [it for path in files for it in functions_in(path.read_text(encoding="utf-8"))]
+
+
+@cache
+def searched() -> dict[tuple[str, str], str]:
+    """The files that change with the language, by their crate or folder and their place in it, without comments."""
+    walked = sorted(it for part in ("crates", "tools", "bench") for it in (ROOT / part).rglob("*") if it.is_file())
+    places = ((it, it.relative_to(ROOT).as_posix()) for it in walked)
+    found = {place.groups(): path for path, name in places if not APART.search(name) and (place := SEARCHED.fullmatch(name))}
+    return {(in_, name): without_comments(path.read_text(encoding="utf-8", errors="replace")) for (in_, name), path in found.items()}
+
+
+def without_comments(text: str) -> str:
+    """A text without lines that are comments."""
+    return "\n".join(it for it in text.splitlines() if not COMMENT.match(it))
+
+
+def edits(crate: str) -> list[WrittenEdit]:
+    """The wrong bodies of a crate."""
+    return written_edits(Crates().folder(crate), [WRONG_BODIES, MUST_FAIL])
+
+
+def quote(words: str) -> str:
+    """Definitions, each with its type and all of its clauses, or contracts of functions, perhaps one clause alone; with the file's name."""
+    path, *names = words.split()
+    read = contract_in if path.endswith(".rt") else definition_in
+    quoted = "\n\n".join(read(text_of(path), it) for it in names)
+    return f"\n`{path}`:{fenced(quoted)}"
+
+
+def definition_in(text: str, name: str) -> str:
+    """A definition of a file."""
+    found = [it.text for it in Definitions(without_comments(text)).items if name_of(it.text.splitlines()[0]) == name]
+    return found[0] if len(found) == 1 else missing(f"one {name}, but {len(found)}")
+
+
+def contract_in(code: str, path: str) -> str:
+    """The contract of a function, or one clause of it."""
+    name, _, clause = path.partition(".")
+    found = [it for it in functions_in(code) if name in (it.name, f"{it.of}::{it.name}")]
+    clauses = [it for one in found for key, it in one.clauses.items() if clause in ("", key)]
+    return "\n".join([found[0].signature, *clauses]) if len(found) == 1 and clauses else missing(f"one {path}, but {len(found)}")
+
+
+def file(words: str) -> str:
+    """A file whole, or some lines of it."""
+    name, _, lines = words.partition(" ")
+    first, _, last = lines.partition("-")
+    return fenced("\n".join(text_of(name).rstrip().splitlines()[int(first or 1) - 1 : int(last) if last else None]))
+
+
+def case(place: str) -> str:
+    """The script of a worked case."""
+    return fenced(case_called(place).script.decode().rstrip("\n"))
+
+
+def files(pattern: str) -> str:
+    """The files that have a pattern in a line that is no comment, by their crate or folder."""
+    found: dict[str, list[str]] = {}
+    for (in_, name), text in searched().items():
+        if re.search(pattern, text):
+            found.setdefault(in_, []).append(name)
+    return table("In | Files", ((f"`{in_}`", code_names(names)) for in_, names in found.items()))
+
+
+def laws(words: str) -> str:
+    """The laws of files, each with the first sentence that is said of it."""
+    found = [it for name in words.split() for it in functions_in(text_of(name)) if it.has_contract()]
+    return table("Law | What it says", ((f"`{it.name}`", first_sentence(it.about)) for it in found))
+
+
+def bodies(words: str) -> str:
+    """The wrong bodies of some sources by the functions that they change; or how many there are of each crate."""
+    if not words:
+        return table("Crate | Wrong bodies", ((f"`{it}`", str(len(edits(it)))) for it in Crates().lines if edits(it)))
+    found: dict[str, list[str]] = {}
+    for crate, _, source in (it.partition("/") for it in words.split()):
+        changed = [it for it in edits(crate) if it.changes and it.changes[0][0] == f"src/{source}.rt"]
+        for it in changed or missing(f"wrong body of {crate}/{source}"):
+            found.setdefault(it.functions, []).append(missing(f"good edit {it.name}") if it.fault else it.name)
+    return table("Function | Wrong bodies of it", ((f"`{it}`", code_names(names)) for it, names in found.items()))
+
+
+def dependencies(words: str) -> str:
+    """Each crate in the order of crates.txt, which is that of a run: what it is, and what it depends on."""
+    below = ((it, line.partition(":")[2].split()) for it, line in Crates().lines.items())
+    return table("Crate | What it is | Depends on", ((f"`{it}`", about(it), code_names(names) or "nothing") for it, names in below))
+
+
+def proved_crates() -> list[str]:
+    """The crates but for those of tests and of measurements."""
+    return [it for it in Crates().lines if not it.endswith("_tests") and not it.startswith("bench")]
+
+
+def crates(words: str) -> str:
+    """Each crate of the program: what it is, the calls that the table of promises names of it, and how many functions have no contract."""
+    rows, promised = [], PROMISE.findall(text_of("docs/VERIFICATION.md"))
+    for crate in proved_crates():
+        calls = dict.fromkeys(f"{of}{name}" for it, of, name, _ in promised if it == crate)
+        bare = sum(not it.has_contract() for it in functions_of(crate))
+        rows.append((f"`{crate}`", about(crate), code_names(calls) or "none", f"{bare} of {len(functions_of(crate))}"))
+    return table("Crate | What it is | What carries its promises | Functions without a contract of their own", rows)
+
+
+def number(words: str) -> str:
+    """How many there are of something."""
+    functions = [it.has_contract() for crate in proved_crates() for it in functions_of(crate)]
+    found = {"functions": len(functions), "contracts": sum(functions), "wrong-bodies": sum(len(edits(it)) for it in Crates().lines)}
+    return str(found[words] if words in found else missing(f"number of {words}"))
+
+
+BLOCKS: list[Callable[[str], str]] = [quote, file, case, files, laws, bodies, dependencies, crates, number]
+WRITERS = {it.__name__: it for it in BLOCKS}
+
+
+def faults_of_promises(block: str) -> Iterator[str]:
+    """What rows of a table of promises name that isn't there: each needs a public call with a clause of its contract."""
+    for row in block.strip().splitlines()[2:]:
+        if not PROMISE.search(row):
+            yield f"a promise without a call and its clause: {row}"
+        for crate, of, name, clauses in PROMISE.findall(row):
+            known = [it for it in functions_of(crate) if it.name == name and of in ("", f"{it.of}::") and "pub " in it.signature]
+            for clause in re.findall(r"\w+", clauses):
+                if not any(clause in it.clauses for it in known):
+                    yield f"{crate}::{of}{name} has no clause {clause}, or isn't public"
+
+
+def about(crate: str) -> str:
+    """The first sentence of a crate's first comment."""
+    path = next(it for name in ("lib", "main") if (it := Crates().folder(crate) / f"src/{name}.rt").is_file())
+    return first_sentence(" ".join(it[4:] for it in path.read_text(encoding="utf-8").splitlines() if it.startswith("//!")))
+
+
+def first_sentence(text: str) -> str:
+    """The first sentence of a comment, as a cell of a table."""
+    return re.split(r"(?<=[.:]) (?=[A-Z`])|  ", text)[0].rstrip(".:").replace("|", "\\|")
+
+
+def code_names(names: Iterable[str]) -> str:
+    """Some names in the code type."""
+    return ", ".join(f"`{it}`" for it in names)
+
+
+def table(head: str, rows: Iterable[Iterable[str]]) -> str:
+    """A table."""
+    lines = [head, " | ".join("---" for _ in head.split(" | ")), *(" | ".join(it) for it in rows)]
+    return "\n".join(["", *(f"| {it} |" for it in lines), ""])
+
+
+def fenced(text: str) -> str:
+    """Text as a block of code."""
+    return f"\n```\n{text}\n```\n"
+
+
+def text_of(name: str) -> str:
+    """The text of a file of the repository."""
+    return (ROOT / name).read_text(encoding="utf-8") if (ROOT / name).is_file() else missing(name)
+
+
+def missing(what: str) -> NoReturn:
+    """Says what a block names that isn't there."""
+    raise LookupError(f"there is no {what}")
+
 
 FOLDERS = (".", "docs", "cases", "bench", "examples")
 LONGEST, WIDEST = 35, 160

@@ -226,8 +226,15 @@ def faults_of_run(panel: Panel, report: list[str], again: re.Match[str] | None) 
     yield from compared("cells", sorted(map(str, cells)), sorted(map(str, granted)))
     if sum(it.is_cell() for it in panel.shapes) != len(cells) + len(panel.titled("rect (leak: )?cell \\d+, .*, made shorter in step")):
         yield "a rectangle of a cell has the title of none"
-    yield from faults_of_leaks(panel)
-    heading = f": attempts {len(attempts)}, steps {steps}, {outcome_of(report)}"
+    shown = panel.titled(r"rect leak: cell (\d+), .*?; line (\d+): ")
+    for shape, it in shown:
+        if shape.right - shape.left < LEAST_LEAK:
+            yield f"a leak is {shape.right - shape.left} pixels wide: {it.string}"
+        # if they are few
+        if len(shown) <= MOST_LABELS and not any(re.fullmatch(rf"leak {it[1]}( .*)?, line {it[2]}", text) for text in panel.texts):
+            yield f"a leak has no label: {it.string}"
+    ends = [it for it in report if re.match("ended|left |panic |cut |nocleanup", it)][:1] + [it for it in report if it.startswith("leaks ")]
+    heading = f": attempts {len(attempts)}, steps {steps}, {', '.join(map(said, ends))}"
     if not panel.heading.endswith(heading):
         yield f"the heading doesn't end with {heading!r}"
 
@@ -246,16 +253,6 @@ def misplaced_cells(panel: Panel, first: int, steps: int) -> Iterator[str]:
             yield f"a cell is from {shape.left} to {shape.right} and from {shape.top} to {shape.bottom}: {found.string}"
 
 
-def faults_of_leaks(panel: Panel) -> Iterator[str]:
-    """Leaks that are narrow, or, if they are few, that have no label with their line."""
-    leaks = panel.titled(r"rect leak: cell (\d+), .*?; line (\d+): ")
-    for shape, it in leaks:
-        if shape.right - shape.left < LEAST_LEAK:
-            yield f"a leak is {shape.right - shape.left} pixels wide: {it.string}"
-        if len(leaks) <= MOST_LABELS and not any(re.fullmatch(rf"leak {it[1]}( .*)?, line {it[2]}", text) for text in panel.texts):
-            yield f"a leak has no label: {it.string}"
-
-
 def seen_in(panels: list[Panel]) -> set[str]:
     """What a legend must name."""
     names = {"places drawn shorter"} if any(it.folds for it in panels) else set()
@@ -271,9 +268,3 @@ def said(line: str) -> str:
     if word == "leaks":
         return SAID.get(line, f"{rest} leaks")
     return f"{SAID.get(word, word)} {rest}".rstrip()
-
-
-def outcome_of(report: list[str]) -> str:
-    """How a run ended, as a heading says it."""
-    end = next(it for it in report if re.match("ended|left |panic |cut |nocleanup", it))
-    return ", ".join([said(end), *(said(it) for it in report if it.startswith("leaks "))])

@@ -4,21 +4,43 @@ The pictures of all examples, and of some more scripts, are compared with the re
 docs/pictures, and must be those that the program draws, byte for byte; --write writes them anew. These are the pictures that pages show,
 and some of other kinds. A file of scripts says which shapes their pictures must have (pictured-scripts.txt), and a table how many steps
 their columns are. Each picture must be well-formed XML of a few elements, and the report, the messages and the status beside it those
-without a picture. Where it can't be written, no file may be another than before (picture_targets.py). Pictures of long runs must be no
+without a picture. Where it can't be written, no file may be another than before. Pictures of long runs must be no
 longer than 5 MiB; how long they are, and how many seconds they took, is printed.
 """
 
+import os
 import re
+import resource
+import signal
 import tempfile
 import time
 import xml.etree.ElementTree as ET
 from pathlib import Path
+from typing import Any
 
+from tools.common import DOCS, READ_OR_WRITE_FAULT, ROOT, TOOLS, Answer, Trials, Word, examples, program_parser
 from tools.documents.pages import pages
 from tools.documents.picture_reports import Picture, faults_of
-from tools.documents.picture_targets import LEAK, Targets
-from tools.paths import DOCS, ROOT, TOOLS, examples
-from tools.program import Word, program_parser
+
+# what a picture doesn't replace, by what the file holds
+NO_PICTURES = {"text": "a report\n", "nothing": "", "too little": "<svg", "another element": "<svgs>", "XML": '<?xml version="1.0"?><svg/>'}
+SCRIPT_ITSELF, REPORT_ITSELF = "it is the script, which a picture does not replace", "the report or the messages go there"
+NO_DIRECTORY, NO_FILE = "no such directory", "it is not a regular file"
+# why no picture is put into files, by their names: some begin at the top of the repository, others in the folder
+UNWRITABLE = {
+    **{"none/heap.svg": NO_DIRECTORY, "README.md/heap.svg": "a part of its path is not a directory", ".": "it is a directory"},
+    **{"/dev/full": NO_FILE, "": NO_DIRECTORY, "-": "a picture is not written to standard output"},
+}
+UNWRITABLE_HERE = {
+    **dict.fromkeys(("script.oom", "another name", "a link"), SCRIPT_ITSELF),
+    **dict.fromkeys(NO_PICTURES, "it exists and is not an SVG, so it is left as it is"),
+    **{"pipe": NO_FILE, "": "it is a directory", "loop": "its symbolic links form a loop"},
+}
+TOO_LARGE = "it would be too large"
+
+# a script, and a picture of before, which is replaced
+LEAK = "proc main\nptr a\nalloc a 16\nend\n"
+OLD = "<svg>old</svg>\n"
 
 KEPT = DOCS / "pictures"
 MOST_BYTES = 5 << 20
@@ -51,28 +73,96 @@ LONG = {
     "the ceiling of the heap": "proc main\nptr a\nrepeat 17\nalloc a 1048576\nend\nend\n",
 }
 # how many steps a column is, by the number of the last step: a picture has at most 2,000 columns, from step 0 on, or 1,000 of two runs
-COLUMNS = {
-    "run": {1_999: 1, 2_000: 2, 3_999: 2, 4_000: 3, 5_999: 3, 6_000: 4},
-    "sweep": {999: 1, 1_000: 2, 1_999: 2, 2_000: 3},
-}
+COLUMNS = (
+    *(("run", 1_999, 1), ("run", 2_000, 2), ("run", 3_999, 2), ("run", 4_000, 3), ("run", 5_999, 3), ("run", 6_000, 4)),
+    *(("sweep", 999, 1), ("sweep", 1_000, 2), ("sweep", 1_999, 2), ("sweep", 2_000, 3)),
+)
 
 
-def shown_pictures() -> set[str]:
-    """The names of the pictures that pages show."""
-    return {name for page in pages() for name in SHOWN.findall(page.read_text(encoding="utf-8"))}
+def bound_files() -> None:
+    """Leaves no file of this process room for a picture."""
+    signal.signal(signal.SIGXFSZ, signal.SIG_IGN)
+    resource.setrlimit(resource.RLIMIT_FSIZE, (1000, 1000))
 
 
-def of_steps(last: int, is_leaking: bool) -> str:
-    """A script whose run takes so many steps. If it is to, it leaks where its second request fails, and takes no more steps then."""
-    leak = ["alloc a 16", "alloc b 16", "if some b", "free a", "end", "free b"] if is_leaking else []
-    # all of these lines but the end of the block are steps
-    turns, rest = divmod(last - 1 - max(0, len(leak) - 1), 2)
-    lines = ["ptr a", "ptr b", "int n", f"repeat {turns}", "add n 1", "end", *["add n 1"] * rest, *leak]
-    return "\n".join(["proc main", *lines, "end\n"])
+class Pictures(Trials):
+    """What the program draws, what it does with files in a folder, and how much of it was right."""
 
+    def __init__(self, program: Path, room: Path) -> None:
+        super().__init__(program, room)
+        self.script = room / "script.oom"
+        self.script.write_text(LEAK, encoding="utf-8")
+        self.plain = self.run("run", self.script)
 
-class Pictures(Targets):
-    """What the program draws, and how much of it was right."""
+    def drawn(self, file: str | Path, **how: Any) -> Answer:
+        """What it answers where it is to put the picture of the script into a file."""
+        return self.run("run", "--picture", file, *([] if "stdin" in how else [self.script]), **how)
+
+    def refused(self, name: str | Path, why: str) -> Answer:
+        """What must be answered where a picture can't be put into a file: the report is whole, and a message says why."""
+        message = f"workbench: {name or chr(34) * 2}: {why}\n".encode()
+        return Answer(self.plain.output, self.plain.messages + message, READ_OR_WRITE_FAULT)
+
+    def check_left(self, file: str | Path, why: str, **how: Any) -> None:
+        """A picture that is not put into a file leaves all files as they are, and the report beside it is the same."""
+        held = {it: it.read_bytes() for it in self.room.iterdir() if it.is_file()}
+        answer = self.drawn(file, **how)
+        self.check(answer == self.refused(file, why), f"a picture in {file!r}: {answer}")
+        is_left = held == {it: it.read_bytes() for it in self.room.iterdir() if it.is_file()}
+        self.check(is_left, f"a picture in {file!r}: other files than before")
+
+    def check_kept(self) -> None:
+        """Neither the script nor a file that is no picture is replaced, by whatever name it is called, nor a picture by half of one."""
+        (self.room / "a link").symlink_to(self.script)
+        (self.room / "another name").hardlink_to(self.script)
+        (self.room / "loop").symlink_to("loop")
+        os.mkfifo(self.room / "pipe")
+        for name, held in {**NO_PICTURES, "old": OLD}.items():
+            (self.room / name).write_text(held, encoding="utf-8")
+        for name, why in UNWRITABLE.items():
+            self.check_left(name, why)
+        for name, why in UNWRITABLE_HERE.items():
+            self.check_left(self.room / name, why)
+        for name in ("old", "never.svg"):
+            self.check_left(self.room / name, TOO_LARGE, preexec_fn=bound_files)
+
+    def check_streams(self) -> None:
+        """Neither the report, nor a script on standard input, nor the messages are replaced."""
+        report, old = self.room / "report.txt", self.room / "old"
+        with report.open("wb") as output:
+            told = self.drawn(report, stdout=output)._replace(output=report.read_bytes())
+        self.check(told == self.refused(report, REPORT_ITSELF), f"a picture in the report: {told}")
+        with self.script.open("rb") as given:
+            ran = self.drawn(self.script, stdin=given)
+        self.check(ran.status == READ_OR_WRITE_FAULT and SCRIPT_ITSELF.encode() in ran.messages, f"a picture in standard input: {ran}")
+        self.check(self.script.read_text(encoding="utf-8") == LEAK, "standard input was replaced")
+        for stream, written in (("stdout", self.plain.output), ("stderr", self.plain.messages)):
+            old.write_text(OLD, encoding="utf-8")
+            with old.open("ab") as output:
+                ran = self.drawn(old, **{stream: output})
+            is_kept = old.read_bytes().startswith(OLD.encode() + written)
+            self.check(ran.status == READ_OR_WRITE_FAULT and is_kept, f"a picture in {stream}: {ran}")
+
+    def check_replaced(self) -> None:
+        """A picture is replaced whole, with its permissions, and through links, which stay links."""
+        far, near, file, taken = (self.room / it for it in ("far/far.svg", "near.svg", "drawn.svg", "workbench-picture-0.tmp"))
+        far.parent.mkdir()
+        far.symlink_to("../near.svg")
+        near.symlink_to("drawn.svg")
+        taken.write_text("taken", encoding="utf-8")
+        drawn: set[bytes] = set()
+        for name, held in ((file, ""), (file, OLD), (far, OLD), (far, "")):
+            file.unlink(missing_ok=True)
+            if held:
+                file.write_text(held, encoding="utf-8")
+                file.chmod(0o640)
+            answer, what = self.drawn(name), f"a picture in {name} that held {held!r}"
+            self.check(answer == self.plain, f"{what}: {answer}")
+            drawn.add(file.read_bytes() if file.is_file() else b"")
+            self.check(far.is_symlink() and near.is_symlink(), f"{what}: a link was replaced")
+            self.check(not held or file.stat().st_mode & 0o777 == 0o640, f"{what}: other permissions")
+        self.check(len(drawn) == 1 and drawn.pop().endswith(b"</svg>\n"), "one picture isn't another")
+        self.check(set(self.room.glob("*.tmp")) == {taken}, f"files that are left: {sorted(self.room.glob('*.tmp'))}")
 
     def draw(self, what: str, *words: Word, script: str = "") -> Picture | None:
         """The picture that goes with an answer; None if there is none. The answer must be the one without a picture."""
@@ -99,7 +189,7 @@ class Pictures(Targets):
 
     def check_examples(self, is_writing: bool) -> None:
         """The pictures of all examples, of which those are kept that pages show or that are of a kind of their own."""
-        kept = shown_pictures() | set(KINDS)
+        kept = {name for page in pages() for name in SHOWN.findall(page.read_text(encoding="utf-8"))} | set(KINDS)
         for file in examples():
             words = OTHERWISE.get(file.stem.removesuffix("-mended"), ["check"])
             picture, held = self.compared(str(file.relative_to(ROOT)), *words), KEPT / f"{file.stem}.svg"
@@ -136,22 +226,24 @@ class Pictures(Targets):
                 found = sum(it.is_cell() if begins == "cells" else it.title.startswith(begins) for it in shapes)
                 self.check(found == int(number), f"{name}: {found} shapes are {begins!r}, not {number}")
 
-    def check_name(self) -> None:
-        """The name of a file is a text of a user too."""
-        file = self.room / "\"><script>alert('&')]]>.oom"
-        file.write_text(LEAK, encoding="utf-8")
-        self.draw("a name with markup", "run", file)
-
-    def check_columns(self) -> None:
-        """A column must be so many steps where the run, or the longer of two, takes so many."""
-        for command, columns in COLUMNS.items():
-            for last, steps in columns.items():
-                picture = self.draw(f"{last} steps", command, script=of_steps(last, command == "sweep"))
-                found = re.findall(r"Each column is (\d+) steps", picture.text) if picture else []
-                self.check(found == [str(steps)] * (steps > 1), f"{last} steps: columns of {found}, not {steps}")
-
-    def check_long(self) -> None:
-        """The pictures of long runs must not be too long."""
+    def check_others(self) -> None:
+        """The name of a file is a text of a user too; a script that is rejected has no picture; a column must be so many steps where the
+        run, or the longer of two, takes so many; and the pictures of long runs must not be too long."""
+        odd, none, rejected = self.room / "\"><script>alert('&')]]>.oom", self.room / "none.svg", "proc main\n"
+        odd.write_text(LEAK, encoding="utf-8")
+        self.draw("a name with markup", "run", odd)
+        answer = self.run("check", f"--picture={none}", script=rejected)
+        self.check(answer == self.run("check", script=rejected), "a rejected script: another answer beside the picture")
+        self.check(not none.exists(), "a rejected script: a picture")
+        for command, last, steps in COLUMNS:
+            # with two runs it leaks where its second request fails, and takes no more steps then
+            leak = ["alloc a 16", "alloc b 16", "if some b", "free a", "end", "free b"] if command == "sweep" else []
+            # all of these lines but the end of the block are steps
+            turns, rest = divmod(last - 1 - max(0, len(leak) - 1), 2)
+            lines = ["proc main", "ptr a", "ptr b", "int n", f"repeat {turns}", "add n 1", "end", *["add n 1"] * rest, *leak, "end\n"]
+            picture = self.draw(f"{last} steps", command, script="\n".join(lines))
+            found = re.findall(r"Each column is (\d+) steps", picture.text) if picture else []
+            self.check(found == [str(steps)] * (steps > 1), f"{last} steps: columns of {found}, not {steps}")
         for name, script in LONG.items():
             start = time.monotonic()
             if picture := self.draw(name, "run", "--budget", "1000000", script=script):
@@ -168,6 +260,6 @@ def main(words: list[str]) -> int:
     with tempfile.TemporaryDirectory() as folder:
         pictures = Pictures(given.program, Path(folder))
         pictures.check_examples(given.write)
-        for check in (pictures.check_scripts, pictures.check_name, pictures.check_all, pictures.check_columns, pictures.check_long):
+        for check in (pictures.check_scripts, pictures.check_kept, pictures.check_streams, pictures.check_replaced, pictures.check_others):
             check()
     return pictures.end()

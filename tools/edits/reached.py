@@ -13,8 +13,7 @@ from functools import cache, cached_property
 from pathlib import Path
 
 from tools.crates import Crates, without_comments
-from tools.edits.definitions import WORD, Definitions, Target, targets_of
-from tools.edits.seen_code import IMPORT, called_code, seen_code, with_derived_drops
+from tools.edits.seen_code import IMPORT, WORD, Definitions, Target, called_code, seen_code, targets_of, with_derived_drops
 
 # a path from code to a lemma or a definition of its own crate
 OWN_LEMMA = re.compile(r"\bcrate((?:::\w+)+)::([\w-]+)")
@@ -57,11 +56,6 @@ class Source:
         return Definitions(self.text)
 
     @cached_property
-    def above(self) -> str:
-        """What is seen of code from above."""
-        return seen_code(self.text)
-
-    @cached_property
     def names(self) -> frozenset[str]:
         """The names of the functions and constants of code."""
         return frozenset(NAMED.findall(self.whole))
@@ -70,11 +64,6 @@ class Source:
     def called(self, names: frozenset[str]) -> str:
         """What is seen of code by a file of its own crate that has these of the names."""
         return called_code(self.text, names)
-
-    @cached_property
-    def own_targets(self) -> list[Target]:
-        """What it leads to as its own crate sees it."""
-        return [*targets_of(self.whole), *(code_targets(self.whole) if self.is_code else ())]
 
 
 class Reached:
@@ -94,24 +83,27 @@ class Reached:
         mine = self.parts(crate).sources.values()
         # comments name things that no check reads
         words = {word for it in mine if it.file in own for word in re.findall(r"\w+", it.text)}
-        wanted: dict[Source, set[str] | None] = {}
+        wanted: dict[Source, Names] = {}
         to_read: list[tuple[Source, Names]] = [(it, None) for it in mine if it.is_code]
         to_read += [(it, None) for name in within for it in self.parts(name).always]
-        to_read += [found for it in mine if it.file in own for found in self.files_of(crate, it.own_targets, within)]
+        for it in mine:
+            if it.file in own:
+                targets = [*targets_of(it.whole), *(code_targets(it.whole) if it.is_code else ())]
+                to_read += self.files_of(crate, targets, within)
 
         def code(source: Source) -> str:
-            return source.called(source.names & words) if source.crate == crate else source.above
+            return source.called(source.names & words) if source.crate == crate else seen_code(source.text)
 
         while to_read:
             source, names = to_read.pop()
-            before = wanted.get(source, set())
+            before = wanted.get(source, frozenset())
             if source in wanted and (before is None or (names is not None and names <= before)):
                 continue
             now = wanted[source] = None if before is None or names is None else before | names
-            targets = targets_of_code(code(source)) if source.is_code else source.definitions.targets(frozen(now))
+            targets = targets_of_code(code(source)) if source.is_code else source.definitions.targets(now)
             to_read += self.files_of(source.crate, targets, within)
         return {
-            it.file: code(it) if it.is_code else "\n".join(item.text for item in it.definitions.reached(frozen(names)))
+            it.file: code(it) if it.is_code else "\n".join(item.text for item in it.definitions.reached(names))
             for it, names in wanted.items()
             if it.file not in own
         }
@@ -122,11 +114,6 @@ class Reached:
             crate = own if it.crate == "crate" else it.crate
             if crate in within:
                 yield from self.parts(crate).files_of(it.path, it.names)
-
-
-def frozen(names: set[str] | None) -> Names:
-    """Names that stay as they are."""
-    return None if names is None else frozenset(names)
 
 
 class Parts:
@@ -146,27 +133,22 @@ class Parts:
         self.exports = {it: module.split("::") for module, names, name in exports for it in re.findall(r"\w+", names or name)}
 
     @cache
-    def files_of(self, path: tuple[str, ...], names: Names) -> tuple[tuple[Source, Names], ...]:
+    def files_of(self, path: tuple[str, ...], names: Names) -> list[tuple[Source, Names]]:
         """The files that a path leads to, each with the names that are taken of it. A path to a module of modules leads to all of these."""
-        return tuple(self.files_by(path, names))
-
-    def files_by(self, path: tuple[str, ...], names: Names) -> Iterator[tuple[Source, Names]]:
-        """The same, one after the other."""
         if path[:1] == CODE or path[1:2] and path[1] in OF_CODE:
             words = set(path).union(*(self.exports[it] for it in path if it in self.exports))
-            for place, it in self.sources.items():
-                if place[0] == "src" and (place[1:] in (("lib",), ("main",)) or words.issuperset(place[1:])):
-                    yield it, None
-            return
+            code = ((place[1:], it) for place, it in self.sources.items() if place[0] == "src")
+            return [(it, None) for place, it in code if place in (("lib",), ("main",)) or words.issuperset(place)]
         ends = [it for it in range(2, len(path) + 1) if path[:it] in self.sources]
         last = ends[-1] if ends else 0
         # what follows the module in a path is a name of it
         taken = frozenset(path[last : last + 1]) or names
-        yield from ((self.sources[path[:it]], taken if it == last else None) for it in ends)
+        found = [(self.sources[path[:it]], taken if it == last else None) for it in ends]
         for place, it in self.sources.items():
             is_inside = (last == len(path) or path == ("specs",)) and place[: len(path)] == path and place != path
             if is_inside or path and place == (path[0], "Lib"):
-                yield it, None
+                found.append((it, None))
+        return found
 
 
 @cache

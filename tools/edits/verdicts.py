@@ -17,11 +17,10 @@ from functools import cache
 from pathlib import Path
 from typing import NamedTuple
 
-from tools.crates import FUNCTION_HEAD, Crates
+from tools.common import ROOT
+from tools.crates import FUNCTION_HEAD, Crates, kit_of_readme
 from tools.edits.reached import Reached, Source
 from tools.edits.wrong_body_edits import WRONG_BODIES, WrittenEdit, read_edits, written_edits
-from tools.kit import kit_of_readme, version
-from tools.paths import ROOT
 
 FILE = "wrong-bodies.txt"
 HEAD = """\
@@ -39,11 +38,6 @@ NAMES_MODULE = re.compile(r"\s*(?:pub(?:\(crate\))? )?mod \w+;?")
 LOGIC = re.compile(r"\blogic [0-9a-f]+")
 # how many wrong bodies the README calls open
 SAID = re.compile(r"At present (?:no wrong body is|1 wrong body is|[1-9]\d* wrong bodies are) open")
-
-
-def logic_of_toolchain() -> str:
-    """The logic by which the toolchain proves."""
-    return logic_in(version())
 
 
 def logic_in(said: str) -> str:
@@ -133,7 +127,10 @@ class Verdicts:
         whole = hashlib.sha256(f"{self.logic}\n{self.crates.lines[crate]}\n".encode())
         parts: list[object] = [(self.name(it), text_of(own[it])) for it in sorted(own)]
         parts += [(it.name, it.functions, it.changes, it.fault) for it in edits]
-        parts += [(self.name(it), text) for it in sorted(seen) if (text := without_modules(seen[it]))]
+        for it in sorted(seen):
+            # but for lines that only name a module, since those that count are read themselves
+            text = "\n".join(line for line in seen[it].splitlines() if not NAMES_MODULE.fullmatch(line))
+            parts += [(self.name(it), text)] if text else []
         for part in parts:
             whole.update(repr(part).encode())
         return whole.hexdigest()
@@ -166,11 +163,6 @@ def text_of(source: Source) -> str:
     """What a check reads of a file; where a line of code ends is layout."""
     lines = source.text.splitlines()
     return " ".join(it.strip() for it in lines if not COMPILED.fullmatch(it)) if source.is_code else source.text
-
-
-def without_modules(seen: str) -> str:
-    """What is seen of a file from above, but for lines that only name a module, since those that count are read themselves."""
-    return "\n".join(it for it in seen.splitlines() if not NAMES_MODULE.fullmatch(it))
 
 
 def list_of(found: list[OpenSource]) -> str:

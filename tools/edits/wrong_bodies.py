@@ -36,16 +36,12 @@ from itertools import zip_longest
 from pathlib import Path
 from types import FrameType
 
-from tools.build import Unproved, build_below
-from tools.crates import Crates, Step, processors, run_steps
-from tools.edits.verdicts import OpenSource, Verdicts, fault_of_number, list_of, logic_in, logic_of_toolchain
-from tools.edits.wrong_body_checks import LIBRARY, Checks
+from tools.build import Build, Unproved
+from tools.common import ROOT, Tally, parser_of
+from tools.crates import Crates, Step, kit_of_readme, processors, run_steps, version
+from tools.edits.trial import LIBRARY, Batch, Checks, Trial
+from tools.edits.verdicts import OpenSource, Verdicts, fault_of_number, list_of, logic_in
 from tools.edits.wrong_body_edits import MUST_FAIL, WRONG_BODIES, Edit, read_edits, written_edits
-from tools.edits.wrong_body_trial import Batch, Trial
-from tools.kit import kit_of_readme
-from tools.paths import ROOT
-from tools.program import parser_of
-from tools.tally import Tally
 
 # of how many crates some are tried whose line stands, and how many edits of each at most: the largest crates take an hour as a whole
 PICKED, PICKED_EDITS = 2, 10
@@ -58,27 +54,25 @@ class Choice:
     """What is tried: all wrong bodies of some sources, and some of other sources of crates that are picked, so that a line that isn't true
     comes to light."""
 
-    def __init__(self, verdicts: Verdicts, sources: dict[str, list[str]], picked: list[str], seed: str) -> None:
-        self.verdicts, self.sources, self.picked, self.seed = verdicts, sources, picked, seed
+    def __init__(
+        self, verdicts: Verdicts, sources: dict[str, list[str]], picked: list[str], seed: str, kinds: list[str], only: list[str]
+    ) -> None:
+        self.verdicts, self.sources = verdicts, sources
         # the edits of each crate that are tried, and those of its other sources of which some are; and why others are none, by their labels
         self.edits: dict[str, list[Edit]] = {}
         self.sample: dict[str, list[Edit]] = {}
         self.bad: dict[str, str] = {}
-
-    def read(self, kinds: list[str], only: list[str]) -> None:
-        """Reads the edits of the folders of these kinds, and those of some names alone, if there are names."""
-        for crate in dict.fromkeys([*self.sources, *self.picked]):
-            good, bad = read_edits(self.verdicts.crates.folder(crate), kinds)
-            standing = {
-                it for source in self.verdicts.sources(crate).keys() - self.sources.get(crate, []) for it in self.labels(crate, source)
-            }
+        for crate in dict.fromkeys([*sources, *picked]):
+            good, bad = read_edits(verdicts.crates.folder(crate), kinds)
+            others = verdicts.sources(crate).keys() - sources.get(crate, [])
+            standing = {label for source in others for label in self.labels(crate, source)}
             wanted = {it for it in (*bad, *(it.label for it in good)) if it not in standing and (not only or it.partition("/")[2] in only)}
             self.edits[crate] = [it for it in good if it.label in wanted]
             self.bad |= {label: why for label, why in bad.items() if label in wanted}
-            others = [it for it in good if it.label in standing]
-            count = min(PICKED_EDITS, len(others)) if crate in self.picked else 0
+            known = [it for it in good if it.label in standing]
             # for the same commit the same
-            self.sample[crate] = random.Random(f"{self.seed} {crate}").sample(others, count)
+            count = min(PICKED_EDITS, len(known)) if crate in picked else 0
+            self.sample[crate] = random.Random(f"{seed} {crate}").sample(known, count)
 
     def labels(self, crate: str, source: str) -> list[str]:
         """The labels of a source's wrong bodies."""
@@ -93,16 +87,14 @@ class Choice:
         other."""
         edits = {it.label: it for its in self.edits.values() for it in its}
         of_open = [(it.crate, [edits[label] for label in self.labels(it.crate, it.source) if label in edits]) for it in opened]
-        turns = zip_longest(*map(small, (of_open, list(self.sample.items()))))
-        return [batch for turn in turns for batch in turn if batch]
+        small = (
+            [Batch(crate, its[at : at + AT_ONCE]) for crate, its in whole for at in range(0, len(its), AT_ONCE)]
+            for whole in (of_open, list(self.sample.items()))
+        )
+        return [batch for turn in zip_longest(*small) for batch in turn if batch]
 
 
-def small(whole: list[tuple[str, list[Edit]]]) -> list[Batch]:
-    """Batches of these edits of crates in their order, a few at once."""
-    return [Batch(crate, edits[at : at + AT_ONCE]) for crate, edits in whole for at in range(0, len(edits), AT_ONCE)]
-
-
-def choose(verdicts: Verdicts, crates: list[str], opened: list[OpenSource]) -> Choice:
+def choose(verdicts: Verdicts, crates: list[str], opened: list[OpenSource], kinds: list[str]) -> Choice:
     """The open sources of these crates, and two crates besides of which others stand, picked by the commit. Says what stands."""
     sources = {it: [one.source for one in opened if one.crate == it] for it in crates}
     standing = {it: rest for it in crates if (rest := verdicts.sources(it).keys() - sources[it])}
@@ -115,7 +107,7 @@ def choose(verdicts: Verdicts, crates: list[str], opened: list[OpenSource]) -> C
         count = sum(it.count for it in settled)
         again = f", of which {min(PICKED_EDITS, count)} are picked to be tried again" if crate in picked else ""
         print(f"{crate}: {count} wrong bodies were disproved by {max(it.day for it in settled)}{again}", flush=True)
-    return Choice(verdicts, {crate: it for crate, it in sources.items() if it}, picked, seed)
+    return Choice(verdicts, {crate: it for crate, it in sources.items() if it}, picked, seed, kinds, [])
 
 
 def words_parser() -> argparse.ArgumentParser:
@@ -157,21 +149,15 @@ def is_number_of_readme(verdicts: Verdicts, found: list[OpenSource]) -> bool:
     return not fault
 
 
-def build_libraries(crates: Crates, names: list[str], given: argparse.Namespace) -> None:
-    """Builds what these crates stand on, or looks whether `rt ci` did; raises `Unproved` where it isn't built."""
-    if not given.after_ci:
-        build_below(crates, names, given.jobs)
-    for crate in names:
-        for it in crates.below(crate):
-            if not (crates.folder(it) / LIBRARY).is_dir():
-                raise Unproved(f"{it}, below {crate}, is not built")
-
-
 def run_trial(given: argparse.Namespace, choice: Choice, opened: list[OpenSource], folder: Path) -> Tally:
     """Tries what is chosen on copies below a folder, builds what they need, and lists what stays open where the time is bounded."""
     verdicts, crates = choice.verdicts, choice.verdicts.crates
     try:
-        build_libraries(crates, list(choice.edits), given)
+        if not given.after_ci:
+            Build(crates, list(choice.edits)).run(given.jobs)
+        for crate in choice.edits:
+            if missing := next((it for it in crates.below(crate) if not (crates.folder(it) / LIBRARY).is_dir()), None):
+                raise Unproved(f"{missing}, below {crate}, is not built")
     except Unproved as why:
         print(f"not tried: {why}")
         return Tally(0, 1)
@@ -223,7 +209,7 @@ def main(words: list[str]) -> int:
     kinds = [WRONG_BODIES, MUST_FAIL] if given.must_fail or given.only else [WRONG_BODIES]
     if fault := fault_of(given, crates, kinds):
         parser.error(fault)
-    verdicts = Verdicts(ROOT, logic_of_toolchain())
+    verdicts = Verdicts(ROOT, logic_in(version()))
     if given.open:
         found = verdicts.open_in(verdicts.crates.lines)
         print(list_of(found))
@@ -231,11 +217,10 @@ def main(words: list[str]) -> int:
     names = [it for it in given.crates or crates.lines if any((crates.folder(it) / kind).is_dir() for kind in kinds)]
     if given.crates or given.all:
         opened: list[OpenSource] = []
-        choice = Choice(verdicts, {it: list(verdicts.sources(it)) for it in names}, [], "")
+        choice = Choice(verdicts, {it: list(verdicts.sources(it)) for it in names}, [], "", kinds, given.only)
     else:
         opened = verdicts.open_in(names)
-        choice = choose(verdicts, names, opened)
-    choice.read(kinds, given.only)
+        choice = choose(verdicts, names, opened, kinds)
     with tempfile.TemporaryDirectory(prefix="wrong-bodies-", ignore_cleanup_errors=True) as folder:
         tally = run_trial(given, choice, opened, Path(folder))
         for log in Path(folder).glob("*.log") if given.logs else []:

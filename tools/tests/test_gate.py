@@ -15,17 +15,16 @@ from types import ModuleType
 from unittest.mock import DEFAULT, patch
 
 from tools import gate as gate_tools
+from tools.common import ROOT, TOOLS, Tally, read_tally, summed
 from tools.crates import Crates
 from tools.door import COMMANDS, said_by
 from tools.gate import Outcome, ProofChain, ToolRun, ToolRuns
-from tools.paths import ROOT, TOOLS
-from tools.tally import Tally, read_tally, summed
 
 # the commands that the gate runs on the program, and what some are given
 RUN = """
 cases, lost-messages, broken-streams, progress, compare sets, compare steps, compare failures, compare lengths, compare lists,
-compare moving, compare parts, compare pairs, compare every, compare persistent, compare forks, mistakes, pictures, sarif, failing-allocations,
-failing-allocations --same, ci-examples, help-files, pages --runs
+compare moving, compare parts, compare pairs, compare every, compare persistent, compare forks, mistakes, pictures, sarif,
+failing-allocations, failing-allocations --same, ci-examples, help-files, pages --runs
 """
 
 BUSY = "import time\nwhile time.process_time() < 0.3: pass\nprint('1 passed, 0 failed')"
@@ -89,15 +88,6 @@ class WhatCounts(Heard):
         self.assertEqual((tally, self.said.getvalue()), (Tally(2, 1), "two isn't three\n"))
         self.assertEqual(summed([tally, Tally(1, 4)]), Tally(3, 5))
 
-    def test_last_lines(self) -> None:
-        for tally, status, may_be_none in (
-            (Tally(3, 0), 0, False), (Tally(3, 1), 1, False), (Tally(), 1, False), (Tally(), 0, True), (Tally(0, 1), 1, True)
-        ):
-            self.assertEqual(tally.end(may_be_none), status)
-            self.assertEqual(read_tally(self.said.getvalue().splitlines()[-1]), tally)
-        for line in ("", "3 passed", "gate: 3 passed, 1 failed"):
-            self.assertIsNone(read_tally(line))
-
     def test_what_a_command_says(self) -> None:
         for said, status, may_be_none, counts in (
             ("3 passed, 0 failed", 0, False, Tally(3, 0)),
@@ -112,13 +102,16 @@ class WhatCounts(Heard):
             words = [sys.executable, "-c", f"print({said!r}); raise SystemExit({status})"]
             self.assertEqual(self.gate.tally(words, may_be_none=may_be_none), counts, (said, status))
 
-    def test_tests_that_are_left_out(self) -> None:
-        for said, counts in (
-            ("Ran 2 tests\n\nOK", Tally(1, 0)),
-            ("Ran 0 tests\n\nOK", Tally(0, 1)),
-            ("Ran 2 tests\n\nOK (skipped=1)", Tally(0, 1)),
+    def test_last_lines_and_tests_that_are_left_out(self) -> None:
+        for tally, status, may_be_none in (
+            (Tally(3, 0), 0, False), (Tally(3, 1), 1, False), (Tally(), 1, False), (Tally(), 0, True), (Tally(0, 1), 1, True)
         ):
-            self.assertEqual(self.gate.check("tests", [sys.executable, "-c", f"print({said!r})"], unfit=self.gate.UNTRIED), counts)
+            self.assertEqual(tally.end(may_be_none), status)
+            self.assertEqual(read_tally(self.said.getvalue().splitlines()[-1]), tally)
+        self.assertEqual([read_tally(it) for it in ("", "3 passed", "gate: 3 passed, 1 failed")], [None] * 3)
+        for said, counts in {"Ran 2 tests\n\nOK": (1, 0), "Ran 0 tests\n\nOK": (0, 1), "Ran 2 tests\n\nOK (skipped=1)": (0, 1)}.items():
+            checked = self.gate.check("tests", [sys.executable, "-c", f"print({said!r})"], unfit=self.gate.UNTRIED)
+            self.assertEqual(checked, Tally(*counts))
 
 
 class WhatIsRun(Heard):
@@ -229,49 +222,44 @@ class RunsOfTools(Heard):
         self.assertEqual(list(worked.values()), sorted(worked.values(), reverse=True))
 
 
+# lines of a run of `rt ci`, each with its minute; how long the run took; and some of what is said of it, without columns of blanks
+CHAINS: list[tuple[int, list[tuple[int, str]], list[str]]] = [
+    (20, [(minute, f"{name} proved") for name, minute in {"word": 2, "heap": 5, "run": 9, "page": 11, "main": 12}.items()], [
+        "word 0.0 2.0 waited for no crate", "heap 2.0 5.0 waited for word", "run 5.0 9.0 waited for heap", "page 9.0 11.0 waited for run",
+        "main 11.0 12.0 waited for page", "main 1.0", "page 2.0", "run 4.0", "heap 3.0", "word 2.0",
+        "in all 12.0, and 8.0 more until the run ended",
+    ]),
+    # a crate stands on all below its libraries too, and one that is kept ends at once
+    (8, [(3, "heap proved"), (4, "run is kept: an earlier run proved it"), (7, "word proved"), (8, "page proved")], [
+        "heap 0.0 3.0 waited for no crate", "word 0.0 7.0 waited for no crate",
+        "page 7.0 8.0 waited for word", "page 1.0", "word 7.0", "in all 8.0, and 0.0 more until the run ended",
+    ]),
+    (6, [*((1, f"{it} is kept: an earlier run on this machine proved it") for it in ("word", "heap")), (6, "run proved")], [
+        "run 0.0 6.0 waited for no crate", "run 6.0", "in all 6.0, and 0.0 more until the run ended",
+    ]),
+    # what stands on a crate doesn't wait for its tests
+    (6, [(2, "word proved"), (4, "heap proved"), (6, "heap: its tests are proved"), (5, "run proved")], [
+        "word 0.0 2.0 waited for no crate", "heap 2.0 4.0 waited for word", "heap's tests 2.0 6.0 waited for word",
+        "run 4.0 5.0 waited for heap", "heap's tests 4.0", "word 2.0", "in all 6.0, and 0.0 more until the run ended",
+    ]),
+    # where a library failed, nothing was proved
+    (2, [(2, "word NOT PROVED"), (2, "heap NOT PROVED: its library word failed")], [
+        "word 0.0 2.0 waited for no crate", "word 2.0", "in all 2.0, and 0.0 more until the run ended",
+    ]),
+    (1, [(1, it) for it in ("word::at: proved", "word: trying its must-fail edits (3)", "other proved", "note: rt: word proved")], []),
+]
+
+
 class ChainOfRun(unittest.TestCase):
-    """Lines of a run of `rt ci` whose lines come at given minutes, and what is said at its end."""
+    """What is said at the end of a run of `rt ci`."""
 
-    def said(self, minutes: int, *heard: tuple[int, str]) -> list[str]:
-        """What is said of a run of so many minutes, in which these crates end, without the headings and the columns of blanks."""
-        with tempfile.TemporaryDirectory() as folder:
-            Path(folder, "crates.txt").write_text(CRATES, encoding="utf-8")
-            chain = ProofChain(Crates(Path(folder)))
-        for minute, line in heard:
-            chain.hear(f"rt: {line}\n", 60.0 * minute)
-        lines = list(chain.lines(60.0 * minutes))
-        return [" ".join(it.split()) for it in lines if it.startswith("    ")] or lines
-
-    def test_each_waits_for_the_last_below(self) -> None:
-        names = {"word": 2, "heap": 5, "run": 9, "page": 11, "main": 12}
-        chain = ["main 1.0", "page 2.0", "run 4.0", "heap 3.0", "word 2.0", "in all 12.0, and 8.0 more until the run ended"]
-        self.assertEqual(self.said(20, *((minute, f"{name} proved") for name, minute in names.items())), [
-            "word 0.0 2.0 waited for no crate",
-            "heap 2.0 5.0 waited for word",
-            "run 5.0 9.0 waited for heap",
-            "page 9.0 11.0 waited for run",
-            "main 11.0 12.0 waited for page",
-            *chain,
-        ])
-
-    def test_a_crate_below_that_ended_before_another(self) -> None:
-        # a crate stands on all below its libraries too, and one that is kept ends at once
-        said = self.said(8, (3, "heap proved"), (4, "run is kept: an earlier run proved it"), (7, "word proved"), (8, "page proved"))
-        self.assertEqual(said[2:], ["page 7.0 8.0 waited for word", "page 1.0", "word 7.0", "in all 8.0, and 0.0 more until the run ended"])
-
-    def test_kept_crates_take_no_time(self) -> None:
-        kept = [(1, f"{it} is kept: an earlier run on this machine proved the same files") for it in ("word", "heap")]
-        self.assertEqual(self.said(6, *kept, (6, "run proved"))[:2], ["run 0.0 6.0 waited for no crate", "run 6.0"])
-
-    def test_tests_of_a_crate(self) -> None:
-        said = self.said(6, (2, "word proved"), (4, "heap proved"), (6, "heap: its tests are proved"), (5, "run proved"))
-        # what stands on a crate doesn't wait for its tests
-        self.assertEqual(said[2:6], ["heap's tests 2.0 6.0 waited for word", "run 4.0 5.0 waited for heap", "heap's tests 4.0", "word 2.0"])
-
-    def test_a_crate_that_is_not_proved(self) -> None:
-        said = self.said(2, (2, "word NOT PROVED"), (2, "heap NOT PROVED: its library word failed"))
-        self.assertEqual(said[:2], ["word 0.0 2.0 waited for no crate", "word 2.0"])
-
-    def test_other_lines(self) -> None:
-        others = "word::at: proved", "word: trying its must-fail edits (3)", "other proved", "note: rt: word proved"
-        self.assertEqual(self.said(1, *((1, it) for it in others)), ["no proof was done in this run, so there is no chain"])
+    def test_chains(self) -> None:
+        for minutes, heard, wanted in CHAINS:
+            with tempfile.TemporaryDirectory() as folder:
+                Path(folder, "crates.txt").write_text(CRATES, encoding="utf-8")
+                chain = ProofChain(Crates(Path(folder)))
+            for minute, line in heard:
+                chain.hear(f"rt: {line}\n", 60.0 * minute)
+            lines = list(chain.lines(60.0 * minutes))
+            self.assertEqual([" ".join(it.split()) for it in lines if it.startswith("    ")], wanted)
+            self.assertEqual(lines[0] == "no proof was done in this run, so there is no chain", not wanted)

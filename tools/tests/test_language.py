@@ -1,12 +1,22 @@
 """The lines of the language beside the source of `wb_lines` that they are read from, the reader of cases, and the words of C++ that
-`wb_mistakes` and the page have for them."""
+`wb_mistakes` and the page have for them; what the files for editors make of scripts and messages; and what is said of cases as theorems:
+words that aren't known, and how theorems are called. The grammar of an editor is read by a small reader that is here: from each place of a
+line on, the rule holds that fits soonest, and of those that fit at the same place the first."""
 
+import json
 import re
+import tempfile
 import unittest
+from pathlib import Path
+from typing import Any
 
+from tools.common import DOCS, ROOT, examples
+from tools.documents import editors
+from tools.documents.editors import CONFIGURATION, EDITORS, INDENT, SCOPES, VIM, compared, read
+from tools.door import said_by
 from tools.language import SOURCE, Line, line_of, lines_by_kind, lines_in, words_of_roles
-from tools.paths import DOCS, ROOT
 from tools.terms import BLOCKS, CONDITIONS, OVERLOADED, STATEMENTS
+from tools.worked_cases import Block, Case, Group
 
 # the lines that `terms.py` reads by themselves
 APART = {"call", "callto", "return"}
@@ -61,3 +71,209 @@ class Lines(unittest.TestCase):
         cells = [[it.strip() for it in line.strip("|").split("|")] for line in table.splitlines()]
         self.assertGreater(len(rows), 40)
         self.assertEqual([(CODE.findall(cpp), [it.split()[0] for it in CODE.findall(lines)], hint) for cpp, lines, hint in cells], rows)
+
+
+GRAMMAR = json.loads(read()[editors.GRAMMAR])
+PACKAGE = json.loads((EDITORS / "vscode/package.json").read_text(encoding="utf-8"))
+ILLEGAL = "invalid.illegal.oom"
+# changes of the files, each of which is seen
+CHANGES = {
+    VIM: {
+        **{r"add\|alloc\|": r"add\|allocs\|", r"(end\)\ze\s*$": r"(end\)\ze\%(\s\|$\)", r"\|null": ""},
+        **{"oomBody": "oomClass", "syntax match oomBlock": '" syntax match oomBlock'},
+    },
+    editors.GRAMMAR: {"add|alloc|": "add|allocs|", "|null": "", "{1})": "{0})", "keyword.control.oom": "keyword.other.oom", '"3"': '"4"'},
+    CONFIGURATION: {r"if(?=\\s|$)|": "", r"|end(?=\\s*$)": ""},
+    INDENT: {r"if\%(\s\|$\)\|": "", r"\|end\s*$": r"\|end\%(\s\|$\)", "let s:less": '" let s:less'},
+}
+
+Rule = dict[str, Any]
+Token = tuple[str, str]
+
+
+def rules_of(patterns: list[Rule]) -> list[Rule]:
+    """The rules with a pattern of their own that a list stands for."""
+    found: list[Rule] = []
+    for it in patterns:
+        if "include" in it:
+            it = GRAMMAR["repository"][it["include"].removeprefix("#")]
+        found += [it] if "match" in it else rules_of(it["patterns"])
+    return found
+
+
+def tokens_of(line: str, patterns: list[Rule], begin: int, end: int) -> list[Token]:
+    """The parts of a line that have a scope, between two places of it."""
+    found, at = [], begin
+    while at < end:
+        searched = ((re.compile(it["match"]).search(line, at, end), it) for it in rules_of(patterns))
+        fits = [(fit, it) for fit, it in searched if fit]
+        if not fits:
+            break
+        fit, rule = min(fits, key=lambda it: it[0].start())
+        found += [(fit[0], rule["name"])] if "name" in rule else []
+        for group, what in sorted(rule.get("captures", {}).items()):
+            first, last = fit.span(int(group))
+            found += [(fit[int(group)], what["name"])] if "name" in what else tokens_of(line, what["patterns"], first, last)
+        at = max(fit.end(), at + 1)
+    return found
+
+
+def tokens(line: str) -> list[Token]:
+    """The parts of a line that have a scope."""
+    return tokens_of(line, GRAMMAR["patterns"], 0, len(line))
+
+
+# lines of scripts, and the scopes that some of their words have
+CLASS, STATEMENT, SELF, NUMBER = SCOPES["class"], SCOPES["statement"], "variable.language.self.oom", "constant.numeric.integer.oom"
+LINES = {
+    "    hnewl self.text -16": {"hnewl": STATEMENT, "self": SELF, "text": "variable.other.member.oom", "-16": NUMBER},
+    "class Note 4": {"class": "keyword.other.oom", "Note": CLASS, "4": NUMBER},
+    "new self.list List": {"new": STATEMENT, "List": CLASS, "self": SELF, "list": "variable.other.member.oom"},
+    "proc add list:List": {"proc": "keyword.other.oom", "add": SCOPES["body"], "List": "storage.type.oom"},
+    "callto table maketable 3": {"callto": STATEMENT, "maketable": SCOPES["body"], "3": NUMBER},
+    "    construct": {"construct": "keyword.other.oom"},
+    "    construct note": {"construct": STATEMENT},
+    "if less 0 n": {"if": "keyword.control.conditional.oom", "less": "keyword.operator.oom", "0": NUMBER},
+    'print "self 5"': {"print": STATEMENT, '"self 5"': "string.quoted.double.oom"},
+    "  # alloc a 5": {"# alloc a 5": "comment.line.number-sign.oom"},
+    **{f"  {it} # done": {it: ILLEGAL} for it in ("allocc", "end", "End")},
+}
+# messages of the program, and the file, the line and the text with which VS Code shows them, where it shows them at a place
+MESSAGES: dict[str, tuple[str, str, str] | None] = {
+    "scripts/a b.oom:16: leak: the cell of attempt 2: 48 bytes": ("scripts/a b.oom", "16", "leak: the cell of attempt 2: 48 bytes"),
+    **{it: None for it in ("    from 144: attempt 2, line 16: new n Note", "print a:1: b", "help: pop an item", "a.oom: in a heap of 5")},
+}
+
+
+class Files(unittest.TestCase):
+    """What is seen where a file has other words than the language, and what the files make of lines."""
+
+    def test_files_that_differ(self) -> None:
+        def differing(texts: dict[Path, str]) -> list[Path]:
+            return [file for file, wanted, found in compared(texts) if wanted != found]
+
+        self.assertEqual(differing(read()), [])
+        for file, changes in CHANGES.items():
+            for old, new in changes.items():
+                with self.subTest(file=file.name, old=old, new=new):
+                    self.assertIn(old, read()[file])
+                    self.assertEqual(differing(read() | {file: read()[file].replace(old, new)}), [file])
+
+    def test_colours(self) -> None:
+        for line, wanted in LINES.items():
+            self.assertEqual({text.strip(): scope for text, scope in tokens(line)}, wanted, line)
+
+    def test_examples(self) -> None:
+        seen: set[str] = set()
+        rules = json.loads(read()[CONFIGURATION])["indentationRules"]
+        more, less = (re.compile(rules[f"{it}IndentPattern"]) for it in ("increase", "decrease"))
+        for file in examples():
+            lines, depth = [it for it in file.read_text(encoding="ascii").splitlines() if it.strip()], 0
+            is_indented = any(it.startswith(" ") for it in lines)
+            for line in lines:
+                found = {scope for _, scope in tokens(line)}
+                self.assertTrue(found and ILLEGAL not in found, line)
+                seen |= found
+                depth -= bool(less.search(line))
+                self.assertEqual(len(line) - len(line.lstrip()), 4 * depth * is_indented, f"{file.name}: {line}")
+                depth += bool(more.search(line))
+            self.assertEqual(depth, 0, file.name)
+        self.assertEqual({it["name"] for it in GRAMMAR["repository"]["operand"]["patterns"]} - seen, set())
+
+    def test_places_of_messages(self) -> None:
+        (matcher,) = PACKAGE["contributes"]["problemMatchers"]
+        pattern = matcher["pattern"]
+        self.assertEqual([pattern[it] for it in ("file", "line", "message")], [1, 2, 3])
+        for message, shown in MESSAGES.items():
+            found = re.search(pattern["regexp"], message)
+            self.assertEqual(found and found.groups(), shown)
+
+
+SCRIPT = "proc main\nptr p\nfree p\nend\n"
+REPORT = "attempt 1 length 144 place 0 granted\nended\nleaks 0\nsteps 1\n"
+
+# scripts and reports of accepted cases, their arguments, and a part of what is said of each
+CASES = [
+    (SCRIPT, REPORT, "run", "1 theorems"),
+    (SCRIPT.replace("free p", "wait p"), REPORT, "run", "`wait` is not known as a statement"),
+    (SCRIPT.replace("free p", "free p q"), REPORT, "run", "`q` is not known as an operand of `free`"),
+    (SCRIPT.replace("free p", "free"), REPORT, "run", "`free` is not known as a line with 0 operands"),
+    (SCRIPT.replace("free p", "free 0x10"), REPORT, "run", "`0x10` is not known as a local or an operand"),
+    (SCRIPT.replace("free p", "if same p p\nend"), REPORT, "run", "`same` is not known as a condition"),
+    (SCRIPT.replace("free p", "call other"), REPORT, "run", "`other` is not known as the name of a procedure"),
+    (SCRIPT.replace("free p", "new p Other"), REPORT, "run", "`Other` is not known as the name of a class"),
+    (SCRIPT.replace("ptr p", "ptr p C const"), REPORT, "run", "`const` is not known as a word of `ptr`"),
+    (SCRIPT.replace("proc main", "task main"), REPORT, "run", "`task` is not known as the first word of an item"),
+    ("class C 0\nbase B\nend\n" + SCRIPT, REPORT, "run", "`base` is not known as a line of a class"),
+    (SCRIPT + "proc f p\nend\n", REPORT, "run", "`p` is not known as a parameter"),
+    (SCRIPT, REPORT.replace("ended", "stopped"), "run", "`stopped` is not known as the first word of a run's line"),
+    (SCRIPT, REPORT.replace("granted", "delayed"), "run", "`delayed` is not known as the answer of an attempt"),
+    (SCRIPT, "note time 1\n" + REPORT, "run", "`time` is not known as a note"),
+    (SCRIPT, REPORT.replace("ended\nleaks 0", "panic OTHER 1"), "run", "`OTHER` is not known as a panic's category"),
+    (SCRIPT, REPORT.replace("ended\nleaks 0", "cut clock"), "run", "`clock` is not known as why a run is cut"),
+    (SCRIPT, "needed 144\n", "size", "`needed` is not known as the first word of a size text"),
+    (SCRIPT, "required 144\nup 0 refuses 1\nenough from 144\n", "size", "`up` is not known as the first word of a row of lengths"),
+    (SCRIPT, "from 0 nocleanup\nfrom 144 ended\nlength none\n", "lengths", "1 theorems"),
+    (SCRIPT, "from 0 leaks 2\nfrom 144 left -4\nfrom 150 cut budget\nlength 0\n" + REPORT, "lengths", "1 theorems"),
+    (SCRIPT, "from 0 ended\nup 144 ended\nlength none\n", "lengths", "`up` is not known as the first word of a text of lengths"),
+    (SCRIPT, "from 0 ended\n", "lengths", "`` is not known as the first word of a text of lengths"),
+    (SCRIPT, "from 0 stopped\nlength none\n", "lengths", "`stopped` is not known as how a run ends"),
+    (SCRIPT, "from 0 panic OTHER 1\nlength 0\n" + REPORT, "lengths", "`OTHER` is not known as a panic's category"),
+    (SCRIPT, "from 0 cut clock\nlength none\n", "lengths", "`clock` is not known as why a run is cut"),
+    (SCRIPT, '{"lines":["from 0 ended","length none"],"version":3}', "lengths --json", "1 theorems"),
+    (SCRIPT, '{"lines":["from 0 ended","length none"],"version":2}', "lengths --json", "`2` is not known as the version of a JSON report"),
+    (SCRIPT, "tries 1\nnumber none\n", "sweep", "`tries` is not known as the first word of a sweep text"),
+    (SCRIPT, REPORT, "run --every 2", "1 theorems"),
+    (SCRIPT, REPORT, "run --set 2,3", "1 theorems"),
+    (SCRIPT, "attempts 1\nevery none\n", "sweep --every", "1 theorems"),
+    (SCRIPT, "attempts 1\npair none\n", "sweep --pairs", "1 theorems"),
+    (SCRIPT, "attempts 1\nnumber 0\nended\nleaks 0\nsteps 0\n", "sweep --pairs", "1 theorems"),
+    (SCRIPT, "cut 2 4 budget\n", "sweep --pairs", "1 theorems"),
+    (SCRIPT, "attempts 1\nset none to 3\n", "sweep --failures 3", "0 theorems"),
+    (SCRIPT, "attempts 1\nset none\n", "sweep --sets --states 9", "0 theorems"),
+    (SCRIPT, "attempts 1\npair none\n", "sweep", "`pair` is not known as the second line of this sweep's text"),
+    (SCRIPT, "attempts 1\nevery none\n", "sweep --pairs", "`every` is not known as the second line of this sweep's text"),
+    (SCRIPT, "attempts 1\nnumber none\n", "sweep --every", "`number` is not known as the second line of this sweep's text"),
+    (SCRIPT, "attempts 1\nevery none\n", "sweep", "`every` is not known as the second line of this sweep's text"),
+    (SCRIPT, '{"lines":["attempts 1","every none"],"version":2}', "sweep --every --json", "1 theorems"),
+    (SCRIPT, '{"lines":["attempts 1","every none"],"version":1}', "sweep --every --json", "`1` is not known as the version of a JSON"),
+    (SCRIPT, REPORT, "run --some 2", "`--some` is not known as an option"),
+    (SCRIPT, REPORT, "walk", "`walk` is not known as a task"),
+]
+
+
+class OfTheorems(unittest.TestCase):
+    """A group in a folder, which is also that of the theorems."""
+
+    def setUp(self) -> None:
+        folder = tempfile.TemporaryDirectory()
+        self.addCleanup(folder.cleanup)
+        self.room = Path(folder.name)
+        (self.room / "some").mkdir()
+
+    def said(self, script: str, report: str, words: str, *more: str) -> tuple[int, str]:
+        """How the tool ends on a case, and what it says."""
+        case = Case("plain.run", "some/part", script.encode(), words.split(), report.encode(), None, 0, None)
+        Group(case.group, self.room / "some/part.cases", [], [Block(0, "plain", case.script, [case])]).write()
+        status, said, messages = said_by("theorems", "--in", self.room, "--out", self.room, *more)
+        return status, said + messages
+
+    def test_known_and_unknown_words(self) -> None:
+        for script, report, words, part in CASES:
+            with self.subTest(part):
+                status, said = self.said(script, report, words)
+                self.assertIn(part, said)
+                self.assertEqual(status == 0, part.endswith("theorems"))
+
+    def test_names_and_differences(self) -> None:
+        self.assertEqual(self.said(SCRIPT, REPORT, "run"), (0, "1 theorems\n"))
+        file = self.room / "proofs/WorkedCases/Some.antt"
+        self.assertIn("\nplain_run : ", file.read_text())
+        self.assertEqual(self.said(SCRIPT, REPORT, "run", "--compare"), (0, "1 theorems\n"))
+        for other in (file.read_text().replace("plain", "plane"), None):
+            file.write_text(other) if other else file.unlink()
+            status, said = self.said(SCRIPT, REPORT, "run", "--compare")
+            self.assertEqual((status, said), (1, f"{file} is not what these cases give: write the theorems anew\n"))
+        self.said(SCRIPT, REPORT, "run")
+        (self.room / "proofs/WorkedCases/Other.antt").touch()
+        self.assertEqual(self.said(SCRIPT, REPORT, "run", "--compare")[0], 1)

@@ -2,8 +2,8 @@
 
 import unittest
 
+from tools.common import DOCS
 from tools.documents.picture_reports import Picture, faults_of
-from tools.paths import DOCS
 
 PICTURE = (DOCS / "pictures/second-phase-leaks.svg").read_text(encoding="utf-8")
 LINES = PICTURE.splitlines(keepends=True)

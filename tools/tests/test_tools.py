@@ -1,5 +1,7 @@
-"""The one door to the tools, and what has no tests in a file of its own: runs of programs, the toolchain's module, what is installed, and
-wrong bodies that don't fit."""
+"""The one door to the tools, and what has no tests in a file of its own: runs of programs, the toolchain's module, what is installed,
+wrong bodies that don't fit, bodies that make the error for memory that ran out; and what the tools refuse that try how robust the program
+is: lines of progress, by what a terminal might have shown, and answers where allocations fail, of a program that makes a call once more
+where it found no memory."""
 
 import contextlib
 import io
@@ -7,19 +9,21 @@ import re
 import subprocess
 import sys
 import tempfile
+import time
 import unittest
-from importlib import import_module
+from concurrent.futures import ThreadPoolExecutor
 from pathlib import Path
 from types import ModuleType, SimpleNamespace
 from typing import Any
+from unittest.mock import patch
 
 from tools.build import PLACES, install
-from tools.crates import Crates
+from tools.common import FINE, PROGRAM, ROOT, TOOLS, Answer, NoAnswer, Trials, answer_of
+from tools.crates import CALLS, LOOKED_AT, WRITTEN_FOR, Crates, Kit, changes_in, kit
 from tools.door import COMMANDS, said_by
-from tools.kit import CALLS, LOOKED_AT, WRITTEN_FOR, Kit, changes_in, kit
-from tools.layout import misfits
-from tools.paths import PROGRAM, ROOT, TOOLS
-from tools.program import FINE, Answer, NoAnswer, answer_of
+from tools.failing_allocations import NO_MEMORY, Trial
+from tools.layout import differences, makers, misfits
+from tools.progress import KINDS, Kind, Shown, look_at_lines, screen
 from tools.tests.test_verdicts import files_in
 
 
@@ -37,17 +41,17 @@ class Door(unittest.TestCase):
             for it in TOOLS.rglob("*.py")
             if it.parent.name != "tests" and it.name != "__init__.py"
         }
-        mains = [name for name, text in texts.items() if "\ndef main(words: list[str]) -> int:\n" in text]
-        self.assertEqual(sorted([*COMMANDS.values(), "door"]), sorted(mains))
+        modules = {it.partition(":")[0] for it in COMMANDS.values()}
+        mains = {name for name, text in texts.items() if re.search(r"\ndef \w+\(words: list\[str\]\) -> int:\n", text)}
+        self.assertEqual({*modules, "door"}, mains)
         used = {it for text in texts.values() for it in re.findall(r"from tools\.([\w.]+) import", text)}
         gate = re.findall(r"from tools\.([\w.]+) import", (ROOT / "test").read_text(encoding="utf-8"))
-        self.assertEqual(texts.keys() - {"__init__", "door", *COMMANDS.values(), *used, *gate}, set())
+        self.assertEqual(texts.keys() - {"__init__", "door", *modules, *used, *gate}, set())
 
     def test_each_command_has_a_line(self) -> None:
         status, listed, _ = said_by("--help")
         self.assertEqual(status, 0)
-        for command, module in COMMANDS.items():
-            self.assertTrue(callable(import_module(f"tools.{module}").main), command)
+        for command in COMMANDS:
             self.assertRegex(listed, rf"(?m)^  {command} +[A-Z].*\.$")
 
     def test_help_of_commands(self) -> None:
@@ -96,31 +100,21 @@ class OfToolchain(unittest.TestCase):
         self.module: Any = ModuleType("rtlib")
         exec(files_in("small-repository.txt")["kit/rtlib.py"], vars(self.module))
 
-    def change(self) -> None:
-        """Changes what is called of the module."""
-        vars(self.module).update(guarded=lambda group: [], lock=None)
-        self.module.Crate.build_rlib = lambda self, words: 0
-
-    def test_what_has_changed(self) -> None:
+    def test_what_has_changed_is_said_in_one_message(self) -> None:
         self.assertEqual(list(changes_in(self.module)), [])
-        self.change()
-        said = [it.partition(" (")[0] for it in changes_in(self.module)]
-        self.assertEqual(said, ["`guarded` takes other words", "`lock` is gone", "`Crate.build_rlib` takes other words"])
-        self.assertEqual(list(changes_in(object())), [f"`{it}` is gone" for it in CALLS])
-
-    def test_it_is_said_in_one_message(self) -> None:
-        self.change()
-        with self.assertRaises(SystemExit) as ended:
-            Kit(self.module)
-        for part in ("`lock` is gone; `Crate.build_rlib` takes other words", WRITTEN_FOR, "tools/kit.py", "rt run"):
-            self.assertIn(part, str(ended.exception))
-
-    def test_a_crate_without_what_is_looked_at(self) -> None:
         known, parts = Kit(self.module), vars(self.module.Crate("low", ".", {}))
         for name in LOOKED_AT:
             self.module.Crate = lambda *words, name=name: SimpleNamespace(**{key: it for key, it in parts.items() if key != name})
             with self.assertRaisesRegex(SystemExit, f"a crate has no `{name}`"):
                 known.crates(Path(), ["low"])
+        self.assertEqual(list(changes_in(object())), [f"`{it}` is gone" for it in CALLS])
+        self.setUp()
+        vars(self.module).update(guarded=lambda group: [], lock=None)
+        self.module.Crate.build_rlib = lambda self, words: 0
+        with self.assertRaises(SystemExit) as ended:
+            Kit(self.module)
+        changes = (r"`guarded` takes other words \(.*\)", "`lock` is gone", r"`Crate.build_rlib` takes other words \(.*\)")
+        self.assertRegex(str(ended.exception), f"{'; '.join(changes)}.*tools/crates.py.*{WRITTEN_FOR}.*rt run")
 
     def test_the_toolchain_here(self) -> None:
         self.assertEqual(list(changes_in(kit().module)), [])
@@ -161,3 +155,149 @@ class InFolder(unittest.TestCase):
                 (crate / name).write_text(text, encoding="utf-8")
             said = [] if count == 1 else [f"low/a-third: an 'old:' text is in src/lib.rt {count} times, and not once"]
             self.assertEqual(misfits(Crates(self.room), "low"), said)
+
+
+MADE = (
+    "Err(NoMemory::from(AllocError))",
+    "Err(AllocError.into())",
+    "granted.map_err(|_| RunFault::NoMemory)",
+    "match granted {\n        Ok(cell) => Ok(cell),\n        Err(_) => Err(Fault::NoMemory),\n    }",
+    "NoMemory(error)",
+)
+HANDED_ON = (
+    "grant().map_err(NoMemory::from)",
+    "let failed: Result<(), NoMemory> = grant();\n    failed",
+    "match granted {\n        Err(Fault::NoMemory) => Ok(4),\n        Ok(_) | Err(_) => Ok(0),\n    }",
+    "// Err(AllocError)\n    Ok(is(fault == Fault::NoMemory))",
+)
+
+
+def source(body: str) -> str:
+    """A file with a function of this body."""
+    return f"fn made(cell: Cell) -> Result<u8, NoMemory>\n    ensures {{ OnErr result (fault ≡ Fault.NoMemory) }}\n{{\n    {body}\n}}\n"
+
+
+class NoMemory(unittest.TestCase):
+    def test_a_body_makes_one_or_hands_one_on(self) -> None:
+        for body in (*MADE, *HANDED_ON):
+            self.assertEqual(makers(source(body)), ["made"] if body in MADE else [], body)
+
+    def test_bodies_of_one_name_count_together(self) -> None:
+        self.assertEqual(makers(source(MADE[0]) + source(HANDED_ON[0]) + source(MADE[2])), ["made 2"])
+
+    def test_a_body_that_is_new_or_gone_is_named(self) -> None:
+        with tempfile.TemporaryDirectory() as folder:
+            file, kept = Path(folder, "crates/low/src/lib.rt"), Path(folder, "kept.txt")
+            file.parent.mkdir(parents=True)
+            Path(folder, "crates.txt").write_text("low:\n", encoding="utf-8")
+            file.write_text(source(MADE[0]), encoding="utf-8")
+            for listed, count in {"low/src/lib.rt made: why": 0, "low/src/lib.rt made": 1, "low/src/lib.rt other: why": 2}.items():
+                kept.write_text(listed, encoding="utf-8")
+                self.assertEqual(len(differences(Crates(Path(folder)), kept)), count, listed)
+
+
+SINGLE, RATES, PAIRS, LENGTHS, SETS = KINDS
+# what a line says besides: how much is done, and the time left
+LEFT = ", 22% done, 7 s left"
+
+
+def tried(number: int, left: str = LEFT, what: str = "attempt") -> str:
+    """What a line says of an attempt or a rate."""
+    return f"{what} {number} of 40" + f", nothing up to {number - 1}" * (number > 1) + left
+
+
+def first(many: int, number: int, left: str = LEFT) -> str:
+    """What a line says of a set with this first attempt."""
+    return f"{many} attempts, attempt {number} of 40 first" + f", none up to {number - 1}" * (number > 1) + left
+
+
+def heap(length: int, percent: int = 99) -> str:
+    """What a line says of a length."""
+    return f"a heap of {length} bytes, {percent}% of the lengths done"
+
+
+# what is said of a sweep of 40 attempts in three seconds, each with its second, behind `trying `; and whether that is right
+LINES: list[tuple[str, bool, Kind, list[tuple[float, str]]]] = [
+    ("one after another", True, SINGLE, [(2.0, tried(9)), (2.1, tried(12))]),
+    ("the first one", True, SINGLE, [(2.0, tried(1))]),
+    ("the last one", True, RATES, [(2.5, tried(40, what="rate"))]),
+    ("states", True, PAIRS, [(2.0, "sets of 2 attempts, 1200 states met, nothing with fewer, 1 s"), (2.1, first(2, 2))]),
+    ("shorter heaps", True, LENGTHS, [(2.0, heap(4111)), (2.1, heap(4095))]),
+    ("larger sets", True, SETS, [(2.0, first(2, 9, "")), (2.1, first(3, 1))]),
+    ("an estimate before larger sets", False, SETS, [(2.0, first(2, 9)), (2.1, first(3, 1))]),
+    ("one that shows nothing too many", False, SINGLE, [(2.5, f"attempt 9 of 40, nothing up to 9{LEFT}")]),
+    ("no word of what shows nothing", False, SINGLE, [(2.5, f"attempt 9 of 40{LEFT}")]),
+    ("a longer heap", False, LENGTHS, [(2.0, heap(4095)), (2.1, heap(4127))]),
+    ("another share of the lengths", False, LENGTHS, [(2.0, heap(4095, 98))]),
+    ("a heap that is none", False, LENGTHS, [(2.0, tried(9))]),
+    ("smaller sets", False, SETS, [(2.0, first(3, 1)), (2.1, first(2, 9, ""))]),
+    ("nothing done", False, SETS, [(2.0, first(2, 9, ""))]),
+    ("less done", False, SETS, [(2.1, first(3, it, f", {23 - it}% done, 9 s left")) for it in (1, 2)]),
+    ("a set past the last", False, SETS, [(2.0, first(3, 41))]),
+    ("a set that is none", False, SETS, [(2.0, tried(9))]),
+    ("no line", False, SINGLE, []),
+    ("no estimate", False, SINGLE, [(2.5, tried(9, ""))]),
+    ("a line too early", False, SINGLE, [(1.0, tried(9))]),
+    ("too many lines", False, SINGLE, [(2.1, tried(number)) for number in range(1, 30)]),
+    ("of others", False, SINGLE, [(2.5, f"attempt 9 of 41, nothing up to 8{LEFT}")]),
+    ("past the last", False, SINGLE, [(2.5, tried(41))]),
+    ("before the first", False, SINGLE, [(2.5, tried(0))]),
+    ("out of order", False, SINGLE, [(2.1, tried(9)), (2.3, tried(8))]),
+    ("twice the same", False, SINGLE, [(2.1, tried(9)), (2.3, tried(9))]),
+    ("pairs out of order", False, PAIRS, [(2.1, first(2, it)) for it in (9, 8)]),
+    ("a rate", False, SINGLE, [(2.5, tried(9, what="rate"))]),
+    ("a set", False, SINGLE, [(2.5, first(2, 9))]),
+    ("an attempt", False, PAIRS, [(2.5, tried(9))]),
+]
+
+# a program of so many allocations, what it answers with enough memory, and otherwise
+LAST = 6
+PLAIN = Answer(b"one\ntwo\n", b"", 0)
+WRONG = Answer(b"two\n", b"", 0)
+STOPPED = NO_MEMORY._replace(output=b"one\nno memory\n")
+
+
+class Lines(unittest.TestCase):
+    """Which lines are right, and what is left on a terminal."""
+
+    def test_lines(self) -> None:
+        for what, is_right, kind, lines in LINES:
+            checks, pieces = Trials(Path()), [(at, f"\rtrying {line}".encode()) for at, line in lines]
+            with self.subTest(what), contextlib.redirect_stdout(io.StringIO()):
+                look_at_lines(checks, kind, "a sweep", 40, Shown([*pieces, (2.9, b"attempts 40\r\n")], 0, 3.0))
+                self.assertEqual(checks.failed == 0, is_right)
+
+    def test_a_line_that_is_wiped(self) -> None:
+        self.assertEqual(screen(b"\rtrying 10 of 40\rtrying 9 of 40 \r              \rleaks 0\r\n"), ["leaks 0", ""])
+
+    def test_a_line_that_is_left(self) -> None:
+        self.assertEqual(screen(b"\rtrying 10 of 40\rleaks 0\r\n"), ["leaks 010 of 40", ""])
+
+
+class RunsSideBySide(unittest.TestCase):
+    """A program of six allocations, with given answers by how they fail and by number."""
+
+    def fault(self, answers: dict[tuple[str, int], Answer]) -> tuple[str | None, int, int]:
+        """What is wrong where the runs answer so, and else as with enough memory; later numbers answer sooner."""
+
+        def run(trial: Trial, how: str, number: int) -> Answer:
+            time.sleep(0.01 * (LAST - number) if number else 0)
+            return answers.get((how, number), PLAIN)
+
+        with tempfile.TemporaryDirectory() as folder, ThreadPoolExecutor(4) as pool:
+            trial = Trial(Path(folder, "program"), None, Path(folder), pool.map)
+            trial.count.write_text(f"8 1\n{LAST}\n", encoding="ascii")
+            with patch.object(Trial, "run", run), patch.object(Trial, "asked_needlessly", return_value=None):
+                return trial.fault()
+
+    def test_right_answers(self) -> None:
+        self.assertEqual(self.fault({}), (None, LAST, 0))
+        self.assertEqual(self.fault({("from", 2): NO_MEMORY, ("from", 5): STOPPED, ("each", 1): NO_MEMORY}), (None, LAST, 3))
+
+    def test_the_first_wrong_answer_is_named(self) -> None:
+        fault, last, wanting = self.fault({("from", 1): NO_MEMORY, ("from", 3): WRONG, ("from", 4): WRONG, ("each", 1): WRONG})
+        self.assertRegex(fault or "", "^from 3 of 6: ")
+        self.assertEqual((last, wanting), (LAST, 0))
+
+    def test_a_single_failure_must_change_nothing(self) -> None:
+        self.assertRegex(self.fault({("once", 2): STOPPED})[0] or "", "^once 2 of 6: ")

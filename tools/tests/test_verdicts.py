@@ -5,10 +5,10 @@ import unittest
 from pathlib import Path
 from unittest.mock import patch
 
+from tools.common import ROOT, TOOLS
+from tools.crates import kit_of_readme
 from tools.door import said_by
 from tools.edits.verdicts import FILE, OpenSource, Verdicts, fault_of_number, logic_in
-from tools.kit import kit_of_readme
-from tools.paths import ROOT, TOOLS
 
 KIT = "rattle-kit-0 logic 0"
 LOGIC = "logic 0"
@@ -216,33 +216,28 @@ class WhatLinesStand(TinyRepository):
                     self.assertEqual(self.opened(), opened)
             self.write(name, FILES[name])
 
-    def test_another_logic(self) -> None:
+    def test_what_else_counts(self) -> None:
         self.assertEqual(self.opened("logic 1"), ALL)
-
-    def test_a_file_that_nothing_names(self) -> None:
+        # files that nothing names
         self.write("crates/low/specs/More.antt", "pub two : ℕ\ntwo = 2\n")
         self.write("crates/low/src/more_laws.rt", "pub fn two_is()\n    ensures { 2 ≡ 2 }\n{}\n")
         self.assertEqual(self.opened(), "")
-
-    def test_a_file_of_edits_less(self) -> None:
-        (self.root / LOW_EDITS).unlink()
+        # edits in another order, and in another file; of another source they aren't the same edits
+        first, second = FILES[HIGH_EDITS].split("\n\n")
+        self.write(HIGH_EDITS, f"{second}\n\n\n{first}\n")
         self.assertEqual(self.opened(), "")
-        self.write(LOW_EDITS, "")
-        self.assertEqual(self.opened(), "none")
-
-    def test_edits_moved_to_another_file(self) -> None:
         (self.root / HIGH_EDITS).unlink()
         moved = "crates/high/wrong-bodies/further/numbers.edits"
         self.write(moved, FILES[HIGH_EDITS].replace("old:", "file: src/lib.rt\nold:"))
         self.assertEqual(self.opened(), "")
-        # of another source they aren't the same edits
         self.write(moved, FILES[HIGH_EDITS])
         self.assertEqual(self.opened(), "high")
-
-    def test_edits_in_another_order(self) -> None:
-        first, second = FILES[HIGH_EDITS].split("\n\n")
-        self.write(HIGH_EDITS, f"{second}\n\n\n{first}\n")
+        # a file of edits less, and one without any
+        self.write(moved, FILES[HIGH_EDITS].replace("old:", "file: src/lib.rt\nold:"))
+        (self.root / LOW_EDITS).unlink()
         self.assertEqual(self.opened(), "")
+        self.write(LOW_EDITS, "")
+        self.assertEqual(self.opened(), "none")
 
     def test_a_line_in_another_form(self) -> None:
         lines = (self.root / FILE).read_text(encoding="utf-8")
@@ -270,7 +265,7 @@ class WhatIsOpen(TinyRepository):
 
     def list_open(self) -> tuple[list[str], int]:
         """What the tool lists, and its status."""
-        with patch("tools.edits.wrong_bodies.ROOT", self.root), patch("tools.edits.wrong_bodies.logic_of_toolchain", return_value=LOGIC):
+        with patch("tools.edits.wrong_bodies.ROOT", self.root), patch("tools.edits.wrong_bodies.version", return_value=LOGIC):
             said = said_by("wrong-bodies", "--open")
         return said.output.splitlines(), said.status
 
@@ -289,10 +284,6 @@ class WhatIsOpen(TinyRepository):
         self.write_lines()
         self.assertEqual([(it.source, it.count) for it in self.verdicts().open_in(["low"])], [("twice", 2)])
 
-    def test_nothing_is_open(self) -> None:
-        self.write_lines()
-        self.assertEqual(self.list_open(), (["open: no wrong body"], 0))
-
     def test_another_number_in_the_readme_fails(self) -> None:
         lines, status = self.list_open()
         said = "README.md says `At present no wrong body is open`: `At present 4 wrong bodies are open` belongs there once"
@@ -300,6 +291,9 @@ class WhatIsOpen(TinyRepository):
         self.readme("no wrong body is", "rattle-kit-1 logic 1")
         lines, status = self.list_open()
         self.assertEqual((lines[0], lines[-1][:9], status), ("open: 4 wrong bodies of 3 sources", "README.md", 0))
+        self.write_lines()
+        self.readme("no wrong body is")
+        self.assertEqual(self.list_open(), (["open: no wrong body"], 0))
 
     def test_what_the_readme_says(self) -> None:
         said = {(): "no wrong body is", (1,): "1 wrong body is", (2, 10): "12 wrong bodies are", (1, 1): "2 wrong bodies are"}

@@ -9,8 +9,8 @@ from pathlib import Path
 from unittest.mock import patch
 
 from tools import run_cases, worked_cases
+from tools.common import NoAnswer
 from tools.door import said_by
-from tools.program import NoAnswer
 from tools.worked_cases import Block, Case, CaseError, Group, meaning, read, spelled
 
 GROUP = """# Some cases.

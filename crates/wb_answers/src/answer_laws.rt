@@ -17,8 +17,8 @@ ghost use Rattle.wb_meaning.specs.declared.run.RunResult.{RunResult};
 ghost use Rattle.wb_meaning.specs.declared.run.Why.TheVariants.{Ceiling};
 ghost use Rattle.wb_tree.specs.declared.script.Script.{Script};
 
-/// A sweep over failures of a kind has an answer: a least failure whose run leaks or panics, a least one whose run is cut, or none of
-/// either.
+/// A sweep over each kind of failure, alone or in pairs, has an answer: a least failure whose run leaks or panics, a least one whose run is
+/// cut, or none of either.
 pub fn every_sweep_has_an_answer()
     ensures part { (failures : Failures) (part : Part) (script : Script) (budget : ℕ)
         (shape : Shape) → HasAnswerIn failures part script budget shape }
@@ -26,8 +26,8 @@ pub fn every_sweep_has_an_answer()
         HasAnswer failures script budget shape }
 {}
 
-/// So has a sweep over sets of failures, of at most so many attempts or of any number. Though there is no end to the sets, there are only so
-/// many of attempts that are made.
+/// A sweep over sets of failures has an answer too, of at most so many attempts or of any number. Though there is no end to the sets, there
+/// are only so many of attempts that are made.
 pub fn every_sweep_over_sets_has_an_answer()
     ensures part { (part : Part) (most : ℕ) (script : Script) (budget : ℕ) (shape : Shape) →
         HasSetAnswerIn part most script budget shape }

@@ -1,12 +1,12 @@
 //! The calls on the cleanup stack.
 
-ghost use Rattle.std.specs.Prelude.{◌≡◌, ◌+◌, ◌^◌, ◌<◌, nat_eq, nat_le, [], ◌∷◌, ◌++◌, true, None, Some};
+ghost use Rattle.std.specs.Prelude.{◌≡◌, ◌+◌, ◌^◌, ◌<◌, nat_eq, nat_le, [], ◌∷◌, ◌++◌, None, Some};
 ghost use Rattle.std.specs.Prelude.{option_map, IfErr, IfNone, IfOk, IfSome, IsOk, OnErr, OnOk, OnSome};
 ghost use Rattle.wb_cleanup.specs.Pushes.{growth, GrowthLeaves, IsButForWords, IsFree, IsUnchanged};
-ghost use Rattle.wb_cleanup.specs.Pushes.{KeepsItems, PushLeaves, RoomLeaves, push_made};
+ghost use Rattle.wb_cleanup.specs.Pushes.{KeepsItems, PushLeaves, RoomLeaves};
 ghost use Rattle.wb_cleanup.specs.Stacks.{IsPopped, IsStack, cell_of, count_of, expected_refusal, items_of};
 ghost use Rattle.wb_cleanup.specs.Stacks.{newest_above, pop_refusal, slots_of};
-ghost use Rattle.wb_heap_model.specs.Debug.{IsSoundDebug, alloc_made, gave_of, keeps_rises};
+ghost use Rattle.wb_heap_model.specs.Debug.{IsSoundDebug, alloc_made, gave_of};
 
 use crate::slots;
 use wb_basics::memory::NoMemory;
@@ -110,9 +110,9 @@ impl Cleanup {
     /// Puts an item on top. If it fills the last slot, the cell is reallocated for 4 slots more; this is an attempt, and may move the cell.
     ///
     /// A push that doesn't fill the last slot returns `Fine` and needs no memory. After `Leave` the item is on the stack, which has as many
-    /// slots as before. `NoMemory` if the workbench itself runs out of memory; it never comes in place of `Ceiling`, nor, if the rises are
-    /// kept, for a growth that isn't a rise. After `Ceiling` and `NoMemory` the stack and the heap are as they were. Source: Symbian OS v9
-    /// SDK reference, CleanupStack::PushL, and this project's profile for the slots.
+    /// slots as before. `NoMemory` if the workbench itself runs out of memory; it never comes in place of `Ceiling`. After
+    /// `Ceiling` and `NoMemory` the stack and the heap are as they were. Source: Symbian OS v9 SDK reference, CleanupStack::PushL, and this
+    /// project's profile for the slots.
     pub fn push(&mut self, heap: &mut DebugHeap, item: Item) -> Result<Pushed, NoMemory>
         requires stands { IsStack self.old heap.old }
         requires room { count_of self.old < slots_of self.old }
@@ -120,8 +120,6 @@ impl Cleanup {
         ensures pushed { IfOk result (λ pushed.
             PushLeaves pushed item self.old self.new heap.old heap.new) }
         ensures free { IsFree self.old heap.old → IsOk result }
-        ensures quiet { keeps_rises heap.old ≡ true →
-            (push_made self.old heap.old).debug.rises ≡ heap.old.rises → IsOk result }
         ensures err { OnErr result (IsUnchanged self.old self.new heap.old heap.new) }
         ensures stands { IsStack self.new heap.new }
         ensures sound { IsSoundDebug heap.new }
@@ -144,8 +142,6 @@ impl Cleanup {
         ensures items { KeepsItems self.old self.new heap.old heap.new }
         ensures room { count_of self.new < slots_of self.new }
         ensures free { IsFree self.old heap.old → IsOk result }
-        ensures quiet { keeps_rises heap.old ≡ true →
-            (push_made self.old heap.old).debug.rises ≡ heap.old.rises → IsOk result }
         ensures err { OnErr result (IsUnchanged self.old self.new heap.old heap.new) }
         ensures cut { IfOk result (λ pushed. pushed ≡ Pushed.Ceiling → IsSoundDebug heap.new) }
         ensures err_sound { OnErr result (IsSoundDebug heap.new) }
@@ -166,8 +162,6 @@ impl Cleanup {
             GrowthLeaves pushed self.old self.new heap.old heap.new) }
         ensures items { KeepsItems self.old self.new heap.old heap.new }
         ensures cut { (growth self.old heap.old).gave ≡ Gave.Ceiling → IsOk result }
-        ensures quiet { keeps_rises heap.old ≡ true →
-            (growth self.old heap.old).debug.rises ≡ heap.old.rises → IsOk result }
         ensures err { OnErr result (IsUnchanged self.old self.new heap.old heap.new) }
         ensures stands { IsStack self.new heap.new }
         ensures sound { IsSoundDebug heap.new }

@@ -4,7 +4,7 @@ use Rattle.std.specs.Prelude.{◌==◌}
 use Rattle.std.specs.Str.{bytes_eq}
 use Rattle.clap.specs.Simple.{filled}
 use Rattle.clap.specs.Walk.{Row, Rule, Text, arg_by_index, arg_by_long, arg_by_short}
-use Rattle.wb_command_line.specs.CommandLine.{all_flag, also_option, budget_option, ends_flag, every_option, fail_from_option, fail_option, failures_option, follow_around_option, follow_flag, follow_steps_option, from_option, joined_level, json_flag, level, limit_option, min_option, moving_flag, pairs_flag, persistent_flag, rates_flag, sets_flag, states_option, step_option, to_option}
+use Rattle.wb_command_line.specs.CommandLine.{all_flag, also_option, brief_flag, budget_option, ends_flag, every_option, fail_from_option, fail_option, failures_option, follow_around_option, follow_flag, follow_steps_option, from_option, joined_level, json_flag, level, limit_option, min_option, moving_flag, pairs_flag, persistent_flag, quiet_flag, rates_flag, sets_flag, states_option, step_option, to_option}
 use Rattle.wb_command_line.specs.Passed.{IsIn, RowsPass}
 use Rattle.wb_command_line.specs.declared.command_line.parser.Takes.{Takes}
 use Rattle.wb_command_line.specs.declared.command_line.parser.Takes.TheVariants as taking
@@ -58,9 +58,10 @@ level_long called taking.Rule name e =
     let step = first_false (bytes_eq (codes "step") name) _ min.1 in
     let moving = first_false (bytes_eq (codes "moving") name) _ step.1 in
     let json = first_false (bytes_eq (codes "json") name) _ moving.1 in
-    let picture = first_false (bytes_eq (codes "picture") name) _ json.1 in
+    let quiet = first_false (bytes_eq (codes "quiet") name) _ json.1 in
+    let picture = first_false (bytes_eq (codes "picture") name) _ quiet.1 in
     let sarif = first_false (bytes_eq (codes "sarif") name) _ picture.1 in
-    rw (limit.0, fail.0, also.0, every.0, fail_from.0, set.0, follow.0, follow_steps.0, follow_around.0, budget.0, min.0, step.0, moving.0, json.0, picture.0, sarif.0) (help_asks (bytes_eq (codes "help") name))
+    rw (limit.0, fail.0, also.0, every.0, fail_from.0, set.0, follow.0, follow_steps.0, follow_around.0, budget.0, min.0, step.0, moving.0, json.0, quiet.0, picture.0, sarif.0) (help_asks (bytes_eq (codes "help") name))
 level_long called taking.Failures name e =
     let every = first_false (bytes_eq (codes "every") name) _ e in
     let persistent = first_false (bytes_eq (codes "persistent") name) _ every.1 in
@@ -70,14 +71,16 @@ level_long called taking.Failures name e =
     let failures = first_false (bytes_eq (codes "failures") name) _ ends.1 in
     let sets = first_false (bytes_eq (codes "sets") name) _ failures.1 in
     let states = first_false (bytes_eq (codes "states") name) _ sets.1 in
-    let budget = first_false (bytes_eq (codes "budget") name) _ states.1 in
+    let brief = first_false (bytes_eq (codes "brief") name) _ states.1 in
+    let budget = first_false (bytes_eq (codes "budget") name) _ brief.1 in
     let min = first_false (bytes_eq (codes "min") name) _ budget.1 in
     let step = first_false (bytes_eq (codes "step") name) _ min.1 in
     let moving = first_false (bytes_eq (codes "moving") name) _ step.1 in
     let json = first_false (bytes_eq (codes "json") name) _ moving.1 in
-    let picture = first_false (bytes_eq (codes "picture") name) _ json.1 in
+    let quiet = first_false (bytes_eq (codes "quiet") name) _ json.1 in
+    let picture = first_false (bytes_eq (codes "picture") name) _ quiet.1 in
     let sarif = first_false (bytes_eq (codes "sarif") name) _ picture.1 in
-    rw (every.0, persistent.0, pairs.0, all.0, ends.0, failures.0, sets.0, states.0, budget.0, min.0, step.0, moving.0, json.0, picture.0, sarif.0) (help_asks (bytes_eq (codes "help") name))
+    rw (every.0, persistent.0, pairs.0, all.0, ends.0, failures.0, sets.0, states.0, brief.0, budget.0, min.0, step.0, moving.0, json.0, quiet.0, picture.0, sarif.0) (help_asks (bytes_eq (codes "help") name))
 level_long called taking.Part name e =
     let every = first_false (bytes_eq (codes "every") name) _ e in
     let persistent = first_false (bytes_eq (codes "persistent") name) _ every.1 in
@@ -94,18 +97,21 @@ level_long called taking.Part name e =
     let step = first_false (bytes_eq (codes "step") name) _ min.1 in
     let moving = first_false (bytes_eq (codes "moving") name) _ step.1 in
     let json = first_false (bytes_eq (codes "json") name) _ moving.1 in
-    let picture = first_false (bytes_eq (codes "picture") name) _ json.1 in
+    let quiet = first_false (bytes_eq (codes "quiet") name) _ json.1 in
+    let picture = first_false (bytes_eq (codes "picture") name) _ quiet.1 in
     let sarif = first_false (bytes_eq (codes "sarif") name) _ picture.1 in
-    rw (every.0, persistent.0, pairs.0, all.0, ends.0, failures.0, sets.0, states.0, from.0, to.0, budget.0, min.0, step.0, moving.0, json.0, picture.0, sarif.0) (help_asks (bytes_eq (codes "help") name))
+    rw (every.0, persistent.0, pairs.0, all.0, ends.0, failures.0, sets.0, states.0, from.0, to.0, budget.0, min.0, step.0, moving.0, json.0, quiet.0, picture.0, sarif.0) (help_asks (bytes_eq (codes "help") name))
 level_long called taking.Neither name e =
-    let budget = first_false (bytes_eq (codes "budget") name) _ e in
+    let brief = first_false (bytes_eq (codes "brief") name) _ e in
+    let budget = first_false (bytes_eq (codes "budget") name) _ brief.1 in
     let min = first_false (bytes_eq (codes "min") name) _ budget.1 in
     let step = first_false (bytes_eq (codes "step") name) _ min.1 in
     let moving = first_false (bytes_eq (codes "moving") name) _ step.1 in
     let json = first_false (bytes_eq (codes "json") name) _ moving.1 in
-    let picture = first_false (bytes_eq (codes "picture") name) _ json.1 in
+    let quiet = first_false (bytes_eq (codes "quiet") name) _ json.1 in
+    let picture = first_false (bytes_eq (codes "picture") name) _ quiet.1 in
     let sarif = first_false (bytes_eq (codes "sarif") name) _ picture.1 in
-    rw (budget.0, min.0, step.0, moving.0, json.0, picture.0, sarif.0) (help_asks (bytes_eq (codes "help") name))
+    rw (brief.0, budget.0, min.0, step.0, moving.0, json.0, quiet.0, picture.0, sarif.0) (help_asks (bytes_eq (codes "help") name))
 
 pub level_short : (called : Text) (takes : Takes) (x : ℕ) → IsAsking (arg_by_short (level called takes).rules x)
 level_short called taking.Rule x = help_asks (104 == x)
@@ -134,27 +140,29 @@ own_rule_in a (inr (inr (inr (inr (inr (inr (inl set))))))) = inr (inr (inr (inr
 own_rule_in a (inr (inr (inr (inr (inr (inr (inr (inl follow)))))))) = inr (inr (inr (inr (inr (inr (inr (inl follow)))))))
 own_rule_in a (inr (inr (inr (inr (inr (inr (inr (inr (inl steps))))))))) = inr (inr (inr (inr (inr (inr (inr (inr (inl steps))))))))
 own_rule_in a (inr (inr (inr (inr (inr (inr (inr (inr (inr (inl around)))))))))) = inr (inr (inr (inr (inr (inr (inr (inr (inr (inl around)))))))))
-own_rule_in a (inr (inr (inr (inr (inr (inr (inr (inr (inr (inr shared)))))))))) = inr (inr (inr (inr (inr (inr (inr (inr (inr (inr (inr (inr (inr (inr (inr (inr (inr (inr (inr (inr shared)))))))))))))))))))
+own_rule_in a (inr (inr (inr (inr (inr (inr (inr (inr (inr (inr shared)))))))))) = inr (inr (inr (inr (inr (inr (inr (inr (inr (inr (inr (inr (inr (inr (inr (inr (inr (inr (inr (inr (inr shared))))))))))))))))))))
 
 part_in : (a : Rule) → IsIn a (level [] taking.Part).rules → IsIn a joined_level.rules
 part_in a (inl file) = inl file
-part_in a (inr rest) = inr (inr (inr (inr (inr (inr (inr (inr (inr (inr rest)))))))))
+part_in a (inr rest) = inr (inr (inr (inr (inr (inr (inr (inr (inr (inr (inr rest))))))))))
 
 failures_in : (a : Rule) → IsIn a (level [] taking.Failures).rules → IsIn a joined_level.rules
 failures_in a (inl file) = inl file
-failures_in a (inr (inl rates)) = inr (inr (inr (inr (inr (inr (inr (inr (inr (inr (inl rates))))))))))
-failures_in a (inr (inr (inl persistent))) = inr (inr (inr (inr (inr (inr (inr (inr (inr (inr (inr (inl persistent)))))))))))
-failures_in a (inr (inr (inr (inl pairs)))) = inr (inr (inr (inr (inr (inr (inr (inr (inr (inr (inr (inr (inl pairs))))))))))))
-failures_in a (inr (inr (inr (inr (inl all))))) = inr (inr (inr (inr (inr (inr (inr (inr (inr (inr (inr (inr (inr (inl all)))))))))))))
-failures_in a (inr (inr (inr (inr (inr (inl ends)))))) = inr (inr (inr (inr (inr (inr (inr (inr (inr (inr (inr (inr (inr (inr (inl ends))))))))))))))
-failures_in a (inr (inr (inr (inr (inr (inr (inl together))))))) = inr (inr (inr (inr (inr (inr (inr (inr (inr (inr (inr (inr (inr (inr (inr (inl together)))))))))))))))
-failures_in a (inr (inr (inr (inr (inr (inr (inr (inl sets)))))))) = inr (inr (inr (inr (inr (inr (inr (inr (inr (inr (inr (inr (inr (inr (inr (inr (inl sets))))))))))))))))
-failures_in a (inr (inr (inr (inr (inr (inr (inr (inr (inl states))))))))) = inr (inr (inr (inr (inr (inr (inr (inr (inr (inr (inr (inr (inr (inr (inr (inr (inr (inl states)))))))))))))))))
-failures_in a (inr (inr (inr (inr (inr (inr (inr (inr (inr shared))))))))) = inr (inr (inr (inr (inr (inr (inr (inr (inr (inr (inr (inr (inr (inr (inr (inr (inr (inr (inr (inr shared)))))))))))))))))))
+failures_in a (inr (inl rates)) = inr (inr (inr (inr (inr (inr (inr (inr (inr (inr (inr (inl rates)))))))))))
+failures_in a (inr (inr (inl persistent))) = inr (inr (inr (inr (inr (inr (inr (inr (inr (inr (inr (inr (inl persistent))))))))))))
+failures_in a (inr (inr (inr (inl pairs)))) = inr (inr (inr (inr (inr (inr (inr (inr (inr (inr (inr (inr (inr (inl pairs)))))))))))))
+failures_in a (inr (inr (inr (inr (inl all))))) = inr (inr (inr (inr (inr (inr (inr (inr (inr (inr (inr (inr (inr (inr (inl all))))))))))))))
+failures_in a (inr (inr (inr (inr (inr (inl ends)))))) = inr (inr (inr (inr (inr (inr (inr (inr (inr (inr (inr (inr (inr (inr (inr (inl ends)))))))))))))))
+failures_in a (inr (inr (inr (inr (inr (inr (inl together))))))) = inr (inr (inr (inr (inr (inr (inr (inr (inr (inr (inr (inr (inr (inr (inr (inr (inl together))))))))))))))))
+failures_in a (inr (inr (inr (inr (inr (inr (inr (inl sets)))))))) = inr (inr (inr (inr (inr (inr (inr (inr (inr (inr (inr (inr (inr (inr (inr (inr (inr (inl sets)))))))))))))))))
+failures_in a (inr (inr (inr (inr (inr (inr (inr (inr (inl states))))))))) = inr (inr (inr (inr (inr (inr (inr (inr (inr (inr (inr (inr (inr (inr (inr (inr (inr (inr (inl states))))))))))))))))))
+failures_in a (inr (inr (inr (inr (inr (inr (inr (inr (inr (inl brief)))))))))) = inr (inr (inr (inr (inr (inr (inr (inr (inr (inr (inl brief))))))))))
+failures_in a (inr (inr (inr (inr (inr (inr (inr (inr (inr (inr shared)))))))))) = inr (inr (inr (inr (inr (inr (inr (inr (inr (inr (inr (inr (inr (inr (inr (inr (inr (inr (inr (inr (inr shared))))))))))))))))))))
 
 shared_in : (a : Rule) → IsIn a (level [] taking.Neither).rules → IsIn a joined_level.rules
 shared_in a (inl file) = inl file
-shared_in a (inr shared) = inr (inr (inr (inr (inr (inr (inr (inr (inr (inr (inr (inr (inr (inr (inr (inr (inr (inr (inr (inr shared)))))))))))))))))))
+shared_in a (inr (inl brief)) = inr (inr (inr (inr (inr (inr (inr (inr (inr (inr (inl brief))))))))))
+shared_in a (inr (inr shared)) = inr (inr (inr (inr (inr (inr (inr (inr (inr (inr (inr (inr (inr (inr (inr (inr (inr (inr (inr (inr (inr shared))))))))))))))))))))
 
 wider_rows : (c d : List Rule) → ((a : Rule) → IsIn a c → IsIn a d) → (rows : List Row) → RowsPass c rows → RowsPass d rows
 wider_rows c d wide [] passed = tt
@@ -237,6 +245,12 @@ moving_rule = filled moving_flag
 abbrev pub json_rule : Rule
 json_rule = filled json_flag
 
+abbrev pub quiet_rule : Rule
+quiet_rule = filled quiet_flag
+
+abbrev pub brief_rule : Rule
+brief_rule = filled brief_flag
+
 -- no other argument has their names
 pub only_limit : IsOnly joined_level.rules (codes "limit") limit_rule
 only_limit = only joined_level.rules (codes "limit") limit_rule refl
@@ -306,3 +320,9 @@ only_moving = only joined_level.rules (codes "moving") moving_rule refl
 
 pub only_json : IsOnly joined_level.rules (codes "json") json_rule
 only_json = only joined_level.rules (codes "json") json_rule refl
+
+pub only_quiet : IsOnly joined_level.rules (codes "quiet") quiet_rule
+only_quiet = only joined_level.rules (codes "quiet") quiet_rule refl
+
+pub only_brief : IsOnly joined_level.rules (codes "brief") brief_rule
+only_brief = only joined_level.rules (codes "brief") brief_rule refl

@@ -17,6 +17,7 @@ pub mod WorkedMoving
 pub mod WorkedPairs
 pub mod WorkedParts
 pub mod WorkedPersistent
+pub mod WorkedQuiet
 pub mod WorkedSarif
 pub mod WorkedSets
 pub mod WorkedWords

@@ -34,7 +34,7 @@ use Rattle.wb_command_line.specs.declared.command.CommandFault.{CommandFault}
 use Rattle.wb_command_line.specs.declared.command.CommandFault.TheVariants.{Usage, Both, Also, Range, NoMemory}
 use Rattle.wb_command_line.specs.declared.command.CommandFault.TheVariants as F
 use Rattle.wb_command_line.proofs.CommandLineLemmas.{one_is_met, text_is}
-use Rattle.wb_command_line.proofs.LevelLemmas.{all_rule, also_rule, budget_rule, ends_rule, every_rule, fail_from_rule, fail_rule, failures_rule, follow_around_rule, follow_rule, follow_steps_rule, from_rule, json_rule, level_wide, limit_rule, min_rule, moving_rule, only_all, only_also, only_budget, only_ends, only_every, only_fail, only_fail_from, only_failures, only_follow, only_follow_around, only_follow_steps, only_from, only_json, only_limit, only_min, only_moving, only_pairs, only_persistent, only_rates, only_sets, only_states, only_step, only_to, pairs_rule, persistent_rule, rates_rule, sets_rule, states_rule, step_rule, to_rule}
+use Rattle.wb_command_line.proofs.LevelLemmas.{all_rule, also_rule, brief_rule, budget_rule, ends_rule, every_rule, fail_from_rule, fail_rule, failures_rule, follow_around_rule, follow_rule, follow_steps_rule, from_rule, json_rule, level_wide, limit_rule, min_rule, moving_rule, only_all, only_also, only_brief, only_budget, only_ends, only_every, only_fail, only_fail_from, only_failures, only_follow, only_follow_around, only_follow_steps, only_from, only_json, only_limit, only_min, only_moving, only_pairs, only_persistent, only_quiet, only_rates, only_sets, only_states, only_step, only_to, pairs_rule, persistent_rule, quiet_rule, rates_rule, sets_rule, states_rule, step_rule, to_rule}
 use Rattle.wb_command_line.specs.Passed.{RowsPass}
 use Rattle.wb_command_line.proofs.PassedValues.{IsOnly, PassedAs, first_passed}
 
@@ -276,6 +276,12 @@ FlagRead id = (f : Found) (r : Bool) → RowsPass joined_level.rules (rows_of f)
 
 pub json_is : FlagRead (codes "json")
 json_is = flag_is (codes "json") json_rule only_json (λ t passed. passed) refl
+
+pub quiet_is : FlagRead (codes "quiet")
+quiet_is = flag_is (codes "quiet") quiet_rule only_quiet (λ t passed. passed) refl
+
+pub brief_is : FlagRead (codes "brief")
+brief_is = flag_is (codes "brief") brief_rule only_brief (λ t passed. passed) refl
 
 pub moving_is : FlagRead (codes "moving")
 moving_is = flag_is (codes "moving") moving_rule only_moving (λ t passed. passed) refl

@@ -22,7 +22,7 @@ abbrev pub all_words : List Text → List Text
 all_words words = codes "workbench" ∷ words
 
 abbrev pub command_with : Task → ℕ → ℕ → ℕ → Option Text → Command
-command_with task budget min step file = record { task = task; file = file; budget = budget; shape = record { min = min; step = step; moving = false }; json = false; picture = None; sarif = None; follow = None; around = None }
+command_with task budget min step file = record { task = task; file = file; budget = budget; shape = record { min = min; step = step; moving = false }; json = false; quiet = false; brief = false; picture = None; sarif = None; follow = None; around = None }
 
 abbrev pub run_with : Rule → ℕ → ℕ → Option Text → Command
 run_with rule = command_with (Run rule) 10000

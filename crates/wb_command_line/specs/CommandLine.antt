@@ -58,6 +58,12 @@ moving_flag = flag (codes "moving") (codes "moving")
 abbrev pub json_flag : Rule
 json_flag = flag (codes "json") (codes "json")
 
+abbrev pub quiet_flag : Rule
+quiet_flag = flag (codes "quiet") (codes "quiet")
+
+abbrev pub brief_flag : Rule
+brief_flag = flag (codes "brief") (codes "brief")
+
 -- `--picture FILE`, where FILE is any text
 abbrev pub picture_option : Rule
 picture_option = record (new_rule (codes "picture")) { long = Some (codes "picture"); value_names = 1 }
@@ -129,9 +135,9 @@ following_options = follow_flag ∷ follow_steps_option ∷ follow_around_option
 -- the options that a subcommand has beside those of all
 abbrev pub own_options : Takes → List Rule
 own_options taking.Rule = rule_options ++ following_options
-own_options taking.Failures = failure_options
+own_options taking.Failures = failure_options ++ brief_flag ∷ []
 own_options taking.Part = failure_options ++ part_options
-own_options taking.Neither = []
+own_options taking.Neither = brief_flag ∷ []
 
 -- those that every subcommand has and that take a number
 abbrev pub number_options : List Rule
@@ -141,9 +147,9 @@ number_options = budget_option ∷ min_option ∷ step_option ∷ []
 abbrev pub file_options : List Rule
 file_options = picture_option ∷ sarif_option ∷ []
 
--- those that say how its report is written, and what is written beside it
+-- those that say how its report is written, that no progress is shown, and what is written beside it
 abbrev pub report_options : List Rule
-report_options = json_flag ∷ file_options
+report_options = json_flag ∷ quiet_flag ∷ file_options
 
 -- those of every subcommand
 abbrev pub shared_options : List Rule
@@ -157,9 +163,9 @@ abbrev pub line_with : Text → List Rule → App
 line_with name options = with_rules (new_app name) (file_argument ∷ options ++ shared_options)
 
 -- `NAME [--limit L] [--fail N] [--also J] [--every N] [--fail-from N] [--set LIST] [--follow] [--follow-steps N] [--follow-around N]
--- [--budget B] [--min M] [--step G] [--moving] [--json] [--picture FILE] [--sarif FILE] [FILE]`, the same with `--every`, `--persistent`,
+-- [--budget B] [--min M] [--step G] [--moving] [--json] [--quiet] [--picture FILE] [--sarif FILE] [FILE]`, the same with `--every`, `--persistent`,
 -- `--pairs`, `--all`, `--ends`, `--failures K`, `--sets` and `--states N` in the place of a rule and of the steps, with these and
--- `[--from I] [--to J]`, or with none
+-- `[--from I] [--to J]`, or with none; where no part is taken and no rule, with `--brief`
 abbrev pub subcommand_line : Text → Takes → App
 subcommand_line name takes = line_with name (own_options takes)
 
@@ -173,7 +179,7 @@ level_of s = level s.name s.takes
 -- a level that has the options of all subcommands, which none of them is: each id is there once
 abbrev pub joined_level : Shape
 joined_level =
-    built_leaf (line_with [] (own_options taking.Rule ++ own_options taking.Part)).top
+    built_leaf (line_with [] (own_options taking.Rule ++ own_options taking.Neither ++ own_options taking.Part)).top
 
 -- `workbench`, which wants a subcommand, and has a version
 abbrev pub bare_line : App

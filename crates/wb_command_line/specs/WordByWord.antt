@@ -27,7 +27,7 @@ is_flag _ = false
 
 -- the options that every subcommand has
 abbrev pub shared_names : List Text
-shared_names = codes "budget" ∷ codes "min" ∷ codes "step" ∷ codes "moving" ∷ codes "json" ∷ codes "picture" ∷ codes "sarif" ∷ []
+shared_names = codes "budget" ∷ codes "min" ∷ codes "step" ∷ codes "moving" ∷ codes "json" ∷ codes "quiet" ∷ codes "picture" ∷ codes "sarif" ∷ []
 
 -- those that say which failures are tried
 abbrev pub failure_names : List Text
@@ -37,9 +37,9 @@ failure_names =
 -- those that a subcommand has beside them
 abbrev pub own_names : Takes → List Text
 own_names taking.Rule = codes "limit" ∷ codes "fail" ∷ codes "also" ∷ codes "every" ∷ codes "fail-from" ∷ codes "set" ∷ codes "follow" ∷ codes "follow-steps" ∷ codes "follow-around" ∷ []
-own_names taking.Failures = failure_names
+own_names taking.Failures = failure_names ++ codes "brief" ∷ []
 own_names taking.Part = failure_names ++ codes "from" ∷ codes "to" ∷ []
-own_names taking.Neither = []
+own_names taking.Neither = codes "brief" ∷ []
 
 -- the options of a subcommand, by what it takes
 abbrev pub option_names : Takes → List Text
@@ -70,7 +70,7 @@ file_named _ = None
 abbrev pub plain_trial : Trial
 plain_trial = record { failures = Single; part = whole; all = false; ends = false; most = None; states = None }
 
--- a task on the file, or on standard input, with the default budget and shape, as lines, without a picture and a log, and no step is followed
+-- a task on the file, or on standard input, with the default budget and shape, as lines, with progress, without a picture and a log, and no step is followed
 abbrev pub plain_command : Task → Option Text → Command
 plain_command task file = record {
   task = task;
@@ -78,6 +78,8 @@ plain_command task file = record {
   budget = DEFAULT_BUDGET;
   shape = default_shape;
   json = false;
+  quiet = false;
+  brief = false;
   picture = None;
   sarif = None;
   follow = None;

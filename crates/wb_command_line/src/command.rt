@@ -58,6 +58,10 @@ pub struct Command {
     pub shape: Shape,
     /// Whether the report is written as one JSON object, and not as lines.
     pub json: bool,
+    /// Whether no progress is shown on standard error while runs go on.
+    pub quiet: bool,
+    /// Whether the rows of the report's table are left out: its lines that begin with `from`.
+    pub brief: bool,
     /// The file that a picture of the runs is written to; `None` if none is wanted.
     pub picture: Option<FileName>,
     /// The file that what is explained is written to as a SARIF log; `None` if none is wanted.

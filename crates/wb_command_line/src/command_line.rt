@@ -3,8 +3,8 @@
 //! `workbench run` takes `[--limit L | --fail N [--also J] | --every N | --fail-from N | --set LIST] [--follow] [--follow-steps N]
 //! [--follow-around N]`.
 //! `sweep` and `check` take `--every`, `--persistent`, `--pairs`, `--all`, `--ends`, `--failures K`, `--sets` and `--states N` instead, and
-//! `sweep` also takes `[--from I] [--to J]`. `size` and `lengths` take none of these. All five take `[--budget B] [--min M] [--step G]
-//! [--moving] [--json] [--picture FILE] [--sarif FILE] [FILE]`.
+//! `sweep` also takes `[--from I] [--to J]`. `size` and `lengths` take none of these. These two and `check` take `--brief`. All five take
+//! `[--budget B] [--min M] [--step G] [--moving] [--json] [--quiet] [--picture FILE] [--sarif FILE] [FILE]`.
 ghost use Rattle.std.specs.Prelude.{◌≡◌, ◌≤◌, All, IfErr, IfOk, IsSome, IsTrue, List, Some, OnErr, OnOk, codes, false};
 ghost use Rattle.std.specs.Prelude.{map, true};
 ghost use Rattle.std.specs.Str.{IsUtf8};
@@ -26,6 +26,7 @@ mod following;
 mod long_help;
 mod number_help;
 mod parser;
+mod report_options;
 mod rules;
 mod searches;
 mod set_list;
@@ -90,6 +91,8 @@ fn command_in(alloc: Global, name: &str, options: &ArgMatches) -> Result<Command
         budget: budget_in(options),
         shape,
         json: json_in(options),
+        quiet: quiet_in(options),
+        brief: brief_in(options),
         picture: picture_in(alloc, options)?,
         sarif: sarif_in(alloc, options)?,
         follow: follow_in(options),
@@ -226,6 +229,22 @@ fn json_in(options: &ArgMatches) -> bool
     ensures { result ≡ flag_of (codes "json") (rows_of (found_of options.now)) }
 {
     options.get_flag("json")
+}
+
+/// Whether the options ask for no progress.
+fn quiet_in(options: &ArgMatches) -> bool
+    requires { RowsPass joined_level.rules (rows_of (found_of options.now)) }
+    ensures { result ≡ flag_of (codes "quiet") (rows_of (found_of options.now)) }
+{
+    options.get_flag("quiet")
+}
+
+/// Whether the options ask for the report without the rows of its table.
+fn brief_in(options: &ArgMatches) -> bool
+    requires { RowsPass joined_level.rules (rows_of (found_of options.now)) }
+    ensures { result ≡ flag_of (codes "brief") (rows_of (found_of options.now)) }
+{
+    options.get_flag("brief")
 }
 
 /// Returns the script's file; `None` if the options name none. The only error is that memory ran out.

@@ -32,7 +32,7 @@ fn takes_number(option: &str) -> bool {
 fn is_option(name: &str) -> bool {
     match name {
         "follow" | "persistent" | "pairs" | "all" | "ends" | "sets" | "moving" => true,
-        "json" | "picture" | "help" | "version" => true,
+        "json" | "quiet" | "brief" | "picture" | "sarif" | "help" | "version" => true,
         _ => is_number_option(name),
     }
 }

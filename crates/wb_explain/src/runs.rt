@@ -5,6 +5,7 @@
 
 mod attempts;
 mod blame;
+mod caught;
 mod counts;
 mod cuts;
 mod destroyed;
@@ -12,6 +13,7 @@ mod end_words;
 mod ends;
 mod explanation;
 mod failures;
+mod filled;
 mod heap_checks;
 mod heaps;
 mod item_gone;
@@ -25,6 +27,7 @@ mod paths;
 mod pointers;
 mod rates;
 mod refusals;
+mod room;
 mod script_page;
 mod sentences;
 mod sets;
@@ -32,11 +35,13 @@ mod shell_words;
 mod spread;
 mod states;
 mod stories;
+mod taken;
 mod told;
 mod unasked;
 mod worse;
 
 use crate::runs::ends::put_findings;
+use crate::runs::filled::put_filled;
 use crate::runs::heaps::put_heaps;
 use crate::runs::lengths::put_lengths;
 use crate::runs::numbers::put_numbers;
@@ -47,7 +52,6 @@ use crate::runs::unasked::{put_nothing_else, put_shown, put_undecided};
 use crate::runs::worse::put_worse;
 pub use explanation::{Explanation, Finding, FindingKind, Parts, Told};
 pub use heaps::greatest_bad;
-pub use lengths::last_named;
 pub use numbers::last_bad;
 pub use panics::panic_in_symbian;
 pub use shell_words::{ShellFile, ShellOptions};
@@ -56,7 +60,7 @@ use std::alloc::{AllocError, Global};
 pub use unasked::{Question, Shown};
 use wb_heap_model::heap::Rule;
 use wb_heap_model::size::Rise;
-use wb_history::{Attempts, ScriptLines, WatchedRun};
+use wb_history::{Attempts, History, ScriptLines, WatchedRun};
 use wb_runs::failures::Failures;
 use wb_runs::lengths::LengthRange;
 use wb_runs::number_ends::NumberEnd;
@@ -74,16 +78,17 @@ pub fn run_found(
     page.whole()
 }
 
-/// Returns which line made each attempt that a shorter heap refuses first: each attempt of `rises`. `attempts` are those of the run without
-/// a limit, up to `last_named`. The only error is that memory ran out.
+/// Returns which line made each attempt that a shorter heap refuses first: each attempt of `rises`; and what fills the heap at the last of
+/// them. `history` is that of the run without failure, with all that a picture draws. The only error is that memory ran out.
 pub fn lengths_found(
     alloc: Global,
     lines: &ScriptLines<'_>,
-    attempts: &Attempts<'_>,
+    history: &History<'_>,
     rises: &[Rise],
 ) -> Result<Explanation, AllocError> {
     let mut page = ScriptPage::new(alloc, lines);
-    put_lengths(&mut page, attempts, rises);
+    put_lengths(&mut page, &history.attempts, rises);
+    put_filled(&mut page, alloc, history, rises)?;
     page.whole()
 }
 

@@ -1,16 +1,15 @@
 //! What a machine turn did, as the words of its row: first what the statement or the destruction did that it began, and then what came of
 //! that.
 
-use crate::before::{Before, Value};
+use crate::before::Before;
 use crate::begun::{Begun, What};
 use crate::endings::put_panic;
 use crate::open::{ItemAt, Open};
 use crate::rows::Rows;
 use crate::statements::{put_attempt, put_count, put_free, put_freed, put_pointer, put_statement};
-use wb_heap_model::heap::{Item, KERR_NO_MEMORY};
+use wb_heap_model::heap::Item;
 use wb_history::{Ahead, has_panicked};
 use wb_machine::Machine;
-use wb_tree::script::Statement;
 
 /// Says what a machine turn did, and keeps `open` up to date. Returns whether the turn's statement left.
 pub(crate) fn put_effects<'a>(
@@ -28,7 +27,7 @@ pub(crate) fn put_effects<'a>(
             put_items(rows, machine, before);
             leaves = ahead.leaves(before.attempt(machine));
             if leaves {
-                put_leave(rows, machine, before, ahead, open);
+                put_leave(rows, machine, ahead, open);
             }
         }
         What::Item(newest) => {
@@ -63,15 +62,9 @@ fn put_items(rows: &mut Rows, machine: &Machine<'_>, before: &Before<'_>) {
 }
 
 /// Says with which code a statement left, which TRAP caught the leave, and how many items are destroyed because of it.
-fn put_leave<'a>(
-    rows: &mut Rows,
-    machine: &Machine<'a>,
-    before: &Before<'a>,
-    ahead: Ahead<'a>,
-    open: &mut Open,
-) {
+fn put_leave<'a>(rows: &mut Rows, machine: &Machine<'a>, ahead: Ahead<'a>, open: &mut Open) {
     rows.effect_text("leaves with ");
-    rows.value(code_of(ahead, before.value));
+    rows.value(i64::from(ahead.code()));
     match open.leave() {
         Some(trap) => {
             rows.text(", caught by the TRAP of line ");
@@ -89,13 +82,6 @@ fn put_destroyed(rows: &mut Rows, items: u32) {
     if items > 0 {
         rows.effect_text("destroys ");
         put_count(rows, i64::from(items), "item");
-    }
-}
-
-fn code_of(ahead: Ahead<'_>, value: Value) -> i64 {
-    match (ahead.statement, value) {
-        (Statement::Leave(_) | Statement::LeaveIfError(_), Value::Number(code)) => code,
-        _ => i64::from(KERR_NO_MEMORY),
     }
 }
 

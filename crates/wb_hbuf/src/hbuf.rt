@@ -1,11 +1,11 @@
 //! The calls on texts in cells, and the edit of a buffer, which may read a text in a cell.
 
-ghost use Rattle.std.specs.Prelude.{◌≡◌, ◌+◌, ◌*◌, ◌^◌, ◌<◌, ◌≤◌, ◌++◌, [], length, take, true, None, IfOk, IfSome, IsOk};
+ghost use Rattle.std.specs.Prelude.{◌≡◌, ◌+◌, ◌*◌, ◌^◌, ◌<◌, ◌≤◌, ◌++◌, [], length, take, None, IfOk, IfSome, IsOk};
 ghost use Rattle.std.specs.Prelude.{OnErr, OnOk};
 ghost use Rattle.wb_hbuf.specs.Drafts.{IsEdited, IsMeasured};
 ghost use Rattle.wb_hbuf.specs.Sources.{IsApart, IsForeign, IsReadableAlone, IsSource, SuitsEdit, cell_edited};
 ghost use Rattle.wb_hbuf.specs.Sources.{edit_text, source_units};
-ghost use Rattle.wb_heap_model.specs.Debug.{IsSoundDebug, alloc_made, answer_in, keeps_rises};
+ghost use Rattle.wb_heap_model.specs.Debug.{IsSoundDebug, alloc_made, answer_in};
 ghost use Rattle.wb_heap_model.specs.Debug.{realloc_made};
 ghost use Rattle.wb_heap_model.specs.Heap.{alloc_request, realloc_request};
 ghost use Rattle.wb_heap_model.specs.Texts.{printed, printed_unit};
@@ -27,8 +27,8 @@ use wb_text::Buf;
 /// Attempts to get a cell for an empty text that may have `n` units.
 ///
 /// `Denied` and `Ceiling` are the heap's answers. `NoMemory` if the workbench itself runs out of memory; it leaves the heap as it was, and
-/// never comes in place of `Ceiling`, nor, if the rises are kept, for an attempt that isn't a rise. Source: Symbian OS v9 SDK reference,
-/// HBufC::New, and this project's profile for the length of the cell.
+/// never comes in place of `Ceiling`. Source: Symbian OS v9 SDK reference, HBufC::New, and this project's profile for the length of the
+/// cell.
 pub fn make(heap: &mut DebugHeap, n: u32) -> Result<Gave, NoMemory>
     requires units { n ≤ MOST_UNITS }
     requires number { heap.old.attempts + 1 < 2 ^ 32 }
@@ -36,8 +36,6 @@ pub fn make(heap: &mut DebugHeap, n: u32) -> Result<Gave, NoMemory>
     ensures made { OnOk result (heap.new ≡ (alloc_made heap.old (4 + 2 * n) Kind.Text).debug) }
     ensures cut { answer_in heap.old (alloc_request heap.old.heap (4 + 2 * n)) ≡ None →
         IsOk result }
-    ensures quiet { keeps_rises heap.old ≡ true →
-        (alloc_made heap.old (4 + 2 * n) Kind.Text).debug.rises ≡ heap.old.rises → IsOk result }
     ensures empty { IfOk result (IsGrantedText heap.new []) }
     ensures err { OnErr result (heap.new ≡ heap.old) }
     ensures sound { IsSoundDebug heap.new }
@@ -48,8 +46,8 @@ pub fn make(heap: &mut DebugHeap, n: u32) -> Result<Gave, NoMemory>
 /// Gives a text another maximum length: reallocates its cell for `n` units, and keeps the text, which may not be longer than that.
 ///
 /// `Denied` and `Ceiling` are the heap's answers, and leave the cell as it was. `NoMemory` if the workbench itself runs out of memory; it
-/// leaves the heap as it was, and never comes if the cell gets no longer, nor in place of `Ceiling`, nor, if the rises are kept, for an
-/// attempt that isn't a rise. Source: Symbian OS v9 SDK reference, HBufC::ReAlloc, and this project's profile for the length of the cell.
+/// leaves the heap as it was, and never comes if the cell gets no longer, nor in place of `Ceiling`. Source: Symbian OS v9 SDK
+/// reference, HBufC::ReAlloc, and this project's profile for the length of the cell.
 pub fn remake(heap: &mut DebugHeap, ptr: Ptr, n: u32) -> Result<Gave, NoMemory>
     requires text { IsTextAt ptr heap.old }
     requires fits { length (text_at ptr heap.old) ≤ n }
@@ -65,8 +63,6 @@ pub fn remake(heap: &mut DebugHeap, ptr: Ptr, n: u32) -> Result<Gave, NoMemory>
     ensures cut { IfSome (cell_at ptr heap.old.heap.row) (λ c.
         answer_in heap.old (realloc_request heap.old.heap c.head (4 + 2 * n)) ≡ None →
         IsOk result) }
-    ensures quiet { keeps_rises heap.old ≡ true → IfSome (cell_at ptr heap.old.heap.row) (λ c.
-        (realloc_made heap.old c (4 + 2 * n)).debug.rises ≡ heap.old.rises → IsOk result) }
     ensures err { OnErr result (heap.new ≡ heap.old) }
     ensures sound { IsSoundDebug heap.new }
 {

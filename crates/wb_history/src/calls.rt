@@ -12,8 +12,7 @@ const MOST_CALLS: usize = 100_000;
 /// A body that runs, or the last one that ran at its depth.
 #[derive(Clone, Copy)]
 struct Frame<'a> {
-    /// The line that was begun last in the body; 0 if none was.
-    line: u32,
+    stay: Stay,
     statement: Option<&'a Statement>,
     /// What the target of the last `callto` at this depth named before that call.
     replaced: Ptr,
@@ -21,6 +20,16 @@ struct Frame<'a> {
     since: u32,
     /// The call path to that line, if `known` says that the frame has it.
     path: u32,
+}
+
+/// What a body left of the cleanup stack.
+#[derive(Clone, Copy, Debug, PartialEq, Eq)]
+pub struct Stay {
+    /// The line that was begun last in the body; 0 if none was.
+    pub last: u32,
+    /// How many items there were when it began, and when it ended.
+    pub began: usize,
+    pub ended: usize,
 }
 
 /// The last line of a call path, and the path that leads to that line.
@@ -73,17 +82,22 @@ impl<'a> Calls<'a> {
         })
     }
 
-    /// A statement begins in this step, while `depth` bodies run.
+    /// A statement begins in this step, while `depth` bodies run and the cleanup stack has this many items.
     pub fn begin(
         &mut self,
         depth: u32,
         line: u32,
         statement: Option<&'a Statement>,
         step: u32,
+        items: usize,
     ) -> Result<(), AllocError> {
         if self.frames.len() <= depth as usize {
             let nothing = Frame {
-                line: 0,
+                stay: Stay {
+                    last: 0,
+                    began: 0,
+                    ended: 0,
+                },
                 statement: None,
                 replaced: NULL,
                 since: 0,
@@ -93,10 +107,16 @@ impl<'a> Calls<'a> {
                 .resize((depth as usize).saturating_add(1), nothing)?;
         }
         if let Some(frame) = self.frames.get_mut(depth as usize) {
-            frame.line = line;
+            frame.stay.last = line;
             frame.statement = statement;
             if depth > self.depth {
                 frame.since = step;
+                frame.stay.began = items;
+            }
+        }
+        for above in depth.saturating_add(1)..=self.depth {
+            if let Some(frame) = self.frames.get_mut(above as usize) {
+                frame.stay.ended = items;
             }
         }
         self.depth = depth;
@@ -127,7 +147,7 @@ impl<'a> Calls<'a> {
     /// Returns the line that was begun last at this depth, which is 1 in `main`; 0 if none was.
     pub fn line_at(&self, depth: u32) -> u32 {
         match self.frames.get(depth as usize) {
-            Some(frame) => frame.line,
+            Some(frame) => frame.stay.last,
             None => 0,
         }
     }
@@ -136,8 +156,25 @@ impl<'a> Calls<'a> {
     /// since.
     pub fn last_line_of(&self, depth: u32, step: u32) -> u32 {
         match self.frames.get(depth as usize) {
-            Some(frame) if frame.since <= step => frame.line,
+            Some(frame) if frame.since <= step => frame.stay.last,
             _ => 0,
+        }
+    }
+
+    /// Returns what the body that ran last at this depth left of the cleanup stack; `None` if none ran.
+    pub fn stay_at(&self, depth: u32) -> Option<Stay> {
+        Some(self.frames.get(depth as usize)?.stay)
+    }
+
+    /// Returns what the body that ran at this depth in this step left, if it has ended with more items than it began with and returned no
+    /// pointer; `None` if it did not, or if another body has begun at this depth since.
+    pub fn left_by(&self, depth: u32, step: u32) -> Option<Stay> {
+        let frame = self.frames.get(depth as usize)?;
+        let has_left = frame.stay.began < frame.stay.ended && frame.since <= step;
+        match frame.statement {
+            Some(Statement::ReturnPointer(_)) => None,
+            _ if has_left && self.depth < depth => Some(frame.stay),
+            _ => None,
         }
     }
 

@@ -1,5 +1,6 @@
 //! The items on the cleanup stack, and where each was pushed.
 
+use crate::calls::Stay;
 use crate::moments::{Moment, ShortLine};
 use std::alloc::{AllocError, Global};
 use wb_heap_model::heap::{Item, Ptr};
@@ -31,12 +32,22 @@ impl ItemOnStack {
     }
 }
 
+/// An item that a line took off, though another body had pushed it.
+#[derive(Clone, Copy, Debug, PartialEq, Eq)]
+pub struct Taken {
+    pub line: u32,
+    pub pushed: u32,
+    /// The body that took off an item of its caller; or the one that had left the item to its caller.
+    pub body: Stay,
+}
+
 /// The items on the cleanup stack, the newest last.
 #[derive(Drop)]
 pub struct Items {
     items: Vec<ItemOnStack>,
-    /// The pop that last took off an item which a calling body had pushed; `None` if none did.
-    pub of_caller: Option<Popped>,
+    /// The item of a calling body that was taken off last, and the last one that a body had left which had ended; `None` if there is none.
+    pub of_caller: Option<Taken>,
+    pub of_callee: Option<Taken>,
 }
 
 impl Items {
@@ -45,6 +56,7 @@ impl Items {
         Items {
             items: Vec::new(alloc),
             of_caller: None,
+            of_callee: None,
         }
     }
 
@@ -73,8 +85,8 @@ impl Items {
         Ok(())
     }
 
-    /// A line pops the newest, while `depth` bodies run. Returns the item; `None` if there is none.
-    pub fn pop_by(&mut self, line: u32, depth: u32) -> Option<ItemOnStack> {
+    /// A line pops the newest. Returns the item; `None` if there is none.
+    pub fn pop_by(&mut self, line: u32) -> Option<ItemOnStack> {
         let Some(item) = self.items.pop() else {
             return None;
         };
@@ -82,9 +94,6 @@ impl Items {
             line: ShortLine::of(line),
             pushed: ShortLine::of(item.pushed.line),
         };
-        if item.depth < depth {
-            self.of_caller = Some(popped);
-        }
         if let Some(below) = self.items.last_mut() {
             below.above = Some(popped);
         }

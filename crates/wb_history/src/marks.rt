@@ -16,6 +16,8 @@ pub struct OpenMark {
 #[derive(Drop)]
 pub struct Marks {
     open: Vec<OpenMark>,
+    /// The line that closed a mark last; 0 if none did.
+    pub closed_at: u32,
     /// The mark that was closed last of those that a leave went past, and the line that closed it.
     pub closed_late: Option<(OpenMark, u32)>,
 }
@@ -25,6 +27,7 @@ impl Marks {
     pub fn new(alloc: Global) -> Marks {
         Marks {
             open: Vec::new(alloc),
+            closed_at: 0,
             closed_late: None,
         }
     }
@@ -46,6 +49,7 @@ impl Marks {
 
     /// A line closes the newest mark.
     pub fn end(&mut self, line: u32) {
+        self.closed_at = line;
         if let Some(mark) = self.open.pop()
             && mark.skipped_by != 0
         {

@@ -1,6 +1,6 @@
 //! The operands of a statement that name cells, by the words of its line.
 
-use crate::statements::target_of;
+use crate::statements::{edited_by, target_of};
 use wb_tree::script::{Argument, Condition, Pointer, Readable, Statement, Writable};
 
 /// The greatest index of a word that may name a cell: a `callto` has its target, the procedure's name, and up to 4 arguments.
@@ -49,13 +49,8 @@ fn first_name(statement: &Statement) -> Option<CellName> {
         | Statement::PopCheck(pointer)
         | Statement::LeaveIfNull(pointer)
         | Statement::ReturnPointer(pointer) => Some(CellName::Read(*pointer)),
-        Statement::Copy(text, _)
-        | Statement::Append(text, _)
-        | Statement::Insert(text, ..)
-        | Statement::DeleteText(text, ..)
-        | Statement::SetLength(text, _) => name_of_edited(*text),
         Statement::PrintText(text) => name_of_text(*text),
-        _ => None,
+        _ => name_of_edited(edited_by(statement)?),
     }
 }
 

@@ -1,8 +1,8 @@
 //! What a statement does with pointers, and what these pointers name before it begins.
 
-use wb_heap_model::heap::{Answer, Attempt, Item, Ptr};
+use wb_heap_model::heap::{Answer, Attempt, Item, KERR_NO_MEMORY, Ptr};
 use wb_machine::Machine;
-use wb_tree::script::{Holder, Number, Pointer, Refusal, Statement};
+use wb_tree::script::{Holder, Pointer, Refusal, Statement, Writable};
 
 /// The pointer that names no cell.
 pub const NULL: Ptr = Ptr {
@@ -31,8 +31,8 @@ pub struct Ahead<'a> {
     pub source: Ptr,
     /// How many turns a `repeat` is to take, or how many items a `popdestroy` is to destroy, if it doesn't panic; 0 for other statements.
     pub(crate) rest: u32,
-    /// Whether the statement leaves because of its operand, without any attempt.
-    leaves: bool,
+    /// The code with which the statement leaves because of its operand, without any attempt; `None` if it doesn't.
+    leaves: Option<i32>,
 }
 
 impl<'a> Ahead<'a> {
@@ -60,7 +60,12 @@ impl<'a> Ahead<'a> {
             Some(attempt) => attempt.answer != Answer::Granted,
             None => false,
         };
-        self.leaves || is_refused && leaves_if_refused(self.statement)
+        self.leaves.is_some() || is_refused && leaves_if_refused(self.statement)
+    }
+
+    /// Returns the code with which the statement leaves, if it leaves.
+    pub fn code(&self) -> i32 {
+        self.leaves.unwrap_or(KERR_NO_MEMORY)
     }
 
     /// The item that the statement pushes; `None` if it pushes none.
@@ -147,11 +152,27 @@ fn names_of(machine: &Machine<'_>, pointer: Option<Pointer>) -> Ptr {
     }
 }
 
-/// Returns what is named by the pointer that the last statement begun reads; null if it reads none.
+/// Returns what is named by the pointer that the last statement begun reads, or by that of the text that it edits; null if there is none.
 pub fn last_read(machine: &Machine<'_>) -> Ptr {
-    match machine.statement() {
-        Some(statement) => names_of(machine, pointers_of(statement).source),
-        None => NULL,
+    let Some(statement) = machine.statement() else {
+        return NULL;
+    };
+    match edited_by(statement) {
+        Some(Writable::InCell(pointer)) => machine.pointer(pointer),
+        Some(Writable::OwnBuffer(_)) => NULL,
+        None => names_of(machine, pointers_of(statement).source),
+    }
+}
+
+/// Returns the text that a statement edits; `None` if it edits none.
+pub fn edited_by(statement: &Statement) -> Option<Writable> {
+    match statement {
+        Statement::Copy(text, _)
+        | Statement::Append(text, _)
+        | Statement::Insert(text, ..)
+        | Statement::DeleteText(text, ..)
+        | Statement::SetLength(text, _) => Some(*text),
+        _ => None,
     }
 }
 
@@ -165,17 +186,17 @@ fn rest_of(machine: &Machine<'_>, statement: &Statement) -> u32 {
     }
 }
 
-fn leaves_by_operand(machine: &Machine<'_>, statement: &Statement, source: Ptr) -> bool {
+fn leaves_by_operand(machine: &Machine<'_>, statement: &Statement, source: Ptr) -> Option<i32> {
     match statement {
-        Statement::Leave(_) => true,
-        Statement::LeaveIfError(number) => is_below_zero(machine, *number),
-        Statement::LeaveIfNull(_) => source.number == 0,
-        _ => false,
+        Statement::Leave(number) => Some(machine.number(*number)),
+        Statement::LeaveIfError(number) => below_zero(machine.number(*number)),
+        Statement::LeaveIfNull(_) if source.number == 0 => Some(KERR_NO_MEMORY),
+        _ => None,
     }
 }
 
-fn is_below_zero(machine: &Machine<'_>, number: Number) -> bool {
-    machine.number(number) < 0
+fn below_zero(number: i32) -> Option<i32> {
+    if number < 0 { Some(number) } else { None }
 }
 
 fn leaves_if_refused(statement: &Statement) -> bool {

@@ -20,10 +20,13 @@ pub struct OpenTrap {
 #[derive(Clone, Copy, Debug, PartialEq, Eq)]
 pub struct Leave {
     pub at: Moment,
+    pub code: i32,
     /// How many bodies ran.
     depth: u32,
     /// The TRAP that caught it; `None` if `main` was left.
     pub caught: Option<OpenTrap>,
+    /// The first other line begun after it, outside of bodies that undo; 0 if there is none.
+    pub after: u32,
 }
 
 impl Leave {
@@ -83,6 +86,16 @@ impl Traps {
         self.leaves.last().copied()
     }
 
+    /// Returns the first leave from one step up to another; `None` if there is none.
+    pub fn leave_between(&self, from: u32, until: u32) -> Option<Leave> {
+        for leave in self.leaves.as_slice() {
+            if from <= leave.at.step && leave.at.step < until {
+                return Some(*leave);
+            }
+        }
+        None
+    }
+
     /// Returns the first leave that cut short the code in which a pointer got a cell; `None` if none did.
     pub fn leave_that_ended(&self, held: Held) -> Option<Leave> {
         for leave in self.leaves.as_slice() {
@@ -99,15 +112,32 @@ impl Traps {
         Ok(())
     }
 
-    /// A leave begins while `depth` bodies run, and the innermost TRAP catches it. Returns how many items were on the cleanup stack when
-    /// that TRAP began; 0 if `main` was left.
-    pub fn leave(&mut self, at: Moment, depth: u32) -> Result<usize, AllocError> {
+    /// A leave with a code begins while `depth` bodies run, and the innermost TRAP catches it. Returns how many items were on the cleanup
+    /// stack when that TRAP began; 0 if `main` was left.
+    pub fn leave(&mut self, at: Moment, code: i32, depth: u32) -> Result<usize, AllocError> {
         let caught = self.open.last().copied();
         if self.leaves.len() >= MOST_LEAVES {
             self.leaves.pop();
         }
-        self.leaves.push(Leave { at, depth, caught })?;
+        self.leaves.push(Leave {
+            at,
+            code,
+            depth,
+            caught,
+            after: 0,
+        })?;
         Ok(caught.map_or(0, |trap| trap.items))
+    }
+
+    /// A line begins outside of bodies that undo.
+    #[inline(always)]
+    pub fn begin_line(&mut self, line: u32) {
+        if let Some(newest) = self.leaves.last_mut()
+            && newest.after == 0
+            && newest.at.line != line
+        {
+            newest.after = line;
+        }
     }
 
     /// Only the outermost `count` TRAPs are still open.

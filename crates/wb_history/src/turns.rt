@@ -277,9 +277,13 @@ impl<'a> History<'a> {
             self.see_undoing(machine.depth())?;
         }
         self.attempts.see_turn(line, self.undoes);
+        if !self.undoes {
+            self.traps.begin_line(line);
+        }
         self.last = line;
+        let (statement, items) = (machine.statement(), self.items.count());
         self.calls
-            .begin(machine.depth(), line, machine.statement(), self.steps)
+            .begin(machine.depth(), line, statement, self.steps, items)
     }
 
     /// Sees that a body that undoes begins at the depth `inside`, or that none runs any more. Such a body takes the depth, and so the frames,
@@ -317,6 +321,14 @@ impl<'a> History<'a> {
         self.last_item = Some(newest);
         let line = self.last_line_outside();
         let by = self.destroyer(machine);
+        if by == By::PopDestroy {
+            let depth = if self.undoes {
+                self.outside.depth
+            } else {
+                self.calls.depth()
+            };
+            self.see_taken(newest, line, depth);
+        }
         match newest.item {
             Item::Free(pointer) => self.end_if_gone(machine, pointer, End::Freed, by, line),
             Item::Delete(object) => self.add_deletion(Deletion { object, by, line })?,

@@ -32,7 +32,7 @@ pub struct EndOfRun<'a> {
     pub pointer: Option<PointerFault>,
     pub values: Option<Meant>,
     pub counted: Option<Counted>,
-    /// What is named by the pointer that the last statement reads; null if it reads none.
+    /// What is named by the pointer that the last statement reads, or by that of the text that it edits; null if there is none.
     pub names: Ptr,
     /// The lines from `main` down to the line that is to be named for the panic; none without a panic.
     pub path: Vec<u32>,

@@ -2,10 +2,9 @@
 pub mod Asked
 pub mod AskedPieces
 pub mod Counted
+pub mod KeptRises
 pub mod Later
 pub mod Made
 pub mod NextMade
-pub mod NoRise
 pub mod NothingAsked
 pub mod Quiet
-pub mod QuietSteps

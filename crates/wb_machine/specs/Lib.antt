@@ -1,6 +1,5 @@
 pub mod Alike
 pub mod Asks
-pub mod AttemptRises
 pub mod BetweenTurns
 pub mod Bodies
 pub mod BufferEdits
@@ -24,10 +23,10 @@ pub mod NamesView
 pub mod ObjectInvariant
 pub mod Owed
 pub mod PointerOperands
-pub mod QuietTurns
 pub mod TextOperands
 pub mod TextInvariant
 pub mod TextStatements
 pub mod Results
+pub mod TurnSteps
 pub mod Turns
 pub mod Whole

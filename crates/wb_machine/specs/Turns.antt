@@ -1,5 +1,5 @@
 -- What callers see of a turn.
-use Rattle.std.specs.Prelude.{◌≡◌, ◌↔◌, ℕ, ◌+◌, ◌≤◌, true, false, min}
+use Rattle.std.specs.Prelude.{◌≡◌, ◌↔◌, ◌+◌, ◌≤◌, true, false, min}
 use Rattle.wb_meaning.specs.Run.{MakesMoreThan, run}
 use Rattle.wb_machine.specs.declared.machine.Turn.{Turn}
 use Rattle.wb_machine.specs.declared.machine.Turn.TheVariants.{GoesOn, Ended}
@@ -32,13 +32,6 @@ pub record TurnLeaves (turn : Turn) (old new : Seen) : Type 0 where
   pub rises : new.rises ≡ old.next_rises
   pub ended : (turn ≡ Ended) ↔ (new.over ≡ true)
   pub line : new.line ≡ line_after old
-
--- a run keeps the rises, and its next turn, which isn't the first, asks for an attempt after which they are what they were
-pub record WillMakeNoRise (m : Seen) : Type 0 where
-  pub begun : m.begun ≡ true
-  pub keeps : m.keeps_rises ≡ true
-  pub asks : m.asks ≡ true
-  pub same : m.next_rises ≡ m.rises
 
 -- the run of a machine makes more attempts than the machine has made so far, or the ceiling cuts it there
 abbrev pub MakesMore : Seen → Type 0

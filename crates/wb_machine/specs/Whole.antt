@@ -1,5 +1,5 @@
 -- A whole machine: what callers see of it, and what it keeps.
-use Rattle.std.specs.Prelude.{◌≡◌, ◌-◌, ◌≤◌, Bool, true, false, not, ◌&&◌, length, slice_get}
+use Rattle.std.specs.Prelude.{◌≡◌, ◌-◌, ◌≤◌, Bool, true, false, not, ◌&&◌, length, slice_get, is_some}
 use Rattle.wb_basics.specs.declared.limits.TheConstants.{LARGEST_BUDGET}
 use Rattle.wb_heap_model.specs.declared.heap.Rule.{Rule}
 use Rattle.wb_tree.specs.Sound.{is_script}
@@ -13,7 +13,7 @@ use Rattle.wb_machine.specs.RunState.{state_of}
 use Rattle.wb_machine.specs.Asks.{asks_next}
 use Rattle.wb_machine.specs.Depths.{open_traps_in}
 use Rattle.wb_machine.specs.BetweenTurns.{IsBetweenTurns}
-use Rattle.wb_machine.specs.QuietTurns.{steps_after}
+use Rattle.wb_machine.specs.TurnSteps.{steps_after}
 use Rattle.wb_machine.specs.Seen.{Seen}
 use Rattle.wb_machine.specs.Flow.{is_stop, is_over, has_met_ceiling, pending_in, progress_of, rest_at}
 use Rattle.wb_machine.specs.Results.{leaks_at_end}
@@ -21,6 +21,10 @@ use Rattle.wb_machine.specs.Results.{leaks_at_end}
 -- the run has ended
 abbrev pub has_ended : Inside → Bool
 has_ended m = m.begun && is_over m.control.ending m.control.pieces.items
+
+-- memory has run out in one of its turns
+abbrev pub has_failed : Inside → Bool
+has_failed m = is_some m.failed
 
 abbrev pub progress_in : Inside → Progress
 progress_in m = progress_of m.begun m.control.ending (pending_in m.state.callers m.control.pieces.items) (state_of m.script.now m.state)
@@ -48,8 +52,8 @@ seen m = record {
   begun = m.begun;
   over = has_ended m;
   met_ceiling = has_met_ceiling m.control.ending;
-  asks = not m.failed && asks_next m.script.now m.budget (progress_in m);
-  failed = m.failed;
+  asks = not (has_failed m) && asks_next m.script.now m.budget (progress_in m);
+  failed = has_failed m;
   keeps_rises = keeps_rises m.state.debug;
   rises = m.state.debug.rises;
   next_rises = (run_to_next m).rises;
@@ -75,5 +79,5 @@ Keeps m = (r : Rule) → Fits r m.state.debug.rule (has_ended m) m.state.debug.a
 
 -- what each machine keeps, unless its memory ran out
 pub record IsMachine (m : Inside) : Type 0 where
-  pub sound : m.failed ≡ false → IsSound m
-  pub keeps : m.failed ≡ false → Keeps m
+  pub sound : has_failed m ≡ false → IsSound m
+  pub keeps : has_failed m ≡ false → Keeps m

@@ -19,7 +19,11 @@ impl<'a> Machine<'a> {
         ensures there { result ≡ true → (other.now.failed ≡ false) × (other.now.begun ≡ true) }
         ensures budget { result ≡ true → other.now.budget ≡ self.now.budget }
     {
-        !self.failed && !other.failed && self.begun && other.begun && self.budget == other.budget
+        self.failed.is_none()
+            && other.failed.is_none()
+            && self.begun
+            && other.begun
+            && self.budget == other.budget
     }
 
     /// Whether another run has equally many pieces pending, and its next statement is on the same line of the script. This is so of any two

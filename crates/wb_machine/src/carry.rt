@@ -1,9 +1,8 @@
 //! Which function carries out which statement. The statements on texts are in `carry_text`.
 
-ghost use Rattle.std.specs.Prelude.{◌≡◌, ◌+◌, ◌^◌, ◌<◌, length, None, IfOk, IsOk, OnOk, IsTrue};
+ghost use Rattle.std.specs.Prelude.{◌≡◌, ◌+◌, ◌^◌, ◌<◌, length, None, IfOk, IsTrue};
 ghost use Rattle.wb_tree.specs.Sound.{is_script};
 ghost use Rattle.wb_tree.specs.declared.script.Statement.TheViews.{out-Statement};
-ghost use Rattle.wb_machine.specs.AttemptRises.{AsksForNoRise};
 ghost use Rattle.wb_machine.specs.Flow.{IsSimple, IsCarriedOut};
 ghost use Rattle.wb_machine.specs.Owed.{HasStack, KeepsCount, MayAttempt};
 ghost use Rattle.wb_machine.specs.InPlace.{is_in_place};
@@ -34,7 +33,6 @@ impl State {
         requires room { length self.old.items < self.old.slots }
         ensures kept { IfOk result (λ ending.
             IsCarriedOut script.now floor (out-Statement first.now) self.old ending self.new) }
-        ensures quiet { AsksForNoRise script.now self.old (out-Statement first.now) → IsOk result }
         ensures keeps { KeepsCount self.old self.new }
     {
         match first {

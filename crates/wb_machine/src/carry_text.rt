@@ -1,9 +1,8 @@
 //! Which function carries out which statement on texts.
 
-ghost use Rattle.std.specs.Prelude.{◌≡◌, ℕ, None, IfOk, IsOk, IsTrue};
+ghost use Rattle.std.specs.Prelude.{◌≡◌, ℕ, None, IfOk, IsTrue};
 ghost use Rattle.wb_tree.specs.Sound.{is_script};
 ghost use Rattle.wb_tree.specs.declared.script.Statement.TheViews.{out-Statement};
-ghost use Rattle.wb_machine.specs.AttemptRises.{AsksForNoRise};
 ghost use Rattle.wb_machine.specs.Flow.{IsSimple, IsCarriedOut};
 ghost use Rattle.wb_machine.specs.TextStatements.{is_on_text};
 ghost use Rattle.wb_machine.specs.Owed.{KeepsCount, MayAttempt};
@@ -27,7 +26,6 @@ impl State {
         requires number { MayAttempt self.old }
         ensures kept { (floor : ℕ) → IfOk result (λ ending.
             IsCarriedOut script.now floor (out-Statement first.now) self.old ending self.new) }
-        ensures quiet { AsksForNoRise script.now self.old (out-Statement first.now) → IsOk result }
         ensures keeps { KeepsCount self.old self.new }
     {
         match first {

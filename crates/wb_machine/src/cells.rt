@@ -1,12 +1,11 @@
 //! Statements that allocate, reallocate and release cells.
 
-ghost use Rattle.std.specs.Prelude.{◌≡◌, ◌≢◌, false, ◌+◌, ◌^◌, ◌<◌, ◌≤◌, length, true, IfOk, IfSome, IsOk, IsSome, OnErr, OnOk};
+ghost use Rattle.std.specs.Prelude.{◌≡◌, ◌≢◌, false, ◌<◌, ◌≤◌, length, true, IfOk, IfSome, IsSome, OnErr, OnOk};
 ghost use Rattle.wb_heap_model.specs.declared.heap.Kind.TheVariants.{Raw, Text};
-ghost use Rattle.wb_heap_model.specs.Debug.{alloc_made, keeps_rises, realloc_made, with_row};
+ghost use Rattle.wb_heap_model.specs.Debug.{alloc_made, realloc_made, with_row};
 ghost use Rattle.wb_heap_model.specs.Row.{cell_at, without};
 ghost use Rattle.wb_heap_model.specs.Heap.{is_cleanup};
 ghost use Rattle.wb_meaning.specs.Operands.{within};
-ghost use Rattle.wb_machine.specs.AttemptRises.{alloc_rises, cell_rises, raw_rises, realloc_rises};
 ghost use Rattle.wb_machine.specs.RunState.{with_debug};
 ghost use Rattle.wb_machine.specs.Effects.{pointer_read, number_read, refused_effect, given_effect, alloc_effect};
 ghost use Rattle.wb_machine.specs.Effects.{realloc_within, realloc_effect, usable_effect, free_effect};
@@ -47,8 +46,6 @@ impl State {
         ensures made { OnOk result (self.new
             ≡ with_debug self.old (alloc_made self.old.debug bytes kind).debug) }
         ensures err { OnErr result (self.new ≡ self.old) }
-        ensures quiet { keeps_rises self.old.debug ≡ true →
-            alloc_rises self.old kind bytes ≡ self.old.debug.rises → IsOk result }
         ensures level { self.new.debug.heap.level ≡ self.old.debug.heap.level }
         ensures keeps { KeepsCount self.old self.new }
     {
@@ -68,9 +65,6 @@ impl State {
         ensures made { OnOk result (IfSome (cell_at ptr self.old.debug.heap.row) (λ c.
             self.new ≡ with_debug self.old (realloc_made self.old.debug c bytes).debug)) }
         ensures err { OnErr result (self.new ≡ self.old) }
-        ensures quiet { keeps_rises self.old.debug ≡ true →
-            cell_rises self.old bytes (cell_at ptr self.old.debug.heap.row) ≡ self.old.debug.rises →
-            IsOk result }
         ensures keeps { KeepsCount self.old self.new }
     {
         self.heap.attempt_realloc(ptr, bytes)
@@ -121,9 +115,6 @@ impl State {
             (alloc_effect self.old target.now refusal (number_read self.old bytes.now)) ending
             self.new) }
         ensures err { OnErr result (self.new ≡ self.old) }
-        ensures quiet { keeps_rises self.old.debug ≡ true →
-            raw_rises self.old (within LARGEST_REQUEST (number_read self.old bytes.now))
-            ≡ self.old.debug.rises → IsOk result }
         ensures keeps { KeepsCount self.old self.new }
     {
         let Some(bytes) = number_within(LARGEST_REQUEST, self.number(*bytes)) else {
@@ -148,10 +139,6 @@ impl State {
             CarriesOut self.old (realloc_within self.old target.now refusal c
             (within LARGEST_REQUEST (number_read self.old bytes.now))) ending self.new)) }
         ensures err { OnErr result (self.new ≡ self.old) }
-        ensures quiet { keeps_rises self.old.debug ≡ true → IfSome
-            (within LARGEST_REQUEST (number_read self.old bytes.now)) (λ n.
-            cell_rises self.old n (cell_at ptr self.old.debug.heap.row) ≡ self.old.debug.rises) →
-            IsOk result }
         ensures keeps { KeepsCount self.old self.new }
     {
         let Some(bytes) = number_within(LARGEST_REQUEST, self.number(*bytes)) else {
@@ -177,10 +164,6 @@ impl State {
             (pointer_read script.now self.old source.now) (number_read self.old bytes.now)) ending
             self.new) }
         ensures err { OnErr result (self.new ≡ self.old) }
-        ensures quiet { keeps_rises self.old.debug ≡ true →
-            realloc_rises self.old (pointer_read script.now self.old source.now)
-            (within LARGEST_REQUEST (number_read self.old bytes.now)) ≡ self.old.debug.rises →
-            IsOk result }
         ensures keeps { KeepsCount self.old self.new }
     {
         let ptr = self.pointer(script, *source);

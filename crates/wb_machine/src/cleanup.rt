@@ -1,6 +1,6 @@
 //! The cleanup stack: attempt 1, which makes it, and statements that push items and pop them.
 
-ghost use Rattle.std.specs.Prelude.{◌≡◌, ◌≢◌, ◌-◌, ◌^◌, ◌<◌, length, take, true, None, Some, IfErr, IfOk, IsOk, OnErr, OnOk};
+ghost use Rattle.std.specs.Prelude.{◌≡◌, ◌≢◌, ◌-◌, ◌^◌, ◌<◌, length, take, true, None, Some, IfErr, IfOk, OnErr, OnOk};
 ghost use Rattle.wb_heap_model.specs.declared.heap.Gave.TheVariants.{Ceiling};
 ghost use Rattle.wb_heap_model.specs.declared.heap.Item.TheVariants as I;
 ghost use Rattle.wb_heap_model.specs.CellRow.{payload_of};
@@ -8,7 +8,6 @@ ghost use Rattle.wb_meaning.specs.Operands.{not_negative};
 ghost use Rattle.wb_heap_model.specs.Pointers.{newest};
 ghost use Rattle.wb_cleanup.specs.Pushes.{pushed_by};
 ghost use Rattle.wb_cleanup.specs.Stacks.{expected_refusal, pop_refusal};
-ghost use Rattle.wb_machine.specs.AttemptRises.{push_rises};
 ghost use Rattle.wb_machine.specs.RunState.{first_state, with_debug};
 ghost use Rattle.wb_heap_model.specs.Debug.{keeps_rises};
 ghost use Rattle.wb_machine.specs.Effects.{first_made, started_by, is_granted, number_read, pointer_read};
@@ -76,8 +75,6 @@ impl State {
             IsPushed self.old item self.new) }
         ensures cut { IfOk result (λ pushed. pushed ≡ Pushed.Ceiling → self.new ≡ self.old) }
         ensures err { OnErr result (self.new ≡ self.old) }
-        ensures quiet { keeps_rises self.old.debug ≡ true →
-            push_rises self.old ≡ self.old.debug.rises → IsOk result }
         ensures there { IsStackThere self.old }
         ensures stands { IsStackThere self.new }
         ensures keeps { KeepsCount self.old self.new }
@@ -98,8 +95,6 @@ impl State {
             (push_effect self.old item (payload_of self.new.cleanup self.new.debug.heap.row)) ending
             self.new) }
         ensures err { OnErr result (self.new ≡ self.old) }
-        ensures quiet { keeps_rises self.old.debug ≡ true →
-            push_rises self.old ≡ self.old.debug.rises → IsOk result }
         ensures there { IsStackThere self.old }
         ensures stands { IsStackThere self.new }
         ensures keeps { KeepsCount self.old self.new }
@@ -121,8 +116,6 @@ impl State {
             (push_effect self.old (I.Free (pointer_read script.now self.old pointer.now))
             (payload_of self.new.cleanup self.new.debug.heap.row)) ending self.new) }
         ensures err { OnErr result (self.new ≡ self.old) }
-        ensures quiet { keeps_rises self.old.debug ≡ true →
-            push_rises self.old ≡ self.old.debug.rises → IsOk result }
         ensures there { IsStackThere self.old }
         ensures stands { IsStackThere self.new }
         ensures keeps { KeepsCount self.old self.new }
@@ -140,8 +133,6 @@ impl State {
             (push_effect self.old (I.Delete (pointer_read script.now self.old pointer.now))
             (payload_of self.new.cleanup self.new.debug.heap.row)) ending self.new) }
         ensures err { OnErr result (self.new ≡ self.old) }
-        ensures quiet { keeps_rises self.old.debug ≡ true →
-            push_rises self.old ≡ self.old.debug.rises → IsOk result }
         ensures there { IsStackThere self.old }
         ensures stands { IsStackThere self.new }
         ensures keeps { KeepsCount self.old self.new }
@@ -164,8 +155,6 @@ impl State {
             (push_effect self.old (I.Call (pointer_read script.now self.old pointer.now) operation)
             (payload_of self.new.cleanup self.new.debug.heap.row)) ending self.new) }
         ensures err { OnErr result (self.new ≡ self.old) }
-        ensures quiet { keeps_rises self.old.debug ≡ true →
-            push_rises self.old ≡ self.old.debug.rises → IsOk result }
         ensures there { IsStackThere self.old }
         ensures stands { IsStackThere self.new }
         ensures keeps { KeepsCount self.old self.new }

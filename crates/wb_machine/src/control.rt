@@ -3,7 +3,7 @@
 //! pieces that are done in `unwinding`, and machine turns in `running`.
 
 ghost use Rattle.std.specs.Prelude.{IfOk, List, take, vec_len, ◌-◌, ◌≡◌, ◌+◌, ◌^◌, ◌<◌, ◌≤◌, ◌⊎◌, ◌++◌, ◌∷◌, [], ℕ};
-ghost use Rattle.std.specs.Prelude.{true, false, if◌then◌else◌, length, unwrap_or, max, vec_capacity, IsOk, IsTrue, OnOk};
+ghost use Rattle.std.specs.Prelude.{true, false, if◌then◌else◌, length, unwrap_or, max, IsTrue, OnOk};
 ghost use Rattle.wb_tree.specs.Sound.{is_script};
 ghost use Rattle.wb_meaning.specs.Statements.{turns};
 ghost use Rattle.wb_tree.specs.Bodies.{procedure_at};
@@ -22,13 +22,11 @@ ghost use Rattle.wb_machine.specs.Flow.{context_of, pending_in, is_stop, is_over
 ghost use Rattle.wb_machine.specs.Flow.{IsFirst, IsOwn, AreSound, IsReady, rest_from, rest_of_piece};
 ghost use Rattle.wb_machine.specs.Flow.{rest_of_statement};
 ghost use Rattle.wb_machine.specs.Asks.{asks_next};
-ghost use Rattle.wb_machine.specs.AttemptRises.{AsksForNoRise};
 ghost use Rattle.wb_machine.specs.Effects.{stepped};
 ghost use Rattle.wb_machine.specs.ObjectInvariant.{AreWhole, StaysWhole};
 ghost use Rattle.wb_machine.specs.Owed.{HasStack, Stays};
 ghost use Rattle.wb_machine.specs.SlotInvariant.{slots_for, slots_for_all, to_destroy, to_destroy_first};
 ghost use Rattle.wb_machine.specs.SlotInvariant.{HasRoom};
-ghost use Rattle.wb_machine.specs.QuietTurns.{catches_first, BeginsNoRise};
 ghost use Rattle.wb_machine.specs.Steps.{MayBegin, MayStep};
 
 mod calls;
@@ -184,9 +182,6 @@ impl<'a> Control<'a> {
             ≡ max (slots_for_all self.old.pieces.items) (slots_for piece.entry)) }
         ensures first { OnOk result (to_destroy_first self.new.pieces.items
             ≡ to_destroy piece.entry) }
-        ensures more { OnOk result (vec_len self.new.pieces ≡ vec_len self.old.pieces + 1) }
-        ensures capacity { vec_capacity self.old.pieces ≤ vec_capacity self.new.pieces }
-        ensures enough { vec_len self.old.pieces < vec_capacity self.old.pieces → IsOk result }
         ensures line { self.new.line ≡ self.old.line }
     {
         self.pieces.push(piece)?;
@@ -284,9 +279,6 @@ impl<'a> Control<'a> {
         ensures steps { OnOk result (state.new.steps ≡ state.old.steps + 1) }
         ensures room { OnOk result (HasRoom self.new.ending self.new.pieces.items state.new) }
         ensures whole { OnOk result (StaysWhole script.now state.old state.new) }
-        ensures quiet { AsksForNoRise script.now (stepped state.old)
-            (out-Statement first.now.statement) →
-            (IsOk result) × (self.new.pieces ≡ self.old.pieces) }
         ensures line { OnOk result (self.new.line ≡ first.now.line) }
     {
         state.tick();
@@ -350,8 +342,6 @@ impl<'a> Control<'a> {
         ensures steps { OnOk result (state.new.steps ≡ state.old.steps + 1) }
         ensures room { OnOk result (HasRoom self.new.ending self.new.pieces.items state.new) }
         ensures whole { OnOk result (StaysWhole script.now state.old state.new) }
-        ensures quiet { BeginsNoRise script.now self.old.pieces.items state.old →
-            (IsOk result) × (catches_first self.new.pieces.items ≡ false) }
         ensures line { OnOk result (self.new.line
             ≡ unwrap_or (first_line (pending_in state.old.callers self.old.pieces.items))
             self.old.line) }

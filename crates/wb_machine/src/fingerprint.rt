@@ -10,8 +10,11 @@ use crate::state::State;
 use wb_debug::DebugHeap;
 use wb_heap_model::heap::{Header, Kind, Ptr};
 
-/// How many words of a cell, and how many units of a buffer, go into the fingerprint at most.
-pub const MOST_WORDS: u32 = 16;
+/// How many words of a cell go into the fingerprint at most, so that a long cell doesn't make each fingerprint slow.
+const MOST_WORDS: u32 = 4_096;
+
+/// How many words an item of the cleanup stack takes in its cell.
+const ITEM_WORDS: u32 = 4;
 
 /// An odd number whose ones and zeros are spread over all of its bits.
 const FACTOR: u64 = 0x9e37_79b9_7f4a_7c15;
@@ -70,32 +73,52 @@ fn add_fields(print: &mut Fingerprint, heap: &DebugHeap, ptr: Ptr, count: u32)
     }
 }
 
-/// Adds the first words of a payload of `count` words, in an object the places of its fields alone. The items of the cleanup stack aren't
-/// added.
-fn add_content(print: &mut Fingerprint, heap: &DebugHeap, kind: Kind, ptr: Ptr, count: u32)
+/// Adds the items of the cleanup stack, which are the first of its cell's payload of `count` words: of each what is done with it, the place
+/// that it names and its operation.
+fn add_items(print: &mut Fingerprint, heap: &DebugHeap, ptr: Ptr, count: u32, items: u32)
+    requires { length (payload_of ptr heap.now.heap.row) ≡ count }
+{
+    for item in 0..items.min(count / ITEM_WORDS) {
+        let at = ITEM_WORDS * item;
+        print.add(heap.payload(ptr, at), heap.payload(ptr, at + 1));
+        print.add(item, heap.payload(ptr, at + 3));
+    }
+}
+
+/// Adds what a payload of `count` words holds: its first words, in an object the places of its fields alone, and in the cleanup stack's
+/// cell its `items` items, since what is past them isn't the same in runs that go on alike.
+fn add_content(
+    print: &mut Fingerprint,
+    heap: &DebugHeap,
+    kind: Kind,
+    ptr: Ptr,
+    count: u32,
+    items: u32,
+)
     requires { length (payload_of ptr heap.now.heap.row) ≡ count }
 {
     match kind {
         Kind::Raw => add_words(print, heap, ptr, count),
         Kind::Text => add_words(print, heap, ptr, count),
         Kind::Object(_) => add_fields(print, heap, ptr, count),
-        Kind::Cleanup => {}
+        Kind::Cleanup => add_items(print, heap, ptr, count, items),
     }
 }
 
-/// Adds the cell that a pointer names. Returns where the cell ends; `None` if there is no such cell.
-fn add_cell(print: &mut Fingerprint, heap: &DebugHeap, ptr: Ptr) -> Option<u32> {
+/// Adds the cell that a pointer names, where the cleanup stack has `items` items. Returns where the cell ends; `None` if there is no such
+/// cell.
+fn add_cell(print: &mut Fingerprint, heap: &DebugHeap, ptr: Ptr, items: u32) -> Option<u32> {
     let Some(cell) = heap.header(ptr) else {
         return None;
     };
     print.add(cell.place, cell.length);
     print.add(number_of(cell.kind), cell.level);
-    add_content(print, heap, cell.kind, ptr, cell.words());
+    add_content(print, heap, cell.kind, ptr, cell.words(), items);
     Some(cell.end())
 }
 
-/// Adds all live cells, in order of place.
-fn add_cells(print: &mut Fingerprint, heap: &DebugHeap) {
+/// Adds all live cells, in order of place, where the cleanup stack has `items` items.
+fn add_cells(print: &mut Fingerprint, heap: &DebugHeap, items: u32) {
     let (count, total) = heap.alloc_size();
     print.add(count, total);
     let mut at = 0;
@@ -103,7 +126,7 @@ fn add_cells(print: &mut Fingerprint, heap: &DebugHeap) {
         let Some(cell) = heap.next_live(at) else {
             return;
         };
-        let Some(end) = add_cell(print, heap, cell.pointer()) else {
+        let Some(end) = add_cell(print, heap, cell.pointer(), items) else {
             return;
         };
         at = end;
@@ -116,14 +139,14 @@ impl State {
         print.add(self.items(), self.heap.level());
         print.add(0, self.this.place);
         self.locals.add_to(print);
-        add_cells(print, &self.heap);
+        add_cells(print, &self.heap, self.items());
     }
 }
 
 impl<'a> Machine<'a> {
     /// The fingerprint of this run: if `goes_on_like` says of two runs that they go on alike, both have the same one. It is made of the
-    /// pending pieces, the number of items and of open marks, the locals, and the live cells with the first words of what they hold. Of a
-    /// pointer it takes the place, and never the allocation number. Asks for no memory.
+    /// pending pieces, the items, the number of open marks, the locals, and the live cells with what they hold, of a long cell the first
+    /// 4,096 words. Of a pointer it takes the place, and never the allocation number. Asks for no memory.
     pub fn fingerprint(&self) -> u64 {
         let mut print = Fingerprint::new();
         self.control.add_to(&mut print);

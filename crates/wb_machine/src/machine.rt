@@ -13,13 +13,13 @@ ghost use Rattle.wb_machine.specs.Flow.{is_stop};
 ghost use Rattle.wb_machine.specs.RunState.{first_state};
 ghost use Rattle.wb_machine.specs.Seen.{seen_at_start};
 ghost use Rattle.wb_machine.specs.Results.{leaks_at_end};
-ghost use Rattle.wb_machine.specs.Turns.{IsSameRun, MakesMore, TurnLeaves, WillMakeNoRise};
+ghost use Rattle.wb_machine.specs.Turns.{IsSameRun, MakesMore, TurnLeaves};
 
 use crate::control::Control;
 use crate::fault::RunFault;
 use crate::pieces::Ending;
 use crate::state::State;
-use std::alloc::{AllocError, Global};
+use std::alloc::Global;
 use std::marker::Model;
 use wb_basics::items::Items;
 use wb_basics::limits::LARGEST_BUDGET;
@@ -48,7 +48,7 @@ pub struct Machine<'a> {
     pub(crate) control: Control<'a>,
     pub(crate) state: State,
     pub(crate) leaks: Leaks,
-    pub(crate) failed: bool,
+    pub(crate) failed: Option<NoMemory>,
 }
 
 impl<'a> Model for Machine<'a> {
@@ -115,8 +115,7 @@ impl<'a> Machine<'a> {
     /// makes one attempt where `will_attempt` was true before it, unless the ceiling cuts the run, and none
     /// elsewhere. Once the run is over it answers `Ended` and changes nothing. After `NoMemory` the machine
     /// answers `NoMemory` for good. The turn after which a run has ended plainly, or by a leave, lists the leaks; no other asks
-    /// for memory for them. Where the rises are kept, a turn after the first asks for no memory but this if its attempt is no
-    /// rise.
+    /// for memory for them.
     pub fn step(&mut self) -> Result<Turn, NoMemory>
         ensures same { IsSameRun self.old self.new }
         ensures turned { IfOk result (λ turn. TurnLeaves turn self.old self.new) }
@@ -126,24 +125,28 @@ impl<'a> Machine<'a> {
         ensures more { self.new.attempts ≤ self.old.attempts + 1 }
         ensures failed { OnErr result (self.new.failed ≡ true) }
         ensures for_good { self.old.failed ≡ true → (is_err result ≡ true) × (self.new ≡ self.old) }
-        ensures quiet { WillMakeNoRise self.old → OnErr result (self.new.over ≡ true) }
     {
-        if self.failed {
-            return Err(NoMemory::from(AllocError));
+        if let Some(error) = self.failed {
+            return Err(error);
         }
         if self.begun && self.control.is_over() {
             return Ok(Turn::Ended);
         }
-        self.failed = true;
-        self.control
-            .turn(self.script, self.budget, self.begun, &mut self.state)?;
+        let turned = self
+            .control
+            .turn(self.script, self.budget, self.begun, &mut self.state);
+        if let Err(error) = turned {
+            self.failed = Some(error);
+            return Err(error);
+        }
         self.begun = true;
         if !self.control.is_over() {
-            self.failed = false;
             return Ok(Turn::GoesOn);
         }
-        list_leaks(&mut self.leaks, self.control.ending(), &self.state)?;
-        self.failed = false;
+        if let Err(error) = list_leaks(&mut self.leaks, self.control.ending(), &self.state) {
+            self.failed = Some(error);
+            return Err(error);
+        }
         Ok(Turn::Ended)
     }
 
@@ -190,7 +193,7 @@ impl<'a> Machine<'a> {
         ensures going { result ≡ true → (self.now.over ≡ false) × (self.now.failed ≡ false) }
         ensures made { result ≡ true → MakesMore self.now }
     {
-        if self.failed {
+        if self.failed.is_some() {
             return false;
         }
         if !self.begun {
@@ -229,11 +232,17 @@ impl<'a> Machine<'a> {
         ensures over { OnOk result (self.new.over ≡ true) }
         ensures well { OnOk result (self.new.failed ≡ false) }
     {
-        self.failed = true;
-        self.control
-            .take_all_turns(self.script, self.budget, &mut self.state)?;
-        list_leaks(&mut self.leaks, self.control.ending(), &self.state)?;
-        self.failed = false;
+        let taken = self
+            .control
+            .take_all_turns(self.script, self.budget, &mut self.state);
+        if let Err(error) = taken {
+            self.failed = Some(error);
+            return Err(error);
+        }
+        if let Err(error) = list_leaks(&mut self.leaks, self.control.ending(), &self.state) {
+            self.failed = Some(error);
+            return Err(error);
+        }
         Ok(())
     }
 
@@ -267,7 +276,7 @@ fn at_start<'a>(alloc: Global, script: &'a Script, budget: u32, state: State) ->
         control: Control::new(alloc),
         state,
         leaks: Items::new(alloc),
-        failed: false,
+        failed: None,
     }
 }
 

@@ -1,12 +1,11 @@
 //! Statements that make objects, the class of an object, and its fields.
 
-ghost use Rattle.std.specs.Prelude.{◌≡◌, ◌+◌, ◌*◌, ◌^◌, ◌<◌, ◌≤◌, true, Ok, length, IfOk, IsOk, OnErr, OnOk, IsTrue};
+ghost use Rattle.std.specs.Prelude.{◌≡◌, ◌+◌, ◌*◌, ◌<◌, ◌≤◌, Ok, length, IfOk, OnErr, OnOk, IsTrue};
 ghost use Rattle.wb_tree.specs.Bodies.{class_at};
 ghost use Rattle.wb_tree.specs.Sound.{is_script};
 ghost use Rattle.wb_heap_model.specs.CellRow.{payload_of};
-ghost use Rattle.wb_heap_model.specs.Debug.{debug_changed, keeps_rises, with_row};
+ghost use Rattle.wb_heap_model.specs.Debug.{debug_changed, with_row};
 ghost use Rattle.wb_objects.specs.Objects.{object_made, with_field};
-ghost use Rattle.wb_machine.specs.AttemptRises.{new_rises};
 ghost use Rattle.wb_machine.specs.Bodies.{class_read};
 ghost use Rattle.wb_machine.specs.ObjectEffects.{new_effect};
 ghost use Rattle.wb_machine.specs.Owed.{CarriesOut, KeepsCount, MayAttempt};
@@ -73,8 +72,6 @@ impl State {
         ensures made { OnOk result (self.new ≡ with_debug self.old
             (object_made self.old.debug class (class_at script.now class)).debug) }
         ensures err { OnErr result (self.new ≡ self.old) }
-        ensures quiet { keeps_rises self.old.debug ≡ true →
-            new_rises script.now self.old class ≡ self.old.debug.rises → IsOk result }
         ensures keeps { KeepsCount self.old self.new }
     {
         wb_objects::make(&mut self.heap, script, class)
@@ -95,8 +92,6 @@ impl State {
         ensures effect { IfOk result (λ ending. CarriesOut self.old
             (new_effect script.now self.old target.now class refusal) ending self.new) }
         ensures err { OnErr result (self.new ≡ self.old) }
-        ensures quiet { keeps_rises self.old.debug ≡ true →
-            new_rises script.now self.old class ≡ self.old.debug.rises → IsOk result }
         ensures keeps { KeepsCount self.old self.new }
     {
         let gave = self.attempt_object(script, class)?;

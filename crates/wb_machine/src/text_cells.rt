@@ -1,14 +1,12 @@
 //! Statements that allocate and reallocate texts in cells, and edits of such texts.
 
-ghost use Rattle.std.specs.Prelude.{◌≡◌, ◌+◌, ◌*◌, ◌^◌, ◌<◌, ◌≤◌, true, None, Some, length, IfOk, IfSome, IsOk, OnErr, OnOk};
+ghost use Rattle.std.specs.Prelude.{◌≡◌, ◌+◌, ◌*◌, ◌<◌, ◌≤◌, None, Some, length, IfOk, IfSome, OnErr, OnOk};
 ghost use Rattle.wb_basics.specs.declared.limits.TheConstants.{MOST_UNITS};
-ghost use Rattle.wb_heap_model.specs.Debug.{keeps_rises, realloc_made};
-ghost use Rattle.wb_meaning.specs.Operands.{within};
+ghost use Rattle.wb_heap_model.specs.Debug.{realloc_made};
 ghost use Rattle.wb_heap_model.specs.Row.{cell_at};
 ghost use Rattle.wb_heap_model.specs.TextCells.{debug_edited, max_at, text_at};
 ghost use Rattle.wb_heap_model.specs.Texts.{answer_of, delete_text, set_length_text};
 ghost use Rattle.wb_hbuf.specs.Sources.{IsApart, IsSource, SuitsEdit, cell_edited};
-ghost use Rattle.wb_machine.specs.AttemptRises.{realloc_text_rises, text_rises};
 ghost use Rattle.wb_machine.specs.RunState.{with_debug};
 ghost use Rattle.wb_machine.specs.TextOperands.{text_refusal};
 ghost use Rattle.wb_machine.specs.TextInvariant.{AreTexts};
@@ -39,8 +37,6 @@ impl State {
         ensures made { OnOk result (IfSome (cell_at ptr self.old.debug.heap.row) (λ c.
             self.new ≡ with_debug self.old (realloc_made self.old.debug c (4 + 2 * units)).debug)) }
         ensures err { OnErr result (self.new ≡ self.old) }
-        ensures quiet { keeps_rises self.old.debug ≡ true →
-            realloc_text_rises self.old ptr (Some units) ≡ self.old.debug.rises → IsOk result }
         ensures keeps { KeepsCount self.old self.new }
     {
         wb_hbuf::remake(&mut self.heap, ptr, units)
@@ -58,9 +54,6 @@ impl State {
             (new_text_effect self.old target refusal (number_read self.old units)) ending
             self.new) }
         ensures err { OnErr result (self.new ≡ self.old) }
-        ensures quiet { keeps_rises self.old.debug ≡ true →
-            text_rises self.old (within MOST_UNITS (number_read self.old units))
-            ≡ self.old.debug.rises → IsOk result }
         ensures keeps { KeepsCount self.old self.new }
     {
         let Some(units) = number_within(MOST_UNITS, self.number(units)) else {
@@ -83,10 +76,6 @@ impl State {
             (realloc_text_effect self.old target (pointer_read script.now self.old source)
             (number_read self.old units)) ending self.new) }
         ensures err { OnErr result (self.new ≡ self.old) }
-        ensures quiet { keeps_rises self.old.debug ≡ true →
-            realloc_text_rises self.old (pointer_read script.now self.old source)
-            (within MOST_UNITS (number_read self.old units)) ≡ self.old.debug.rises →
-            IsOk result }
         ensures texts { AreTexts self.old.debug.heap.row }
         ensures keeps { KeepsCount self.old self.new }
     {

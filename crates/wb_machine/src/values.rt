@@ -44,7 +44,7 @@ impl<'a> Machine<'a> {
 
     /// How many units a text has; `None` if the text can't be read, or after `NoMemory`.
     pub fn length(&self, text: Readable) -> Option<u32> {
-        if self.failed {
+        if self.failed.is_some() {
             return None;
         }
         match self.state.window(self.script, text) {

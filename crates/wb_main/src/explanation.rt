@@ -13,12 +13,11 @@ use wb_basics::limits::CEILING;
 use wb_basics::memory::NoMemory;
 use wb_explain::files::{Deed, file_fault};
 use wb_explain::runs::{
-    Explanation, greatest_bad, heaps_found, last_bad, last_named, lengths_found, longest_better,
-    numbers_found, states_found,
+    Explanation, greatest_bad, heaps_found, last_bad, lengths_found, longest_better, numbers_found,
+    states_found,
 };
 use wb_heap_model::heap::Rule;
-use wb_heap_model::size::Rise;
-use wb_history::{Attempts, ScriptLines, Until, watch_attempts};
+use wb_history::{History, ScriptLines, Until, watch_attempts};
 use wb_runs::failures::Failures;
 use wb_runs::lengths::LengthRange;
 use wb_runs::number_ends::NumberEnd;
@@ -70,7 +69,7 @@ pub fn explain_fault(
 
 /// Returns what is explained of these runs. The only error is that memory ran out.
 pub fn explain_runs(
-    alloc: Global,
+    rt: &HostRuntime,
     answer: Answer<'_>,
     script: &Script,
     lines: &ScriptLines<'_>,
@@ -78,7 +77,7 @@ pub fn explain_runs(
 ) -> Result<Explanation, NoMemory>
     requires { IsTrue (is_script script.now) }
 {
-    let command = answer.command;
+    let (alloc, command) = (rt.alloc(), answer.command);
     let mut said = explain_all(alloc, answer, script, lines, runs)?;
     if let Some(run) = &runs.found {
         let found = explain_run(alloc, command, lines, run)?;
@@ -89,15 +88,15 @@ pub fn explain_runs(
         said.add(&states)?;
     }
     if matches!(&command.task, Task::Check(_)) && answer.status == NOTHING_FOUND {
-        let more = explain_unasked(alloc, command, script, lines)?;
+        let more = explain_unasked(rt, command, script, lines)?;
         said.add(&more)?;
     }
     Ok(said)
 }
 
 /// The text on what the report says of many runs: what shorter heaps refuse first, what heaps of every length show, or what all numbers
-/// show; empty if the report says none of these. The run whose attempts the text names is made once more up to the last of them, unless it
-/// was watched as a whole already.
+/// show; empty if the report says none of these. For numbers, the run without failure is made once more up to the last of them, unless it was
+/// watched as a whole already.
 fn explain_all(
     alloc: Global,
     answer: Answer<'_>,
@@ -116,44 +115,34 @@ fn explain_all(
         return explain_heaps(alloc, command, ranges.as_slice(), script, lines);
     }
     let numbers = numbers_to_explain(&command.task, findings);
-    if findings.rises.is_none() && numbers.is_none() {
-        return Ok(Explanation::new(alloc));
-    }
     if let Some(plain) = plain_run(answer, runs) {
-        let attempts = &plain.history.attempts;
-        return explain_attempts(alloc, findings, numbers, attempts, lines);
+        return explain_plain(alloc, findings, numbers, &plain.history, lines);
     }
-    let of_numbers = numbers.map_or(0, |(_, ends)| last_bad(ends));
-    let last = last_named(rises_of(findings)).max(of_numbers);
+    let Some((failures, ends)) = numbers else {
+        return Ok(Explanation::new(alloc));
+    };
+    let until = Until::Attempt(last_bad(ends));
     let parameters = parameters_of(command, Rule::Unlimited);
-    match watch_attempts(alloc, script, parameters, Until::Attempt(last))? {
-        Some(attempts) => explain_attempts(alloc, findings, numbers, &attempts, lines),
+    match watch_attempts(alloc, script, parameters, until)? {
+        Some(attempts) => Ok(numbers_found(alloc, lines, &attempts, failures, ends)?),
         None => Ok(Explanation::new(alloc)),
     }
 }
 
-/// The rises of the report's table; empty if the report has no table.
-fn rises_of(findings: &Findings) -> &[Rise] {
-    match &findings.rises {
-        Some(rises) => rises.as_slice(),
-        None => &[],
-    }
-}
-
-/// The text on what shorter heaps refuse first, and on what all numbers show.
-fn explain_attempts(
+/// The text on what shorter heaps refuse first, on what fills the heap, and on what all numbers show, by the run without failure.
+fn explain_plain(
     alloc: Global,
     findings: &Findings,
     numbers: Option<(Failures, &[NumberEnd])>,
-    attempts: &Attempts<'_>,
+    history: &History<'_>,
     lines: &ScriptLines<'_>,
 ) -> Result<Explanation, NoMemory> {
     let mut found = match &findings.rises {
-        Some(rises) => lengths_found(alloc, lines, attempts, rises.as_slice())?,
+        Some(rises) => lengths_found(alloc, lines, history, rises.as_slice())?,
         None => Explanation::new(alloc),
     };
     if let Some((failures, ends)) = numbers {
-        let text = numbers_found(alloc, lines, attempts, failures, ends)?;
+        let text = numbers_found(alloc, lines, &history.attempts, failures, ends)?;
         found.add(&text)?;
     }
     Ok(found)

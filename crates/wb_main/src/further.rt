@@ -17,19 +17,20 @@ use wb_tree::script::Script;
 use workbench::Command;
 
 /// The questions that `check` asks unasked, in this order.
-const QUESTIONS: [Question; 3] = [Question::Persistent, Question::Lengths, Question::Sets];
+const QUESTIONS: [Question; 3] = [Question::Persistent, Question::Sets, Question::Lengths];
 
 /// Returns what a check that found nothing finds unasked: the first question whose answer shows a leak or a panic, with its run, after the
 /// questions before it that stay open. If all questions are settled and none shows anything, the text says so. The only error is that
 /// memory ran out.
 pub fn explain_unasked(
-    alloc: Global,
+    rt: &HostRuntime,
     command: &Command,
     script: &Script,
     lines: &ScriptLines<'_>,
 ) -> Result<Explanation, NoMemory>
     requires { IsTrue (is_script script.now) }
 {
+    let alloc = rt.alloc();
     let mut said = Explanation::new(alloc);
     let (mut asked, mut all_fine) = (false, true);
     for question in QUESTIONS {
@@ -38,7 +39,7 @@ pub fn explain_unasked(
         }
         asked = true;
         let options = options_for(command, question);
-        let verdict = ask(alloc, command, script, question);
+        let verdict = ask(rt, command, script, question);
         if let Some(shown) = verdict.shows() {
             let found = unasked_found(alloc, lines, shown, options)?;
             said.add(&found)?;

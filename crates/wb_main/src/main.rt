@@ -1,5 +1,6 @@
-//! The program: hands the process's own words, files and streams to the workbench, explains the answer on standard error, and writes the
-//! picture and the log that are asked for. On standard error it also writes how far a long sweep has come, and the steps of a run if they are asked for.
+//! The program: passes the process's own words, files and streams to the workbench, explains the answer on standard error, and writes the
+//! picture and the log that were asked for. On standard error it also writes how far a long sweep has come, and the steps of a run if they
+//! were asked for.
 #![tactic(auto)]
 
 mod afterwards;
@@ -13,6 +14,7 @@ mod picture;
 mod picture_name;
 mod process_afterwards;
 mod progress_line;
+mod progress_words;
 mod recorded;
 mod run_shown;
 mod runs;

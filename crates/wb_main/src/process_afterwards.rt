@@ -57,7 +57,7 @@ impl<'a> Afterwards for ProcessAfterwards<'a> {
         let Ok(first) = self.first.try_borrow() else {
             return Beside::NOTHING;
         };
-        match tell_answer(self.rt.alloc(), exit, *first) {
+        match tell_answer(self.rt, exit, *first) {
             Ok(told) => {
                 let _ = self.rt.stderr().write_all(told.text.as_bytes());
                 if let Some(command) = &exit.command {

@@ -1,34 +1,45 @@
-//! The line on a terminal that says which failure, or which length of heap, is tried at the moment. If standard error is no terminal,
-//! nothing is written. How much of the work is done is computed in `work`, and for sets of attempts in `set_work`.
+//! The line on standard error that says which failure, or which length of heap, is tried at the moment: on a terminal it is rewritten in
+//! place, elsewhere a line is written each minute. What it says is in `progress_words`; how much of the work is done is computed in `work`,
+//! and for sets of attempts in `set_work`.
 
+use crate::progress_words::{
+    Fine, WIDEST, line_of, line_of_length, line_of_set, line_of_states, number_of,
+};
 use crate::set_work::SetWork;
 use crate::work::{Estimate, Work};
 use arrayvec::ArrayString;
-use std::fmt;
 use std::fmt::Write as _;
 use std::io::{IsTerminal, Write};
 use std::time::{Duration, Instant};
 use wb_heap_model::heap::Numbers;
 use wb_runs::failures::Failing;
-use workbench::Progress;
+use workbench::{Aim, Progress};
 
 /// How long runs go on before the line is first shown, in milliseconds.
 const QUIET: u64 = 2_000;
 
-/// How long a line stays as it is, in milliseconds.
+/// How long a line on a terminal stays as it is, in milliseconds.
 const PAUSE: u64 = 100;
 
-/// The most bytes that are written at once: a carriage return, and a line's words and numbers.
-const WIDEST: usize = 80;
+/// How long runs go on before a line is written where standard error is no terminal, and before the next one, in milliseconds.
+const MINUTE: u64 = 60_000;
 
-/// A line on standard error that is rewritten in place while runs go on, and wiped when they end. Nothing depends on whether the line could
-/// be written, or on the time.
+/// The most bytes that are written at once: a line, and what stands before and after it.
+const WRITTEN: usize = 96;
+
+/// The line on progress. On a terminal it is wiped when the runs end. Nothing depends on whether the line could be written, or on the time.
 #[derive(Drop)]
 pub struct ProgressLine<'a> {
     rt: &'a HostRuntime,
-    /// From when on the line is to be rewritten; `None` if it isn't to be written at all.
+    /// Whether standard error is a terminal.
+    is_terminal: bool,
+    /// From when on the next line is to be written; `None` if none is to be written.
     due: Option<Instant>,
-    /// The greatest number that is tried.
+    /// What the sweep looks for; `None` before one begins.
+    aim: Option<Aim>,
+    /// The least number that is tried, alone or as the first of a set.
+    first: u32,
+    /// The greatest number that is tried so.
     last: u32,
     /// How many attempts each set has that is tried now.
     many: u32,
@@ -49,7 +60,10 @@ impl<'a> ProgressLine<'a> {
     pub fn new(rt: &'a HostRuntime) -> ProgressLine<'a> {
         ProgressLine {
             rt,
+            is_terminal: false,
             due: None,
+            aim: None,
+            first: 0,
             last: 0,
             many: 0,
             work: Work::new(0),
@@ -74,14 +88,40 @@ impl<'a> ProgressLine<'a> {
         now.checked_add(Duration::from_millis(pause))
     }
 
-    /// The estimate as a failure is tried; `None` if there is none.
+    /// Whether nothing is tried once all failures of `many` attempts are.
+    fn ends_with(&self, many: u32) -> bool {
+        match self.aim {
+            Some(Aim::Least(most)) => most == many,
+            Some(Aim::All) => true,
+            None => false,
+        }
+    }
+
+    /// The numbers before this one, which were tried and show nothing; `None` if the sweep goes on after a number that does.
+    fn fine_before(&self, number: u32) -> Option<Fine> {
+        match self.aim {
+            Some(Aim::Least(_)) => Some(Fine {
+                first: self.first,
+                last: number.saturating_sub(1),
+            }),
+            Some(Aim::All) | None => None,
+        }
+    }
+
+    /// The estimate as a failure is tried; `None` if there is none, or if sets are tried afterwards.
     fn estimate(&self, at: Failing) -> Option<Estimate> {
+        if !self.ends_with(1) {
+            return None;
+        }
         let elapsed = self.since?.elapsed(self.rt).ok()?;
         self.work.estimate(number_of(at), elapsed)
     }
 
-    /// The estimate as a set is tried; `None` if there is none.
+    /// The estimate as a set is tried; `None` if there is none, or if larger sets are tried afterwards.
     fn estimate_of_sets(&self, numbers: &Numbers) -> Option<Estimate> {
+        if !self.ends_with(self.many) {
+            return None;
+        }
         let elapsed = self.since?.elapsed(self.rt).ok()?;
         self.sets.estimate(numbers, elapsed)
     }
@@ -92,37 +132,55 @@ impl<'a> ProgressLine<'a> {
         Some(elapsed.as_secs())
     }
 
-    /// Begins to wait until the line is first shown, if standard error is a terminal.
-    fn begin_quietly(&mut self) {
-        if self.rt.stderr().is_terminal() {
-            self.due = self.after(QUIET);
-        }
+    /// How long a line stays the last one, in milliseconds.
+    fn pause(&self) -> u64 {
+        if self.is_terminal { PAUSE } else { MINUTE }
     }
 
-    /// Shows a text, if there is one, and then leaves the line as it is for `PAUSE`.
+    /// Begins to wait until the line is first shown.
+    fn begin_quietly(&mut self) {
+        self.is_terminal = self.rt.stderr().is_terminal();
+        self.due = self.after(if self.is_terminal { QUIET } else { MINUTE });
+    }
+
+    /// Shows a text, if there is one, and then nothing else for a while.
     fn show(&mut self, text: Option<ArrayString<WIDEST>>) {
         if let Some(text) = text {
-            self.rewrite(text.as_str());
+            if self.is_terminal {
+                self.rewrite(text.as_str());
+            } else {
+                self.write(text.as_str());
+            }
         }
-        self.due = self.after(PAUSE);
+        self.due = self.after(self.pause());
     }
 
     /// Writes a text in place of the line that is shown.
     fn rewrite(&mut self, text: &str) {
-        let mut line = ArrayString::<WIDEST>::new();
+        let mut line = ArrayString::<WRITTEN>::new();
         if write!(line, "\r{:<1$}", text, self.width).is_ok() {
             let _ = self.rt.stderr().write_all(line.as_str().as_bytes());
             self.width = text.len();
         }
     }
+
+    /// Writes a text as a line of its own.
+    fn write(&self, text: &str) {
+        let mut line = ArrayString::<WRITTEN>::new();
+        if write!(line, "workbench: {text}\n").is_ok() {
+            let _ = self.rt.stderr().write_all(line.as_str().as_bytes());
+        }
+    }
 }
 
 impl<'a> Progress for ProgressLine<'a> {
-    fn begin(&mut self) {
+    fn begin(&mut self, aim: Aim) {
+        self.aim = Some(aim);
         self.begin_quietly();
     }
 
-    fn begin_failures(&mut self, last: u32) {
+    fn begin_failures(&mut self, first: u32, last: u32) {
+        self.first = first;
         self.last = last;
         self.work = Work::new(last);
     }
@@ -135,7 +193,8 @@ impl<'a> Progress for ProgressLine<'a> {
             self.since = Instant::now(self.rt).ok();
         }
         if self.is_due() {
-            self.show(line_of(at, self.last, self.estimate(at)));
+            let fine = self.fine_before(number_of(at));
+            self.show(line_of(at, self.last, fine, self.estimate(at)));
         }
     }
 
@@ -153,8 +212,9 @@ impl<'a> Progress for ProgressLine<'a> {
         }
         self.sets.begin(numbers);
         if self.is_due() {
+            let fine = self.fine_before(numbers.get(0).copied().unwrap_or(0));
             let estimate = self.estimate_of_sets(numbers);
-            self.show(line_of_set(numbers, self.many, self.last, estimate));
+            self.show(line_of_set(numbers, self.many, self.last, fine, estimate));
         }
     }
 
@@ -182,96 +242,4 @@ impl<'a> Progress for ProgressLine<'a> {
         }
         self.due = None;
     }
-}
-
-/// The line on a failure that is tried: the failure, the last number that will be tried, and the estimate; `None` if the line is too long.
-fn line_of(at: Failing, last: u32, estimate: Option<Estimate>) -> Option<ArrayString<WIDEST>> {
-    let mut line = ArrayString::new();
-    put_failing(&mut line, at, last).ok()?;
-    if let Some(estimate) = estimate {
-        put_estimate(&mut line, estimate).ok()?;
-    }
-    Some(line)
-}
-
-/// The number of a failure. Of a pair of attempts, which is tried as a set, it is the first attempt's.
-fn number_of(at: Failing) -> u32 {
-    match at {
-        Failing::Number(number) | Failing::Every(number) => number,
-        Failing::From(number) | Failing::Pair(number, _) => number,
-    }
-}
-
-fn put_failing(line: &mut ArrayString<WIDEST>, at: Failing, last: u32) -> fmt::Result {
-    let number = number_of(at);
-    match at {
-        Failing::Every(_) => write!(line, "trying rate {number} of {last}"),
-        Failing::From(_) => write!(line, "trying failure from attempt {number} of {last} on"),
-        Failing::Number(_) | Failing::Pair(_, _) => {
-            write!(line, "trying attempt {number} of {last}")
-        }
-    }
-}
-
-/// The line on a set that is tried: the size of the set, its first attempt, the last attempt that will come first in a set, and the
-/// estimate; `None` if the set is empty, or if the line is too long.
-fn line_of_set(
-    numbers: &Numbers,
-    many: u32,
-    last: u32,
-    estimate: Option<Estimate>,
-) -> Option<ArrayString<WIDEST>> {
-    let first = numbers.get(0)?;
-    let mut line = ArrayString::new();
-    write!(
-        line,
-        "trying {many} attempts, attempt {first} of {last} first"
-    )
-    .ok()?;
-    if let Some(estimate) = estimate {
-        put_estimate(&mut line, estimate).ok()?;
-    }
-    Some(line)
-}
-
-/// The line on a search over states: how many attempts fail together, how many states were met, and, if it is known, for how many seconds
-/// sets of that size have been tried; `None` if the line is too long.
-fn line_of_states(many: u32, states: u32, seconds: Option<u64>) -> Option<ArrayString<WIDEST>> {
-    let mut line = ArrayString::new();
-    // the runs under single failures are made once more for their states
-    let (many, attempts) = if many < 2 {
-        (1, "attempt")
-    } else {
-        (many, "attempts")
-    };
-    write!(
-        line,
-        "trying sets of {many} {attempts}, {states} states met"
-    )
-    .ok()?;
-    if let Some(seconds) = seconds {
-        write!(line, ", {seconds} s").ok()?;
-    }
-    Some(line)
-}
-
-/// Appends how much is done, and how long the rest takes: in seconds up to 99, then in minutes up to 99, then in hours.
-fn put_estimate(line: &mut ArrayString<WIDEST>, estimate: Estimate) -> fmt::Result {
-    let Estimate { percent, seconds } = estimate;
-    let minutes = seconds.div_ceil(60);
-    let (time, unit) = if seconds < 100 {
-        (seconds, "s")
-    } else if minutes < 100 {
-        (minutes, "min")
-    } else {
-        (minutes.div_ceil(60), "h")
-    };
-    write!(line, ", {percent}% done, {time} {unit} left")
-}
-
-/// The line on a heap that is tried, with its length in bytes; `None` if the line is too long.
-fn line_of_length(length: u32) -> Option<ArrayString<WIDEST>> {
-    let mut line = ArrayString::new();
-    let put = write!(line, "trying a heap of {length} bytes");
-    put.ok().map(|()| line)
 }

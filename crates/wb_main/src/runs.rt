@@ -27,7 +27,7 @@ pub struct Answer<'a> {
 /// The runs that the report is about, as far as they are made once more from beginning to end.
 #[derive(Drop)]
 pub struct Runs<'a> {
-    /// The run without failure, if a picture shows it and `found` isn't that run; else `None`.
+    /// The run without failure, if a picture or a table of lengths is about it and `found` isn't that run; else `None`.
     pub plain: Option<WatchedRun<'a>>,
     /// The run that was asked for, or the run that was found; `None` if neither is explained or drawn.
     pub found: Option<WatchedRun<'a>>,
@@ -44,15 +44,15 @@ pub fn runs_of<'a>(
         (IsShownRun answer.entry.command.now answer.entry.findings.now script.now)) }
 {
     let command = answer.command;
-    let is_drawn = command.picture.is_some();
-    let keep = if is_drawn { Keep::Drawn } else { Keep::Named };
+    let is_whole = is_kept_whole(answer);
+    let keep = if is_whole { Keep::Drawn } else { Keep::Named };
     let found = shown_run(alloc, answer, script, keep)?;
     let is_alone = match (&command.task, &found) {
         (Task::Run(_), _) => true,
         (_, Some(found)) => is_plain(found),
         _ => false,
     };
-    let plain = if is_drawn && !is_alone {
+    let plain = if is_whole && !is_alone {
         watch_run(alloc, script, parameters_of(command, Rule::Unlimited), keep)?
     } else {
         None
@@ -91,11 +91,16 @@ fn is_plain(run: &WatchedRun<'_>) -> bool {
     )
 }
 
-/// Returns the run without failure, if it was watched with all of its attempts kept; else `None`.
+/// Whether all that a picture draws is kept of the runs: for a picture, or to say what fills the heap.
+fn is_kept_whole(answer: Answer<'_>) -> bool {
+    answer.command.picture.is_some() || answer.findings.rises.is_some()
+}
+
+/// Returns the run without failure, if it was watched with all of its attempts and cells kept; else `None`.
 pub fn plain_run<'a>(answer: Answer<'_>, runs: &'a Runs<'a>) -> Option<&'a WatchedRun<'a>> {
     match (&runs.plain, &runs.found) {
         (Some(plain), _) => Some(plain),
-        (None, Some(found)) if answer.command.picture.is_some() && is_plain(found) => Some(found),
+        (None, Some(found)) if is_kept_whole(answer) && is_plain(found) => Some(found),
         _ => None,
     }
 }

@@ -43,7 +43,8 @@ impl Told {
 
 /// Returns what is made of an answer. `exit` is what came of the program's words, and `first` is what failed first in reading and writing.
 /// The only error is that memory ran out.
-pub fn tell_answer(alloc: Global, exit: &Exit, first: FirstFault) -> Result<Told, NoMemory> {
+pub fn tell_answer(rt: &HostRuntime, exit: &Exit, first: FirstFault) -> Result<Told, NoMemory> {
+    let alloc = rt.alloc();
     let Some(command) = &exit.command else {
         return Ok(Told::of_text(String::new(alloc)));
     };
@@ -59,18 +60,18 @@ pub fn tell_answer(alloc: Global, exit: &Exit, first: FirstFault) -> Result<Told
         findings,
         status: exit.status,
     };
-    tell_findings(alloc, answer)
+    tell_findings(rt, answer)
 }
 
 /// Returns what is made of a report. If there is nothing to say, and no picture and no log is wanted, the script isn't read once more.
-fn tell_findings(alloc: Global, answer: Answer<'_>) -> Result<Told, NoMemory> {
-    let command = answer.command;
+fn tell_findings(rt: &HostRuntime, answer: Answer<'_>) -> Result<Told, NoMemory> {
+    let (alloc, command) = (rt.alloc(), answer.command);
     if command.picture.is_none() && command.sarif.is_none() && has_nothing_to_say(answer) {
         return Ok(Told::of_text(String::new(alloc)));
     }
     let bytes = answer.findings.bytes.as_slice();
     match wb_script::read(alloc, bytes) {
-        Ok(script) => tell_runs(alloc, answer, &script),
+        Ok(script) => tell_runs(rt, answer, &script),
         Err(fault) => {
             let name = script_name(command);
             let text = refused_script(alloc, name, bytes, &fault)?;
@@ -80,16 +81,17 @@ fn tell_findings(alloc: Global, answer: Answer<'_>) -> Result<Told, NoMemory> {
 }
 
 /// Returns the text on the runs of a report, and their picture and log if these are wanted. The only error is that memory ran out.
-fn tell_runs(alloc: Global, answer: Answer<'_>, script: &Script) -> Result<Told, NoMemory>
+fn tell_runs(rt: &HostRuntime, answer: Answer<'_>, script: &Script) -> Result<Told, NoMemory>
     requires { IsTrue (is_script script.now) }
 {
+    let alloc = rt.alloc();
     let Ok(text) = str::from_utf8(answer.findings.bytes.as_slice()) else {
         return Ok(Told::of_text(String::new(alloc)));
     };
     let name = script_name(answer.command);
     let lines = ScriptLines::of(alloc, ScriptFile { name, text })?;
     let runs = runs_of(alloc, answer, script)?;
-    let said = say_runs(alloc, answer, script, &lines, &runs);
+    let said = say_runs(rt, answer, script, &lines, &runs);
     let picture = draw_runs(alloc, answer, &lines, &runs);
     Ok(match said {
         Ok(said) => tell_said(alloc, answer, &lines, said, picture),
@@ -121,7 +123,7 @@ fn tell_said(
 
 /// What is explained of these runs; nothing if there is nothing to say. The only error is that memory ran out.
 fn say_runs(
-    alloc: Global,
+    rt: &HostRuntime,
     answer: Answer<'_>,
     script: &Script,
     lines: &ScriptLines<'_>,
@@ -130,9 +132,9 @@ fn say_runs(
     requires { IsTrue (is_script script.now) }
 {
     if has_nothing_to_say(answer) {
-        return Ok(Explanation::new(alloc));
+        return Ok(Explanation::new(rt.alloc()));
     }
-    explain_runs(alloc, answer, script, lines, runs)
+    explain_runs(rt, answer, script, lines, runs)
 }
 
 /// The picture of these runs; `None` if none is wanted, or if memory runs out. It is empty if there are no runs.

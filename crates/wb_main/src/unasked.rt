@@ -1,5 +1,5 @@
-//! What `check` tries unasked if it found nothing: whether the script leaks or panics when all attempts from some number on fail, in heaps
-//! of every length, or when any set of attempts fails in a heap in which each cell that grows moves. It tries these in this order, up to
+//! What `check` tries unasked if it found nothing: whether the script leaks or panics when all attempts from some number on fail, when any
+//! set of attempts fails in a heap in which each cell that grows moves, or in heaps of every length. It tries these in this order, up to
 //! the first that shows a leak or a panic. The work is limited by steps and states, and not by time, so that a script always gets the same
 //! answer. What the user is told of it is in `wb_explain`.
 
@@ -7,6 +7,7 @@ ghost use Rattle.std.specs.Prelude.{IsTrue, ◌≤◌};
 ghost use Rattle.wb_tree.specs.Sound.{is_script};
 
 use crate::asked::{budget_of, search_of};
+use crate::progress_line::ProgressLine;
 use std::alloc::Global;
 use wb_basics::limits::LARGEST_BUDGET;
 use wb_explain::runs::{Question, Shown};
@@ -16,7 +17,7 @@ use wb_machine::run;
 use wb_runs::failures::{Failing, Failures};
 use wb_runs::lengths::LengthTable;
 use wb_runs::part::Part;
-use wb_runs::progress::Silent;
+use wb_runs::progress::{Progress, Silent};
 use wb_runs::run_end::RunEnd;
 use wb_sweep::{FoundSet, sweep, sweep_every_set};
 use wb_tree::script::Script;
@@ -78,21 +79,46 @@ pub fn is_open(command: &Command, question: Question) -> bool {
     }
 }
 
-/// Asks a question about a script for which the command itself found neither a leak nor a panic.
-pub fn ask(alloc: Global, command: &Command, script: &Script, question: Question) -> Verdict
+/// Asks a question about a script for which the command itself found neither a leak nor a panic. The progress is shown unless the command
+/// asks for none.
+pub fn ask(rt: &HostRuntime, command: &Command, script: &Script, question: Question) -> Verdict
+    requires { IsTrue (is_script script.now) }
+{
+    if command.quiet {
+        answer(rt.alloc(), command, script, question, &mut Silent)
+    } else {
+        let mut line = ProgressLine::new(rt);
+        answer(rt.alloc(), command, script, question, &mut line)
+    }
+}
+
+/// Returns what comes of a question. `progress` is notified of how far the sweeps have come.
+fn answer<P: Progress>(
+    alloc: Global,
+    command: &Command,
+    script: &Script,
+    question: Question,
+    progress: &mut P,
+) -> Verdict
     requires { IsTrue (is_script script.now) }
 {
     let (budget, shape) = (budget_of(command), command.shape);
     match question {
-        Question::Persistent => ask_persistent(alloc, script, budget, shape),
+        Question::Persistent => ask_persistent(alloc, script, budget, shape, progress),
         Question::Lengths => ask_lengths(alloc, script, budget, shape),
-        Question::Sets => ask_sets(alloc, script, budget, shape),
+        Question::Sets => ask_sets(alloc, script, budget, shape, progress),
     }
 }
 
 /// Whether the script leaks or panics when all attempts from some number on fail. Each run may take an equal share of the steps; a run that
 /// would take more leaves the question open.
-fn ask_persistent(alloc: Global, script: &Script, budget: u32, shape: Shape) -> Verdict
+fn ask_persistent<P: Progress>(
+    alloc: Global,
+    script: &Script,
+    budget: u32,
+    shape: Shape,
+    progress: &mut P,
+) -> Verdict
     requires script { IsTrue (is_script script.now) }
     requires least { 1 ≤ budget }
     requires greatest { budget ≤ LARGEST_BUDGET }
@@ -102,14 +128,7 @@ fn ask_persistent(alloc: Global, script: &Script, budget: u32, shape: Shape) -> 
     };
     let share = (MOST_STEPS_FROM / attempts.saturating_add(2)).max(1);
     let failures = Failures::Persistent;
-    match sweep(
-        alloc,
-        script,
-        failures,
-        share.min(budget),
-        shape,
-        &mut Silent,
-    ) {
+    match sweep(alloc, script, failures, share.min(budget), shape, progress) {
         Ok(swept) => match swept.found {
             Some(found) => Verdict::From(first_of(found.at), RunEnd::of(&found.result.outcome)),
             None => Verdict::Fine,
@@ -164,7 +183,13 @@ fn has_cut(table: &LengthTable) -> bool {
 }
 
 /// Whether the script leaks or panics when some set of attempts fails, in a heap in which each cell that grows moves.
-fn ask_sets(alloc: Global, script: &Script, budget: u32, shape: Shape) -> Verdict
+fn ask_sets<P: Progress>(
+    alloc: Global,
+    script: &Script,
+    budget: u32,
+    shape: Shape,
+    progress: &mut P,
+) -> Verdict
     requires script { IsTrue (is_script script.now) }
     requires least { 1 ≤ budget }
     requires greatest { budget ≤ LARGEST_BUDGET }
@@ -177,15 +202,7 @@ fn ask_sets(alloc: Global, script: &Script, budget: u32, shape: Shape) -> Verdic
         return Verdict::Undecided;
     };
     let states = states_for(attempts, steps);
-    match sweep_every_set(
-        alloc,
-        script,
-        Part::WHOLE,
-        states,
-        budget,
-        shape,
-        &mut Silent,
-    ) {
+    match sweep_every_set(alloc, script, Part::WHOLE, states, budget, shape, progress) {
         Ok(swept) => match swept.found {
             Some(FoundSet { numbers, result }) => {
                 Verdict::Set(numbers, RunEnd::of(&result.outcome))

@@ -1,10 +1,10 @@
 //! The calls on objects. The header of an object's cell says of which class the object is; the first word of the payload says the same, for
 //! code that reads only the words.
 
-ghost use Rattle.std.specs.Prelude.{◌≡◌, ℕ, ◌+◌, ◌*◌, ◌^◌, ◌<◌, ◌≤◌, length, true, None, Some, IfOk, IsOk, OnErr, OnOk};
+ghost use Rattle.std.specs.Prelude.{◌≡◌, ℕ, ◌+◌, ◌*◌, ◌^◌, ◌<◌, ◌≤◌, length, None, Some, IfOk, IsOk, OnErr, OnOk};
 ghost use Rattle.std.specs.Prelude.{slice_get, slice_set};
 ghost use Rattle.wb_heap_model.specs.CellRow.{payload_of};
-ghost use Rattle.wb_heap_model.specs.Debug.{IsSoundDebug, answer_in, keeps_rises};
+ghost use Rattle.wb_heap_model.specs.Debug.{IsSoundDebug, answer_in};
 ghost use Rattle.wb_heap_model.specs.Heap.{alloc_request};
 ghost use Rattle.wb_heap_model.specs.ObjectCells.{IsObjectAt};
 ghost use Rattle.wb_heap_model.specs.Spelling.{fields_in};
@@ -33,8 +33,8 @@ const WORD_BYTES: u32 = 4;
 ///
 /// The request is for 8 bytes, 8 more for each field of the class, and the class's extra bytes, which are zero. `Denied` and `Ceiling` are
 /// the heap's answers. `NoMemory` if the workbench itself runs out of memory; it leaves the heap as it was, and never comes in place of
-/// `Ceiling`, nor, if the rises are kept, for an attempt that isn't a rise. Source: Symbian OS v9 SDK reference, CBase, for members that
-/// are zero when allocated, and this project's profile for the length of the cell.
+/// `Ceiling`. Source: Symbian OS v9 SDK reference, CBase, for members that are zero when allocated, and this project's profile for the
+/// length of the cell.
 pub fn make(heap: &mut DebugHeap, script: &Script, class: u16) -> Result<Gave, NoMemory>
     requires class { class < length script.now.classes }
     requires bytes { payload_of_object (class_at script.now class) ≤ CEILING }
@@ -45,9 +45,6 @@ pub fn make(heap: &mut DebugHeap, script: &Script, class: u16) -> Result<Gave, N
         ≡ (object_made heap.old class (class_at script.now class)).debug) }
     ensures cut { answer_in heap.old (alloc_request heap.old.heap
         (payload_of_object (class_at script.now class))) ≡ None → IsOk result }
-    ensures quiet { keeps_rises heap.old ≡ true →
-        (object_made heap.old class (class_at script.now class)).debug.rises ≡ heap.old.rises →
-        IsOk result }
     ensures object { IfOk result
         (IsNewObject heap.new class (length (class_at script.now class).fields)) }
     ensures err { OnErr result (heap.new ≡ heap.old) }

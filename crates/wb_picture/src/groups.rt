@@ -7,7 +7,7 @@ use crate::scale::{Area, Scale};
 use std::alloc::{AllocError, Global};
 use wb_history::{NEVER, Part};
 
-/// How many of the groups that were added last a part is compared with. Other groups that look the same are found when all are sorted.
+/// How many of the groups that were added last a part is compared with. Groups further back that look the same are found when all are sorted.
 const NEAR: usize = 4;
 
 /// How many entries `Spans::near` keeps at most. Only the last `NEAR` of them are looked at.

@@ -1,5 +1,4 @@
-//! The law that every command has a report on all bytes that spell a script or have a fault, so that what is proved of reports isn't said of
-//! nothing.
+//! The law that every command has a report, whether the bytes spell a script or have a fault, so that no promise about reports is empty.
 #![tactic(auto)]
 
 pub mod report_laws;

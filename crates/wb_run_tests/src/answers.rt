@@ -164,6 +164,8 @@ fn command_in(of_lengths: bool, json: bool) -> Command
         budget: 10_000,
         shape: SHAPE,
         json,
+        quiet: false,
+        brief: false,
         picture: None,
         sarif: None,
         follow: None,

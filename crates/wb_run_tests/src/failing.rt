@@ -98,6 +98,8 @@ fn command_of(wanted: &Wanted) -> Command
         budget: 10_000,
         shape: SHAPE,
         json: wanted.json,
+        quiet: false,
+        brief: false,
         picture: None,
         sarif: None,
         follow: None,

@@ -10,9 +10,9 @@ use std::io::Write;
 use std::test::Fail;
 use wb_heap_model::heap::Numbers;
 use wb_runs::failures::Failing;
-use workbench::Progress;
 use workbench::host::Host;
 use workbench::program::program;
+use workbench::{Aim, Progress};
 
 /// Compares the notifications that come with those that must come.
 #[derive(Drop)]
@@ -25,19 +25,28 @@ struct Listener<'a> {
     lengths_to_come: &'static [u32],
     is_as_wanted: bool,
     begun: u32,
+    aim: Option<Aim>,
     last: Option<u32>,
     ended: u32,
     is_under_way: &'a Cell<bool>,
 }
 
-impl Progress for Listener<'_> {
-    fn begin(&mut self) {
+impl Listener<'_> {
+    /// A sweep, or the search through all lengths, begins.
+    fn note_begin(&mut self) {
         self.begun = self.begun.wrapping_add(1);
         self.is_under_way.set(true);
     }
+}
 
-    fn begin_failures(&mut self, last: u32) {
-        self.is_as_wanted &= self.last.is_none();
+impl Progress for Listener<'_> {
+    fn begin(&mut self, aim: Aim) {
+        self.aim = Some(aim);
+        self.note_begin();
+    }
+
+    fn begin_failures(&mut self, first: u32, last: u32) {
+        self.is_as_wanted &= self.last.is_none() && first == 1;
         self.last = Some(last);
     }
 
@@ -65,7 +74,7 @@ impl Progress for Listener<'_> {
     }
 
     fn begin_lengths(&mut self) {
-        self.begin();
+        self.note_begin();
     }
 
     fn begin_length(&mut self, length: u32) {
@@ -135,6 +144,8 @@ struct Wanted {
     /// How often a sweep, or the search through all lengths, begins and ends.
     sweeps: u32,
     lengths: &'static [u32],
+    /// What the sweep looks for; `None` if there is no sweep.
+    aim: Option<Aim>,
     /// How many attempts the run without failure makes, or `None` if no failure is tried after it.
     last: Option<u32>,
     failures: &'static [Failing],
@@ -145,12 +156,13 @@ struct Wanted {
 /// A cell that nobody frees.
 const LEAKING: &[u8] = b"proc main\nptr a\nalloc a 16\nend\n";
 
-static TOLD: [Wanted; 18] = [
+static TOLD: [Wanted; 20] = [
     Wanted {
         words: &["workbench", "sweep"],
         script: FALLBACK,
         sweeps: 1,
         lengths: &[],
+        aim: Some(Aim::Least(1)),
         last: Some(3),
         failures: &[Failing::Number(1), Failing::Number(2), Failing::Number(3)],
         are_sets_searched: false,
@@ -160,6 +172,7 @@ static TOLD: [Wanted; 18] = [
         script: FALLBACK,
         sweeps: 1,
         lengths: &[],
+        aim: Some(Aim::Least(1)),
         last: Some(3),
         failures: &[Failing::Number(1), Failing::Number(2), Failing::Number(3)],
         are_sets_searched: false,
@@ -170,6 +183,7 @@ static TOLD: [Wanted; 18] = [
         script: FALLBACK,
         sweeps: 1,
         lengths: &[],
+        aim: Some(Aim::Least(1)),
         last: Some(3),
         failures: &[Failing::Every(1), Failing::Every(2)],
         are_sets_searched: false,
@@ -179,6 +193,7 @@ static TOLD: [Wanted; 18] = [
         script: FALLBACK,
         sweeps: 1,
         lengths: &[],
+        aim: Some(Aim::Least(2)),
         last: Some(3),
         failures: &[Failing::Number(1), Failing::Number(2), Failing::Number(3)],
         are_sets_searched: true,
@@ -189,6 +204,7 @@ static TOLD: [Wanted; 18] = [
         script: FALLBACK,
         sweeps: 1,
         lengths: &[],
+        aim: Some(Aim::Least(2)),
         last: Some(3),
         failures: &[Failing::Number(1), Failing::Number(2), Failing::Number(3)],
         are_sets_searched: true,
@@ -199,6 +215,7 @@ static TOLD: [Wanted; 18] = [
         script: FALLBACK,
         sweeps: 1,
         lengths: &[],
+        aim: Some(Aim::Least(3)),
         last: Some(3),
         failures: &[Failing::Number(1), Failing::Number(2), Failing::Number(3)],
         are_sets_searched: true,
@@ -209,6 +226,7 @@ static TOLD: [Wanted; 18] = [
         script: THRICE,
         sweeps: 1,
         lengths: &[],
+        aim: Some(Aim::Least(3)),
         last: Some(2),
         failures: &[Failing::Number(1), Failing::Number(2)],
         are_sets_searched: true,
@@ -218,6 +236,7 @@ static TOLD: [Wanted; 18] = [
         script: THRICE,
         sweeps: 1,
         lengths: &[],
+        aim: Some(Aim::Least(1)),
         last: Some(2),
         failures: &[Failing::Number(1), Failing::Number(2)],
         are_sets_searched: false,
@@ -228,6 +247,7 @@ static TOLD: [Wanted; 18] = [
         script: LEAKING,
         sweeps: 1,
         lengths: &[],
+        aim: Some(Aim::Least(1)),
         last: None,
         failures: &[],
         are_sets_searched: false,
@@ -237,6 +257,7 @@ static TOLD: [Wanted; 18] = [
         script: LEAKING,
         sweeps: 1,
         lengths: &[],
+        aim: Some(Aim::Least(1)),
         last: None,
         failures: &[],
         are_sets_searched: false,
@@ -247,6 +268,7 @@ static TOLD: [Wanted; 18] = [
         script: FALLBACK,
         sweeps: 0,
         lengths: &[],
+        aim: None,
         last: None,
         failures: &[],
         are_sets_searched: false,
@@ -256,6 +278,7 @@ static TOLD: [Wanted; 18] = [
         script: FALLBACK,
         sweeps: 1,
         lengths: &[],
+        aim: Some(Aim::Least(1)),
         last: None,
         failures: &[],
         are_sets_searched: false,
@@ -266,6 +289,29 @@ static TOLD: [Wanted; 18] = [
         script: LEAKING,
         sweeps: 1,
         lengths: &[16_777_216, 175, 143],
+        aim: None,
+        last: None,
+        failures: &[],
+        are_sets_searched: false,
+    },
+    // A list goes on after attempt 2 and the rates up to it.
+    Wanted {
+        words: &["workbench", "sweep", "--every", "--all"],
+        script: FALLBACK,
+        sweeps: 1,
+        lengths: &[],
+        aim: Some(Aim::All),
+        last: Some(3),
+        failures: &[Failing::Every(1), Failing::Every(2), Failing::Every(3)],
+        are_sets_searched: false,
+    },
+    // Without progress nothing is reported.
+    Wanted {
+        words: &["workbench", "sweep", "--quiet"],
+        script: FALLBACK,
+        sweeps: 0,
+        lengths: &[],
+        aim: None,
         last: None,
         failures: &[],
         are_sets_searched: false,
@@ -276,6 +322,7 @@ static TOLD: [Wanted; 18] = [
         script: FALLBACK,
         sweeps: 1,
         lengths: &[],
+        aim: Some(Aim::Least(1)),
         last: Some(3),
         failures: &[Failing::Number(1), Failing::Number(2)],
         are_sets_searched: false,
@@ -286,6 +333,7 @@ static TOLD: [Wanted; 18] = [
         script: b"",
         sweeps: 0,
         lengths: &[],
+        aim: None,
         last: None,
         failures: &[],
         are_sets_searched: false,
@@ -295,6 +343,7 @@ static TOLD: [Wanted; 18] = [
         script: FALLBACK,
         sweeps: 0,
         lengths: &[],
+        aim: None,
         last: None,
         failures: &[],
         are_sets_searched: false,
@@ -304,6 +353,7 @@ static TOLD: [Wanted; 18] = [
         script: FALLBACK,
         sweeps: 0,
         lengths: &[],
+        aim: None,
         last: None,
         failures: &[],
         are_sets_searched: false,
@@ -313,6 +363,7 @@ static TOLD: [Wanted; 18] = [
         script: FALLBACK,
         sweeps: 0,
         lengths: &[],
+        aim: None,
         last: None,
         failures: &[],
         are_sets_searched: false,
@@ -332,6 +383,7 @@ fn is_reported<'a>(
         lengths_to_come: wanted.lengths,
         is_as_wanted: true,
         begun: 0,
+        aim: None,
         last: None,
         ended: 0,
         is_under_way,
@@ -358,6 +410,7 @@ fn is_reported<'a>(
         && listener.has_met_states == wanted.are_sets_searched
         && listener.lengths_to_come.is_empty()
         && listener.begun == wanted.sweeps
+        && listener.aim == wanted.aim
         && listener.last == wanted.last
         && listener.ended == wanted.sweeps
         && taker.taken > 0

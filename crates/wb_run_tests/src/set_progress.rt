@@ -9,7 +9,7 @@ use wb_runs::failures::{Failing, Failures};
 use wb_runs::part::Part;
 use wb_script::read;
 use wb_sweep::{sweep, sweep_sets};
-use workbench::Progress;
+use workbench::{Aim, Progress};
 
 /// Counts the notifications of a sweep.
 #[derive(Clone, Copy, Debug, Drop)]
@@ -41,9 +41,9 @@ impl Listener {
 }
 
 impl Progress for Listener {
-    fn begin(&mut self) {}
+    fn begin(&mut self, _aim: Aim) {}
 
-    fn begin_failures(&mut self, _last: u32) {}
+    fn begin_failures(&mut self, _first: u32, _last: u32) {}
 
     fn begin_failure(&mut self, at: Failing) {
         self.are_in_order &= self.many == 1;

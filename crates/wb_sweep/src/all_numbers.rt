@@ -29,7 +29,7 @@ use wb_meaning::run::{Outcome, RunResult, Why};
 use wb_runs::failures::{Failing, Failures};
 use wb_runs::number_ends::{NumberEnd, NumberEnds};
 use wb_runs::part::Part;
-use wb_runs::progress::Progress;
+use wb_runs::progress::{Aim, Progress};
 use wb_runs::run_end::RunEnd;
 use wb_tree::script::Script;
 
@@ -297,7 +297,7 @@ fn tell_all<P: Progress>(
     let steps = first.steps;
     let mut ends = Items::new(alloc);
     tell_first(&mut ends, listing, part, none, &first)?;
-    progress.begin_failures(part.to.min(attempts));
+    progress.begin_failures(part.from.max(1), part.to.min(attempts));
     tell_later(
         &mut ends, listing, alloc, script, failures, part, budget, shape, attempts, end, steps,
         progress,
@@ -335,7 +335,7 @@ pub fn sweep_all<P: Progress>(
         IsCutWithout failures script.now budget shape at why }
     ensures shape { (result ≡ Err SweepFault.BadShape) ↔ (is_shape shape ≡ false) }
 {
-    progress.begin();
+    progress.begin(Aim::All);
     let told = tell_all(
         alloc, script, listing, failures, part, budget, shape, progress,
     );

@@ -23,7 +23,7 @@ use wb_basics::limits::LARGEST_BUDGET;
 use wb_heap_model::heap::Shape;
 use wb_machine::RunFault;
 use wb_runs::part::Part;
-use wb_runs::progress::Progress;
+use wb_runs::progress::{Aim, Progress};
 use wb_states::{Searched, Shown, search_states};
 use wb_tree::script::Script;
 
@@ -168,7 +168,7 @@ pub fn sweep_every_set<P: Progress>(
         last_attempt Single script.now budget shape ≤ budget + 1 }
     ensures shape { (result ≡ Err EverySetFault.BadShape) ↔ (is_shape shape ≡ false) }
 {
-    progress.begin();
+    progress.begin(Aim::Least(u32::MAX));
     let swept = find_among_all(alloc, script, part, states, budget, shape, progress);
     progress.end();
     swept

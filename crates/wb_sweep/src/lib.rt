@@ -37,5 +37,5 @@ pub use wb_machine::RunFault;
 pub use wb_meaning::run::{RunResult, Why};
 pub use wb_runs::failures::{Failing, Failures};
 pub use wb_runs::part::Part;
-pub use wb_runs::progress::{Progress, Silent};
+pub use wb_runs::progress::{Aim, Progress, Silent};
 pub use wb_tree::script::Script;

@@ -19,7 +19,7 @@ use wb_heap_model::heap::Shape;
 use wb_meaning::run::Outcome;
 use wb_runs::failures::{Failing, Failures};
 use wb_runs::part::Part;
-use wb_runs::progress::Progress;
+use wb_runs::progress::{Aim, Progress};
 use wb_tree::script::Script;
 
 /// All numbers.
@@ -68,8 +68,8 @@ pub fn sweep_beside_known<P: Progress>(
     if !is_fine_outcome(outcome) {
         return sweep(alloc, script, failures, budget, shape, progress);
     }
-    progress.begin();
-    progress.begin_failures(attempts);
+    progress.begin(Aim::least_of(failures));
+    progress.begin_failures(1, attempts);
     let steps = Some(steps);
     let found = find_later(
         alloc, script, failures, ALL, budget, shape, attempts, steps, progress,

@@ -22,7 +22,7 @@ use wb_basics::memory::NoMemory;
 use wb_heap_model::heap::{Numbers, Shape};
 use wb_runs::failures::{Failing, Failures};
 use wb_runs::part::Part;
-use wb_runs::progress::Progress;
+use wb_runs::progress::{Aim, Progress};
 use wb_tree::script::Script;
 
 /// The numbers of the attempts that fail under a single failure or a pair; empty for number 0.
@@ -157,7 +157,7 @@ pub fn sweep_sets<P: Progress>(
         last_attempt Single script.now budget shape ≤ budget + 1 }
     ensures shape { (result ≡ Err SetFault.BadShape) ↔ (is_shape shape ≡ false) }
 {
-    progress.begin();
+    progress.begin(Aim::Least(most));
     let swept = find_least_set(alloc, script, part, most, budget, shape, progress);
     progress.end();
     swept

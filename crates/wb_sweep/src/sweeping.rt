@@ -25,7 +25,7 @@ use wb_machine::{Machine, run};
 use wb_meaning::run::{Outcome, RunResult};
 use wb_runs::failures::{Failing, Failures};
 use wb_runs::part::Part;
-use wb_runs::progress::Progress;
+use wb_runs::progress::{Aim, Progress};
 use wb_tree::script::Script;
 
 /// Judges the run without failure: returns it if it is bad and the part has number 0, `Cut` if it is cut, and otherwise `None`.
@@ -204,7 +204,7 @@ pub(crate) fn find_least<P: Progress>(
             found: Some(found),
         });
     }
-    progress.begin_failures(part.to.min(attempts));
+    progress.begin_failures(part.from.max(1), part.to.min(attempts));
     match find_later(
         alloc, script, failures, part, budget, shape, attempts, steps, progress,
     ) {
@@ -246,7 +246,7 @@ pub fn sweep<P: Progress>(
         from: 0,
         to: u32::MAX,
     };
-    progress.begin();
+    progress.begin(Aim::least_of(failures));
     let swept = find_least(alloc, script, failures, all, budget, shape, progress);
     progress.end();
     swept
@@ -275,7 +275,7 @@ pub fn sweep_part<P: Progress>(
         IsCutIn failures part script.now budget shape at why }
     ensures shape { (result ≡ Err SweepFault.BadShape) ↔ (is_shape shape ≡ false) }
 {
-    progress.begin();
+    progress.begin(Aim::least_of(failures));
     let swept = find_least(alloc, script, failures, part, budget, shape, progress);
     progress.end();
     swept

@@ -1,5 +1,5 @@
-//! Words with a fault of each kind. Each theorem is stated in `specs`, with a line that says what it shows. The function does nothing: its
-//! contract gathers the theorems, so that the gate proves them.
+//! Command lines with a fault of each kind. Each theorem is stated in `specs`, with a line that says what it shows. The function does
+//! nothing: its contract gathers the theorems, so that the gate proves them.
 
 ghost use Rattle.wb_worked_words.specs.WorkedFaults.{NoList, NoMultiple, Reversed, SecondAlone};
 ghost use Rattle.wb_worked_words.specs.WorkedFaults.{TwoRules, UnknownOption};

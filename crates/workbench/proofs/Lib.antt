@@ -2,6 +2,7 @@ pub mod AllLemmas
 pub mod AnswerLemmas
 pub mod AsciiLemmas
 pub mod AsciiReports
+pub mod BriefLemmas
 pub mod EverySetLemmas
 pub mod Hexadecimal
 pub mod JsonLemmas

@@ -23,7 +23,7 @@ one_more byte [] is are = All-cons ArePrintable (byte ∷ []) [] (All-cons IsPri
 one_more byte (piece ∷ pieces) is are =
     All-cons ArePrintable (byte ∷ piece) pieces (All-cons IsPrintable byte piece is (All-head ArePrintable piece pieces are)) (All-tail ArePrintable piece pieces are)
 
-lines_from : (quoted : Bool) (text : List ℕ) → IsPrintableText text → All ArePrintable (pieces_from ends_line quoted text)
+pub lines_from : (quoted : Bool) (text : List ℕ) → IsPrintableText text → All ArePrintable (pieces_from ends_line quoted text)
 lines_from quoted [] are = All-nil ArePrintable
 lines_from quoted (byte ∷ text) are =
     let rest = All-tail IsTextByte byte text are in

@@ -23,6 +23,7 @@ use Rattle.wb_language.specs.Lines.{lines_of}
 use Rattle.workbench.specs.declared.report_values.FailingNumber.{FailingNumber}
 use Rattle.workbench.specs.declared.report_values.FailingNumber.TheVariants.{At, Length, Never, Set}
 use Rattle.workbench.specs.declared.report_values.ReportValues.{ReportValues}
+use Rattle.workbench.specs.Brief.{shown_text}
 use Rattle.workbench.specs.EndWords.{end_words}
 use Rattle.workbench.specs.RunText.{line}
 
@@ -182,7 +183,8 @@ report_object task text values status =
 abbrev pub json_text : Task → List ℕ → ReportValues → ℕ → List ℕ
 json_text task text values status = line (compact_text (report_object task text values status))
 
--- a report as a command wants it: its lines, or JSON
+-- a report as a command wants it: the lines that it shows, or JSON
 abbrev pub laid_out : Command → List ℕ → ReportValues → ℕ → List ℕ
 laid_out command text values status =
-    if command.json then json_text command.task text values status else text
+    let shown = shown_text command text in
+    if command.json then json_text command.task shown values status else shown

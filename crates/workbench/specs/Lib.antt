@@ -1,6 +1,7 @@
 pub mod AllReport
 pub mod Answer
 pub mod Ascii
+pub mod Brief
 pub mod EndWords
 pub mod EverySetReport
 pub mod ReportValues

@@ -14,6 +14,7 @@ ghost use Rattle.wb_basics.specs.declared.limits.TheConstants.{LONGEST_SCRIPT};
 ghost use Rattle.workbench.specs.Report.{no_memory};
 ghost use Rattle.wb_streams.specs.Streams.{AppendsFirst, Reads, TakesAtMost, Writes};
 
+use crate::brief::shown_report;
 use crate::exit_status::{READ_OR_WRITE_FAULT, WANT_OF_MEMORY};
 use crate::findings::Findings;
 use crate::json_report::json_text;
@@ -199,6 +200,7 @@ fn lay_out(
     ensures status { IfOk result (λ m. m.status ≡ report.status) }
     ensures findings { IfOk result (λ m. AreFindings bytes.items report.values m.findings) }
 {
+    let report = shown_report(alloc, command, report)?;
     let json = if command.json {
         Some(json_text(alloc, &command.task, &report)?)
     } else {

@@ -253,7 +253,7 @@ fn line_string(alloc: Global, line: &[u8]) -> Result<Value, AllocError>
 }
 
 /// Returns the first line without its line feed, and the bytes after that line feed.
-fn first_line<'a>(bytes: &'a [u8]) -> (&'a [u8], &'a [u8])
+pub(crate) fn first_line<'a>(bytes: &'a [u8]) -> (&'a [u8], &'a [u8])
     requires { bytes.now ≢ [] }
     ensures lines { lines_of bytes.now ≡ result.0.now ∷ lines_of result.1.now }
     ensures shorter { length result.1.now < length bytes.now }

@@ -6,6 +6,7 @@
 mod all_text;
 pub mod answer;
 mod appending;
+mod brief;
 mod end_text;
 mod every_set;
 mod every_set_text;
@@ -36,4 +37,4 @@ pub use wb_meaning::run::RunResult;
 pub use wb_runs::failures::Failures;
 pub use wb_runs::part::Part;
 pub use wb_streams::{Sink, Source, StreamFault};
-pub use wb_sweep::{Progress, Silent};
+pub use wb_sweep::{Aim, Progress, Silent};

@@ -18,7 +18,7 @@ use std::io;
 use wb_command_line::command::{Command, CommandFault};
 use wb_command_line::command_line::command;
 use wb_streams::streams::Sink;
-use wb_sweep::Progress;
+use wb_sweep::{Progress, Silent};
 
 /// The result of the program.
 #[derive(Debug, Drop)]
@@ -40,9 +40,9 @@ pub struct Exit {
 /// from the file that the command names, which is opened once, or from standard input if the command names no file, and the answer is
 /// written to `output`. If the file can't be opened, the answer is the line `read fault`, with `READ_OR_WRITE_FAULT`.
 ///
-/// `progress` is notified of how far a sweep, or the search through all lengths, has come, always before anything is written to `output`.
-/// No clause mentions `progress`, and nothing depends on what it does. If it writes to the stream that is handed over as `messages`, as in
-/// `main`, that stream also gets what `progress` writes.
+/// `progress` is notified of how far a sweep, or the search through all lengths, has come, unless the command asks for no progress, and
+/// always before anything is written to `output`. No clause mentions `progress`, and nothing depends on what it does. If it writes to the
+/// stream that is handed over as `messages`, as in `main`, that stream also gets what `progress` writes.
 pub fn program<S: AsStr + Drop, H: Host, W: Sink, M: Messages, P: Progress>(
     alloc: Global,
     words: io::Result<Vec<S>>,
@@ -65,7 +65,7 @@ pub fn program<S: AsStr + Drop, H: Host, W: Sink, M: Messages, P: Progress>(
 {
     match read_words(alloc, words) {
         Ok(command) => {
-            let answered = carry_out(alloc, &command, host, output, progress);
+            let answered = answer_command(alloc, &command, host, output, progress);
             exit_of(command, answered)
         }
         Err(fault) => {
@@ -102,6 +102,29 @@ fn read_words<S: AsStr + Drop>(
 {
     let words = words?;
     Ok(command(alloc, words.as_slice())?)
+}
+
+/// Answers the command, and notifies `progress` unless the command asks for none.
+fn answer_command<H: Host, W: Sink, P: Progress>(
+    alloc: Global,
+    command: &Command,
+    host: &mut H,
+    output: &mut W,
+    progress: &mut P,
+) -> Answered
+    requires { IsTrue (is_answerable command.now) }
+    ensures done { IsCarriedOut H.lends H.opens
+        (IsAnswer H.Input.remaining H.Input.reads W.contents W.writes)
+        (IsAnswer H.File.remaining H.File.reads W.contents W.writes)
+        (IsUnopened W.contents W.writes)
+        command.now host.old host.new output.old output.new result }
+    ensures status { result.status ≤ 5 }
+{
+    if command.quiet {
+        carry_out(alloc, command, host, output, &mut Silent)
+    } else {
+        carry_out(alloc, command, host, output, progress)
+    }
 }
 
 /// Answers the command on the script in its file, or on standard input if the command names no file. The file is opened before any of it is

@@ -3,27 +3,22 @@
 ghost use Rattle.std.specs.Prelude.{◌≡◌, IfOk, false, fold};
 ghost use Rattle.clap.specs.Words.{app_of, rule_of, with_rule, with_subcommand};
 ghost use Rattle.clap.specs.declared.builder.command.Command.TheViews.{out-Command as fields_of};
-ghost use Rattle.wb_command_line.specs.CommandLine.{command_line, file_argument, json_flag, line_of};
+ghost use Rattle.wb_command_line.specs.CommandLine.{brief_flag, command_line, file_argument, line_of};
 ghost use Rattle.wb_command_line.specs.CommandLine.{moving_flag, number_option, option_rule, own_options, part_options};
-ghost use Rattle.wb_command_line.specs.CommandLine.{
-  file_options,
-  picture_option,
-  report_options,
-  rule_options,
-  sarif_option,
-};
+ghost use Rattle.wb_command_line.specs.CommandLine.{rule_options};
 ghost use Rattle.wb_command_line.specs.CommandLine.{shared_options, with_level, with_option, with_rules};
 
 use crate::command_line::failures::with_failures;
 use crate::command_line::following::with_following;
 use crate::command_line::long_help::{BEGIN, long_about};
 use crate::command_line::number_help::{NumberHelp, between};
+use crate::command_line::report_options::with_report_options;
 use crate::command_line::set_list::set_argument;
 use clap::{Arg, ArgAction};
 use std::alloc::{AllocError, Global};
 use wb_basics::limits::{CEILING, LARGEST_BUDGET, LARGEST_MINIMUM, LARGEST_STEP, SMALLEST_STEP};
 
-/// Which options a subcommand has, beside those that all subcommands have.
+/// Which options a subcommand has, beside those that all subcommands have. `Failures` and `Neither` have a table, and so `--brief`.
 #[derive(Clone, Copy)]
 enum Takes {
     /// The options that give a rule: a limit, the number of an attempt that fails, and of a second one, a rate, the number of the attempt
@@ -166,9 +161,9 @@ fn with_own_options<'a>(
 {
     match takes {
         Takes::Rule => with_following(alloc, with_rule_options(alloc, line, help)?, help),
-        Takes::Failures => with_failures(alloc, line, help),
+        Takes::Failures => with_argument(with_failures(alloc, line, help)?, brief(alloc)),
         Takes::Part => with_part_options(alloc, with_failures(alloc, line, help)?, help),
-        Takes::Neither => Ok(line),
+        Takes::Neither => with_argument(line, brief(alloc)),
     }
 }
 
@@ -259,29 +254,6 @@ fn with_shared_options<'a>(
     with_report_options(alloc, with_argument(line, moving(alloc))?)
 }
 
-/// The subcommand with the options that say how a report is written, and what is written beside it.
-fn with_report_options<'a>(
-    alloc: Global,
-    line: clap::Command<'a>,
-) -> Result<clap::Command<'a>, AllocError>
-    ensures added { IfOk result
-        (λ more. app_of more ≡ with_rules (app_of line.entry) report_options) }
-    ensures own { IfOk result
-        (λ more. (fields_of more).has_globals ≡ (fields_of line.entry).has_globals) }
-{
-    with_files(alloc, with_argument(line, json(alloc))?)
-}
-
-/// The subcommand with the options that name files for what is written beside the report.
-fn with_files<'a>(alloc: Global, line: clap::Command<'a>) -> Result<clap::Command<'a>, AllocError>
-    ensures added { IfOk result
-        (λ more. app_of more ≡ with_rules (app_of line.entry) file_options) }
-    ensures own { IfOk result
-        (λ more. (fields_of more).has_globals ≡ (fields_of line.entry).has_globals) }
-{
-    with_argument(with_argument(line, picture(alloc))?, sarif(alloc))
-}
-
 /// The subcommand with more options that take numbers.
 pub(super) fn with_numbers<'a>(
     alloc: Global,
@@ -333,37 +305,15 @@ fn moving<'a>(alloc: Global) -> Arg<'a>
         .help("Moves each cell that grows, even where the bytes after it are free")
 }
 
-/// The flag that asks for the report as JSON.
-fn json<'a>(alloc: Global) -> Arg<'a>
-    ensures rule { rule_of result ≡ json_flag }
+/// The flag that asks for the report without the rows of its table.
+fn brief<'a>(alloc: Global) -> Arg<'a>
+    ensures rule { rule_of result ≡ brief_flag }
     ensures own { result.global ≡ false }
 {
-    Arg::new(alloc, "json")
-        .long("json")
+    Arg::new(alloc, "brief")
+        .long("brief")
         .action(ArgAction::SetTrue)
-        .help("Writes the report as one JSON object")
-}
-
-/// The option that asks for a picture.
-fn picture<'a>(alloc: Global) -> Arg<'a>
-    ensures rule { rule_of result ≡ picture_option }
-    ensures own { result.global ≡ false }
-{
-    Arg::new(alloc, "picture")
-        .long("picture")
-        .value_name("FILE")
-        .help("Also writes a picture of the heap over time to FILE, as SVG")
-}
-
-/// The option that asks for a SARIF log.
-fn sarif<'a>(alloc: Global) -> Arg<'a>
-    ensures rule { rule_of result ≡ sarif_option }
-    ensures own { result.global ≡ false }
-{
-    Arg::new(alloc, "sarif")
-        .long("sarif")
-        .value_name("FILE")
-        .help("Also writes what is explained to FILE, as a SARIF log")
+        .help("Leaves out the lines that begin with `from`")
 }
 
 /// The command with one more argument.

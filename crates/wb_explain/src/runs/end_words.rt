@@ -20,6 +20,39 @@ impl Display for PanicName {
     }
 }
 
+/// The code of a leave, after Symbian's name of it if scripts often leave with it.
+#[derive(Clone, Copy)]
+pub struct CodeName(pub i32);
+
+impl Display for CodeName {
+    fn fmt<W: Write>(&self, f: &mut Formatter<W>) -> fmt::Result {
+        let code = self.0;
+        match name_of(code) {
+            "" => write!(f, "{code}"),
+            name => write!(f, "{name} ({code})"),
+        }
+    }
+}
+
+/// Symbian's name of a code that scripts often leave with; empty for others.
+fn name_of(code: i32) -> &'static str {
+    match code {
+        -1 => "KErrNotFound",
+        -2 => "KErrGeneral",
+        -3 => "KErrCancel",
+        -4 => "KErrNoMemory",
+        -5 => "KErrNotSupported",
+        -6 => "KErrArgument",
+        -9 => "KErrOverflow",
+        -11 => "KErrAlreadyExists",
+        -14 => "KErrInUse",
+        -18 => "KErrNotReady",
+        -20 => "KErrCorrupt",
+        -26 => "KErrDiskFull",
+        _ => "",
+    }
+}
+
 /// How a run ends that leaks or panics; no text for any other run.
 #[derive(Clone, Copy)]
 pub struct EndInWords(pub RunEnd);

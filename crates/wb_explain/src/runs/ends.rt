@@ -2,12 +2,13 @@
 
 use crate::runs::attempts::put_refused;
 use crate::runs::blame::{class_of, line_of};
+use crate::runs::caught::{overlooked, put_caught, put_look};
 use crate::runs::cuts::put_cut;
 use crate::runs::destroyed::{OF_OBJECT, of_item};
-use crate::runs::end_words::PanicName;
+use crate::runs::end_words::{CodeName, PanicName};
 use crate::runs::explanation::{FindingKind, Told};
 use crate::runs::heap_checks::{meaning_of_check, put_counted, put_counts};
-use crate::runs::item_gone::{cure_of_gone, put_item_gone, put_user};
+use crate::runs::item_gone::{cure_of_gone, has_two_items, put_item_gone, put_user};
 use crate::runs::items_left::{
     OF_MAIN, POP_FIRST, cure_of_another, cure_of_below, put_another, put_items, put_items_left,
     put_too_many,
@@ -15,9 +16,11 @@ use crate::runs::items_left::{
 use crate::runs::leaks::put_leaks;
 use crate::runs::panics::{Meaning, meaning_of, symbian_of};
 use crate::runs::paths::{put_path, put_traps};
-use crate::runs::pointers::{cure_of, is_out_of_order, put_fault};
+use crate::runs::pointers::{cure_of, is_left_null, is_out_of_order, put_fault};
+use crate::runs::room::{cure_of_room, put_room};
 use crate::runs::script_page::{ScriptPage, Written};
 use crate::runs::sentences::put_values;
+use crate::runs::taken::LEFT_TO_CALLER;
 use crate::runs::told::put_life;
 use wb_heap_model::heap::{Panic, Rule};
 use wb_history::{Ended, Life, Meant, PointerState, Values, WatchedRun};
@@ -29,6 +32,9 @@ pub fn put_findings(page: &mut ScriptPage<'_>, run: &WatchedRun<'_>) -> Written 
     put_refused(page, &run.parameters.rule, run)?;
     match &run.outcome {
         Outcome::Ended { left, leaks } => {
+            if leaks.len() > 0 {
+                put_own_leave(page, run)?;
+            }
             if let Some(code) = *left
                 && (leaks.len() > 0 || refuses(&run.parameters.rule))
             {
@@ -36,12 +42,23 @@ pub fn put_findings(page: &mut ScriptPage<'_>, run: &WatchedRun<'_>) -> Written 
             }
             put_leaks(page, leaks.as_slice(), run)
         }
-        Outcome::Panicked(_) => match run.end.raised {
-            Some(raised) => put_panic(page, raised, run),
-            None => Ok(()),
-        },
+        Outcome::Panicked(_) => {
+            put_own_leave(page, run)?;
+            match run.end.raised {
+                Some(raised) => put_panic(page, raised, run),
+                None => Ok(()),
+            }
+        }
         Outcome::NoCleanup => Ok(()),
         Outcome::Cut(why) => put_cut(page, *why, run),
+    }
+}
+
+/// Says which leave a TRAP caught last, where no attempt was to fail.
+fn put_own_leave(page: &mut ScriptPage<'_>, run: &WatchedRun<'_>) -> Written {
+    match run.history.traps.last_leave() {
+        Some(leave) if !refuses(&run.parameters.rule) => put_caught(page, leave),
+        _ => Ok(()),
     }
 }
 
@@ -58,34 +75,15 @@ fn refuses(rule: &Rule) -> bool {
 fn put_left(page: &mut ScriptPage<'_>, code: i32, run: &WatchedRun<'_>) -> Written {
     let line = run.history.calls.line_at(1);
     page.begin_finding(FindingKind::Left, Told::Unordered)?;
-    match name_of(code) {
-        "" => page.mark(line, format_args!("`main` left here with {code}"))?,
-        name => page.mark(line, format_args!("`main` left here with {name} ({code})"))?,
-    }
+    page.mark(
+        line,
+        format_args!("`main` left here with {}", CodeName(code)),
+    )?;
     if let Some(leave) = run.history.traps.last_leave() {
         let lines = run.history.calls.lines_of(leave.at.path)?;
         put_path(page, &run.history.bodies, lines.as_slice());
     }
     Ok(())
-}
-
-/// Symbian's name of a code that scripts often leave with; empty for others.
-fn name_of(code: i32) -> &'static str {
-    match code {
-        -1 => "KErrNotFound",
-        -2 => "KErrGeneral",
-        -3 => "KErrCancel",
-        -4 => "KErrNoMemory",
-        -5 => "KErrNotSupported",
-        -6 => "KErrArgument",
-        -9 => "KErrOverflow",
-        -11 => "KErrAlreadyExists",
-        -14 => "KErrInUse",
-        -18 => "KErrNotReady",
-        -20 => "KErrCorrupt",
-        -26 => "KErrDiskFull",
-        _ => "",
-    }
 }
 
 /// Says what the panic was, and shows its line, with carets under the operand that the panic is about, or else under the first word. Then
@@ -104,7 +102,7 @@ fn put_panic(page: &mut ScriptPage<'_>, raised: Raised, run: &WatchedRun<'_>) ->
     put_way(page, line, raised, run)?;
     put_path(page, &run.history.bodies, run.end.path.as_slice());
     put_traps(page, run.history.traps.open_traps());
-    put_remarks(page, symbian_note(raised, run), help_of(line, raised, run));
+    put_remarks(page, line, raised, run);
     Ok(())
 }
 
@@ -156,10 +154,25 @@ fn put_way(page: &mut ScriptPage<'_>, line: u32, raised: Raised, run: &WatchedRu
     if let Some(class) = class_of(raised, run) {
         page.mark_word(class, 1, "this is the class of the object")?;
     }
-    if let Some(life) = life_of(raised, run) {
-        put_life(page, &run.history, life)?;
+    let has_two = has_two_items(run, ended_of(raised, run));
+    if has_two {
+        put_item_meant(page, line, raised, run)?;
     }
-    put_item_meant(page, line, raised, run)?;
+    if let Some(life) = life_of(raised, run) {
+        put_life(page, run, life)?;
+    }
+    if !has_two {
+        put_item_meant(page, line, raised, run)?;
+    }
+    if let Some(
+        Meant {
+            values: Values::WouldHave { maximum, .. },
+            ..
+        },
+    ) = run.end.values
+    {
+        put_room(page, maximum, run)?;
+    }
     put_items(page, raised, run)?;
     match &run.end.counted {
         Some(counted) => put_counted(page, counted, run),
@@ -201,6 +214,10 @@ fn help_of(line: u32, raised: Raised, run: &WatchedRun<'_>) -> &'static str {
         Some(fault) => cure_of(run, line, fault),
         None if raised.panic == Panic::POP_BELOW_TRAP => cure_of_below(run),
         None if raised.panic == Panic::ANOTHER_ITEM_ON_TOP => cure_of_another(run),
+        None if raised.panic == Panic::TOO_LONG => cure_of_room(run),
+        None if raised.panic == Panic::ITEMS_LEFT && run.history.items.of_callee.is_some() => {
+            LEFT_TO_CALLER
+        }
         None => meaning(raised, run).1,
     }
 }
@@ -249,12 +266,36 @@ fn symbian_note(raised: Raised, run: &WatchedRun<'_>) -> &'static str {
     }
 }
 
-/// Writes where Symbian raises the panic, and what to look for; leaves out a text that is empty.
-fn put_remarks(page: &mut ScriptPage<'_>, note: &str, help: &str) {
+/// Writes where Symbian raises the panic, and what to look for: at the code of a leave, if the panic may come of one that was overlooked.
+fn put_remarks(page: &mut ScriptPage<'_>, line: u32, raised: Raised, run: &WatchedRun<'_>) {
+    let (note, help) = (symbian_note(raised, run), help_of(line, raised, run));
     if !note.is_empty() {
         page.page.write_note_text(note);
     }
-    if !help.is_empty() {
-        page.page.write_help_text(help);
+    let look = if may_come_of_leave(line, run) {
+        overlooked(page, run)
+    } else {
+        None
+    };
+    match look {
+        Some(leave) => put_look(page, leave),
+        None if help.is_empty() => {}
+        None => page.page.write_help_text(help),
+    }
+}
+
+/// Whether a panic may come of lines that a leave skipped, by what they would have made or would have made longer.
+fn may_come_of_leave(line: u32, run: &WatchedRun<'_>) -> bool {
+    match (run.end.pointer, run.end.values) {
+        (Some(fault), _) => is_left_null(run, line, fault),
+        (None, Some(Meant { values, .. })) => matches!(
+            values,
+            Values::WouldHave { .. }
+                | Values::PastEnd { .. }
+                | Values::Fewer { .. }
+                | Values::Part { .. }
+                | Values::NoWord { .. }
+        ),
+        (None, None) => false,
     }
 }

@@ -79,6 +79,14 @@ pub fn put_counted(page: &mut ScriptPage<'_>, counted: &Counted, run: &WatchedRu
         page.page
             .write_file_message(format_args!("and {more} more"));
     }
+    let (marks, statement) = (&run.history.marks, run.end.statement);
+    if matches!(statement, Some(Statement::Check(_))) && marks.newest().is_none() {
+        page.mark_new(
+            marks.closed_at,
+            0,
+            "this closed the last mark: none is open, so the check counts all cells outside of marks",
+        )?;
+    }
     put_mark(page, counted, run)?;
     put_failed_by_script(page, run)
 }

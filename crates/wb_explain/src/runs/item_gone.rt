@@ -3,6 +3,7 @@
 
 use crate::runs::script_page::{ScriptPage, Written};
 use wb_history::{By, End, Ended, Popped, WatchedRun};
+use wb_machine::Raiser;
 
 /// Returns what to do about an item whose cell is gone because another item was popped in its place, or because the cell has two; `None` if
 /// it is gone for another reason.
@@ -15,6 +16,14 @@ pub fn cure_of_gone(run: &WatchedRun<'_>, ended: Ended) -> Option<&'static str> 
             "pop an item before its cell is freed elsewhere: `popcheck` makes sure that it is the one that comes off",
         ),
         None => None,
+    }
+}
+
+/// Returns whether an item panicked because another item of its cell had ended the cell's life so.
+pub fn has_two_items(run: &WatchedRun<'_>, ended: Option<Ended>) -> bool {
+    match (run.end.raised, ended) {
+        (Some(raised), Some(ended)) => raised.raiser == Raiser::Item && ended.by != By::Line,
+        _ => false,
     }
 }
 
@@ -58,7 +67,7 @@ pub fn put_item_gone(
 /// What is said where an item was pushed that raised a panic when it was destroyed. `ended` is how the life of its cell ended.
 fn said_of_push(ended: Option<Ended>) -> &'static str {
     match ended {
-        Some(ended) if ended.by != By::Line => "another item of it was pushed here",
+        Some(ended) if ended.by != By::Line => "its older item, destroyed last, was pushed here",
         _ => "its item was pushed here",
     }
 }

@@ -3,10 +3,11 @@
 
 use crate::runs::counts::{Many, of_one_or_more};
 use crate::runs::panics::Meaning;
-use crate::runs::paths::AfterLine;
+use crate::runs::paths::{AfterLine, body_name};
 use crate::runs::script_page::{ScriptPage, Written};
+use crate::runs::taken::{LEFT_TO_CALLER, TAKEN_FROM_CALLER, Then, put_left, put_of_caller};
 use wb_heap_model::heap::Panic;
-use wb_history::{BodyKind, ItemOnStack, Origin, WatchedRun};
+use wb_history::{ItemOnStack, Origin, Stay, WatchedRun};
 use wb_machine::{Raised, Raiser};
 
 /// The most items that are told of.
@@ -69,37 +70,26 @@ pub fn put_another(page: &mut ScriptPage<'_>, line: u32, run: &WatchedRun<'_>) {
 /// Tells of the items that a panic of the cleanup stack is about; nothing of any other panic.
 pub fn put_items(page: &mut ScriptPage<'_>, raised: Raised, run: &WatchedRun<'_>) -> Written {
     match raised.panic {
-        Panic::ITEMS_LEFT => put_each(page, items_left(raised, run), run),
+        Panic::ITEMS_LEFT => {
+            put_each(page, items_left(raised, run), run)?;
+            match run.history.items.of_callee {
+                Some(taken) => put_left(page, taken.body, Then(Some(taken)), run),
+                None => Ok(()),
+            }
+        }
         Panic::ANOTHER_ITEM_ON_TOP => put_top(page, run),
         Panic::POP_BELOW_TRAP => {
             put_newest(page, run)?;
-            put_of_caller(page, run)
+            put_of_caller(page, run.history.items.of_caller, run)
         }
         _ => Ok(()),
     }
 }
 
-/// Tells which line popped an item that a calling body had pushed, if one did.
-fn put_of_caller(page: &mut ScriptPage<'_>, run: &WatchedRun<'_>) -> Written {
-    let Some(popped) = run.history.items.of_caller else {
-        return Ok(());
-    };
-    page.tell_unordered();
-    page.mark_new(
-        popped.line.number(),
-        0,
-        format_args!(
-            "this popped the item that line {} had pushed, in a calling body",
-            popped.pushed.number()
-        ),
-    )
-}
-
 /// What to do about more items to be popped than the innermost TRAP has.
 pub fn cure_of_below(run: &WatchedRun<'_>) -> &'static str {
     match (items_below(run), run.history.items.of_caller) {
-        (_, Some(_)) =>
-            "a body pops the items that it pushed itself: `popcheck` makes sure that no other item comes off",
+        (_, Some(_)) => TAKEN_FROM_CALLER,
         (0, None) => "each item that is popped was pushed before: pop as many as there are",
         _ => "items of an outer TRAP are popped outside the inner one",
     }
@@ -168,19 +158,12 @@ fn put_caller(
     )
 }
 
-/// The name of a line's body.
-fn body_name<'a>(page: &ScriptPage<'a>, line: u32, run: &WatchedRun<'_>) -> &'a str {
-    let body = run.history.bodies.body_of(line);
-    match body.kind {
-        BodyKind::Nothing => "main",
-        BodyKind::Procedure | BodyKind::Construct | BodyKind::Destructor | BodyKind::Operation =>
-            page.word(body.line, 1),
-    }
-}
-
 /// Tells where the newest item was pushed, and what became of the item that was expected in its place.
 fn put_top(page: &mut ScriptPage<'_>, run: &WatchedRun<'_>) -> Written {
     put_newest(page, run)?;
+    if let Some(body) = newest_left_by(run) {
+        put_left(page, body, Then(None), run)?;
+    }
     if let Some(item) = item_meant(run) {
         let line = item.pushed.line;
         return page.mark_new(line, 1, "the one that is meant was pushed here");
@@ -224,8 +207,17 @@ fn item_meant(run: &WatchedRun<'_>) -> Option<ItemOnStack> {
     None
 }
 
+/// The body that left the newest item to its caller; `None` if none is known.
+fn newest_left_by(run: &WatchedRun<'_>) -> Option<Stay> {
+    let newest = run.history.items.newest()?;
+    run.history.calls.left_by(newest.depth, newest.pushed.step)
+}
+
 /// What to do if the newest item isn't the expected one.
 pub fn cure_of_another(run: &WatchedRun<'_>) -> &'static str {
+    if newest_left_by(run).is_some() {
+        return LEFT_TO_CALLER;
+    }
     match (item_meant(run), run.history.lives.find(run.end.names)) {
         (Some(_), _) => "items come off in the reverse of the order in which they were pushed",
         (None, Some(life)) if life.popped.is_some() => {

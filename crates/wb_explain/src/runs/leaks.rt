@@ -1,5 +1,6 @@
 //! What is said of each leak: which line made the cell, how it was lost, and what to do.
 
+use crate::runs::caught::{overlooked, put_look};
 use crate::runs::explanation::{FindingKind, Told};
 use crate::runs::paths::{AfterLine, before_name, put_path};
 use crate::runs::pointers::cure_of_failed;
@@ -175,16 +176,45 @@ fn put_cure(page: &mut ScriptPage<'_>, loss: Loss, life: Life, run: &WatchedRun<
             let field = name.split('.').nth(1).unwrap_or(name);
             page.page.begin_note();
             page.page.write(format_args!(
-                "it was lost with the object that line {line} made, whose field `{field}` named it: when that is deleted, the `destroy` of `{class}` is to free it"
+                "it was lost with the object that line {line} made, whose field `{field}` named it: when that is deleted, the `destroy` of `{class}` will free it"
             ));
             page.page.end_line();
         }
         Loss::Left(leave) => put_left_cure(page, leave, life, run),
-        Loss::OutOfScope(held) => put_out_of_scope(page, held, name, run),
-        Loss::StillNamed => page.page.write_help_text(match life.kind {
-            Kind::Object(_) => "delete the object before the end, or let what owns it delete it",
-            _ => "free the cell before the end, or let what owns it free it",
-        }),
+        Loss::OutOfScope(held) => put_out_of_scope(page, life, held, name, run),
+        Loss::StillNamed => put_still_named(page, life, run),
+    }
+}
+
+/// Says what to do about a cell that a pointer still names at the end. The lines that a leave skipped may be those that were to free it.
+fn put_still_named(page: &mut ScriptPage<'_>, life: Life, run: &WatchedRun<'_>) {
+    let since = life.held.map_or(u32::MAX, |held| held.since);
+    let leave = match overlooked(page, run) {
+        Some(leave) if since <= leave.at.step => Some(leave),
+        _ => None,
+    };
+    page.page.begin_help();
+    if leave.is_none() {
+        put_in_place_of_pop(page, life);
+    }
+    page.page.write_text(match life.kind {
+        Kind::Object(_) => "delete the object before the end, or let what owns it delete it",
+        _ => "free the cell before the end, or let what owns it free it",
+    });
+    page.page.end_line();
+    if let Some(leave) = leave {
+        put_look(page, leave);
+    }
+}
+
+/// Says what would have freed a cell whose item was popped; nothing if its item wasn't popped.
+fn put_in_place_of_pop(page: &mut ScriptPage<'_>, life: Life) {
+    let line = life.popped.number();
+    if line != 0 {
+        let word = page.word(line, 0);
+        page.page.write(format_args!(
+            "use `popdestroy` in place of the `{word}` of line {line}, or "
+        ));
     }
 }
 
@@ -207,7 +237,17 @@ fn put_overwritten(page: &mut ScriptPage<'_>, line: u32, name: &str, run: &Watch
 }
 
 /// Says which body ended whose local got a cell last.
-fn put_out_of_scope(page: &mut ScriptPage<'_>, held: Held, name: &str, run: &WatchedRun<'_>) {
+fn put_out_of_scope(
+    page: &mut ScriptPage<'_>,
+    life: Life,
+    held: Held,
+    name: &str,
+    run: &WatchedRun<'_>,
+) {
+    let release = match life.kind {
+        Kind::Object(_) => "`delete` the object",
+        _ => "free the cell",
+    };
     let body = run.history.bodies.body_of(held.line.number());
     let (what, owner) = (before_name(body.kind), page.word(body.line, 1));
     let line = held.caller.number();
@@ -217,18 +257,27 @@ fn put_out_of_scope(page: &mut ScriptPage<'_>, held: Held, name: &str, run: &Wat
         .last_line_of(u32::from(held.depth), held.since);
     if last != 0 && returns(run, held) {
         return page.page.write_help(format_args!(
-            "line {line} doesn't take the pointer that `{owner}` returns: take it with `callto`, and free the cell"
+            "line {line} doesn't take the pointer that `{owner}` returns: take it with `callto`, and {release}"
         ));
     }
-    let (end, otherwise) = (AfterLine(last), instead_of_freeing(body.kind));
-    page.page.write_help(format_args!(
-        "`{name}` went out of scope when {what}{owner}`, which line {line} called, ended{end}: free the cell before that{otherwise}"
+    let (end, otherwise) = (
+        AfterLine(last),
+        instead_of_freeing(body.kind, page.word(line, 0)),
+    );
+    page.page.begin_help();
+    page.page.write(format_args!(
+        "`{name}` went out of scope when {what}{owner}`, which line {line} called, ended{end}: "
     ));
+    put_in_place_of_pop(page, life);
+    page.page
+        .write(format_args!("{release} before that{otherwise}"));
+    page.page.end_line();
 }
 
-/// What a body may do with a cell of its own that it doesn't free.
-fn instead_of_freeing(kind: BodyKind) -> &'static str {
+/// What a body may do with a cell of its own that it doesn't free; `call` is the word by which it was called.
+fn instead_of_freeing(kind: BodyKind, call: &str) -> &'static str {
     match kind {
+        BodyKind::Procedure if call != "callto" => "",
         BodyKind::Procedure => ", or return the pointer",
         BodyKind::Construct => ", or keep the pointer in a field",
         BodyKind::Nothing | BodyKind::Destructor | BodyKind::Operation => "",

@@ -9,11 +9,6 @@ const FIRST_ROWS: usize = 10;
 
 const LAST_ROWS: usize = 5;
 
-/// Returns the number of the last attempt that `put_lengths` names; 0 if it names none.
-pub fn last_named(rises: &[Rise]) -> u32 {
-    rises.last().map_or(0, |rise| rise.number)
-}
-
 /// Says of each row of the table which line makes its attempt, by the attempts of the run without a limit.
 pub fn put_lengths(page: &mut ScriptPage<'_>, attempts: &Attempts<'_>, rises: &[Rise]) {
     page.page.write_file_text("what shorter heaps refuse first");

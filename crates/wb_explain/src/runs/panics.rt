@@ -11,10 +11,7 @@ pub type Meaning = (&'static str, &'static str);
 pub fn meaning_of(panic: Panic, statement: &Statement) -> Meaning {
     match panic {
         Panic::POSITION_OUT_OF_BOUNDS => out_of_bounds(statement),
-        Panic::TOO_LONG => (
-            "the text would be longer than its maximum",
-            "`getmax` gives the maximum; that of a buffer is in its declaration, and `hrealloc` gives a text in a cell more room",
-        ),
+        Panic::TOO_LONG => ("the text would be longer than its maximum", ""),
         Panic::BAD_CELL => (
             "the pointer names no live cell: it was freed, or has moved",
             "set the pointer to null, for example with `null`, when its cell is freed: freeing null does nothing",
@@ -49,10 +46,6 @@ pub const CHECK_FIRST: &str =
 /// What to look for where a destructor finds a null pointer.
 pub const CHECK_IN_DESTRUCTOR: &str =
     "check with `if some` first: a destructor also runs on an object of which only a part was made";
-
-/// What to do where a leave went past the lines that were to give a pointer a cell.
-pub const LOOK_AT_CODE: &str =
-    "the lines that were to make it were left, and the run went on: look at the code that the TRAP gave, for example with `leaveiferror`";
 
 /// Returns where Symbian raises a panic of this category and number; empty for a panic that only this project has.
 pub fn panic_in_symbian(panic: Panic) -> &'static str {

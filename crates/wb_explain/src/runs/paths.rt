@@ -4,7 +4,7 @@ use crate::runs::number_lists::joint;
 use crate::runs::script_page::ScriptPage;
 use std::fmt;
 use std::fmt::{Display, Formatter, Write};
-use wb_history::{Bodies, BodyKind, OpenTrap};
+use wb_history::{Bodies, BodyKind, OpenTrap, WatchedRun};
 
 /// How many calls of a long path are shown at its beginning, and at its end.
 const CALLS_SHOWN: usize = 4;
@@ -36,6 +36,16 @@ fn put_call(page: &mut ScriptPage<'_>, bodies: &Bodies, line: u32) {
     let body = bodies.body_of(line);
     let (what, name) = (before_name(body.kind), page.word(body.line, 1));
     page.page.write(format_args!("{what}{name}` line {line}"));
+}
+
+/// Returns the name of a line's body.
+pub fn body_name<'a>(page: &ScriptPage<'a>, line: u32, run: &WatchedRun<'_>) -> &'a str {
+    let body = run.history.bodies.body_of(line);
+    match body.kind {
+        BodyKind::Nothing => "main",
+        BodyKind::Procedure | BodyKind::Construct | BodyKind::Destructor | BodyKind::Operation =>
+            page.word(body.line, 1),
+    }
 }
 
 /// What is said before the name of a body.

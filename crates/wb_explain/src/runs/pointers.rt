@@ -1,8 +1,9 @@
 //! What is said of the pointer that a panic is about: that it is null, or what became of its cell, and what to do.
 
 use crate::runs::destroyed::of_item_without_cell;
-use crate::runs::panics::{CHECK_FIRST, CHECK_IN_DESTRUCTOR, LOOK_AT_CODE};
+use crate::runs::panics::{CHECK_FIRST, CHECK_IN_DESTRUCTOR};
 use crate::runs::script_page::ScriptPage;
+use crate::runs::taken::{TAKEN_FROM_CALLER, taken_with};
 use wb_history::{
     AttemptMade, BodyKind, By, End, Ended, Life, PointerFault, PointerState, WatchedRun,
     is_same_field, is_same_pointer, target_of,
@@ -24,6 +25,9 @@ fn name_of<'a>(page: &ScriptPage<'a>, line: u32, fault: PointerFault) -> &'a str
 pub fn put_fault(page: &mut ScriptPage<'_>, line: u32, fault: PointerFault) {
     let name = name_of(page, line, fault);
     match fault.state {
+        PointerState::Null if page.word(line, 0) == "null" => page.page.write(format_args!(
+            "there is no object with this field: `{name}` is null"
+        )),
         PointerState::Null => page.page.write(format_args!("`{name}` is null")),
         PointerState::Gone(life) => match life.and_then(|life| life.ended) {
             Some(ended) => put_ended(page, line, fault, ended),
@@ -75,12 +79,12 @@ pub fn cure_of(run: &WatchedRun<'_>, line: u32, fault: PointerFault) -> &'static
             _ => cure_outside(run, line, fault),
         },
         PointerState::Gone(_) if fault.pointer.is_none() =>
-            "a view shows its text only while the text's cell is there and keeps its place",
+            "a view shows its text only while the text's cell is there and keeps its place: make the view again after a line that may move the text",
         PointerState::Gone(life) => match life.and_then(|life| life.ended) {
-            Some(ended) if is_in_item(run, line, life) => of_item_without_cell(Some(ended.end)).1,
             Some(ended) if is_out_of_order(run, line, fault, ended) => {
-                "the cleanup stack destroys its newest item first: push what a destructor uses before the object whose destructor uses it"
+                "the cleanup stack destroys its newest item first: push what a destructor or an operation uses before the item that uses it"
             }
+            Some(ended) if is_in_item(run, line, life) => of_item_without_cell(Some(ended.end)).1,
             Some(ended) => cure_of_ended(run, line, fault, ended),
             None => "set the pointer to null when its cell is freed",
         },
@@ -91,31 +95,34 @@ pub fn cure_of(run: &WatchedRun<'_>, line: u32, fault: PointerFault) -> &'static
 fn cure_outside(run: &WatchedRun<'_>, line: u32, fault: PointerFault) -> &'static str {
     match failed_for(run, line, fault) {
         Some(made) => cure_of_null(made),
-        None if has_left_last(run) => LOOK_AT_CODE,
         None => CHECK_FIRST,
     }
 }
 
-/// Whether an attempt failed, and a TRAP caught a leave at the last one that did, or later.
-fn has_left_last(run: &WatchedRun<'_>) -> bool {
-    let mut failed = None;
-    for made in run.history.attempts.kept_attempts() {
-        if !made.is_granted() {
-            failed = Some(made.step);
-        }
+/// Returns whether a pointer may be null because lines were left that would have made its cell.
+pub fn is_left_null(run: &WatchedRun<'_>, line: u32, fault: PointerFault) -> bool {
+    if fault.state != PointerState::Null || run.history.bodies.undoes(line) {
+        return false;
     }
-    match (failed, run.history.traps.last_leave()) {
-        (Some(step), Some(leave)) => step <= leave.at.step && leave.caught.is_some(),
-        _ => false,
+    match failed_for(run, line, fault) {
+        Some(made) => !made.maker.gives_null(),
+        None => true,
     }
 }
 
-/// Returns whether a body that undoes uses a cell, and doesn't free it, that the cleanup stack destroyed for the same line.
+/// Returns whether a body that undoes uses a cell, and doesn't free it, that the cleanup stack destroyed for the same line, or another
+/// operation.
 pub fn is_out_of_order(run: &WatchedRun<'_>, line: u32, fault: PointerFault, ended: Ended) -> bool {
+    let (user, freer) = (
+        run.history.bodies.body_of(line),
+        run.history.bodies.body_of(ended.at.number()),
+    );
+    let are_operations = user.kind == BodyKind::Operation
+        && freer.kind == BodyKind::Operation
+        && user != freer;
+    let is_by_item = ended.by != By::Line && ended.at.number() == run.history.last_line_outside();
     ended.end != End::Moved
-        && ended.by != By::Line
-        && run.history.bodies.undoes(line)
-        && ended.at.number() == run.history.last_line_outside()
+        && (are_operations || is_by_item && run.history.bodies.undoes(line))
         && !frees(run, fault)
 }
 
@@ -166,9 +173,6 @@ pub fn cure_of_failed(run: &WatchedRun<'_>, line: u32) -> Option<&'static str> {
 
 /// What to do if a failed attempt left a pointer null.
 fn cure_of_null(made: AttemptMade<'_>) -> &'static str {
-    if !made.maker.gives_null() {
-        return "the line that was to make it left, and the run went on: look at the code that the TRAP gave, for example with `leaveiferror`";
-    }
     match made.maker.statement {
         Some(Statement::New(..)) => {
             "after `new` check with `if some`; `newleave` leaves instead of giving null"
@@ -211,11 +215,15 @@ fn cure_of_ended(
         (End::Moved, _) => {
             "a cell that grew may have moved, and then only the result of that line names it"
         }
+        (_, By::PopDestroy) if taken_with(ended, run).is_some() => TAKEN_FROM_CALLER,
+        (_, By::PopDestroy | By::Leave) if frees(run, fault) && run.history.bodies.undoes(line) => {
+            "its item and the field both own it: pop the item as soon as the field has got it, before the next line that may leave"
+        }
         (_, By::PopDestroy) => {
             "`popdestroy` frees what it takes off: use `pop` if the cell is to stay, or set the pointer to null after it"
         }
         (_, By::Leave) => {
-            "a leave destroys all items since the TRAP began: `pop` the item once its cell has another owner, or set the pointer to null after the TRAP"
+            "a leave destroys all items since its TRAP began, with their cells: `pop` an item as soon as its cell has another owner, and where the leave was caught neither use the pointer nor free it again"
         }
         (End::Deleted, By::Line) if !frees(run, fault) => {
             "delete the object after its last use: this line still uses it"

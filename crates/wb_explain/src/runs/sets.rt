@@ -1,9 +1,11 @@
 //! What is said of one or more attempts that the rule names one by one and makes fail.
 
+use crate::runs::caught::put_caught;
 use crate::runs::failures::{Next, next_after, put_failed, put_failed_here, put_next};
 use crate::runs::number_lists::put_list;
 use crate::runs::script_page::{ScriptPage, Written};
 use wb_history::{AttemptMade, WatchedRun};
+use wb_tree::script::Statement;
 
 /// The most failed attempts that are shown with their lines.
 const MOST_SHOWN: usize = 8;
@@ -79,8 +81,8 @@ fn put_made(
     Ok(())
 }
 
-/// Shows a failed attempt, and where the run went on, unless that is said for `later`, the next attempt that failed. If the attempt was for
-/// the cell of the cleanup stack, the run makes no other.
+/// Shows a failed attempt, the TRAP that caught the next leave, if one did before `later`, the next attempt that failed, and where the run
+/// went on. If the attempt was for the cell of the cleanup stack, the run makes no other.
 fn put_one(
     page: &mut ScriptPage<'_>,
     made: AttemptMade<'_>,
@@ -91,8 +93,42 @@ fn put_one(
     if made.maker.line == 0 {
         return put_failed(page, made, run);
     }
-    let also = if is_later { " as well" } else { "" };
-    put_failed_here(page, made.attempt, made.maker.line, also)?;
+    put_failed_here(page, made.attempt, made.maker.line, also_of(made, is_later))?;
+    let until = match later {
+        Some(later) => later.step,
+        None => u32::MAX,
+    };
+    match run.history.traps.leave_between(made.step, until) {
+        Some(leave) if leave.at.step == made.step => {
+            put_caught(page, leave)?;
+            put_next_before(page, made, later, run)
+        }
+        Some(leave) => {
+            put_next_before(page, made, later, run)?;
+            put_caught(page, leave)
+        }
+        None => put_next_before(page, made, later, run),
+    }
+}
+
+/// What is said of a failed attempt besides: that it isn't the first, or that the item of a `push` has its place all the same.
+fn also_of(made: AttemptMade<'_>, is_later: bool) -> &'static str {
+    match made.maker.statement {
+        Some(Statement::Push(_) | Statement::PushObject(_) | Statement::PushOperation(..)) => {
+            ", when its item was on the cleanup stack already"
+        }
+        _ if is_later => " as well",
+        _ => "",
+    }
+}
+
+/// Shows where the run went on after a failed attempt, unless that is said for `later`, the next attempt that failed.
+fn put_next_before(
+    page: &mut ScriptPage<'_>,
+    made: AttemptMade<'_>,
+    later: Option<AttemptMade<'_>>,
+    run: &WatchedRun<'_>,
+) -> Written {
     let next = next_after(made.maker, run);
     match later {
         Some(later) => {

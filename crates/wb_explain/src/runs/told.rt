@@ -1,18 +1,27 @@
 //! What is told of the life of a cell: where it was made, put on the cleanup stack, and freed, deleted or moved, and by what.
 
+use crate::runs::item_gone::has_two_items;
 use crate::runs::script_page::{ScriptPage, Written};
-use wb_history::{BodyKind, By, End, Ended, History, Life};
+use crate::runs::taken::{put_of_caller, taken_with};
+use wb_history::{BodyKind, By, End, Ended, History, Life, WatchedRun};
 
 /// What is told of a line that moved a cell though the cell had room to grow at its place.
 const MOVED_BY_FLAG: &str = "it moved here because of `--moving`: the bytes after it were free";
 
 /// Tells how the life of a cell ended, where the cell was pushed, and where it was made. Where it was pushed isn't told if its item was
 /// popped and a line itself ended its life.
-pub fn put_life(page: &mut ScriptPage<'_>, history: &History<'_>, life: Life) -> Written {
+pub fn put_life(page: &mut ScriptPage<'_>, run: &WatchedRun<'_>, life: Life) -> Written {
+    let history = &run.history;
     if let Some(ended) = life.ended {
+        put_of_caller(page, taken_with(ended, run), run)?;
         put_end(page, history, ended)?;
         if ended.by != By::Line || life.popped.is_none() {
-            page.mark_new(life.pushed.number(), 1, "it was pushed here")?;
+            let said = if has_two_items(run, life.ended) {
+                "its newer item, destroyed first, was pushed here"
+            } else {
+                "it was pushed here"
+            };
+            page.mark_new(life.pushed.number(), 1, said)?;
         }
         put_other_holder(page, history, ended, life)?;
     }
@@ -20,7 +29,7 @@ pub fn put_life(page: &mut ScriptPage<'_>, history: &History<'_>, life: Life) ->
 }
 
 /// If a cell moved, tells which pointer got the cell last, unless that was at the line that made the cell: the pointer still names the old
-/// place. If a destructor released the cell, tells which field got it last.
+/// place. If a destructor released the cell, or its item did, tells which field got it last.
 fn put_other_holder(
     page: &mut ScriptPage<'_>,
     history: &History<'_>,
@@ -32,7 +41,9 @@ fn put_other_holder(
     match life.held {
         Some(held)
             if held.line != life.made
-                && (is_moved || held.is_field() && body.kind == BodyKind::Destructor) => {
+                && (is_moved
+                    || held.is_field()
+                        && (ended.by != By::Line || body.kind == BodyKind::Destructor)) => {
             let line = held.line.number();
             let name = page.word(line, 1);
             page.mark_new(line, 1, format_args!("`{name}` got it last, here"))

@@ -81,35 +81,19 @@ fn put_set(page: &mut ScriptPage<'_>, numbers: &[u32], end: RunEnd, options: She
     page.page.end_line();
 }
 
-/// Says which range of lengths is the first whose runs leak or panic, and whether there are others.
+/// Says which range of lengths is the first whose runs leak or panic.
 fn put_least_bad(page: &mut ScriptPage<'_>, ranges: &[LengthRange], options: ShellOptions) {
-    let Some(index) = bad_from(ranges, 0) else {
-        return;
-    };
-    let (Some(range), Some(spread)) = (ranges.get(index), lengths_of(ranges, index)) else {
-        return;
-    };
-    let end = EndInWords(range.end);
-    let others = match bad_from(ranges, index.saturating_add(1)) {
-        Some(_) => ", and in longer ones it leaks or panics too",
-        None => "",
-    };
-    let command = Question::Lengths.command();
-    page.page.write_file_message(format_args!(
-        "in a heap of {spread} this script {end}{others}; `{command}{options}` shows every length"
-    ));
-}
-
-/// The index of the first range whose runs leak or panic, from index `first` on; `None` if there is none.
-fn bad_from(ranges: &[LengthRange], first: usize) -> Option<usize> {
-    for index in first..ranges.len() {
-        if let Some(range) = ranges.get(index)
+    for (index, range) in ranges.iter().enumerate() {
+        if let Some(spread) = lengths_of(ranges, index)
             && range.end.is_bad()
         {
-            return Some(index);
+            let (end, command) = (EndInWords(range.end), Question::Lengths.command());
+            page.page.write_file_message(format_args!(
+                "in a heap of {spread} this script {end}; `{command}{options}` shows every length"
+            ));
+            return;
         }
     }
-    None
 }
 
 /// Says that a question wasn't decided, and which command asks it.

@@ -1,6 +1,8 @@
 //! What statements do: which pointers they write, which items they push and pop, which objects they delete, and which TRAPs they begin
 //! or leave.
 
+use crate::calls::Stay;
+use crate::items::{ItemOnStack, Taken};
 use crate::lives::{By, End};
 use crate::moments::{Held, ShortLine};
 use crate::statements::{Ahead, NULL};
@@ -69,7 +71,7 @@ impl<'a> History<'a> {
             None => ahead.source,
         };
         if ahead.leaves(attempt) {
-            return self.see_leave(machine);
+            return self.see_leave(machine, ahead);
         }
         if attempt.is_none() && ahead.reallocates() {
             self.see_shortened(machine, names)?;
@@ -96,7 +98,7 @@ impl<'a> History<'a> {
             self.items.push(item, now, machine.depth())?;
         }
         if ahead.leaves(attempt) {
-            return self.see_leave(machine);
+            return self.see_leave(machine, ahead);
         }
         Ok(())
     }
@@ -136,7 +138,7 @@ impl<'a> History<'a> {
                 self.see_return(machine, ahead.source);
                 Ok(())
             }
-            _ if ahead.leaves(None) => self.see_leave(machine),
+            _ if ahead.leaves(None) => self.see_leave(machine, ahead),
             statement => self.views.see(machine, statement),
         }
     }
@@ -152,9 +154,9 @@ impl<'a> History<'a> {
     }
 
     /// Sees a leave. After it, the items that were pushed since its TRAP began are destroyed.
-    fn see_leave(&mut self, machine: &Machine<'a>) -> Result<(), AllocError> {
+    fn see_leave(&mut self, machine: &Machine<'a>, ahead: &Ahead<'a>) -> Result<(), AllocError> {
         let now = self.now(machine)?;
-        let items = self.traps.leave(now, machine.depth())?;
+        let items = self.traps.leave(now, ahead.code(), machine.depth())?;
         if let Some(trap) = self.traps.open_traps().last() {
             self.marks.leave(trap.since, self.last);
         }
@@ -165,9 +167,27 @@ impl<'a> History<'a> {
     /// Sees the items that a statement popped.
     fn see_popped(&mut self, machine: &Machine<'a>) {
         for _ in machine.cleanup_depth() as usize..self.items.count() {
-            if let Some(popped) = self.items.pop_by(self.last, machine.depth()) {
+            if let Some(popped) = self.items.pop_by(self.last) {
                 self.lives.pop(popped.pointer(), self.last);
+                self.see_taken(popped, self.last, machine.depth());
             }
+        }
+    }
+
+    /// Sees an item that a line took off while `depth` bodies ran: whether a calling body had pushed it, or one that had ended and left it.
+    pub(crate) fn see_taken(&mut self, item: ItemOnStack, line: u32, depth: u32) {
+        let pushed = item.pushed.line;
+        if item.depth < depth
+            && let Some(stay) = self.calls.stay_at(depth)
+        {
+            let body = Stay {
+                ended: self.items.count(),
+                ..stay
+            };
+            self.items.of_caller = Some(Taken { line, pushed, body });
+        }
+        if let Some(body) = self.calls.left_by(item.depth, item.pushed.step) {
+            self.items.of_callee = Some(Taken { line, pushed, body });
         }
     }
 

@@ -7,11 +7,11 @@ use Rattle.wb_machine.specs.Asks.{asks_next}
 use Rattle.wb_machine.specs.RunState.{account_of}
 use Rattle.wb_machine.specs.Seen.{Seen}
 use Rattle.wb_machine.specs.Turns.{MakesMore}
-use Rattle.wb_machine.specs.Whole.{progress_in, rest_in, seen, IsMachine}
+use Rattle.wb_machine.specs.Whole.{progress_in, rest_in, seen, IsMachine, has_failed}
 use Rattle.wb_machine.specs.declared.machine.Machine.TheInside.{Inside}
 use Rattle.wb_machine.proofs.asking.Made.{rest_asked, with_lines, ComesPast}
 
-pub asked_next : (m : Inside) (s : Seen) → seen m ≡ s → IsMachine m → m.failed ≡ false → asks_next m.script.now m.budget (progress_in m) ≡ true → MakesMore s
+pub asked_next : (m : Inside) (s : Seen) → seen m ≡ s → IsMachine m → has_failed m ≡ false → asks_next m.script.now m.budget (progress_in m) ≡ true → MakesMore s
 asked_next m s is machine fine asked = subst MakesMore is (with_lines (keeps_rises m.state.debug) m.script.now own m.budget m.state.debug.shape m.state.debug.attempts comes)
   where
     own : Rule

@@ -7,7 +7,7 @@ use Rattle.wb_meaning.specs.Rest.{rest}
 use Rattle.wb_meaning.specs.Run.{WholeRun}
 use Rattle.wb_renaming.specs.Follows.{steps_of, reached, RefusesAlike, RestsAgree}
 use Rattle.wb_renaming.specs.SameButNumbers as numbers
-use Rattle.wb_renaming.specs.SameButNumbers.{Renaming, IsRenaming, AllBeside, IsSamePointer, IsSameState, IsSameValue, IsSameProgress}
+use Rattle.wb_renaming.specs.SameButNumbers.{Renaming, IsRenaming, AllBeside, IsSameState, IsSameValue, IsSameProgress}
 use Rattle.wb_renaming.proofs.FollowEither.{rests-together}
 use Rattle.wb_machine.specs.declared.machine.Machine.TheInside.{Inside}
 use Rattle.wb_machine.specs.declared.pieces.Ending.TheVariants.{GoesOn}
@@ -15,7 +15,7 @@ use Rattle.wb_machine.specs.Alike.{reached_by, whole_run_under, GoesOnLike}
 use Rattle.wb_machine.specs.Flow.{pending_in, progress_of}
 use Rattle.wb_machine.specs.RunState.{state_of, account_of}
 use Rattle.wb_machine.specs.SamePieces.{ArePendingAlike}
-use Rattle.wb_machine.specs.Whole.{seen, progress_in, rest_in, IsMachine}
+use Rattle.wb_machine.specs.Whole.{seen, progress_in, rest_in, IsMachine, has_failed}
 
 -- what the comparison of two machines finds
 pub record AreAlike (w : Renaming) (m other : Inside) : Type 0 where
@@ -25,8 +25,8 @@ pub record AreAlike (w : Renaming) (m other : Inside) : Type 0 where
   pub budget : other.budget ≡ m.budget
   pub begun : m.begun ≡ true
   pub other_begun : other.begun ≡ true
-  pub well : m.failed ≡ false
-  pub other_well : other.failed ≡ false
+  pub well : has_failed m ≡ false
+  pub other_well : has_failed other ≡ false
   pub ending : m.control.ending ≡ GoesOn
   pub other_ending : other.control.ending ≡ GoesOn
   pub callers : AllBeside (IsSameValue w.names) m.state.callers other.state.callers

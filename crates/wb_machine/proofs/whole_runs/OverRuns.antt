@@ -7,7 +7,7 @@ use Rattle.wb_meaning.proofs.AccountLemmas.{whole-with_rises}
 use Rattle.wb_machine.specs.Flow.{is_over, rest_at}
 use Rattle.wb_machine.specs.Seen.{Seen}
 use Rattle.wb_machine.specs.Results.{leaks_at_end, outcome_by, run_result_by, whole_by}
-use Rattle.wb_machine.specs.Whole.{has_ended, seen, IsMachine}
+use Rattle.wb_machine.specs.Whole.{has_ended, seen, IsMachine, has_failed}
 use Rattle.wb_machine.specs.declared.machine.Machine.TheInside.{Inside}
 use Rattle.wb_machine.proofs.whole_runs.Ends.{run_results_alike, rest_over}
 use Rattle.wb_machine.proofs.turns.Scripts.{and_left, and_right}
@@ -16,7 +16,7 @@ pub run_over : (m : Inside) (s : Seen) → seen m ≡ s → IsMachine m → s.ov
     record (whole_by m.control.ending (leaks_at_end m.state) m.state) { result = run_result_by m.control.ending m.leaks m.state } ≡ whole_run s.keeps_rises s.script s.rule s.budget s.shape
 run_over m s is machine over well =
     let ended : has_ended m ≡ true = ap (λ (s : Seen). s.over) is ∙ over in
-    let fine : m.failed ≡ false = ap (λ (s : Seen). s.failed) is ∙ well in
+    let fine : has_failed m ≡ false = ap (λ (s : Seen). s.failed) is ∙ well in
     let begun = and_left m.begun (is_over m.control.ending m.control.pieces.items) ended in
     let done = and_right m.begun (is_over m.control.ending m.control.pieces.items) ended in
     let script = m.script.now in
@@ -29,7 +29,7 @@ run_over m s is machine over well =
 -- each attempt took a step, but for the first
 pub few_attempts : (m : Inside) (s : Seen) → seen m ≡ s → IsMachine m → s.failed ≡ false → s.attempts ≤ s.budget + 1
 few_attempts m s is machine well =
-    let fine : m.failed ≡ false = ap (λ (s : Seen). s.failed) is ∙ well in
+    let fine : has_failed m ≡ false = ap (λ (s : Seen). s.failed) is ∙ well in
     let between = (machine.sound fine).between in
     subst (λ (s : Seen). s.attempts ≤ s.budget + 1) is (omega (arith, between.counted, between.within))
 

@@ -7,7 +7,6 @@ ghost use Rattle.wb_tree.specs.Sound.{is_script};
 ghost use Rattle.wb_heap_model.specs.declared.heap.Rule.{Rule};
 ghost use Rattle.wb_tree.specs.declared.script.Statement.TheViews.{out-Statement};
 ghost use Rattle.wb_machine.specs.declared.pieces.Ending.TheVariants.{Panics};
-ghost use Rattle.wb_machine.specs.AttemptRises.{AsksForNoRise};
 ghost use Rattle.wb_machine.specs.Flow.{context_of, rest_from, rest_of_statement};
 ghost use Rattle.wb_machine.specs.Flow.{IsOwn, AreSound, FitsStep};
 ghost use Rattle.wb_machine.specs.ObjectInvariant.{StaysWhole};
@@ -59,8 +58,6 @@ impl<'a> Control<'a> {
         ensures keeps { KeepsSteps state.old state.new }
         ensures whole { OnOk result (StaysWhole script.now state.old state.new) }
         ensures room { OnOk result (HasRoom self.new.ending self.new.pieces.items state.new) }
-        ensures quiet { AsksForNoRise script.now state.old (out-Statement statement.now) →
-            (IsOk result) × (self.new.pieces ≡ self.old.pieces) }
         ensures line { self.new.line ≡ self.old.line }
     {
         match statement {

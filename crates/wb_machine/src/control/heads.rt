@@ -1,6 +1,6 @@
 //! How each statement begins: a statement that runs no other is carried out, and any other adds pieces that are still to do.
 
-ghost use Rattle.std.specs.Prelude.{◌≡◌, ◌+◌, ◌≤◌, [], ◌∷◌, ℕ, None, length, max, IsOk, IsTrue, OnOk};
+ghost use Rattle.std.specs.Prelude.{◌≡◌, ◌+◌, ◌≤◌, [], ◌∷◌, ℕ, None, length, max, IsTrue, OnOk};
 ghost use Rattle.std.specs.List.{list_all};
 ghost use Rattle.wb_tree.specs.Sound.{is_script};
 ghost use Rattle.wb_heap_model.specs.declared.heap.Rule.{Rule};
@@ -9,7 +9,6 @@ ghost use Rattle.wb_tree.specs.declared.script.Body.{Body};
 ghost use Rattle.wb_tree.specs.declared.script.Statement.TheOpen.{Statement-F};
 ghost use Rattle.wb_tree.specs.declared.script.Statement.TheViews.{out-Statement};
 ghost use Rattle.wb_machine.specs.declared.pieces.Ending.TheVariants.{GoesOn};
-ghost use Rattle.wb_machine.specs.AttemptRises.{AsksForNoRise};
 ghost use Rattle.wb_machine.specs.Bodies.{IsBody};
 ghost use Rattle.wb_machine.specs.LocalValues.{is_small, values_of_arguments};
 ghost use Rattle.wb_machine.specs.PointerOperands.{first_refusal, of_condition, operands_refusal};
@@ -287,8 +286,6 @@ impl<'a> Control<'a> {
         ensures keeps { KeepsSteps state.old state.new }
         ensures whole { OnOk result (StaysWhole script.now state.old state.new) }
         ensures room { OnOk result (HasRoom self.new.ending self.new.pieces.items state.new) }
-        ensures quiet { AsksForNoRise script.now state.old (out-Statement statement.now) →
-            (IsOk result) × (self.new.pieces ≡ self.old.pieces) }
         ensures line { self.new.line ≡ self.old.line }
     {
         match statement {
@@ -347,8 +344,6 @@ impl<'a> Control<'a> {
         ensures keeps { KeepsSteps state.old state.new }
         ensures whole { OnOk result (StaysWhole script.now state.old state.new) }
         ensures room { OnOk result (HasRoom self.new.ending self.new.pieces.items state.new) }
-        ensures quiet { AsksForNoRise script.now state.old (out-Statement statement.now) →
-            (IsOk result) × (self.new.pieces ≡ self.old.pieces) }
         ensures line { self.new.line ≡ self.old.line }
     {
         match state.operands_refusal(statement) {

@@ -1,7 +1,7 @@
 //! Machine turns: one of a run, and all that are left of it.
 
 ghost use Rattle.std.specs.Prelude.{◌≡◌, ◌+◌, ◌<◌, ◌≤◌, ◌&&◌, ℕ, true, false, if◌then◌else◌};
-ghost use Rattle.std.specs.Prelude.{nat_lt, unwrap_or, min, IsOk, IsTrue, OnOk};
+ghost use Rattle.std.specs.Prelude.{nat_lt, unwrap_or, min, IsTrue, OnOk};
 ghost use Rattle.wb_tree.specs.Sound.{is_script};
 ghost use Rattle.wb_meaning.specs.Rest.{first_line};
 ghost use Rattle.wb_heap_model.specs.SameRules.{Fits};
@@ -15,7 +15,7 @@ ghost use Rattle.wb_machine.specs.Flow.{pending_in, is_over, has_met_ceiling, pr
 ghost use Rattle.wb_machine.specs.Flow.{IsReady, rest_from, rest_at};
 ghost use Rattle.wb_machine.specs.Asks.{asks_next, MakesAsked};
 ghost use Rattle.wb_machine.specs.Owed.{Stays};
-ghost use Rattle.wb_machine.specs.QuietTurns.{steps_after, BeginsNoRise};
+ghost use Rattle.wb_machine.specs.TurnSteps.{steps_after};
 
 use crate::control::Control;
 use crate::pieces::Ending;
@@ -41,7 +41,7 @@ impl<'a> Control<'a> {
 
     /// Takes a machine turn. The first one begins the run; any other takes a step, or cuts the run if the budget is used up. Pieces that
     /// are done after it are taken off at once. The machine turn makes an attempt exactly if it asks for one, unless the ceiling cuts the
-    /// run. If the run keeps its rises and no trace, a step whose attempt isn't a rise asks for no memory.
+    /// run.
     #[inline(always)]
     pub fn turn(
         &mut self,
@@ -72,8 +72,6 @@ impl<'a> Control<'a> {
         ensures rises { OnOk result (state.new.debug.rises
             ≡ (rest_at script.now (steps_after begun state.old.steps budget) state.old.debug.rule
             begun self.old.ending self.old.pieces.items state.old).rises) }
-        ensures quiet { begun ≡ true → state.old.steps < budget →
-            BeginsNoRise script.now self.old.pieces.items state.old → IsOk result }
         ensures later { OnOk result (begun ≡ true →
             state.new.steps ≡ min (state.old.steps + 1) budget) }
         ensures steps { OnOk result (begun ≡ true →

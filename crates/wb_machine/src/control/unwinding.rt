@@ -1,7 +1,7 @@
 //! What becomes of pieces that are done: each decides how the run goes on, by how the piece above it ended.
 
 ghost use Rattle.std.specs.Prelude.{◌≡◌, ◌+◌, ◌-◌, ◌<◌, ◌≤◌, ◌⊎◌, ◌++◌, ◌∷◌, [], ℕ, List, true, false, length, max};
-ghost use Rattle.std.specs.Prelude.{take, drop, vec_capacity, vec_len, IsOk, IsTrue, OnOk};
+ghost use Rattle.std.specs.Prelude.{take, drop, vec_len, IsTrue, OnOk};
 ghost use Rattle.wb_meaning.specs.Statements.{destroy_items};
 ghost use Rattle.wb_meaning.specs.Rest.{doing, catching, caught, calling, main_catching, main_caught};
 ghost use Rattle.wb_heap_model.specs.declared.heap.Rule.{Rule};
@@ -15,7 +15,6 @@ ghost use Rattle.wb_machine.specs.Flow.{pending_in, needs_step, weight, weight_o
 ghost use Rattle.wb_machine.specs.Flow.{AreSound, IsReady, rest_from, rest_under};
 ghost use Rattle.wb_machine.specs.Bodies.{followed_effect};
 ghost use Rattle.wb_machine.specs.Owed.{CarriesOut, IsQuiet};
-ghost use Rattle.wb_machine.specs.QuietTurns.{catches, catches_first, is_leave};
 ghost use Rattle.wb_machine.specs.SlotInvariant.{slots_for, slots_for_all, to_destroy_first, HasRoom, HasRoomUnder};
 
 use crate::control::Control;
@@ -70,7 +69,6 @@ impl<'a> Control<'a> {
             ≡ max (slots_for_all self.old.pieces.items) (slots_for then.entry)) }
         ensures first { OnOk result (to_destroy_first self.new.pieces.items
             ≡ length state.now.items - entry) }
-        ensures enough { vec_len self.old.pieces + 2 ≤ vec_capacity self.old.pieces → IsOk result }
         ensures ending { OnOk result (self.new.ending ≡ self.old.ending) }
         ensures line { self.new.line ≡ self.old.line }
     {
@@ -105,9 +103,6 @@ impl<'a> Control<'a> {
         ensures room { OnOk result (entry < state.old.slots →
             HasRoomUnder self.old.ending self.old.pieces.items state.old →
             HasRoom self.new.ending self.new.pieces.items state.new) }
-        ensures enough { (is_leave self.old.ending ≡ true →
-            vec_len self.old.pieces + 2 ≤ vec_capacity self.old.pieces) → IsOk result }
-        ensures caught { OnOk result (is_leave self.new.ending ≡ false) }
         ensures line { self.new.line ≡ self.old.line }
         ensures raiser { OnOk result (is_stop self.new.ending ≡ true →
             self.new.raiser ≡ TrapEnd) }
@@ -136,7 +131,6 @@ impl<'a> Control<'a> {
             ≡ rest_under script budget r self.old.ending (caught local code
             ∷ pending_in state.old.callers self.old.pieces.items) state.old }
         ensures pieces { self.new.pieces.items ≡ self.old.pieces.items }
-        ensures same { self.new.pieces ≡ self.old.pieces }
         ensures quiet { IsQuiet state.old state.new }
         ensures room { HasRoomUnder self.old.ending self.old.pieces.items state.old →
             HasRoom self.new.ending self.old.pieces.items state.new }
@@ -163,9 +157,6 @@ impl<'a> Control<'a> {
             AreSound script self.new.pieces.items) }
         ensures room { OnOk result (HasRoomUnder self.old.ending self.old.pieces.items state.now →
             HasRoom self.new.ending self.new.pieces.items state.now) }
-        ensures enough { (is_leave self.old.ending ≡ true →
-            vec_len self.old.pieces + 2 ≤ vec_capacity self.old.pieces) → IsOk result }
-        ensures caught { OnOk result (is_leave self.new.ending ≡ false) }
         ensures line { self.new.line ≡ self.old.line }
         ensures raiser { OnOk result (is_stop self.new.ending ≡ true →
             self.new.raiser ≡ MainEnd) }
@@ -192,7 +183,6 @@ impl<'a> Control<'a> {
             ≡ rest_under script budget r self.old.ending (main_caught code
             ∷ pending_in h.callers self.old.pieces.items) h }
         ensures pieces { self.new.pieces.items ≡ self.old.pieces.items }
-        ensures same { self.new.pieces ≡ self.old.pieces }
         ensures room { (h : RunState) → HasRoomUnder self.old.ending self.old.pieces.items h →
             HasRoom self.new.ending self.old.pieces.items h }
         ensures line { self.new.line ≡ self.old.line }
@@ -213,7 +203,6 @@ impl<'a> Control<'a> {
             (calling (frame_with this (drop base state.old.callers)) (afterwards after)
             ∷ pending_in (take base state.old.callers) self.old.pieces.items) state.old }
         ensures pieces { self.new.pieces.items ≡ self.old.pieces.items }
-        ensures same { self.new.pieces ≡ self.old.pieces }
         ensures quiet { IsQuiet state.old state.new }
         ensures room { HasRoomUnder self.old.ending self.old.pieces.items state.old →
             HasRoom self.new.ending self.old.pieces.items state.new }
@@ -250,10 +239,6 @@ impl<'a> Control<'a> {
         ensures room { OnOk result (slots_for piece.entry ≤ state.old.slots →
             HasRoomUnder self.old.ending self.old.pieces.items state.old →
             HasRoom self.new.ending self.new.pieces.items state.new) }
-        ensures enough { (is_leave self.old.ending ≡ true → catches piece.entry ≡ true →
-            vec_len self.old.pieces + 2 ≤ vec_capacity self.old.pieces) → IsOk result }
-        ensures leaving { OnOk result (is_leave self.new.ending ≡ true →
-            self.new.pieces ≡ self.old.pieces) }
         ensures line { self.new.line ≡ self.old.line }
     {
         match piece {
@@ -270,8 +255,7 @@ impl<'a> Control<'a> {
         Ok(())
     }
 
-    /// Takes off pieces that are done, until the piece on top has a step to take or the run is over. The pieces that a TRAP adds after a
-    /// leave take the room of the TRAP and of the piece that was left, so that they ask for no memory.
+    /// Takes off pieces that are done, until the piece on top has a step to take or the run is over.
     #[inline(always)]
     pub fn settle(&mut self, state: &mut State) -> Result<(), NoMemory>
         ensures kept { OnOk result ((script : Script) (r : Rule) (budget : ℕ) →
@@ -283,8 +267,6 @@ impl<'a> Control<'a> {
         ensures quiet { IsQuiet state.old state.new }
         ensures room { OnOk result (HasRoom self.old.ending self.old.pieces.items state.old →
             HasRoom self.new.ending self.new.pieces.items state.new) }
-        ensures enough { (is_leave self.old.ending ≡ true →
-            catches_first self.old.pieces.items ≡ false) → IsOk result }
         ensures line { self.new.line ≡ self.old.line }
         ensures sound { OnOk result ((script : Script) → AreSound script self.old.pieces.items →
             AreSound script self.new.pieces.items) }

@@ -7,7 +7,7 @@ ghost use Rattle.wb_machine.specs.LocalValues.{value_of, value_stored, values_st
 
 use super::{BufferIndex, Locals, Slot, Stored};
 use crate::alike::names::Names;
-use crate::fingerprint::{Fingerprint, MOST_WORDS};
+use crate::fingerprint::Fingerprint;
 use wb_text::buf::Buf;
 use wb_text::{Base, View};
 
@@ -122,10 +122,10 @@ fn same_slots(
     true
 }
 
-/// Adds the length of a buffer and its first units to a fingerprint.
+/// Adds the length and the units of a buffer to a fingerprint.
 fn add_buffer(print: &mut Fingerprint, buf: &Buf) {
     print.add(1, buf.length());
-    for unit in buf.units().iter().take(MOST_WORDS as usize) {
+    for unit in buf.units().iter() {
         print.add(2, u32::from(*unit));
     }
 }

@@ -44,8 +44,8 @@ pub returns-clause-meant : goal.returns-clause-meant
 returns-clause-meant c =
     let rows = rows_of (found_of c.args.options.now) in
     let task = c.in_ok-task.task in
-    let command : ◌≡◌ {A = Command} (command_with rows task) (record { task = task; file = c.in_ok-file_in.field-0; budget = c.budget_in.result; shape = c.in_ok-shape.shape; json = c.json_in.result; picture = c.in_ok-picture_in.field-0; sarif = c.in_ok-sarif_in.field-0; follow = c.follow_in.result; around = c.around_in.result }) =
-    λ i. record { task = task; file = sym c.in_ok-file_in.ensures i; budget = sym c.budget_in.ensures.is i; shape = sym c.in_ok-shape.ensures.ok i; json = sym c.json_in.ensures i; picture = sym c.in_ok-picture_in.ensures i; sarif = sym c.in_ok-sarif_in.ensures i; follow = sym c.follow_in.ensures.is i; around = sym c.around_in.ensures.is i } in
+    let command : ◌≡◌ {A = Command} (command_with rows task) (record { task = task; file = c.in_ok-file_in.field-0; budget = c.budget_in.result; shape = c.in_ok-shape.shape; json = c.json_in.result; quiet = c.quiet_in.result; brief = c.brief_in.result; picture = c.in_ok-picture_in.field-0; sarif = c.in_ok-sarif_in.field-0; follow = c.follow_in.result; around = c.around_in.result }) =
+    λ i. record { task = task; file = sym c.in_ok-file_in.ensures i; budget = sym c.budget_in.ensures.is i; shape = sym c.in_ok-shape.ensures.ok i; json = sym c.json_in.ensures i; quiet = sym c.quiet_in.ensures i; brief = sym c.brief_in.ensures i; picture = sym c.in_ok-picture_in.ensures i; sarif = sym c.in_ok-sarif_in.ensures i; follow = sym c.follow_in.ensures.is i; around = sym c.around_in.ensures.is i } in
     record {
       listed = c.in_ok-task.ensures.list;
       one_rule = c.in_ok-task.ensures.alone;

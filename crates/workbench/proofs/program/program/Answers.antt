@@ -6,5 +6,5 @@ use Rattle.workbench.proofs.program.program.Goals as goal
 
 pub returns-in-Ok-clause-done : goal.returns-in-Ok-clause-done
 returns-in-Ok-clause-done g c =
-    done_with c.args.words (λ had. map g.S.AsStr.text had.items) fault_of_words _ _ _ _ _ _ _ _ _ _ c.in-Ok.ensures c.carry_out-answered.ensures.done
+    done_with c.args.words (λ had. map g.S.AsStr.text had.items) fault_of_words _ _ _ _ _ _ _ _ _ _ c.in-Ok.ensures c.answer_command-answered.ensures.done
     c.exit_of.ensures.answered c.exit_of.ensures.command

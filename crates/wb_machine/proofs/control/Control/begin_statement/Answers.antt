@@ -8,10 +8,9 @@ use Rattle.wb_meaning.specs.Run.{whole_of}
 use Rattle.wb_meaning.specs.Rest.{resume}
 use Rattle.wb_machine.proofs.turns.Steps.{rest_known}
 use Rattle.wb_machine.specs.RunState.{Values}
-use Rattle.wb_tree.specs.declared.script.Statement.TheViews.{out-Statement, outs-If, outs-IfElse, outs-Repeat, outs-Trap, outs-Call, outs-CallTo, outs-PopDestroy, outs-Construct, outs-Delete}
+use Rattle.wb_tree.specs.declared.script.Statement.TheViews.{out-Statement, outs-If, outs-IfElse, outs-Repeat, outs-Trap, outs-Call, outs-CallTo}
 use Rattle.wb_machine.specs.Flow.{context_of, pending_in, AreOwn, rest_of_statement}
 use Rattle.wb_machine.specs.PointerOperands.{first_refusal, of_arguments, operands_refusal}
-use Rattle.wb_machine.proofs.asking.NoRise.{asks_nothing}
 use Rattle.wb_machine.proofs.effects.Outcomes.{on_ok_then, on_ok_anyhow}
 use Rattle.wb_machine.proofs.kept.WholeCells.{effect_whole}
 use Rattle.wb_machine.proofs.turns.Heads.{if_as_choice}
@@ -74,7 +73,6 @@ returns-in_ok-self-in_default c =
       keeps = record { steps = c.in_ok-self-in_default.ensures.keeps.steps; stays = c.in_ok-self-in_default.ensures.keeps.stays };
       room = effect_room script c.args.at.floor (out-Statement c.args.statement.now) pieces c.args.state.now c.carry_out.new.self c.in_ok-self-in_default.field-0 c.in_ok-self-in_default.ensures.kept c.requires.may.free;
       whole = effect_whole script c.args.at.floor (out-Statement c.args.statement.now) c.args.state.now c.carry_out.new.self c.in_ok-self-in_default.field-0 c.in_ok-self-in_default.ensures.kept;
-      quiet = λ asking. (refl, refl);
       line = refl;
     }
 
@@ -174,30 +172,3 @@ pub returns-in-CallTo-clause-room : goal.returns-in-CallTo-clause-room
 returns-in-CallTo-clause-room c =
     on_ok_then c.begin_call_to.result c.begin_call_to.ensures.slots (λ slots.
     quiet_room c.begin_call_to.new.self.ending c.args.self.now.pieces.items c.begin_call_to.new.self.pieces.items c.args.state.now c.begin_call_to.new.state c.requires.may.free slots c.begin_call_to.ensures.quiet)
-
-pub returns-in-If-clause-quiet : goal.returns-in-If-clause-quiet
-returns-in-If-clause-quiet c asking = asks_nothing (Statement-F.If c.in-If.condition c.in-If.first) (ap out-Statement c.in-If.is ∙ outs-If c.in-If.condition c.in-If.first) refl asking
-
-pub returns-in-IfElse-clause-quiet : goal.returns-in-IfElse-clause-quiet
-returns-in-IfElse-clause-quiet c asking = asks_nothing (Statement-F.IfElse c.in-IfElse.condition c.in-IfElse.first c.in-IfElse.other) (ap out-Statement c.in-IfElse.is ∙ outs-IfElse c.in-IfElse.condition c.in-IfElse.first c.in-IfElse.other) refl asking
-
-pub returns-in-Repeat-clause-quiet : goal.returns-in-Repeat-clause-quiet
-returns-in-Repeat-clause-quiet c asking = asks_nothing (Statement-F.Repeat c.in-Repeat.count c.in-Repeat.body) (ap out-Statement c.in-Repeat.is ∙ outs-Repeat c.in-Repeat.count c.in-Repeat.body) refl asking
-
-pub returns-in-Trap-clause-quiet : goal.returns-in-Trap-clause-quiet
-returns-in-Trap-clause-quiet c asking = asks_nothing (Statement-F.Trap c.in-Trap.local c.in-Trap.body) (ap out-Statement c.in-Trap.is ∙ outs-Trap c.in-Trap.local c.in-Trap.body) refl asking
-
-pub returns-in-PopDestroy-clause-quiet : goal.returns-in-PopDestroy-clause-quiet
-returns-in-PopDestroy-clause-quiet c asking = asks_nothing (Statement-F.PopDestroy c.in-PopDestroy.count) (ap out-Statement c.in-PopDestroy.is ∙ outs-PopDestroy c.in-PopDestroy.count) refl asking
-
-pub returns-in-Construct-clause-quiet : goal.returns-in-Construct-clause-quiet
-returns-in-Construct-clause-quiet c asking = asks_nothing (Statement-F.Construct c.in-Construct.object) (ap out-Statement c.in-Construct.is ∙ outs-Construct c.in-Construct.object) refl asking
-
-pub returns-in-Delete-clause-quiet : goal.returns-in-Delete-clause-quiet
-returns-in-Delete-clause-quiet c asking = asks_nothing (Statement-F.Delete c.in-Delete.object) (ap out-Statement c.in-Delete.is ∙ outs-Delete c.in-Delete.object) refl asking
-
-pub returns-in-Call-clause-quiet : goal.returns-in-Call-clause-quiet
-returns-in-Call-clause-quiet c asking = asks_nothing (Statement-F.Call c.in-Call.index c.in-Call.arguments) (ap out-Statement c.in-Call.is ∙ outs-Call c.in-Call.index c.in-Call.arguments) refl asking
-
-pub returns-in-CallTo-clause-quiet : goal.returns-in-CallTo-clause-quiet
-returns-in-CallTo-clause-quiet c asking = asks_nothing (Statement-F.CallTo c.in-CallTo.target c.in-CallTo.index c.in-CallTo.arguments) (ap out-Statement c.in-CallTo.is ∙ outs-CallTo c.in-CallTo.target c.in-CallTo.index c.in-CallTo.arguments) refl asking

@@ -1,9 +1,8 @@
-use Rattle.std.proofs.Common.{◌≡◌, ◌<◌, ◌≤◌, ◌⊎◌, ℕ, true, false, vec_len, vec_capacity}
+use Rattle.std.proofs.Common.{◌≡◌, ◌≤◌, ℕ, true}
 use Rattle.wb_heap_model.specs.declared.heap.Rule.{Rule}
 use Rattle.wb_tree.specs.declared.script.Script.{Script}
 use Rattle.wb_machine.specs.Flow.{is_stop, AreSound, weight_of, rest_from}
 use Rattle.wb_machine.specs.Owed.{IsQuiet}
-use Rattle.wb_machine.specs.QuietTurns.{catches_first, is_leave}
 use Rattle.wb_machine.specs.SlotInvariant.{HasRoom}
 use Rattle.wb_machine.proofs.control.Control.settle.Given as goal
 
@@ -16,9 +15,6 @@ invariant-loop-self l =
       stop : is_stop l.fn.self.ending ≡ true → is_stop l.self.ending ≡ true;
       line : l.self.line ≡ l.fn.self.line;
       quiet : IsQuiet l.fn.state l.state;
-      -- after a leave, the pieces of a TRAP have room once the TRAP is taken off
-      enough : (is_leave l.fn.self.ending ≡ true → catches_first l.fn.self.pieces.items ≡ false) → is_leave l.self.ending ≡ true →
-          (catches_first l.self.pieces.items ≡ false) ⊎ (vec_len l.self.pieces < vec_capacity l.self.pieces);
       room : HasRoom l.fn.self.ending l.fn.self.pieces.items l.fn.state → HasRoom l.self.ending l.self.pieces.items l.state;
       sound : (script : Script) → AreSound script l.fn.self.pieces.items → AreSound script l.self.pieces.items;
     }

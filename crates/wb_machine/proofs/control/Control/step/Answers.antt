@@ -1,16 +1,10 @@
-use Rattle.std.proofs.Common.{◌≡◌, ◌∷◌, ◌++◌, [], List, ◌-◌, take, drop, length, vec_len, Some, None, refl, ap, ◌∙◌, sym, subst, arith}
-use Rattle.std.specs.Prelude.{slice_get}
-use Rattle.wb_tree.specs.declared.script.Statement.TheViews.{out-Statement}
-use Rattle.wb_machine.specs.QuietTurns.{catches_first}
+use Rattle.std.proofs.Common.{◌≡◌, ◌∷◌, ◌++◌, [], List, ◌-◌, take, drop, length, vec_len, refl, ap, ◌∙◌, sym, subst, arith}
 use Rattle.wb_tree.specs.declared.script.StatementAt.{StatementAt}
 use Rattle.wb_meaning.specs.Statements.{all, turns, destroy_items, destroy_object}
 use Rattle.wb_meaning.specs.Rest.{doing}
 use Rattle.wb_machine.specs.declared.pieces.PendingPiece.{PendingPiece}
 use Rattle.wb_machine.specs.declared.pieces.PendingPiece.TheVariants.{Code, Turns, Items, Object}
 use Rattle.wb_machine.specs.Flow.{context_of, AreOwn, rest_from, rest_of_piece}
-use Rattle.wb_machine.specs.AttemptRises.{AsksForNoRise}
-use Rattle.wb_machine.specs.Effects.{stepped}
-use Rattle.wb_machine.proofs.asking.QuietSteps.{begins_with, catches_pushed}
 use Rattle.wb_machine.proofs.effects.Outcomes.{on_ok_then, on_ok_anyhow, split_first}
 use Rattle.wb_machine.proofs.kept.WholeCells.{stepped_whole}
 use Rattle.wb_machine.proofs.turns.Steps.{pending_pushed, rest_on_top, rest_stepped}
@@ -170,45 +164,3 @@ returns-in-Object-clause-sound c =
     let top : old ≡ below ++ Object arm.at arm.ptr ∷ [] =
     c.top.ensures.top ∙ ap (λ (ps : List PendingPiece). ps ++ c.top.result ∷ []) (sym c.drop_top-in-Object.ensures.pieces) ∙ ap (λ (p : PendingPiece). below ++ p ∷ []) arm.is in
     on_ok_then c.step_object.result c.step_object.ensures.sound (λ sound. sound (sound_below c.args.script.now below old (Object arm.at arm.ptr) top c.requires.may.sound))
-
--- the step begins the first statement of a block, which stays on top
-pub returns-in-Code-default-len1-up-clause-quiet : goal.returns-in-Code-default-len1-up-clause-quiet
-returns-in-Code-default-len1-up-clause-quiet c next =
-    let script = c.args.script.now in
-    let arm = c.in-Code-default-len1-up in
-    let old = c.args.self.now.pieces.items in
-    let below = take (vec_len c.args.self.now.pieces - 1) old in
-    let top : old ≡ below ++ Code arm.at arm.field-1 ∷ [] = c.top.ensures.top ∙ ap (λ (p : PendingPiece). below ++ p ∷ []) arm.is in
-    let ss = arm.field-1.now in
-    let rest = take (length ss - 1) (drop 1 ss) in
-    let split : ss ≡ c.first-item.result ∷ rest = split_first ss c.first-item.result c.first-item.is arm.len_at_least in
-    let mid = c.replace_top.new.self.pieces.items in
-    let pushed = c.replace_top.ensures.pieces below (Code arm.at arm.field-1) top in
-    let first : Some c.first-item.result ≡ Some next.first = sym (ap (λ (ss : List StatementAt). slice_get ss 0) split) ∙ begins_with old below (Code arm.at arm.field-1) top next in
-    let same : c.first-item.result ≡ next.first = cc in
-    let done = c.step_code.ensures.quiet (subst (λ (s : StatementAt). AsksForNoRise script (stepped c.args.state.now) (out-Statement s.statement)) (sym same) next.asks) in
-    (done.0, ap (λ v. catches_first v.items) done.1 ∙ catches_pushed below mid _ pushed)
-
-pub returns-in-Turns-clause-quiet : goal.returns-in-Turns-clause-quiet
-returns-in-Turns-clause-quiet c next =
-    let arm = c.in-Turns in
-    let old = c.args.self.now.pieces.items in
-    let below = take (vec_len c.args.self.now.pieces - 1) old in
-    let top : old ≡ below ++ Turns arm.at arm.left arm.body ∷ [] = c.top.ensures.top ∙ ap (λ (p : PendingPiece). below ++ p ∷ []) arm.is in
-    let clash : None ≡ Some next.first = begins_with old below (Turns arm.at arm.left arm.body) top next in cc
-
-pub returns-in-Items-clause-quiet : goal.returns-in-Items-clause-quiet
-returns-in-Items-clause-quiet c next =
-    let arm = c.in-Items in
-    let old = c.args.self.now.pieces.items in
-    let below = take (vec_len c.args.self.now.pieces - 1) old in
-    let top : old ≡ below ++ Items arm.at arm.left ∷ [] = c.top.ensures.top ∙ ap (λ (p : PendingPiece). below ++ p ∷ []) arm.is in
-    let clash : None ≡ Some next.first = begins_with old below (Items arm.at arm.left) top next in cc
-
-pub returns-in-Object-clause-quiet : goal.returns-in-Object-clause-quiet
-returns-in-Object-clause-quiet c next =
-    let arm = c.in-Object in
-    let old = c.args.self.now.pieces.items in
-    let below = take (vec_len c.args.self.now.pieces - 1) old in
-    let top : old ≡ below ++ Object arm.at arm.ptr ∷ [] = c.top.ensures.top ∙ ap (λ (p : PendingPiece). below ++ p ∷ []) arm.is in
-    let clash : None ≡ Some next.first = begins_with old below (Object arm.at arm.ptr) top next in cc

@@ -1,7 +1,6 @@
 use Rattle.std.proofs.Common.{rules, ap, ◌∙◌, sym, subst, arith}
 use Rattle.wb_tree.specs.declared.script.Statement.TheViews.{out-Statement}
 use Rattle.wb_machine.specs.RunState.{RunState}
-use Rattle.wb_machine.specs.AttemptRises.{AsksForNoRise}
 use Rattle.wb_machine.specs.Flow.{context_of, FitsStep, rest_of_statement}
 use Rattle.wb_machine.proofs.effects.Outcomes.{on_ok_then}
 use Rattle.wb_machine.proofs.kept.WholeCells.{stepped_whole}
@@ -34,7 +33,3 @@ begin_any-requires-clause-may c =
 pub returns-clause-room : goal.returns-clause-room
 returns-clause-room c =
     on_ok_then c.begin_any.result c.begin_any.ensures.room (λ room. room)
-
-pub returns-clause-quiet : goal.returns-clause-quiet
-returns-clause-quiet c asking =
-    c.begin_any.ensures.quiet (subst (λ (x : RunState). AsksForNoRise c.args.script.now x (out-Statement c.args.first.now.statement)) (sym c.tick.ensures) asking)

@@ -14,7 +14,7 @@ use Rattle.wb_machine.proofs.asking.Counted.{made_as_asked, rises_kept}
 use Rattle.wb_machine.proofs.whole_runs.Fitting.{fits-limit, fits-before, going_on}
 use Rattle.wb_machine.proofs.control.Control.turn.Goals.{then-not-begun+in_ok-begin, else-not-begun+then-steps-budget+in_ok-step, else-not-begun+else-steps-budget}
 use Rattle.std.specs.Prelude.{min}
-use Rattle.wb_machine.specs.QuietTurns.{steps_after}
+use Rattle.wb_machine.specs.TurnSteps.{steps_after}
 use Rattle.wb_machine.specs.SlotInvariant.{HasRoom}
 use Rattle.wb_machine.proofs.kept.SlotsKept.{moved_room, stop_room}
 use Rattle.wb_machine.proofs.control.Control.turn.Goals as goal

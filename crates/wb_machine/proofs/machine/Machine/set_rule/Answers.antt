@@ -1,9 +1,9 @@
 use Rattle.std.proofs.Common.{rules, ◌≡◌, None, ap, ◌∙◌}
 use Rattle.wb_machine.specs.Flow.{rest_at}
-use Rattle.wb_machine.specs.QuietTurns.{steps_after}
+use Rattle.wb_machine.specs.TurnSteps.{steps_after}
 use Rattle.wb_machine.specs.RunState.{RunState}
 use Rattle.wb_machine.specs.Seen.{Seen}
-use Rattle.wb_machine.proofs.asking.NoRise.{no_rises_left, none_of}
+use Rattle.wb_machine.proofs.asking.KeptRises.{no_rises_left, none_of}
 use Rattle.wb_machine.proofs.machine.Machine.set_rule.Goals as goal
 
 -- no rises are kept, under whatever rule

@@ -6,34 +6,34 @@ use Rattle.wb_meaning.specs.Run.{whole_run}
 use Rattle.wb_machine.specs.BetweenTurns.{IsBetweenTurns}
 use Rattle.wb_machine.specs.Flow.{is_stop, is_over, rest_at}
 use Rattle.wb_machine.specs.Seen.{Seen}
-use Rattle.wb_machine.specs.Whole.{has_ended}
+use Rattle.wb_machine.specs.Whole.{has_ended, has_failed}
 use Rattle.wb_machine.proofs.whole_runs.Fitting.{fits-before}
 use Rattle.wb_machine.proofs.machine.Machine.take_other_turns.Goals as goal
 
-pub take_all_turns-requires-clause-between : goal.take_all_turns-requires-clause-between
-take_all_turns-requires-clause-between c =
+pub take_all_turns-taken-requires-clause-between : goal.take_all_turns-taken-requires-clause-between
+take_all_turns-taken-requires-clause-between c =
     let m = c.self.inside in
     let begun = ap (λ (s : Seen). s.begun) c.self.view_is ∙ c.requires.begun in
     subst (λ b. IsBetweenTurns m.script.now m.budget b m.control.ending m.control.pieces.items m.state) begun
     (c.self.invariant.sound (ap (λ (s : Seen). s.failed) c.self.view_is ∙ c.requires.well)).between
 
-pub invariant_of-self-2 : goal.invariant_of-self-2
-invariant_of-self-2 c =
+pub invariant_of-self-in_default-list_leaks : goal.invariant_of-self-in_default-list_leaks
+invariant_of-self-in_default-list_leaks c =
     let m = c.self.inside in
     let begun : m.begun ≡ true = ap (λ (s : Seen). s.begun) c.self.view_is ∙ c.requires.begun in
     let going : has_ended m ≡ false = ap (λ (s : Seen). s.over) c.self.view_is ∙ c.requires.going in
-    let well : m.failed ≡ false = ap (λ (s : Seen). s.failed) c.self.view_is ∙ c.requires.well in
+    let well : has_failed m ≡ false = ap (λ (s : Seen). s.failed) c.self.view_is ∙ c.requires.well in
     let old = c.self.invariant.sound well in
-    let turns = c.in_ok-take_all_turns.ensures in
-    let control = c.take_all_turns.new.self in
-    let state = c.take_all_turns.new.state in
+    let turns = c.in_default.ensures in
+    let control = c.take_all_turns-taken.new.self in
+    let state = c.take_all_turns-taken.new.state in
     record {
       sound = λ w. record {
         script = old.script;
         small = old.small;
         between = subst (λ b. IsBetweenTurns m.script.now m.budget b control.ending control.pieces.items state) (sym begun) turns.between;
         no_line = λ e. cc;
-        leaks = λ e goes. c.in_ok-list_leaks.ensures.run_result (ap is_stop c.ending.ensures ∙ goes);
+        leaks = λ e goes. c.in_default-list_leaks.ensures.run_result (ap is_stop c.ending.ensures ∙ goes);
       };
       keeps = λ w r f.
           let f' : Fits r m.state.debug.rule true state.debug.attempts =

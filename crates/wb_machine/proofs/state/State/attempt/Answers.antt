@@ -1,6 +1,5 @@
-use Rattle.std.proofs.Common.{ap, ◌∙◌, sym}
-use Rattle.wb_heap_model.specs.Debug.{alloc_made, keeps_rises}
-use Rattle.wb_machine.specs.AttemptRises.{alloc_rises}
+use Rattle.std.proofs.Common.{ap, ◌∙◌}
+use Rattle.wb_heap_model.specs.Debug.{alloc_made}
 use Rattle.wb_machine.specs.RunState.{RunState}
 use Rattle.wb_machine.specs.StateView.{run_state}
 use Rattle.wb_machine.proofs.effects.UnchangedByAttempts.{alloc_level, alloc_stays, called_keeps}
@@ -37,8 +36,3 @@ pub returns-clause-level : goal.returns-clause-level
 returns-clause-level c =
     alloc_level c.attempt_alloc.result c.self.inside.heap c.attempt_alloc.new.self c.args.bytes c.args.kind c.attempt_alloc.ensures.made c.attempt_alloc.ensures.err
     ∙ ap (λ (h : RunState). h.debug.heap.level) c.self.view_is
-
-pub returns-clause-quiet : goal.returns-clause-quiet
-returns-clause-quiet c keeps same =
-    c.attempt_alloc.ensures.quiet (ap (λ (h : RunState). keeps_rises h.debug) c.self.view_is ∙ keeps)
-    (ap (λ (h : RunState). alloc_rises h c.args.kind c.args.bytes) c.self.view_is ∙ same ∙ sym (ap (λ (h : RunState). h.debug.rises) c.self.view_is))

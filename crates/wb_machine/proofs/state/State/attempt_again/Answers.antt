@@ -1,9 +1,7 @@
-use Rattle.std.proofs.Common.{◌≡◌, ap, ◌∙◌, subst, sym, refl, IsSome, IfSome}
+use Rattle.std.proofs.Common.{◌≡◌, subst, sym, refl, IsSome, IfSome}
 use Rattle.wb_heap_model.specs.declared.heap.Kind.TheVariants.{Raw}
 use Rattle.wb_heap_model.specs.Row.{cell_at}
-use Rattle.wb_heap_model.specs.Debug.{keeps_rises, realloc_made}
-use Rattle.wb_machine.specs.AttemptRises.{cell_rises}
-use Rattle.wb_machine.proofs.asking.NoRise.{found_rises}
+use Rattle.wb_heap_model.specs.Debug.{realloc_made}
 use Rattle.wb_machine.specs.RunState.{RunState}
 use Rattle.wb_machine.specs.StateView.{run_state}
 use Rattle.wb_machine.proofs.effects.UnchangedByAttempts.{realloc_keeps}
@@ -47,10 +45,3 @@ returns-clause-keeps c =
     (remade_beside call.result c.self.inside.cleanup h.debug call.new.self c.args.ptr found c.args.bytes refl c.self.invariant.sound c.self.invariant.stands live (raw_other found raw)
     call.ensures.made call.ensures.err)
     (realloc_keeps call.result h call.new.self found c.args.bytes live call.ensures.made call.ensures.err)
-
-pub returns-clause-quiet : goal.returns-clause-quiet
-returns-clause-quiet c keeps same =
-    let h = run_state c.self.inside in
-    let live = subst (λ (x : RunState). IsSome (cell_at c.args.ptr x.debug.heap.row)) (sym c.self.view_is) c.requires.live in
-    found_rises h c.args.bytes (cell_at c.args.ptr h.debug.heap.row) live (c.attempt_realloc.ensures.quiet (ap (λ (x : RunState). keeps_rises x.debug) c.self.view_is ∙ keeps))
-    (ap (λ (x : RunState). cell_rises x c.args.bytes (cell_at c.args.ptr x.debug.heap.row)) c.self.view_is ∙ same ∙ sym (ap (λ (x : RunState). x.debug.rises) c.self.view_is))

@@ -1,7 +1,3 @@
-use Rattle.std.proofs.Common.{ap, ◌∙◌, sym}
-use Rattle.wb_heap_model.specs.Debug.{keeps_rises}
-use Rattle.wb_machine.specs.AttemptRises.{new_rises}
-use Rattle.wb_machine.specs.RunState.{RunState}
 use Rattle.wb_tree.specs.Bodies.{class_at}
 use Rattle.wb_objects.specs.Objects.{object_made}
 use Rattle.wb_machine.specs.StateView.{run_state}
@@ -42,8 +38,3 @@ returns-clause-keeps c =
     keeps_seen c.self.inside c.args.self.now call.new.heap c.self.view_is
     (object_called h.debug c.args.class class call.result c.self.inside.cleanup call.new.heap c.self.invariant call.ensures.made call.ensures.err)
     (called_keeps call.result h (object_made h.debug c.args.class class).debug call.new.heap (object_stays h c.args.class class) call.ensures.made call.ensures.err)
-
-pub returns-clause-quiet : goal.returns-clause-quiet
-returns-clause-quiet c keeps same =
-    c.make.ensures.quiet (ap (λ (h : RunState). keeps_rises h.debug) c.self.view_is ∙ keeps)
-    (ap (λ (h : RunState). new_rises c.args.script.now h c.args.class) c.self.view_is ∙ same ∙ sym (ap (λ (h : RunState). h.debug.rises) c.self.view_is))

@@ -1,9 +1,8 @@
-use Rattle.std.proofs.Common.{refl, ap, ◌∙◌, subst}
+use Rattle.std.proofs.Common.{ap, ◌∙◌, subst}
 use Rattle.wb_tree.specs.declared.script.Statement.TheOpen.{Statement-F}
 use Rattle.wb_tree.specs.declared.script.Statement.TheViews.{out-Statement, outs-Alloc, outs-Realloc, outs-PrintNumber, outs-NoteHeap, outs-NoteAvailable, outs-NoteCompress, outs-New, outs-Push, outs-PushObject, outs-PushOperation}
 use Rattle.wb_machine.specs.RunState.{RunState}
 use Rattle.wb_machine.specs.CleanupEffects.{IsStackThere}
-use Rattle.wb_machine.proofs.asking.NoRise.{asks_nothing, rises_as}
 use Rattle.wb_machine.proofs.effects.Outcomes.{if_ok_then}
 use Rattle.wb_machine.proofs.effects.StatementEffects.{effect_of}
 use Rattle.wb_machine.proofs.effects.CleanupEffectLemmas.{push_kept, push_operation_kept}
@@ -92,33 +91,3 @@ returns-in-PushObject-clause-kept c =
     if_ok_then c.push_object.result _ _ c.push_object.ensures.effect (λ ending made.
     effect_of script c.requires.operands (Statement-F.PushObject p) (ap out-Statement c.in-PushObject.is ∙ outs-PushObject p) made
     (push_object_kept script h p _ c.push_object.ensures.there (subst (λ (x : RunState). IsStackThere x) made.becomes c.push_object.ensures.stands)))
-
-pub returns-in-Alloc-clause-quiet : goal.returns-in-Alloc-clause-quiet
-returns-in-Alloc-clause-quiet c asking = c.alloc.ensures.quiet asking.keeps (rises_as (Statement-F.Alloc c.in-Alloc.target c.in-Alloc.bytes c.in-Alloc.refusal) (ap out-Statement c.in-Alloc.is ∙ outs-Alloc c.in-Alloc.target c.in-Alloc.bytes c.in-Alloc.refusal) asking)
-
-pub returns-in-Realloc-clause-quiet : goal.returns-in-Realloc-clause-quiet
-returns-in-Realloc-clause-quiet c asking = c.realloc.ensures.quiet asking.keeps (rises_as (Statement-F.Realloc c.in-Realloc.target c.in-Realloc.source c.in-Realloc.bytes c.in-Realloc.refusal) (ap out-Statement c.in-Realloc.is ∙ outs-Realloc c.in-Realloc.target c.in-Realloc.source c.in-Realloc.bytes c.in-Realloc.refusal) asking)
-
-pub returns-in-New-clause-quiet : goal.returns-in-New-clause-quiet
-returns-in-New-clause-quiet c asking = c.new_object.ensures.quiet asking.keeps (rises_as (Statement-F.New c.in-New.target c.in-New.class c.in-New.refusal) (ap out-Statement c.in-New.is ∙ outs-New c.in-New.target c.in-New.class c.in-New.refusal) asking)
-
-pub returns-in-PrintNumber-clause-quiet : goal.returns-in-PrintNumber-clause-quiet
-returns-in-PrintNumber-clause-quiet c asking = asks_nothing (Statement-F.PrintNumber c.in-PrintNumber.value) (ap out-Statement c.in-PrintNumber.is ∙ outs-PrintNumber c.in-PrintNumber.value) refl asking
-
-pub returns-in-NoteHeap-clause-quiet : goal.returns-in-NoteHeap-clause-quiet
-returns-in-NoteHeap-clause-quiet c asking = asks_nothing Statement-F.NoteHeap (ap out-Statement c.in-NoteHeap.is ∙ outs-NoteHeap) refl asking
-
-pub returns-in-NoteAvailable-clause-quiet : goal.returns-in-NoteAvailable-clause-quiet
-returns-in-NoteAvailable-clause-quiet c asking = asks_nothing Statement-F.NoteAvailable (ap out-Statement c.in-NoteAvailable.is ∙ outs-NoteAvailable) refl asking
-
-pub returns-in-NoteCompress-clause-quiet : goal.returns-in-NoteCompress-clause-quiet
-returns-in-NoteCompress-clause-quiet c asking = asks_nothing Statement-F.NoteCompress (ap out-Statement c.in-NoteCompress.is ∙ outs-NoteCompress) refl asking
-
-pub returns-in-Push-clause-quiet : goal.returns-in-Push-clause-quiet
-returns-in-Push-clause-quiet c asking = c.push.ensures.quiet asking.keeps (rises_as (Statement-F.Push c.in-Push.pointer) (ap out-Statement c.in-Push.is ∙ outs-Push c.in-Push.pointer) asking)
-
-pub returns-in-PushObject-clause-quiet : goal.returns-in-PushObject-clause-quiet
-returns-in-PushObject-clause-quiet c asking = c.push_object.ensures.quiet asking.keeps (rises_as (Statement-F.PushObject c.in-PushObject.pointer) (ap out-Statement c.in-PushObject.is ∙ outs-PushObject c.in-PushObject.pointer) asking)
-
-pub returns-in-PushOperation-clause-quiet : goal.returns-in-PushOperation-clause-quiet
-returns-in-PushOperation-clause-quiet c asking = c.push_operation.ensures.quiet asking.keeps (rises_as (Statement-F.PushOperation c.in-PushOperation.pointer c.in-PushOperation.operation) (ap out-Statement c.in-PushOperation.is ∙ outs-PushOperation c.in-PushOperation.pointer c.in-PushOperation.operation) asking)

@@ -1,7 +1,6 @@
-use Rattle.std.proofs.Common.{refl, ap, ◌∙◌}
+use Rattle.std.proofs.Common.{ap, ◌∙◌}
 use Rattle.wb_tree.specs.declared.script.Statement.TheOpen.{Statement-F}
 use Rattle.wb_tree.specs.declared.script.Statement.TheViews.{out-Statement, outs-NewText, outs-ReallocText, outs-Copy, outs-Append, outs-Insert, outs-DeleteText, outs-SetLength, outs-Left, outs-Right, outs-Mid, outs-GetLength, outs-GetMaximum, outs-PrintText}
-use Rattle.wb_machine.proofs.asking.NoRise.{asks_nothing, rises_as}
 use Rattle.wb_machine.proofs.effects.Outcomes.{if_ok_then}
 use Rattle.wb_machine.proofs.effects.TextCellEffects.{new_text_kept, realloc_text_kept}
 use Rattle.wb_machine.proofs.effects.TextEffectLemmas.{copy_kept, append_kept, insert_kept, delete_kept, length_set_kept, effect_as}
@@ -89,12 +88,3 @@ returns-in-PrintText-clause-kept c floor =
     if_ok_then c.print_text.result _ _ c.print_text.ensures.effect (λ ending made.
     effect_of script c.requires.operands (Statement-F.PrintText c.in-PrintText.text) (ap out-Statement c.in-PrintText.is ∙ outs-PrintText c.in-PrintText.text) made
     (print_kept script c.args.self.now c.in-PrintText.text))
-
-pub returns-in-NewText-clause-quiet : goal.returns-in-NewText-clause-quiet
-returns-in-NewText-clause-quiet c asking = c.new_text.ensures.quiet asking.keeps (rises_as (Statement-F.NewText c.in-NewText.target c.in-NewText.units c.in-NewText.refusal) (ap out-Statement c.in-NewText.is ∙ outs-NewText c.in-NewText.target c.in-NewText.units c.in-NewText.refusal) asking)
-
-pub returns-in-ReallocText-clause-quiet : goal.returns-in-ReallocText-clause-quiet
-returns-in-ReallocText-clause-quiet c asking = c.realloc_text.ensures.quiet asking.keeps (rises_as (Statement-F.ReallocText c.in-ReallocText.target c.in-ReallocText.source c.in-ReallocText.units) (ap out-Statement c.in-ReallocText.is ∙ outs-ReallocText c.in-ReallocText.target c.in-ReallocText.source c.in-ReallocText.units) asking)
-
-pub returns-in-PrintText-clause-quiet : goal.returns-in-PrintText-clause-quiet
-returns-in-PrintText-clause-quiet c asking = asks_nothing (Statement-F.PrintText c.in-PrintText.text) (ap out-Statement c.in-PrintText.is ∙ outs-PrintText c.in-PrintText.text) refl asking

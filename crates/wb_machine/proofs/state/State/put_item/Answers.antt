@@ -1,6 +1,4 @@
 use Rattle.std.proofs.Common.{◌≡◌, ◌≢◌, IfOk, ap, ◌∙◌, sym, subst, refl, Option, Some}
-use Rattle.wb_heap_model.specs.Debug.{keeps_rises}
-use Rattle.wb_machine.specs.AttemptRises.{push_rises}
 use Rattle.wb_cleanup.specs.declared.cleanup.Cleanup.{Cleanup}
 use Rattle.wb_cleanup.specs.declared.cleanup.Pushed.TheVariants.{Ceiling}
 use Rattle.wb_machine.specs.CleanupEffects.{IsPushed}
@@ -24,13 +22,6 @@ returns-clause-keeps c =
     subst (λ (x : RunState). KeepsCount x g) c.self.view_is
     (keeps_pushed c.push.result c.args.item c.in-Some.stack c.push.new.self (run_state c.self.inside) g (memory.stands c.self.inside.heap refl) c.push.ensures.stands c.push.ensures.sound refl refl refl
     c.push.ensures.pushed c.push.ensures.err)
-
-pub returns-clause-quiet : goal.returns-clause-quiet
-returns-clause-quiet c keeps same =
-    let g = run_state (record c.self.inside { cleanup = Some c.in-Some.stack }) in
-    let is : g ≡ c.args.self.now = sym (ap (λ (o : Option Cleanup). run_state (record c.self.inside { cleanup = o })) c.in-Some.is) ∙ c.self.view_is in
-    c.push.ensures.quiet (ap (λ (h : RunState). keeps_rises h.debug) is ∙ keeps)
-    (ap (λ (h : RunState). push_rises h) is ∙ same ∙ sym (ap (λ (h : RunState). h.debug.rises) is))
 
 pub returns-clause-item : goal.returns-clause-item
 returns-clause-item c =

@@ -1,8 +1,6 @@
-use Rattle.std.proofs.Common.{◌≤◌, ◌+◌, ◌*◌, length, ap, ◌∙◌, subst, sym, refl, ◌≡◌, Some, None}
+use Rattle.std.proofs.Common.{◌≤◌, ◌+◌, ◌*◌, length, subst, sym, refl, ◌≡◌, None}
 use Rattle.wb_heap_model.specs.Row.{cell_at}
-use Rattle.wb_heap_model.specs.Debug.{keeps_rises, realloc_made}
-use Rattle.wb_machine.specs.AttemptRises.{realloc_text_rises}
-use Rattle.wb_machine.proofs.asking.NoRise.{found_rises}
+use Rattle.wb_heap_model.specs.Debug.{realloc_made}
 use Rattle.wb_heap_model.specs.TextCells.{text_at}
 use Rattle.wb_machine.specs.RunState.{RunState}
 use Rattle.wb_machine.specs.StateView.{run_state}
@@ -50,13 +48,3 @@ returns-clause-keeps c =
     (remade_beside c.remake.result c.self.inside.cleanup h.debug c.remake.new.heap p (cell_at p h.debug.heap.row) (4 + 2 * c.args.units) refl c.self.invariant.sound c.self.invariant.stands
     (is_there (cell_at p h.debug.heap.row) is.cell is.found) (text_other p h.debug is) c.remake.ensures.made c.remake.ensures.err)
     (remade_keeps c.remake.result h c.remake.new.heap (cell_at p h.debug.heap.row) is.cell (4 + 2 * c.args.units) is.found c.remake.ensures.made c.remake.ensures.err)
-
-pub returns-clause-quiet : goal.returns-clause-quiet
-returns-clause-quiet c keeps same =
-    let h = run_state c.self.inside in
-    let p = c.args.ptr in
-    let refused = subst (λ (x : RunState). text_refusal (cell_at p x.debug.heap.row) ≡ None) (sym c.self.view_is) c.requires.text in
-    let is = is_text_at p h.debug c.self.invariant.texts refused in
-    found_rises h (4 + 2 * c.args.units) (cell_at p h.debug.heap.row) (is_there (cell_at p h.debug.heap.row) is.cell is.found)
-    (c.remake.ensures.quiet (ap (λ (x : RunState). keeps_rises x.debug) c.self.view_is ∙ keeps))
-    (ap (λ (x : RunState). realloc_text_rises x p (Some c.args.units)) c.self.view_is ∙ same ∙ sym (ap (λ (x : RunState). x.debug.rises) c.self.view_is))

@@ -1,0 +1,88 @@
+//! What is said of items that a body leaves to its caller, and of those that it takes from it.
+
+use crate::runs::counts::Many;
+use crate::runs::paths::body_name;
+use crate::runs::script_page::{ScriptPage, Written};
+use std::fmt;
+use std::fmt::{Display, Formatter, Write};
+use wb_history::{By, Ended, Stay, Taken, WatchedRun};
+
+/// What to do about an item that a body leaves to its caller.
+pub const LEFT_TO_CALLER: &str =
+    "a body takes off what it pushed before each of its ends, a `return` too: the pops of its caller count on that";
+
+/// What to do about an item that a body takes from its caller.
+pub const TAKEN_FROM_CALLER: &str =
+    "a body takes off only as many items as it pushed itself; `popcheck` makes sure that no other item comes off";
+
+/// Says which line took off an item of a calling body, and how many items its own body began with and left; nothing if no line did.
+pub fn put_of_caller(
+    page: &mut ScriptPage<'_>,
+    taken: Option<Taken>,
+    run: &WatchedRun<'_>,
+) -> Written {
+    let Some(Taken { line, pushed, body }) = taken else {
+        return Ok(());
+    };
+    page.tell_unordered();
+    let (caller, name) = (body_name(page, pushed, run), body_name(page, line, run));
+    let (began, ended) = (items(body.began), body.ended);
+    page.mark_new(
+        line,
+        0,
+        format_args!(
+            "this took off the item that line {pushed} had pushed, in `{caller}`: `{name}` began with {began} on the cleanup stack, and this left {ended}"
+        ),
+    )
+}
+
+/// Says how many items a body began with and left to its caller, and which line then took off one of them in place of another.
+pub fn put_left(
+    page: &mut ScriptPage<'_>,
+    body: Stay,
+    then: Then,
+    run: &WatchedRun<'_>,
+) -> Written {
+    page.tell_unordered();
+    let name = body_name(page, body.last, run);
+    let (began, ended) = (items(body.began), body.ended);
+    page.mark_new(
+        body.last,
+        0,
+        format_args!(
+            "`{name}` began with {began} on the cleanup stack, and ended after this line with {ended}{then}"
+        ),
+    )
+}
+
+fn items(count: usize) -> Many {
+    Many(i64::try_from(count).unwrap_or(i64::MAX), "item")
+}
+
+/// Which line took off an item that was left, if that is to be said.
+#[derive(Clone, Copy)]
+pub struct Then(pub Option<Taken>);
+
+impl Display for Then {
+    fn fmt<W: Write>(&self, f: &mut Formatter<W>) -> fmt::Result {
+        match self.0 {
+            Some(Taken { line, pushed, .. }) => {
+                write!(
+                    f,
+                    ": line {line} took off the item that line {pushed} had pushed"
+                )
+            }
+            None => Ok(()),
+        }
+    }
+}
+
+/// Returns the item of a calling body with which `popdestroy` ended a cell's life; `None` if it took off no such item.
+pub fn taken_with(ended: Ended, run: &WatchedRun<'_>) -> Option<Taken> {
+    let taken = run.history.items.of_caller?;
+    if ended.by == By::PopDestroy && taken.line == ended.at.number() {
+        Some(taken)
+    } else {
+        None
+    }
+}

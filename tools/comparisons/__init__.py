@@ -1,1 +1,0 @@
-"""What sweeps, sets, lengths, forks and steps tell, beside single runs."""

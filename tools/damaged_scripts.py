@@ -1,0 +1,251 @@
+"""Scripts with mistakes: by chance, for what the program may never do, and one by one, for what it says of them."""
+
+import random
+import re
+import tempfile
+from collections import Counter
+from collections.abc import Callable, Iterator
+from concurrent.futures import ProcessPoolExecutor
+from functools import partial
+from itertools import count
+from pathlib import Path
+from typing import NamedTuple
+
+from tools.common import CUT, REFUSED, NoAnswer, Tally, answer_of, examples, program_parser
+from tools.crates import RUN_MEMORY, processors
+from tools.language import words_of_roles
+from tools.worked_cases import all_cases, cases_of
+
+WORDS = re.compile(rb"[^ \n]+")
+NUMBER = re.compile(rb"(?<= )-?[0-9]+\b")
+NUMBERS = [b"0", b"1", b"-1", b"15", b"16", b"80", b"255", b"65536", b"524286", b"1048576", b"999999999", b"-999999999"]
+LINE, BYTE = re.compile(rb"[^\n]*\n"), re.compile(rb"(?s).")
+# how often each of these is changed: most changes leave a script that is read, so that its runs are tried as well
+PIECES = {NUMBER: 8, LINE: 4, WORDS: 2, BYTE: 1}
+# how many scripts a process makes at once
+SHARE = 500
+# what the program is asked for in turn, and within how many seconds; there are about half as many pairs as the square of the attempts
+COMMANDS = ((["check", "--budget", "200"], 1), (["check", "--budget", "200", "--every"], 1), (["check", "--budget", "50", "--pairs"], 5))
+
+
+def seeds() -> list[bytes]:
+    """The scripts of the cases and examples, but for the largest."""
+    scripts = [it.script for it in all_cases()] + [it.read_bytes() for it in examples()]
+    return [text for text in scripts if 0 < len(text) <= 4000]
+
+
+def damaged(chance: random.Random, scripts: list[bytes], words: list[bytes]) -> bytes:
+    """A script with a few changes of a number, a line, a word or a byte. A line is dropped, doubled, moved, or put in from another script;
+    of the others another one stands in the place of one; bytes are put in or cut off as well."""
+    text = chance.choice(scripts)
+    for piece in chance.choices(list(PIECES), list(PIECES.values()), k=chance.choice((1, 1, 2, 3, 5))):
+        found = [it.span() for it in piece.finditer(text)]
+        start, end = chance.choice(found) if found else (len(text), len(text))
+        others = piece.findall(chance.choice((text, text, chance.choice(scripts))))
+        new = chance.choice(others or words)
+        if piece == NUMBER and found:
+            near = str(int(text[start:end]) + chance.choice((-16, -1, 1, 16))).encode()
+            new = chance.choice((near, chance.choice(NUMBERS)))
+        elif piece == LINE:
+            new, end = (b"", end) if chance.random() < 0.4 else (new, start)
+        elif piece == WORDS:
+            new = chance.choice((new, chance.choice(words)))
+        elif piece == BYTE:
+            new = bytes(chance.choice((chance.randrange(256), chance.randrange(32, 127), 10, 32)) for _ in range(chance.randint(0, 3)))
+            end = len(text) if chance.random() < 0.1 else start + chance.randint(0, 2)
+        text = text[:start] + new + text[end:]
+    return text
+
+
+def share_of(seed: int, program: Path, keep: Path) -> tuple[list[str], Counter[str]]:
+    """What is said of the scripts of a share that fail, and how often each status comes."""
+    chance, scripts = random.Random(seed), seeds()
+    words = sorted({word for text in scripts for word in WORDS.findall(text)})
+    faults: list[str] = []
+    statuses: Counter[str] = Counter()
+    for number in range(SHARE):
+        text = damaged(chance, scripts, words)
+        command, seconds = COMMANDS[number % len(COMMANDS)]
+        try:
+            answer = answer_of(program, *command, script=text, seconds=seconds)
+            told = f"status {answer.status}"
+            fault = "" if 0 <= answer.status <= CUT else f"{told}, {answer.output[:80]!r}"
+        except NoAnswer as late:
+            told, fault = "no answer", str(late)
+        statuses[told] += 1
+        if fault:
+            keep.mkdir(exist_ok=True, parents=True)
+            file = keep / f"{seed}-{number}.oom"
+            file.write_bytes(text)
+            faults.append(f"{file}: {' '.join(command)}: {fault}")
+    return faults, statuses
+
+
+def fuzz(words: list[str]) -> int:
+    """Runs the program on many damaged scripts, and looks whether it ever ends as it may not.
+
+    Each script is made of worked cases by a few changes: lines are dropped, doubled, moved, or taken from another script; words are put in
+    the place of others; bytes are cut off, changed or put in. `check` with a small budget must answer each with a status from 0 to 3: of
+    three scripts one by itself and one with `--every` within a second, and one with `--pairs` and a smaller budget within five. A script
+    that it answers otherwise is kept in the folder, and named.
+    """
+    parser = program_parser(fuzz.__doc__)
+    parser.add_argument("--scripts", type=int, default=300_000, metavar="N", help="how many scripts [default: 300000]")
+    parser.add_argument("--seed", type=int, default=1, metavar="N", help="which scripts [default: 1]")
+    parser.add_argument("--keep", type=Path, default=Path("fuzz-found"), metavar="FOLDER", help="where scripts go that fail")
+    given = parser.parse_args(words)
+    shares = range(-(-given.scripts // SHARE))
+    tally, statuses = Tally(), Counter[str]()
+    with ProcessPoolExecutor(processors(RUN_MEMORY)) as pool:
+        share = partial(share_of, program=given.program, keep=given.keep)
+        for faults, told in pool.map(share, (given.seed * 1_000_000 + it for it in shares)):
+            print("".join(f"{it}\n" for it in faults), end="", flush=True)
+            tally.add(SHARE - len(faults), len(faults))
+            statuses += told
+    print(", ".join(f"{told} {count} times" for told, count in sorted(statuses.items())))
+    return tally.end()
+
+
+WANTED, LEAST = 200, 180
+# the words of lines that an `end` ends, if they stand in any line, and of those that declare something
+OPENERS = words_of_roles("Class", "Procedure", "If", "Loop", "Destroy")
+DECLARATIONS = words_of_roles("Declaration", "Field")
+
+
+class Mistake(NamedTuple):
+    """A script with a mistake: its lines, and which line numbers and words name the mistake."""
+
+    lines: list[str]
+    numbers: set[int]
+    words: set[str] = set()
+
+    def is_named(self, explanation: str) -> bool:
+        """Whether an explanation names the mistaken word or line."""
+        names = [*(f"script.oom:{number}: " for number in self.numbers), *(f"`{word}`" for word in self.words)]
+        return any(it in explanation for it in names)
+
+
+# makes a mistake in a line of a script, in the turn of its sort; some sorts take another line of it
+Maker = Callable[[list[str], int, int], Mistake | None]
+
+
+def words_of(line: str) -> list[str]:
+    """The words of a line that is no comment and holds no text; none of any other line."""
+    return [] if line.lstrip().startswith("#") or '"' in line else line.split()
+
+
+def indented(line: str, words: list[str]) -> str:
+    """A line of other words, as far to the right as this one."""
+    return line[: len(line) - len(line.lstrip())] + " ".join(words)
+
+
+def in_words(edit: Callable[[list[str], int, int], tuple[list[str], set[str]] | None]) -> Maker:
+    """Edits the words of a line, one of them above all, and says by which words that is named."""
+
+    def make(lines: list[str], at: int, turn: int) -> Mistake | None:
+        words = words_of(lines[at])
+        made = edit(words, turn % len(words), turn) if words else None
+        return Mistake([*lines[:at], indented(lines[at], made[0]), *lines[at + 1 :]], {at + 1}, made[1]) if made else None
+
+    return make
+
+
+def letter(edit: Callable[[str, int], str]) -> Maker:
+    """Edits one letter of one word, which has at least three."""
+
+    def make(words: list[str], place: int, turn: int) -> tuple[list[str], set[str]] | None:
+        old = words[place]
+        new = edit(old, turn // 3 % (len(old) - 1)) if len(old) > 2 else old
+        return ([*words[:place], new, *words[place + 1 :]], {new}) if new != old else None
+
+    return in_words(make)
+
+
+def opens(words: list[str]) -> bool:
+    """Whether a line begins what an `end` ends."""
+    return bool(words) and (words[0] in OPENERS or words == ["construct"])
+
+
+def end_gone(lines: list[str], at: int, turn: int) -> Mistake | None:
+    """Leaves out one `end` of the script. The line of its block will do, too."""
+    blocks: list[tuple[int, int]] = []
+    begun: list[int] = []
+    for place, words in enumerate(map(words_of, lines)):
+        if opens(words):
+            begun.append(place)
+        elif words == ["end"]:
+            blocks.append((begun.pop(), place))
+    opener, end = blocks[turn % len(blocks)]
+    return Mistake(lines[:end] + lines[end + 1 :], {opener + 1, end + 1})
+
+
+def end_too_many(lines: list[str], at: int, turn: int) -> Mistake | None:
+    """Writes an `end` behind a statement."""
+    words = words_of(lines[at])
+    if not words or opens(words) or words[0] in {"else", "field"}:
+        return None
+    return Mistake([*lines[: at + 1], indented(lines[at], ["end"]), *lines[at + 1 :]], {at + 2})
+
+
+def declaration_gone(lines: list[str], at: int, turn: int) -> Mistake | None:
+    """Leaves out one declaration of the script."""
+    declared = [(place, words[1]) for place, words in enumerate(map(words_of, lines)) if words and words[0] in DECLARATIONS]
+    gone, name = declared[turn % len(declared)] if declared else (0, "")
+    return Mistake(lines[:gone] + lines[gone + 1 :], {gone + 1}, {name}) if declared else None
+
+
+# a letter or word that is dropped, doubled, swapped or another one, and an `end` or declaration
+MAKERS: list[Maker] = [
+    letter(lambda word, at: word[:at] + word[at + 1 :]),
+    in_words(lambda words, at, turn: ([*words[: at + 1], *words[at:]], set())),
+    end_gone,
+    letter(lambda word, at: word[:at] + word[at + 1] + word[at] + word[at + 2 :]),
+    in_words(lambda words, at, turn: (words[:-1], set()) if len(words) > 1 else None),
+    end_too_many,
+    letter(lambda word, at: word[:at] + word[at] + word[at:]),
+    declaration_gone,
+    letter(lambda word, at: word[:at] + ("x" if word[at] != "x" else "y") + word[at + 1 :]),
+]
+
+
+def sources() -> list[str]:
+    """The scripts of the examples and of the guide's cases."""
+    cases = [it.script.decode() for it in cases_of("guide")]
+    return [it.read_text() for it in examples()] + [it for it in cases if it.strip()]
+
+
+def mistakes(scripts: list[str]) -> Iterator[Mistake]:
+    """Mistakes without end, each in another script than the one before, of another sort, and further on."""
+    for turn in count():
+        lines = scripts[turn % len(scripts)].splitlines()
+        if made := MAKERS[turn % len(MAKERS)](lines, turn * 7 % len(lines), turn // len(MAKERS)):
+            yield made
+
+
+def count_mistakes(words: list[str]) -> int:
+    """Makes 200 scripts with one mistake each, and counts how many of the mistakes are named.
+
+    The scripts come of the examples and the guide's cases, always the same ones: a letter is dropped or doubled or two are
+    swapped, a word is gone or one too many, an `end` is gone or too many, a declaration is gone. A mistake that leaves a script
+    that the workbench accepts, as one in a text that is printed, is passed over.
+
+    The mistake is named where standard error has a line `FILE:N:` with its number, or the word between backquotes. Of an `end` that
+    is gone the line of its block will do, and of a declaration the name.
+    """
+    program, tally, refused, named = program_parser(count_mistakes.__doc__).parse_args(words).program, Tally(), 0, 0
+    with tempfile.TemporaryDirectory() as folder:
+        for made in mistakes(sources()):
+            Path(folder, "script.oom").write_text("\n".join(made.lines) + "\n")
+            answer = answer_of(program, "run", "script.oom", cwd=folder)
+            if answer.status != REFUSED:
+                continue
+            explanation = answer.messages.decode()
+            is_named = made.is_named(explanation)
+            refused, named = refused + 1, named + is_named
+            if not is_named:
+                print(f"not named: lines {sorted(made.numbers)}, words {sorted(made.words)}\n{explanation}")
+            if refused == WANTED:
+                break
+    print(f"{named} of {refused} mistakes named")
+    tally.check(named >= LEAST, f"{LEAST} are wanted")
+    return tally.end()

@@ -1,1 +1,0 @@
-"""Wrong bodies, how they are tried, and verdicts on sources."""

@@ -1,0 +1,371 @@
+"""Tries wrong bodies in batches, by checks of copies of a crate within a time: reads what the checker says of each function, says what came
+of each wrong body, and writes the line of each source all of whose wrong bodies were disproved.
+
+A function with several wrong bodies gets a twin for each but the first, so that one check judges them all. A twin is the whole function
+with a wrong body, under a name of its own, right below the function. It keeps the contract, and nothing calls it. Where the function has
+proof files, the twin has the same under its name. That says as much of the wrong body as the function's own files do, since the name of the
+function stands in them only where they import what is generated for it, and in no file beside them: where that isn't so, there is no twin.
+"""
+
+import math
+import os
+import re
+import shutil
+import signal
+import subprocess
+import time
+from collections import Counter, defaultdict
+from collections.abc import Iterator
+from contextlib import contextmanager, suppress
+from dataclasses import replace
+from pathlib import Path
+from threading import Lock
+from typing import IO, NamedTuple
+
+from tools.common import Tally
+from tools.crates import FUNCTION_HEAD, Crates, kit
+from tools.edits.verdicts import Verdicts
+from tools.edits.wrong_body_edits import Edit, WrongBody, edited_files
+
+LIBRARY = Path("out/rlib")
+
+# how long a look at a check waits, in seconds
+LOOK = 0.2
+
+STATUS = re.compile(r"fn (\S+): (proved|no proof|not proved)(?:: |; |$)(.*)")
+# what is said of a function that calls what isn't proved; of one of the second sort nothing else is said before that is proved
+WAITS = re.compile(
+    r"(?:; )?(?:it calls .*, which (?:is|are) not proved"
+    r"|the borrow checker's part in its proof is not made yet: a call of `[^`]*`, which has no proof: .*)$"
+)
+GOAL = re.compile(r"note: (?:\./)?src/\S+: it is not proved that ")
+CLAUSE = re.compile(r"\(`[^`]*\bclause-(\w+)`\)")
+PROOF_FILE = re.compile(r"((?:\./)?proofs/(\S+)/[A-Za-z]+\.antt:\d+):\d+: error: (.*)")
+# an error of a text that the checker cannot read, where a false statement reads well
+UNREAD = re.compile(r"(?:\./)?(?:src|specs)/\S+?:\d+:\d+: error: (`[^`]*`: )?(.*)")
+NO_TEXT = re.compile(r"is not in scope|has no field|is no name|operand is missing|expected the end|cannot continue")
+
+
+class OutOfTime(Exception):
+    """That a check was ended before it had said all."""
+
+
+class Checks:
+    """Checks that may run for so many seconds together, by the clock, from now on."""
+
+    def __init__(self, seconds: float = math.inf) -> None:
+        self.end = time.monotonic() + seconds
+
+    def stop(self) -> None:
+        """Has the time be over."""
+        self.end = -math.inf
+
+    def are_over(self) -> bool:
+        """Whether the time is over."""
+        return time.monotonic() >= self.end
+
+    def run(self, words: list[str], folder: Path, log: IO[str]) -> None:
+        """Runs a check in a folder, and adds what it prints to a log. Where the time is over before its end, ends it with all that it has
+        started, and raises `OutOfTime`."""
+        if self.are_over():
+            raise OutOfTime
+        # a session of its own holds all that it starts, in whatever group that is
+        with subprocess.Popen(
+            words, cwd=folder, stdin=subprocess.DEVNULL, stdout=log, stderr=subprocess.STDOUT, start_new_session=True
+        ) as check:
+            while check.poll() is None:
+                if self.are_over():
+                    end_session(check.pid)
+                    raise OutOfTime
+                with suppress(subprocess.TimeoutExpired):
+                    check.wait(LOOK)
+
+
+def end_session(leader: int) -> None:
+    """Ends all processes of a session, by the one that leads it and isn't waited for yet; returns when none is running."""
+    while running := [it for it in map(int, filter(str.isdigit, os.listdir("/proc"))) if session_of(it) == leader]:
+        for it in running:
+            with suppress(ProcessLookupError):
+                os.kill(it, signal.SIGKILL)
+        time.sleep(LOOK / 10)
+
+
+def session_of(process: int) -> int | None:
+    """The session of a process; none if it has ended."""
+    # one that ends meanwhile can't be read
+    with suppress(OSError):
+        # its name, in brackets, may hold anything
+        state, _, _, session = Path(f"/proc/{process}/stat").read_text(encoding="utf-8", errors="replace").rpartition(")")[2].split()[:4]
+        return int(session) if state not in "ZX" else None
+    return None
+
+
+class Said(NamedTuple):
+    """What a check says of a function: `PROVED`, or `disproved` for its own sake; nothing if it only waits for what it calls."""
+
+    text: str
+    # the clauses of its contract that are open goals
+    clauses: frozenset[str] = frozenset()
+
+
+class Verdict(NamedTuple):
+    """What a check says of each function, and why it says nothing of a proof, if so."""
+
+    functions: dict[str, Said]
+    unread: str = ""
+
+
+def is_disproof(text: str) -> bool:
+    """Whether this says that a function was disproved for its own sake."""
+    return text == "disproved" or text.startswith("disproved, ")
+
+
+def read_verdict(text: str) -> Verdict:
+    """Reads what a check printed."""
+    functions: dict[str, Said] = {}
+    # where a function has an error in a proof file of its own
+    errors: dict[str, str] = {}
+    goals: list[str] = []
+    unread = ""
+    for line in text.splitlines():
+        if broken := UNREAD.match(line):
+            if not broken[1] or NO_TEXT.search(re.sub(r"`[^`]*`", "", broken[2])):
+                unread = unread or line
+        elif error := PROOF_FILE.match(line):
+            # a file that another one's error leaves out says nothing of its function
+            if "was not admitted" not in error[3]:
+                errors.setdefault(error[2].replace("/", "::"), f"disproved, by {error[1]}")
+        elif GOAL.match(line):
+            goals.append(line)
+        elif told := STATUS.match(line):
+            name, word, rest = told.groups()
+            disproof = "disproved" if goals or WAITS.sub("", rest) else errors.get(name.partition("::")[2], "")
+            functions[name] = Said("PROVED" if word == "proved" else disproof, frozenset(CLAUSE.findall("\n".join(goals))))
+            goals = []
+    if not unread and not re.search(r"^only=\d+", text, re.M):
+        # what a check that ended early said
+        lines = text.strip().splitlines() or ["the check printed nothing"]
+        unread = next((it for it in lines if re.search(r"error|killed", it)), lines[-1])
+    return Verdict(functions, unread)
+
+
+def check(checks: Checks, room: Path, crate: str, functions: list[str], jobs: int) -> Verdict:
+    """Checks some functions of the crate in a room, and what they call; what the check prints is added to a file beside the
+    room."""
+    only = [word for it in functions for word in ("--only", it)]
+    with room.with_name(f"{room.name}.log").open("a+", encoding="utf-8", errors="replace") as log:
+        start = log.seek(0, os.SEEK_END)
+        checks.run(["rt", "check", "--jobs", str(jobs), *only], room / "crates" / crate, log)
+        log.seek(start)
+        return read_verdict(log.read())
+
+
+def make_room(crates: Crates, crate: str, room: Path) -> None:
+    """Copies what a check of the crate needs into a new folder, with the libraries below it as they are built."""
+    room.mkdir()
+    lower = crates.below(crate)
+    (room / "crates.txt").write_text("".join(f"{crates.lines[it]}\n" for it in [*lower, crate]), encoding="utf-8")
+    if (crates.root / "HANDLES").is_file():
+        shutil.copy2(crates.root / "HANDLES", room)
+    for name in [*lower, crate]:
+        crates.copy(name, room / "crates" / name)
+    for name in lower:
+        shutil.copytree(crates.folder(name) / LIBRARY, room / "crates" / name / LIBRARY, copy_function=link)
+    kit().take_as_built(room, crate)
+
+
+def link(source: str, target: str) -> str:
+    """Gives a file that is only ever removed, and not written again, a second name; or else copies it."""
+    try:
+        os.link(source, target)
+    except OSError:
+        shutil.copy2(source, target)
+    return target
+
+
+# what is generated for a function, in modules that its own proof files import
+GENERATED = r"\.(?:Goals|Given|Code|Statement)\b"
+# what a function's proof files may be: a proof by hand in `Proof.antt` exports a name made of the function's
+ANSWERS = {"Answers.antt", "Invariants.antt"}
+
+
+class Batch(NamedTuple):
+    """Wrong bodies of a crate that are tried together."""
+
+    crate: str
+    edits: list[Edit]
+
+
+class Trial:
+    """Tries wrong bodies on copies of their crates, as long as there is time for checks."""
+
+    def __init__(self, verdicts: Verdicts, folder: Path, checks: Checks, sources: dict[str, list[str]]) -> None:
+        self.verdicts, self.crates, self.checks, self.folder = verdicts, verdicts.crates, checks, folder
+        # the sources, of each crate, whose lines are to be written, with what these follow from now
+        self.unsettled = {crate: {it: verdicts.checksum(crate, it) for it in its} for crate, its in sources.items()}
+        # what is said of each edit so far, by its label, and of functions that have none
+        self.said: dict[str, str] = {}
+        self.tally = Tally()
+        # the copies of each crate, and those that no check is in
+        self.rooms: Counter[str] = Counter()
+        self.idle: dict[str, list[Path]] = defaultdict(list)
+        self.lock = Lock()
+
+    @contextmanager
+    def room(self, crate: str) -> Iterator[Path]:
+        """A copy of the crate that no other check is in."""
+        with self.lock:
+            is_new = not self.idle[crate]
+            self.rooms[crate] += is_new
+            name = crate if self.rooms[crate] == 1 else f"{crate}-{self.rooms[crate]}"
+            room = self.folder / name if is_new else self.idle[crate].pop()
+        if is_new:
+            make_room(self.crates, crate, room)
+        yield room
+        self.idle[crate].append(room)
+
+    def judge(self, batch: Batch, jobs: int) -> None:
+        """Judges a batch, up to where the time is over. What is said of each edit is kept as soon as it is known."""
+        if self.checks.are_over() or not batch.edits:
+            return
+        crate, said = batch.crate, dict[str, str]()
+        together, alone = apart(batch.edits, self.crates.folder(crate))
+        with self.room(crate) as room, suppress(OutOfTime):
+            while together:
+                verdict = self.check(room, crate, together, jobs)
+                strays = {name for name, it in verdict.functions.items() if is_disproof(it.text)} - {it.function for it in together}
+                said |= {f"{crate}: {it}": "is disproved, and has no wrong body" for it in sorted(strays)}
+                judged = [(it, what_is_said(it, it.function, verdict)) for it in together]
+                said |= {it.label: text for it, text in judged if text}
+                waiting = [it for it, text in judged if not text]
+                # those that only waited for others are tried again without these, as long as some are judged so
+                if len(waiting) == len(together):
+                    alone += waiting
+                    break
+                together = waiting
+            for it in alone:
+                said[it.label] = what_is_said_of_all(it, self.check(room, crate, [it], jobs))
+        with self.lock:
+            self.say(said)
+            self.settle(crate)
+
+    def check(self, room: Path, crate: str, edits: list[Edit], jobs: int) -> Verdict:
+        """Checks the crate with these edits."""
+        copy = room / "crates" / crate
+        for part in ("src", "proofs"):
+            shutil.rmtree(copy / part, ignore_errors=True)
+        self.crates.copy(crate, copy)
+        for file, text in (edited_files(edits, self.crates.folder(crate)) if edits[0].body else edits[0].files).items():
+            (copy / file).write_text(text, encoding="utf-8")
+        for it in edits:
+            add_proof_files(it, copy)
+        return check(self.checks, room, crate, sorted({name for it in edits for name in (it.function, *it.others)}), jobs)
+
+    def say(self, said: dict[str, str]) -> None:
+        """Prints what is said of edits, and counts it."""
+        self.said |= said
+        disproved = sum(map(is_disproof, said.values()))
+        print("".join(f"{label}: {text}\n" for label, text in sorted(said.items())), end="", flush=True)
+        self.tally.add(disproved, len(said) - disproved)
+
+    def settle(self, crate: str) -> None:
+        """Writes the lines of those sources of a crate all of whose edits were disproved, if what they follow from is the same still: none
+        where a function without a wrong body was disproved."""
+        unsettled, sources = self.unsettled.get(crate, {}), self.verdicts.sources(crate)
+        done = [it for it in unsettled if all(is_disproof(self.said.get(f"{crate}/{edit.name}", "")) for edit in sources[it])]
+        if not done or any(it.startswith(f"{crate}: ") for it in self.said):
+            return
+        now = Verdicts(self.crates.root, self.verdicts.logic)
+        settled = {it: unsettled[it] for it in done if unsettled[it] == now.checksum(crate, it)}
+        if settled:
+            now.write(crate, settled)
+        self.unsettled[crate] = {it: checksum for it, checksum in unsettled.items() if it not in settled}
+
+
+def what_is_said_of_all(edit: Edit, verdict: Verdict) -> str:
+    """What a check says of an edit that has it to itself: that it was disproved where each of its functions was, for its own sake."""
+    names = (edit.function, *edit.others)
+    said = {it: what_is_said(edit, it, verdict) or "disproved only through what it calls" for it in names}
+    for name, text in said.items():
+        if not is_disproof(text):
+            return f"{name}: {text}" if edit.others else text
+    # the weakest of the disproofs
+    return max(said.values(), key=len)
+
+
+def what_is_said(edit: Edit, function: str, verdict: Verdict) -> str:
+    """What a check says of a function with an edit; nothing where it only waits for what it calls."""
+    if verdict.unread:
+        return f"BAD EDIT: the edited text can't be checked: {verdict.unread}"
+    if function not in verdict.functions:
+        return f"BAD EDIT: a check of the crate names no function {function}"
+    said = verdict.functions[function]
+    standing = edit.clauses - said.clauses
+    return f"PROVED in its clauses {', '.join(sorted(standing))}" if standing and said.text != "PROVED" else said.text
+
+
+def apart(edits: list[Edit], crate: Path) -> tuple[list[Edit], list[Edit]]:
+    """The edits that one check can judge, each of a function of its own, and those that need a check each: an edit that
+    changes more than its function's body, or whose function can't have a twin."""
+    proofs = {file: file.read_text(encoding="utf-8") for file in (crate / "proofs").rglob("*.antt")}
+    seen: Counter[str] = Counter()
+    together: list[Edit] = []
+    alone: list[Edit] = []
+    for edit in edits:
+        seen[edit.function] += edit.body is not None
+        if edit.body and seen[edit.function] > 1:
+            twin = twin_of(edit, edit.body, crate, seen[edit.function]) if can_be_renamed(edit.function, crate, proofs) else None
+            (together if twin else alone).append(twin or edit)
+        else:
+            (together if edit.body else alone).append(edit)
+    return together, alone
+
+
+def twin_of(edit: Edit, body: WrongBody, crate: Path, number: int) -> Edit | None:
+    """The edit as one that adds a twin of its function, if a twin can be had."""
+    path, _, name = edit.function.rpartition("::")
+    own = f"{name}_wrong_{number}"
+    renamed, count = re.subn(rf"(?m)^({FUNCTION_HEAD}){name}\b", rf"\g<1>{own}", body.text)
+    if count != 1 or is_of_a_trait((crate / body.file).read_text(encoding="utf-8").splitlines(), body.place.start):
+        return None
+    return replace(edit, function=f"{path}::{own}", body=body._replace(text=renamed), twin_of=edit.function)
+
+
+def can_be_renamed(function: str, crate: Path, proofs: dict[Path, str]) -> bool:
+    """Whether the function's proof files, if it has some, are those of another function by changing what they import."""
+    folder = proof_folder(crate, function)
+    named = re.compile(re.escape(generated_path(crate, function)) + GENERATED)
+    return not any(
+        file.name not in ANSWERS or file.parent != folder if folder in file.parents else named.search(text) for file, text in proofs.items()
+    )
+
+
+def add_proof_files(edit: Edit, crate: Path) -> None:
+    """Gives a twin the proof files of its function."""
+    source = proof_folder(crate, edit.twin_of)
+    if not edit.twin_of or not source.is_dir():
+        return
+    old, new = (generated_path(crate, it) for it in (edit.twin_of, edit.function))
+    target = proof_folder(crate, edit.function)
+    target.mkdir()
+    for file in source.iterdir():
+        text = re.sub(re.escape(old) + f"(?={GENERATED})", new, file.read_text(encoding="utf-8"))
+        (target / file.name).write_text(text, encoding="utf-8")
+
+
+def proof_folder(crate: Path, function: str) -> Path:
+    """Where a function's proof files stand, if it has some."""
+    return crate.joinpath("proofs", *function.split("::")[1:])
+
+
+def generated_path(crate: Path, function: str) -> str:
+    """The path of the modules that are generated for a function's proof."""
+    return ".".join(["Rattle", crate.name, "proofs", *function.split("::")[1:]])
+
+
+def is_of_a_trait(lines: list[str], start: int) -> bool:
+    """Whether the function that begins there is a trait's or an implementation of one, which takes no further function."""
+    if not lines[start].startswith(" "):
+        return False
+    outer = next((it for it in reversed(lines[:start]) if re.match(r"(?:pub )?(?:unsafe )?(?:impl|trait)\b", it)), "trait")
+    return " for " in outer or "trait" in outer.partition("<")[0]
