@@ -21,14 +21,17 @@ from pathlib import Path
 from typing import Any, NamedTuple
 
 from tools.common import CEILING, Answer, Trials, answer_of, program_parser, summed
+from tools.crates import processors
 
 # how long a sweep goes on before anything is said of it, the shortest time between two lines, for how much longer a sweep that is
 # looked at goes on, and how late the first line may be, in seconds
 QUIET, PAUSE, LONGER, LATE = 2.0, 0.1, 0.4, 1.0
 # how often a line is written where standard error is no terminal, in seconds
 MINUTE = 60.0
+# how many seconds a run takes at least of which the sweep is long enough
+LEAST = QUIET + LONGER
 # how long a run may take; how long one takes at most that shows no line, before that counts as a fault; and a budget that is enough
-LIMIT, PATIENCE, BUDGET = 60, 20.0, ("--budget", "1000000")
+LIMIT, PATIENCE, BUDGET = 300, 20.0, ("--budget", "1000000")
 
 LEFT = r"(?:, (?P<done>\d+)% done, (?P<left>\d+) (?:s|min|h) left)?"
 FINE = r"(?:, (?:nothing|none) up to (?P<fine>\d+))?"
@@ -52,15 +55,8 @@ class Kind(NamedTuple):
     power: int
     # what a line calls what is tried
     calls: str
-    # for how many seconds at most a command goes on without a line once the sweep is over
-    after: float = 0.0
     # of how many attempts the largest sets are
     most: int = 1
-
-    @property
-    def least(self) -> float:
-        """How many seconds a run takes at least of which the sweep is long enough."""
-        return QUIET + LONGER + self.after
 
     def script(self, attempts: int) -> bytes:
         """The script of so many attempts."""
@@ -88,13 +84,13 @@ class Shown(NamedTuple):
 
 
 # scripts of so many attempts, and the sum of the turns in which they fail: so no run under a failure ends early, and few are ever in the
-# same state, so that sets must be tried one by one. No failure shows anything, unless the last one leaks: a cell grows, and its only
-# pointer is overwritten
+# same state, so that sets must be tried one by one. No failure shows anything
 QUIET_SCRIPT = (
     "proc main\nptr a\nptr b\nint turn\nint failed\n"
     "repeat {0}\nadd turn 1\nalloc a 16\nif null a\nadd failed turn\nend\nfree a\nend\nend\n"
 )
-LEAKING = QUIET_SCRIPT.removesuffix("end\n") + "alloc b 16\nalloc a 16\nif some a\nfree b\nend\nfree a\nend\n"
+# the same with a leak if the last attempt alone fails
+LEAKING = QUIET_SCRIPT.removesuffix("end\n") + "if eq failed 0\nalloc b 16\nalloc a 16\nif some a\nfree b\nend\nfree a\nend\nend\n"
 # a script that no other heap serves from one attempt to the next: a cell grows at its place
 GROWING = "proc main\nptr a\nint n\nalloc a 16\nset n 16\nrepeat {0}\nadd n 16\nrealloc a a n\nend\nfree a\nend\n"
 # a script of which only the runs take long in which attempt 4 or 5 fails: each copies a long text so many times
@@ -106,7 +102,8 @@ SLOW_FAILURES = (
 
 KINDS = [
     Kind(["sweep"], LEAKING, 100, 2, "attempt"),
-    Kind(["check", "--every"], QUIET_SCRIPT, 100, 2, "rate", after=2.5),
+    # it finds a leak, and so searches no further
+    Kind(["check", "--every"], LEAKING, 100, 2, "rate"),
     Kind(["sweep", "--pairs", "--json"], QUIET_SCRIPT, 20, 3, "set", most=2),
     Kind(["lengths"], GROWING, 200, 2, "heap"),
     Kind(["sweep", "--failures", "3"], QUIET_SCRIPT, 10, 4, "set", most=3),
@@ -202,8 +199,8 @@ def look_at(program: Path, kind: Kind) -> Trials:
     while True:
         script, begun = kind.script(attempts), time.monotonic()
         ran = kind.run(program, script)
-        if (seconds := time.monotonic() - begun) < kind.least:
-            attempts = longer(attempts, seconds, kind.least, kind.power)
+        if (seconds := time.monotonic() - begun) < LEAST:
+            attempts = longer(attempts, seconds, LEAST, kind.power)
             continue
         with ThreadPoolExecutor() as beside:
             lost = beside.submit(losing_terminal, program, kind, script)
@@ -230,8 +227,8 @@ def look_at_quiet(program: Path) -> Trials:
     """A long sweep that is to show no progress: a terminal shows nothing but the report."""
     checks, attempts = Trials(program), KINDS[0].attempts
     kind = KINDS[0]._replace(words=[*KINDS[0].words, "--quiet"])
-    while (shown := show(program, kind, kind.script(attempts))).seconds < kind.least:
-        attempts = longer(attempts, shown.seconds, kind.least, kind.power)
+    while (shown := show(program, kind, kind.script(attempts))).seconds < LEAST:
+        attempts = longer(attempts, shown.seconds, LEAST, kind.power)
     ran = kind.run(program, kind.script(attempts))
     checks.look("quiet: nothing but the report", shown.bytes() == (ran.output + ran.messages).replace(b"\n", b"\r\n"), shown)
     return checks
@@ -261,8 +258,8 @@ def look_at_slow_failures(program: Path) -> Trials:
     named, since the one before it begins too early."""
     checks, turns = Trials(program), SLOW.attempts
     # half of it is the last run
-    while (shown := show(program, SLOW, SLOW.script(turns))).seconds < 2 * (QUIET + LONGER):
-        turns = longer(turns, shown.seconds, 2 * (QUIET + LONGER), SLOW.power)
+    while (shown := show(program, SLOW, SLOW.script(turns))).seconds < 2 * LEAST:
+        turns = longer(turns, shown.seconds, 2 * LEAST, SLOW.power)
     named = [(it["at"], it["of"]) for it in LINE.finditer(shown.bytes().decode("ascii"))]
     checks.look("a failure is named before its run", named == [("5", "5")], named)
     return checks
@@ -289,9 +286,10 @@ def look_at_typed_scripts(program: Path) -> Trials:
 
 
 def main(words: list[str]) -> int:
-    """Looks at all kinds side by side, and prints the totals."""
+    """Looks at all kinds, so few side by side that none waits for a processor when its line is due, and prints the totals."""
     program = program_parser(__doc__).parse_args(words).program
-    with ThreadPoolExecutor() as beside:
-        others = [beside.submit(look, program) for look in (look_at_slow_failures, look_at_typed_scripts, look_at_quiet, look_at_minutes)]
-        looked = [*beside.map(lambda kind: look_at(program, kind), KINDS), *(other.result() for other in others)]
+    with ThreadPoolExecutor() as beside, ThreadPoolExecutor(max(1, processors() // 2)) as few:
+        minutes = beside.submit(look_at_minutes, program)
+        others = [few.submit(look, program) for look in (look_at_slow_failures, look_at_typed_scripts, look_at_quiet)]
+        looked = [*few.map(lambda kind: look_at(program, kind), KINDS), *(other.result() for other in others), minutes.result()]
     return summed(looked).end()

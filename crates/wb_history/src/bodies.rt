@@ -88,7 +88,7 @@ impl Bodies {
         body
     }
 
-    /// Whether a line is in a body that undoes: in an operation or a destructor, which a leave may run.
+    /// Whether a line is in the body of an operation or a destructor, which a leave may run.
     pub fn undoes(&self, line: u32) -> bool {
         match self.undoing.get(line as usize) {
             Some(undoes) => *undoes,

@@ -27,8 +27,9 @@ struct Frame<'a> {
 pub struct Stay {
     /// The line that was begun last in the body; 0 if none was.
     pub last: u32,
-    /// How many items there were when it began, and when it ended.
+    /// How many items there were when it began, the most when one of its lines began, and how many when it ended.
     pub began: usize,
+    pub most: usize,
     pub ended: usize,
 }
 
@@ -96,6 +97,7 @@ impl<'a> Calls<'a> {
                 stay: Stay {
                     last: 0,
                     began: 0,
+                    most: 0,
                     ended: 0,
                 },
                 statement: None,
@@ -112,7 +114,9 @@ impl<'a> Calls<'a> {
             if depth > self.depth {
                 frame.since = step;
                 frame.stay.began = items;
+                frame.stay.most = items;
             }
+            frame.stay.most = frame.stay.most.max(items);
         }
         for above in depth.saturating_add(1)..=self.depth {
             if let Some(frame) = self.frames.get_mut(above as usize) {
@@ -175,6 +179,18 @@ impl<'a> Calls<'a> {
             Some(Statement::ReturnPointer(_)) => None,
             _ if has_left && self.depth < depth => Some(frame.stay),
             _ => None,
+        }
+    }
+
+    /// Returns what the body that ran last at this depth left, if it began after this step and ended with as many items as it began with;
+    /// `None` if it did not.
+    pub fn left_none_at(&self, depth: u32, step: u32) -> Option<Stay> {
+        let frame = self.frames.get(depth as usize)?;
+        let stay = frame.stay;
+        if stay.began == stay.ended && step < frame.since && self.depth < depth {
+            Some(stay)
+        } else {
+            None
         }
     }
 

@@ -32,12 +32,12 @@ impl ItemOnStack {
     }
 }
 
-/// An item that a line took off, though another body had pushed it.
+/// An item that a line took off, though another body had pushed it, or had been called since then.
 #[derive(Clone, Copy, Debug, PartialEq, Eq)]
 pub struct Taken {
     pub line: u32,
     pub pushed: u32,
-    /// The body that took off an item of its caller; or the one that had left the item to its caller.
+    /// The body that took off an item of its caller; or the one that had left the item to its caller; or the one that was called in between.
     pub body: Stay,
 }
 
@@ -48,6 +48,8 @@ pub struct Items {
     /// The item of a calling body that was taken off last, and the last one that a body had left which had ended; `None` if there is none.
     pub of_caller: Option<Taken>,
     pub of_callee: Option<Taken>,
+    /// The last item that was taken off by the body that had pushed it, after a body that it called had left none; `None` if there is none.
+    pub after_callee: Option<Taken>,
 }
 
 impl Items {
@@ -57,6 +59,7 @@ impl Items {
             items: Vec::new(alloc),
             of_caller: None,
             of_callee: None,
+            after_callee: None,
         }
     }
 

@@ -9,6 +9,7 @@
 //! - `Traps`: the TRAPs that are open, with their lines; and each leave, with the TRAP that caught it;
 //! - `Marks`: the heap marks that are open, with their lines and the leaves that went past their ends;
 //! - `Views`: which cell's text each view shows;
+//! - `Writes`: for each line that writes a pointer, what it wrote last;
 //! - `Calls`: which bodies run, and the call paths to pushed items, to leaves and to the run's end;
 //! - `Course`: if a picture is wanted, each part of each cell's life, and a few numbers over time.
 //!
@@ -48,6 +49,7 @@ mod turns;
 mod values;
 mod views;
 mod watch;
+mod writes;
 
 pub use attempts::{AttemptMade, Attempts, FailedCounts, Keep};
 pub use bodies::{Bodies, BodyKind, BodyOfScript};
@@ -70,3 +72,4 @@ pub use turns::History;
 pub use values::{Meant, Values};
 pub use views::Views;
 pub use watch::{EndOfRun, Until, WatchedRun, machine_of, watch_attempts, watch_run};
+pub use writes::{PointerWrite, Writes};

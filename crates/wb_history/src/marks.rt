@@ -7,7 +7,7 @@ use std::alloc::{AllocError, Global};
 pub struct OpenMark {
     pub line: u32,
     /// The step in which it was opened.
-    since: u32,
+    pub since: u32,
     /// The line of the leave that ended the code after it, which would have closed it; 0 if none did.
     pub skipped_by: u32,
 }

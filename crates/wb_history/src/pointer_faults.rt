@@ -3,7 +3,9 @@
 use crate::lives::{Life, Lives};
 use crate::looks::is_live;
 use crate::operands::{CellName, MOST_OPERANDS, Operand, operand_at};
+use crate::statements::{Variable, written_by};
 use crate::turns::History;
+use crate::writes::PointerWrite;
 use wb_heap_model::heap::{Panic, Ptr};
 use wb_machine::{Machine, Raised, Raiser};
 use wb_tree::script::{Holder, Pointer, Readable};
@@ -26,6 +28,8 @@ pub struct PointerFault {
     pub pointer: Option<Pointer>,
     /// Whether the word names a field, and the pointer is the one to the object of that field.
     pub is_owner: bool,
+    /// What gave the pointer its value; `None` if that isn't known.
+    pub write: Option<PointerWrite>,
 }
 
 /// Returns the pointer that is at fault in the panic that ended a run; `None` if the panic is about no pointer.
@@ -69,7 +73,36 @@ fn fault_of(
         state: state_of(machine, &history.lives, names)?,
         pointer,
         is_owner: raised.raiser == Raiser::Holder,
+        write: write_of(machine, history, pointer),
     })
+}
+
+/// What gave a pointer its value, if that was in the running body, or if the pointer is a field; `None` if that isn't known.
+fn write_of(
+    machine: &Machine<'_>,
+    history: &History<'_>,
+    pointer: Option<Pointer>,
+) -> Option<PointerWrite> {
+    let Variable {
+        owner,
+        index,
+        names,
+    } = written_by(machine, pointer)?;
+    let depth = machine.depth();
+    let write = history.writes.newest_of(&PointerWrite {
+        owner,
+        index,
+        depth,
+        line: 0,
+        step: 0,
+        names,
+    })?;
+    let is_of_body = owner.number != 0 || history.calls.last_line_of(depth, write.step) != 0;
+    if write.names == names && is_of_body {
+        Some(write)
+    } else {
+        None
+    }
 }
 
 /// The pointer to the object of a field; `None` if the pointer is no field.

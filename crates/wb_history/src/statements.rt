@@ -10,7 +10,7 @@ pub const NULL: Ptr = Ptr {
     number: 0,
 };
 
-/// The pointer that a statement writes, as it is before the statement.
+/// A pointer that a statement may write, as it is before the statement.
 #[derive(Clone, Copy)]
 pub struct Variable {
     /// The object whose field the pointer is; null if the pointer is a local.
@@ -87,9 +87,9 @@ impl<'a> Ahead<'a> {
     }
 }
 
-/// The pointer that a statement writes, if any, and what it names.
+/// The pointer that a statement writes, if any, and what it names; `None` for `self`, which no statement writes.
 #[inline(always)]
-fn written_by(machine: &Machine<'_>, target: Option<Pointer>) -> Option<Variable> {
+pub(crate) fn written_by(machine: &Machine<'_>, target: Option<Pointer>) -> Option<Variable> {
     let target = target?;
     let (owner, index) = match target {
         Pointer::Held(Holder::Local(index)) => (NULL, index),

@@ -16,6 +16,7 @@ use crate::moments::Moment;
 use crate::statements::{Ahead, NULL};
 use crate::traps::Traps;
 use crate::views::Views;
+use crate::writes::Writes;
 use std::alloc::{AllocError, Global};
 use wb_heap_model::heap::{Item, Ptr, Rule};
 use wb_machine::Machine;
@@ -49,6 +50,7 @@ pub struct History<'a> {
     pub traps: Traps,
     pub marks: Marks,
     pub views: Views,
+    pub writes: Writes,
     pub calls: Calls<'a>,
     pub bodies: Bodies,
     pub course: Course,
@@ -80,6 +82,7 @@ impl Drop for History<'_> {
             traps: _,
             marks: _,
             views: _,
+            writes: _,
             calls: _,
             bodies: _,
             course: _,
@@ -112,6 +115,7 @@ impl<'a> History<'a> {
             traps: Traps::new(alloc),
             marks: Marks::new(alloc),
             views: Views::new(alloc),
+            writes: Writes::new(alloc),
             calls: Calls::new(alloc)?,
             bodies: Bodies::of(alloc, script)?,
             course: Course::new(alloc, keep == Keep::Drawn),

@@ -116,7 +116,7 @@ fn explain_all(
     }
     let numbers = numbers_to_explain(&command.task, findings);
     if let Some(plain) = plain_run(answer, runs) {
-        return explain_plain(alloc, findings, numbers, &plain.history, lines);
+        return explain_plain(alloc, answer, numbers, &plain.history, lines);
     }
     let Some((failures, ends)) = numbers else {
         return Ok(Explanation::new(alloc));
@@ -129,17 +129,23 @@ fn explain_all(
     }
 }
 
-/// The text on what shorter heaps refuse first, on what fills the heap, and on what all numbers show, by the run without failure.
+/// The text on what shorter heaps refuse first and on what fills the heap, unless the command is to be brief, and on what all numbers show, by
+/// the run without failure.
 fn explain_plain(
     alloc: Global,
-    findings: &Findings,
+    answer: Answer<'_>,
     numbers: Option<(Failures, &[NumberEnd])>,
     history: &History<'_>,
     lines: &ScriptLines<'_>,
 ) -> Result<Explanation, NoMemory> {
-    let mut found = match &findings.rises {
-        Some(rises) => lengths_found(alloc, lines, history, rises.as_slice())?,
-        None => Explanation::new(alloc),
+    let mut found = match &answer.findings.rises {
+        Some(rises) if !answer.command.brief => lengths_found(
+            alloc,
+            lines,
+            history,
+            rises.as_slice(),
+        )?,
+        _ => Explanation::new(alloc),
     };
     if let Some((failures, ends)) = numbers {
         let text = numbers_found(alloc, lines, &history.attempts, failures, ends)?;

@@ -43,7 +43,7 @@ pub enum Verdict {
     Fine,
     /// The question is open: the answer would take too many steps or states, a run was cut, or memory ran out.
     Undecided,
-    /// The first attempt of the least failure that persists whose run leaks or panics, and how that run ends.
+    /// The least attempt for which the run leaks or panics if it and all later ones fail, and how that run ends.
     From(u32, RunEnd),
     /// The table of all lengths, some of whose runs leak or panic, and the least length of such a run, in bytes.
     Length(LengthTable, u32),

@@ -127,6 +127,17 @@ fn explain_operand(page: &mut Page, lines: &[Line], index: usize, line: &Line, p
         let operand_place = operand_place_of(line, place).unwrap_or(OperandPlace::Argument);
         explain_name(page, lines, index, operand_place, line.spot(place));
         help_with_operand(page, line, operand_place);
+        help_with_pop(page, lines, index, line);
+    }
+}
+
+/// Says how the item of a pointer is popped, if a line pops a pointer in place of a number.
+fn help_with_pop(page: &mut Page, lines: &[Line], index: usize, line: &Line) {
+    let pops = matches!(line.line_kind(), Some(LineKind::Pop | LineKind::PopDestroy));
+    if pops && is_pointer_kind(operand_kind_in_body(lines, index, line.text_at(1))) {
+        page.write_help_text(
+            "`popcheck POINTER` pops the newest item, which must be that pointer's",
+        );
     }
 }
 

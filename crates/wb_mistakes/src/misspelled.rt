@@ -14,12 +14,13 @@ use crate::meant::{
     OtherText, explain_other_text, help_with_member, help_with_missing, help_with_sum, other_text,
 };
 use crate::nearest::{Candidate, Search};
+use crate::spaces::find_item;
 use crate::words::{has_byte, is_field};
 use crate::wrong_words::{complaint_of, expectation_of, hint_at_end};
 use wb_lines::forms::{begins_comment, operand_of};
 use wb_lines::line_kinds::{line_kinds, operand_places_of, text_of};
 use wb_pages::{Page, Shown, Span, Spot, Word};
-use wb_tree::script_lines::{LineKind, OperandPlace};
+use wb_tree::script_lines::{ItemKind, LineKind, OperandPlace};
 
 /// The part of a line from a word to the end of the line.
 fn spot_from<'a>(line: &Line<'a>, word: Word<'a>) -> Spot<'a> {
@@ -83,11 +84,28 @@ fn help_with_statement(page: &mut Page, line: &Line) {
     }
 }
 
-fn explain_statement(page: &mut Page, line: &Line) {
+/// Says how a procedure is called, if a line begins with the name of one. Returns whether it does.
+fn help_with_call(page: &mut Page, lines: &[Line], line: &Line) -> bool {
+    match find_item(lines, line.text_at(0)) {
+        Some(item) if matches!(item.kind, ItemKind::Procedure) => {
+            page.begin_help();
+            page.write(format_args!("`{}` is a procedure: ", line.shown_word(0)));
+            write_forms(page, b"call");
+            page.end_line();
+            true
+        }
+        _ => false,
+    }
+}
+
+fn explain_statement(page: &mut Page, lines: &[Line], line: &Line) {
     page.mark(
         line.spot(0),
         format_args!("no such statement: `{}`", line.shown_word(0)),
     );
+    if help_with_call(page, lines, line) {
+        return;
+    }
     let name = name_in(line.text_at(0));
     help_with_member(page, line.text_at(0));
     if help_with_sum(page, line) {
@@ -271,7 +289,7 @@ pub fn explain_misspelled(page: &mut Page, lines: &[Line], index: usize, line: &
         return;
     }
     if !begins_statement(line.text_at(0)) {
-        explain_statement(page, line);
+        explain_statement(page, lines, line);
     } else if let Some((found, line_kind, operand_place)) = text_meant(line) {
         explain_other_text(page, found);
         help_with_place(page, line_kind, operand_place);

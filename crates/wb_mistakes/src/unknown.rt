@@ -17,6 +17,9 @@ use wb_tree::script_lines::{ItemKind, LineKind, OperandPlace, ParameterType};
 /// The help for a name that can't be declared.
 const RESERVED: &str = "the name is reserved and can't be declared";
 
+/// Words that other languages, or declarations of locals, have for texts.
+const TEXTS: [&[u8]; 5] = [b"text", b"string", b"des", b"buf", b"view"];
+
 /// Where a name was looked for.
 #[derive(Clone, Copy)]
 enum Space {
@@ -270,6 +273,9 @@ fn returns_code(line: &Line, name: &[u8]) -> bool {
 fn help_with_declaration(page: &mut Page, found: Unknown) {
     match found.space {
         Space::Locals => page.write_help_text(help_of_local(found.name)),
+        Space::Items(ItemKind::Class) if TEXTS.contains(&found.name) => page.write_help_text(
+            "a pointer to a text has no class: write `NAME:ptr` for a parameter, and `ptr NAME` for a local",
+        ),
         Space::Items(ItemKind::Class) if is_reserved(found.name) => page.write_help_text(
             "no class can have this name; `ptr NAME` and `field NAME` declare pointers without a class",
         ),

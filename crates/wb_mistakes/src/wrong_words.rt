@@ -55,7 +55,13 @@ fn takes_number(operand_place: OperandPlace) -> bool {
 }
 
 fn numeral_complaint(operand_place: OperandPlace, word: &[u8]) -> Complaint {
-    if !takes_number(operand_place) {
+    let is_pointer = matches!(operand_place, OperandPlace::Pointer);
+    if is_pointer && word == b"0".as_slice() {
+        (
+            "a number is not allowed here",
+            "`null POINTER` makes a pointer null",
+        )
+    } else if !takes_number(operand_place) {
         ("a number is not allowed here", "")
     } else if digits(word).len() > 9 {
         ("the number is too long", "a number has one to nine digits")

@@ -3,6 +3,9 @@
 ghost use Rattle.std.specs.Prelude.{IsTrue};
 ghost use Rattle.wb_command_line.specs.Command.{is_answerable};
 
+mod failing_once;
+
+use crate::answers::failing_once::FailingOnce;
 use crate::failing::SHAPE;
 use std::alloc::Global;
 use std::io::{self, ErrorKind, Read, Write};
@@ -79,63 +82,6 @@ impl Write for Taker {
         self.taken.extend_from_slice(&bytes[..count])?;
         self.room -= count;
         Ok(count)
-    }
-
-    fn flush(&mut self) -> io::Result<()> {
-        Ok(())
-    }
-}
-
-/// A stream of which one call fails, while those before and after it work. Calls are counted from 0. The call fails with an error of the
-/// kind `with`, or, if that is `None`, by taking no byte.
-#[derive(Drop)]
-struct FailingOnce<S> {
-    stream: S,
-    at: usize,
-    with: Option<ErrorKind>,
-    calls: usize,
-}
-
-impl<S> FailingOnce<S> {
-    fn new(stream: S, at: usize, with: Option<ErrorKind>) -> FailingOnce<S> {
-        FailingOnce {
-            stream,
-            at,
-            with,
-            calls: 0,
-        }
-    }
-
-    /// What the next call returns if it is the one that fails, or `None`.
-    fn failure(&mut self) -> Option<io::Result<usize>> {
-        let call = self.calls;
-        self.calls = call.wrapping_add(1);
-        if call != self.at {
-            return None;
-        }
-        Some(match self.with {
-            Some(kind) => Err(io::Error::from(kind)),
-            None => Ok(0),
-        })
-    }
-}
-
-impl Read for FailingOnce<Giver<'_>> {
-    fn read(&mut self, buffer: &mut [u8]) -> io::Result<usize> {
-        if let Some(Err(error)) = self.failure() {
-            return Err(error);
-        }
-        self.stream.read(buffer)
-    }
-}
-
-impl Write for FailingOnce<Taker> {
-    fn write(&mut self, bytes: &[u8]) -> io::Result<usize> {
-        match self.failure() {
-            Some(Err(error)) => Err(error),
-            Some(Ok(_)) => Ok(0),
-            None => self.stream.write(bytes),
-        }
     }
 
     fn flush(&mut self) -> io::Result<()> {

@@ -18,7 +18,7 @@ pub fn put_caught(page: &mut ScriptPage<'_>, leave: Leave) -> Written {
 
 /// The leave that came of the last attempt that failed, or the last leave where none failed, if a TRAP caught it and the run went on without a look at
 /// its code. If `main` was left in the end, some line looked at it.
-pub fn overlooked(page: &ScriptPage<'_>, run: &WatchedRun<'_>) -> Option<Leave> {
+pub fn overlooked_leave(page: &ScriptPage<'_>, run: &WatchedRun<'_>) -> Option<Leave> {
     let mut failed = 0;
     for made in run.history.attempts.kept_attempts() {
         if !made.is_granted() {
@@ -52,6 +52,12 @@ fn looks_at(page: &ScriptPage<'_>, line: u32, name: &str) -> bool {
 pub fn put_look(page: &mut ScriptPage<'_>, leave: Leave) {
     if let Some(trap) = leave.caught {
         let (line, at, name) = (leave.at.line, trap.line, page.word(trap.line, 1));
+        let after = leave.after;
+        if page.word(after, 0) == "trap" && page.word(after, 1) == name {
+            return page.page.write_help(format_args!(
+                "line {line} left, to the TRAP of line {at}, and the `trap` of line {after} gave `{name}` another value before a line looked at it: look at `{name}` before that, or let that `trap` set another int"
+            ));
+        }
         page.page.write_help(format_args!(
             "line {line} left, to the TRAP of line {at}, and the run went on: look at `{name}` after the `end` of that `trap`, which sets it, for example with `leaveiferror {name}`"
         ));

@@ -2,7 +2,7 @@
 
 use crate::runs::attempts::put_refused;
 use crate::runs::blame::{class_of, line_of};
-use crate::runs::caught::{overlooked, put_caught, put_look};
+use crate::runs::caught::{overlooked_leave, put_caught, put_look};
 use crate::runs::cuts::put_cut;
 use crate::runs::destroyed::{OF_OBJECT, of_item};
 use crate::runs::end_words::{CodeName, PanicName};
@@ -10,17 +10,17 @@ use crate::runs::explanation::{FindingKind, Told};
 use crate::runs::heap_checks::{meaning_of_check, put_counted, put_counts};
 use crate::runs::item_gone::{cure_of_gone, has_two_items, put_item_gone, put_user};
 use crate::runs::items_left::{
-    OF_MAIN, POP_FIRST, cure_of_another, cure_of_below, put_another, put_items, put_items_left,
-    put_too_many,
+    OF_MAIN, POP_FIRST, cure_of_another, cure_of_below, cure_of_left, put_another, put_items,
+    put_items_left, put_too_many,
 };
+use crate::runs::kept::{Kept, kept_value, put_cure_of_kept, put_kept};
 use crate::runs::leaks::put_leaks;
 use crate::runs::panics::{Meaning, meaning_of, symbian_of};
 use crate::runs::paths::{put_path, put_traps};
 use crate::runs::pointers::{cure_of, is_left_null, is_out_of_order, put_fault};
-use crate::runs::room::{cure_of_room, put_room};
+use crate::runs::room::{cure_of_room, cure_of_words, put_room};
 use crate::runs::script_page::{ScriptPage, Written};
 use crate::runs::sentences::put_values;
-use crate::runs::taken::LEFT_TO_CALLER;
 use crate::runs::told::put_life;
 use wb_heap_model::heap::{Panic, Rule};
 use wb_history::{Ended, Life, Meant, PointerState, Values, WatchedRun};
@@ -102,8 +102,7 @@ fn put_panic(page: &mut ScriptPage<'_>, raised: Raised, run: &WatchedRun<'_>) ->
     put_way(page, line, raised, run)?;
     put_path(page, &run.history.bodies, run.end.path.as_slice());
     put_traps(page, run.history.traps.open_traps());
-    put_remarks(page, line, raised, run);
-    Ok(())
+    put_remarks(page, line, raised, run)
 }
 
 /// In which order the lines that led to a panic are told. The cells that a check counted come by their places.
@@ -173,6 +172,8 @@ fn put_way(page: &mut ScriptPage<'_>, line: u32, raised: Raised, run: &WatchedRu
     {
         put_room(page, maximum, run)?;
     }
+    let kept = kept_value(page, line, run)?;
+    put_kept(page, kept, run)?;
     put_items(page, raised, run)?;
     match &run.end.counted {
         Some(counted) => put_counted(page, counted, run),
@@ -209,14 +210,17 @@ fn life_of(raised: Raised, run: &WatchedRun<'_>) -> Option<Life> {
 }
 
 /// What to do about a panic; empty if there is no more to say.
-fn help_of(line: u32, raised: Raised, run: &WatchedRun<'_>) -> &'static str {
+fn help_of(page: &ScriptPage<'_>, line: u32, raised: Raised, run: &WatchedRun<'_>) -> &'static str {
     match run.end.pointer {
-        Some(fault) => cure_of(run, line, fault),
-        None if raised.panic == Panic::POP_BELOW_TRAP => cure_of_below(run),
+        Some(fault) => cure_of(page, run, line, fault),
+        None if raised.panic == Panic::POP_BELOW_TRAP => cure_of_below(page, run),
         None if raised.panic == Panic::ANOTHER_ITEM_ON_TOP => cure_of_another(run),
         None if raised.panic == Panic::TOO_LONG => cure_of_room(run),
-        None if raised.panic == Panic::ITEMS_LEFT && run.history.items.of_callee.is_some() => {
-            LEFT_TO_CALLER
+        None if raised.panic == Panic::ITEMS_LEFT => {
+            cure_of_left(raised, run).unwrap_or(meaning(raised, run).1)
+        }
+        None if raised.panic == Panic::NUMBER_OUT_OF_RANGE => {
+            cure_of_words(run).unwrap_or(meaning(raised, run).1)
         }
         None => meaning(raised, run).1,
     }
@@ -267,21 +271,29 @@ fn symbian_note(raised: Raised, run: &WatchedRun<'_>) -> &'static str {
 }
 
 /// Writes where Symbian raises the panic, and what to look for: at the code of a leave, if the panic may come of one that was overlooked.
-fn put_remarks(page: &mut ScriptPage<'_>, line: u32, raised: Raised, run: &WatchedRun<'_>) {
-    let (note, help) = (symbian_note(raised, run), help_of(line, raised, run));
+fn put_remarks(
+    page: &mut ScriptPage<'_>,
+    line: u32,
+    raised: Raised,
+    run: &WatchedRun<'_>,
+) -> Written {
+    let (note, help) = (symbian_note(raised, run), help_of(page, line, raised, run));
     if !note.is_empty() {
         page.page.write_note_text(note);
     }
     let look = if may_come_of_leave(line, run) {
-        overlooked(page, run)
+        overlooked_leave(page, run)
     } else {
         None
     };
-    match look {
-        Some(leave) => put_look(page, leave),
-        None if help.is_empty() => {}
-        None => page.page.write_help_text(help),
+    match (look, kept_value(page, line, run)?) {
+        (_, Some(kept @ Kept::ByOperation(_))) => put_cure_of_kept(page, kept, run),
+        (Some(leave), _) => put_look(page, leave),
+        (None, Some(kept)) => put_cure_of_kept(page, kept, run),
+        (None, None) if help.is_empty() => {}
+        (None, None) => page.page.write_help_text(help),
     }
+    Ok(())
 }
 
 /// Whether a panic may come of lines that a leave skipped, by what they would have made or would have made longer.

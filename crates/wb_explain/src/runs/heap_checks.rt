@@ -13,16 +13,45 @@ use wb_tree::script::Statement;
 /// The most cells and attempts that are told of.
 const MOST_ROWS: usize = 20;
 
+/// Up to how many counted cells also the pointers are named that got them last.
+const MOST_HELD: usize = 3;
+
 /// What it means that a heap check found another number of cells than it expected, and what to look for.
 pub fn meaning_of_check(counted: &Counted, run: &WatchedRun<'_>) -> Meaning {
     let help = if mark_left(counted, run).is_some() {
         "a leave closes no mark: put `mark` and `markend` around the TRAP, where no leave comes between them"
     } else if i64::from(counted.found) > i64::from(counted.expected) {
-        "free each cell that isn't meant to stay before the check"
+        cure_of_more(counted, run)
+    } else if was_refused(counted, run) {
+        "a cell that it was to count was refused: expect as many as were granted, or let the line that makes the cell leave"
     } else {
         "look for a cell that was refused, freed too early, or made before the mark"
     };
     ("", help)
+}
+
+/// What to do about more cells than a check expects.
+fn cure_of_more(counted: &Counted, run: &WatchedRun<'_>) -> &'static str {
+    let lowest = counted.lowest().and_then(|it| run.history.lives.find(it));
+    match lowest.and_then(|it| it.held) {
+        Some(held) if held.is_field() => {
+            "free each cell that isn't meant to stay before the check; make one that is before the mark, or count it"
+        }
+        _ => "free each cell that isn't meant to stay before the check",
+    }
+}
+
+/// Whether a line that gives null met a failed attempt after the mark from which a check counts.
+fn was_refused(counted: &Counted, run: &WatchedRun<'_>) -> bool {
+    let is_of_all = matches!(run.end.statement, Some(Statement::CheckAll(_)));
+    let since = match run.history.marks.newest() {
+        Some(mark) if !is_of_all => mark.since,
+        _ => 0,
+    };
+    counted.found as usize == counted.cells.len()
+        && run.history.attempts.kept_attempts().iter().any(|it| since < it.step
+            && !it.is_granted()
+            && it.maker.gives_null())
 }
 
 /// Says how many cells a check expected, and how many it found.
@@ -73,6 +102,18 @@ pub fn put_counted(page: &mut ScriptPage<'_>, counted: &Counted, run: &WatchedRu
             1,
             format_args!("counted: a cell that was {made} here: {length} bytes at place {place}"),
         )?;
+        if counted.cells.len() <= MOST_HELD
+            && let Some(held) = life.held
+            && held.line != at
+            && held.line != life.made
+        {
+            let name = page.word(held.line.number(), 1);
+            page.mark_new(
+                held.line.number(),
+                1,
+                format_args!("`{name}` got that cell last, here"),
+            )?;
+        }
     }
     let more = (counted.found as usize).saturating_sub(MOST_ROWS);
     if more > 0 {

@@ -2,6 +2,7 @@
 //! on top.
 
 use crate::runs::counts::{Many, of_one_or_more};
+use crate::runs::items_off::{cure_of_off, put_item_off};
 use crate::runs::panics::Meaning;
 use crate::runs::paths::{AfterLine, body_name};
 use crate::runs::script_page::{ScriptPage, Written};
@@ -80,17 +81,18 @@ pub fn put_items(page: &mut ScriptPage<'_>, raised: Raised, run: &WatchedRun<'_>
         Panic::ANOTHER_ITEM_ON_TOP => put_top(page, run),
         Panic::POP_BELOW_TRAP => {
             put_newest(page, run)?;
-            put_of_caller(page, run.history.items.of_caller, run)
+            put_of_caller(page, run.history.items.of_caller, run)?;
+            put_item_off(page, run)
         }
         _ => Ok(()),
     }
 }
 
 /// What to do about more items to be popped than the innermost TRAP has.
-pub fn cure_of_below(run: &WatchedRun<'_>) -> &'static str {
+pub fn cure_of_below(page: &ScriptPage<'_>, run: &WatchedRun<'_>) -> &'static str {
     match (items_below(run), run.history.items.of_caller) {
         (_, Some(_)) => TAKEN_FROM_CALLER,
-        (0, None) => "each item that is popped was pushed before: pop as many as there are",
+        (0, None) => cure_of_off(page, run),
         _ => "items of an outer TRAP are popped outside the inner one",
     }
 }
@@ -219,6 +221,9 @@ pub fn cure_of_another(run: &WatchedRun<'_>) -> &'static str {
         return LEFT_TO_CALLER;
     }
     match (item_meant(run), run.history.lives.find(run.end.names)) {
+        (Some(_), _) if is_newest_of_failure(run) => {
+            "the newest item was pushed on the way that a failed attempt led to: pop it on that way, too"
+        }
         (Some(_), _) => "items come off in the reverse of the order in which they were pushed",
         (None, Some(life)) if life.popped.is_some() => {
             "each item is popped once: check the pointer whose item is the newest"
@@ -231,6 +236,35 @@ pub fn cure_of_another(run: &WatchedRun<'_>) -> &'static str {
         }
         (None, None) => "check the pointer whose item is the newest: this one has no item",
     }
+}
+
+/// Whether the newest item was pushed after an attempt of the same body had failed, by which a line gave null.
+fn is_newest_of_failure(run: &WatchedRun<'_>) -> bool {
+    let Some(newest) = run.history.items.newest() else {
+        return false;
+    };
+    let (bodies, pushed) = (&run.history.bodies, newest.pushed);
+    let body = bodies.body_of(pushed.line);
+    run.history.attempts.kept_attempts().iter().any(|it| it.step < pushed.step
+        && !it.is_granted()
+        && it.maker.gives_null()
+        && bodies.body_of(it.maker.line) == body)
+}
+
+/// What to do about items that are left when a TRAP or `main` ends, where that is known of the newest: the body that pushed it had left it to
+/// its caller, and that ended too. `None` if nothing is known.
+pub fn cure_of_left(raised: Raised, run: &WatchedRun<'_>) -> Option<&'static str> {
+    if run.history.items.of_callee.is_some() {
+        return Some(LEFT_TO_CALLER);
+    }
+    let newest = items_left(raised, run).last()?;
+    let ended_in = u32::try_from(run.end.path.len()).unwrap_or(u32::MAX);
+    if newest.depth < ended_in.saturating_add(2) {
+        return None;
+    }
+    Some(
+        "pop what a called body left, with `pop` or `popdestroy`, before each end of the body that called it, before a `return` too",
+    )
 }
 
 /// Tells where the newest item was pushed, if there is one.

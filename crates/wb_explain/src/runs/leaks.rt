@@ -1,6 +1,7 @@
 //! What is said of each leak: which line made the cell, how it was lost, and what to do.
 
-use crate::runs::caught::{overlooked, put_look};
+use crate::runs::caught::{overlooked_leave, put_look};
+use crate::runs::dropped::{dropped_result, put_dropped};
 use crate::runs::explanation::{FindingKind, Told};
 use crate::runs::paths::{AfterLine, before_name, put_path};
 use crate::runs::pointers::cure_of_failed;
@@ -30,8 +31,8 @@ enum Loss {
     StillNamed,
 }
 
-/// Says of each leak, up to the most that are listed, which line made the cell. How the cell was lost is said only of the first cell that
-/// the same line made, wherever it is.
+/// Says of each leak, up to the most that are listed, which line made the cell. Of cells made by one line, only the first says how it was
+/// lost.
 pub fn put_leaks(page: &mut ScriptPage<'_>, leaks: &[Leak], run: &WatchedRun<'_>) -> Written {
     let (listed, _) = leaks.split_at_checked(MOST_LEAKS).unwrap_or((leaks, &[]));
     for leak in listed {
@@ -158,7 +159,7 @@ fn put_cure(page: &mut ScriptPage<'_>, loss: Loss, life: Life, run: &WatchedRun<
         None => "",
     };
     match loss {
-        Loss::Overwritten(line) => put_overwritten(page, line, name, run),
+        Loss::Overwritten(line) => put_overwritten(page, line, name, life.kind, run),
         Loss::OwnerGone(_, ended) if ended.end != End::Deleted => {
             let (line, cure) = (ended.at.number(), instead_of_plain(ended.by));
             page.page.write_help(format_args!(
@@ -189,10 +190,15 @@ fn put_cure(page: &mut ScriptPage<'_>, loss: Loss, life: Life, run: &WatchedRun<
 /// Says what to do about a cell that a pointer still names at the end. The lines that a leave skipped may be those that were to free it.
 fn put_still_named(page: &mut ScriptPage<'_>, life: Life, run: &WatchedRun<'_>) {
     let since = life.held.map_or(u32::MAX, |held| held.since);
-    let leave = match overlooked(page, run) {
+    let leave = match overlooked_leave(page, run) {
         Some(leave) if since <= leave.at.step => Some(leave),
         _ => None,
     };
+    if leave.is_none()
+        && let Some(dropped) = dropped_result(page, run)
+    {
+        return put_dropped(page, dropped);
+    }
     page.page.begin_help();
     if leave.is_none() {
         put_in_place_of_pop(page, life);
@@ -227,12 +233,29 @@ fn instead_of_plain(by: By) -> &'static str {
 }
 
 /// Says which line overwrote the pointer of a cell; if an attempt to reallocate failed at that line, says what to do about that instead.
-fn put_overwritten(page: &mut ScriptPage<'_>, line: u32, name: &str, run: &WatchedRun<'_>) {
+fn put_overwritten(
+    page: &mut ScriptPage<'_>,
+    line: u32,
+    name: &str,
+    kind: Kind,
+    run: &WatchedRun<'_>,
+) {
     match cure_of_failed(run, line) {
         Some(cure) => page.page.write_help_text(cure),
-        None => page.page.write_help(format_args!(
-            "line {line} gave `{name}` another value: free the cell before that"
-        )),
+        None => {
+            let release = release_of(kind);
+            page.page.write_help(format_args!(
+                "line {line} gave `{name}` another value: {release} before that"
+            ))
+        }
+    }
+}
+
+/// How a cell of this kind is released.
+fn release_of(kind: Kind) -> &'static str {
+    match kind {
+        Kind::Object(_) => "`delete` the object",
+        _ => "free the cell",
     }
 }
 
@@ -244,10 +267,7 @@ fn put_out_of_scope(
     name: &str,
     run: &WatchedRun<'_>,
 ) {
-    let release = match life.kind {
-        Kind::Object(_) => "`delete` the object",
-        _ => "free the cell",
-    };
+    let release = release_of(life.kind);
     let body = run.history.bodies.body_of(held.line.number());
     let (what, owner) = (before_name(body.kind), page.word(body.line, 1));
     let line = held.caller.number();

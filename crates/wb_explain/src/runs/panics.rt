@@ -106,6 +106,10 @@ fn wrong_kind(statement: &Statement) -> Meaning {
             "the cell is not a plain one but that of a text or an object",
             "texts have statements of their own, such as `hrealloc`; an object's fields are named with a dot",
         ),
+        Statement::PrintText(_) => (
+            "the cell is not that of a text",
+            "`print` takes a pointer only to a text, which `hnew` makes: name the field of an object, and `load` a word of a cell first",
+        ),
         _ => (
             "a cell that the line uses is of another kind, or its object is of another class",
             "the kind of a cell is that of the line that made it: `alloc` makes a plain one, `hnew` a text, `new` an object",

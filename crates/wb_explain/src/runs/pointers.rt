@@ -1,25 +1,15 @@
 //! What is said of the pointer that a panic is about: that it is null, or what became of its cell, and what to do.
 
 use crate::runs::destroyed::of_item_without_cell;
+use crate::runs::kept::name_of;
 use crate::runs::panics::{CHECK_FIRST, CHECK_IN_DESTRUCTOR};
 use crate::runs::script_page::ScriptPage;
-use crate::runs::taken::{TAKEN_FROM_CALLER, taken_with};
+use crate::runs::taken::{LEFT_NONE, TAKEN_FROM_CALLER, destroyed_after_callee, taken_with};
 use wb_history::{
     AttemptMade, BodyKind, By, End, Ended, Life, PointerFault, PointerState, WatchedRun,
     is_same_field, is_same_pointer, target_of,
 };
 use wb_tree::script::Statement;
-
-/// The name of the pointer, as the line has it. If the word is a field and the pointer is the one to the field's object, the part before
-/// the dot.
-fn name_of<'a>(page: &ScriptPage<'a>, line: u32, fault: PointerFault) -> &'a str {
-    let word = page.word(line, fault.word);
-    if fault.is_owner {
-        word.split('.').next().unwrap_or(word)
-    } else {
-        word
-    }
-}
 
 /// Says which pointer names no cell, and why.
 pub fn put_fault(page: &mut ScriptPage<'_>, line: u32, fault: PointerFault) {
@@ -71,23 +61,38 @@ fn put_ender(page: &mut ScriptPage<'_>, line: u32, ended: Ended) {
 }
 
 /// Returns what to do about a pointer that names no cell.
-pub fn cure_of(run: &WatchedRun<'_>, line: u32, fault: PointerFault) -> &'static str {
+pub fn cure_of(
+    page: &ScriptPage<'_>,
+    run: &WatchedRun<'_>,
+    line: u32,
+    fault: PointerFault,
+) -> &'static str {
     match fault.state {
         PointerState::Null => match run.history.bodies.body_of(line).kind {
             BodyKind::Destructor => CHECK_IN_DESTRUCTOR,
             BodyKind::Operation => CHECK_FIRST,
             _ => cure_outside(run, line, fault),
         },
-        PointerState::Gone(_) if fault.pointer.is_none() =>
-            "a view shows its text only while the text's cell is there and keeps its place: make the view again after a line that may move the text",
+        PointerState::Gone(life) if fault.pointer.is_none() => cure_of_view(life),
         PointerState::Gone(life) => match life.and_then(|life| life.ended) {
             Some(ended) if is_out_of_order(run, line, fault, ended) => {
                 "the cleanup stack destroys its newest item first: push what a destructor or an operation uses before the item that uses it"
             }
             Some(ended) if is_in_item(run, line, life) => of_item_without_cell(Some(ended.end)).1,
-            Some(ended) => cure_of_ended(run, line, fault, ended),
+            Some(ended) => cure_of_ended(page, run, line, fault, ended),
             None => "set the pointer to null when its cell is freed",
         },
+    }
+}
+
+/// What to do about a view whose text is gone.
+fn cure_of_view(life: Option<Life>) -> &'static str {
+    match life.and_then(|life| life.ended) {
+        Some(ended) if ended.end != End::Moved => {
+            "a view shows its text only while the text's cell is there: free the text after the last use of the view, or copy what the view shows to a text or a buffer first"
+        }
+        _ =>
+            "a view shows its text only while the text's cell is there and keeps its place: make the view again after a line that may move the text",
     }
 }
 
@@ -137,8 +142,12 @@ fn is_in_item(run: &WatchedRun<'_>, line: u32, life: Option<Life>) -> bool {
     }
 }
 
-/// The last attempt that was to give this pointer a cell, in the same body or as the same field of a class, if that attempt failed.
-fn failed_for<'a>(run: &WatchedRun<'a>, line: u32, fault: PointerFault) -> Option<AttemptMade<'a>> {
+/// Returns the last attempt that was to give this pointer a cell, in the same body or as the same field of a class, if that attempt failed.
+pub fn failed_for<'a>(
+    run: &WatchedRun<'a>,
+    line: u32,
+    fault: PointerFault,
+) -> Option<AttemptMade<'a>> {
     let pointer = fault.pointer?;
     let body = run.history.bodies.body_of(line);
     let mut last = None;
@@ -184,12 +193,48 @@ fn cure_of_null(made: AttemptMade<'_>) -> &'static str {
             "after `hnew` check with `if some`; `hnewl` leaves instead of giving null"
         }
         Some(Statement::ReallocText(..)) => {
-            "if `hrealloc` fails it gives null, and the old cell stays: let another pointer get its answer, and check that with `if some`"
+            "if `hrealloc` fails it gives null, and the old cell stays: let another pointer get its answer, and where that is null leave, or go on with the old text"
         }
         Some(Statement::Realloc(..)) => {
-            "if `realloc` fails it gives null, and the old cell stays: let another pointer get its answer, and check that with `if some`; `reallocl` leaves instead"
+            "if `realloc` fails it gives null, and the old cell stays: let another pointer get its answer, and where that is null leave, or go on with the old cell; `reallocl` leaves instead"
         }
         _ => CHECK_FIRST,
+    }
+}
+
+/// How the life of the object ended whose field got the cell last, if the cleanup stack destroyed that object for a leave; `None` if it
+/// didn't.
+fn left_owner(run: &WatchedRun<'_>, fault: PointerFault) -> Option<Ended> {
+    match fault.state {
+        PointerState::Gone(Some(life)) => owner_left(run, life),
+        PointerState::Gone(None) | PointerState::Null => None,
+    }
+}
+
+/// Whether the field of an object that lives got the cell of the pointer last.
+fn is_field_of_live(run: &WatchedRun<'_>, fault: PointerFault) -> bool {
+    let PointerState::Gone(Some(life)) = fault.state else {
+        return false;
+    };
+    match life.held {
+        Some(held) if held.is_field() => run
+            .history
+            .lives
+            .find(held.owner)
+            .is_some_and(|owner| owner.ended.is_none()),
+        _ => false,
+    }
+}
+
+/// Returns how the life of the object ended whose field got a cell last, if the cleanup stack destroyed that object for a leave; `None` if it
+/// didn't.
+pub fn owner_left(run: &WatchedRun<'_>, life: Life) -> Option<Ended> {
+    let held = life.held?;
+    let ended = run.history.lives.find(held.owner)?.ended?;
+    if held.is_field() && ended.by == By::Leave {
+        Some(ended)
+    } else {
+        None
     }
 }
 
@@ -204,6 +249,7 @@ fn frees(run: &WatchedRun<'_>, fault: PointerFault) -> bool {
 
 /// What to do about a pointer whose cell is gone, by how the cell's life ended.
 fn cure_of_ended(
+    page: &ScriptPage<'_>,
     run: &WatchedRun<'_>,
     line: u32,
     fault: PointerFault,
@@ -218,6 +264,10 @@ fn cure_of_ended(
         (_, By::PopDestroy) if taken_with(ended, run).is_some() => TAKEN_FROM_CALLER,
         (_, By::PopDestroy | By::Leave) if frees(run, fault) && run.history.bodies.undoes(line) => {
             "its item and the field both own it: pop the item as soon as the field has got it, before the next line that may leave"
+        }
+        (_, By::PopDestroy) if destroyed_after_callee(page, ended, run).is_some() => LEFT_NONE,
+        (_, By::Leave) if is_field_of_live(run, fault) => {
+            "the field that got the object last still names it: let the object's `destroy` set that field to null, or set the field only after the last line that may leave"
         }
         (_, By::PopDestroy) => {
             "`popdestroy` frees what it takes off: use `pop` if the cell is to stay, or set the pointer to null after it"
@@ -236,6 +286,9 @@ fn cure_of_ended(
         }
         (_, By::Line) if is_in_destructor && run.history.bodies.body_of(line) == body => {
             "the destructor does it twice: a cell has one owner, so let one of the two lines go, or give each field a cell of its own"
+        }
+        (_, By::Line) if is_in_destructor && left_owner(run, fault).is_some() => {
+            "its field and this pointer both owned it when the leave came: let the field get it only after the last line that may leave, and free it here where that line left"
         }
         (_, By::Line) if is_in_destructor => {
             "the destructor has done this already: leave it to one of the two"

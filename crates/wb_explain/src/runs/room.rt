@@ -1,7 +1,7 @@
-//! What is said of a text that would be longer than its maximum: where it got its room, and what to do.
+//! What is said of a text that would be longer than its maximum, and of a word past a cell's end: where there was to be room, and what to do.
 
 use crate::runs::script_page::{ScriptPage, Written};
-use wb_history::WatchedRun;
+use wb_history::{Values, WatchedRun};
 use wb_tree::script::Statement;
 
 /// Tells where a text in a cell got its room; nothing of a buffer.
@@ -21,15 +21,31 @@ pub fn put_room(page: &mut ScriptPage<'_>, maximum: u32, run: &WatchedRun<'_>) -
     )
 }
 
-/// Returns how to give a text more room: if an attempt to do so was the last that failed, what to do about that.
-pub fn cure_of_room(run: &WatchedRun<'_>) -> &'static str {
+/// The statement of the last attempt that failed; `None` if none failed.
+fn last_failed<'a>(run: &WatchedRun<'a>) -> Option<&'a Statement> {
     let mut failed = None;
     for made in run.history.attempts.kept_attempts() {
         if !made.is_granted() {
             failed = made.maker.statement;
         }
     }
-    match failed {
+    failed
+}
+
+/// Returns what to do about a word that a cell doesn't have, if an attempt to reallocate a cell was the last that failed; `None` if it
+/// wasn't.
+pub fn cure_of_words(run: &WatchedRun<'_>) -> Option<&'static str> {
+    match (run.end.values?.values, last_failed(run)?) {
+        (Values::NoWord { .. }, Statement::Realloc(..)) => Some(
+            "the line that was to make a cell longer failed, and the cell kept its length: change a count of its words only after that line, and only where it was granted",
+        ),
+        _ => None,
+    }
+}
+
+/// Returns how to give a text more room: if an attempt to do so was the last that failed, what to do about that.
+pub fn cure_of_room(run: &WatchedRun<'_>) -> &'static str {
+    match last_failed(run) {
         _ if run.end.names.number == 0 => {
             "the maximum of a buffer is in its declaration, and `getmax` gives it"
         }

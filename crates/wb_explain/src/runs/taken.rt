@@ -77,6 +77,58 @@ impl Display for Then {
     }
 }
 
+/// What to do about a body that was called, and that left no item where it leaves one on other ways.
+pub const LEFT_NONE: &str =
+    "the body that was called left no item on this way: let each of its ways leave one, or pop only where it left one";
+
+/// Returns the item that a line took off after a body had been called that left none, if that body had pushed one, or if its name says that it
+/// leaves one; `None` if there is no such item.
+pub fn after_callee(page: &ScriptPage<'_>, line: u32, run: &WatchedRun<'_>) -> Option<Taken> {
+    let taken = run.history.items.after_callee?;
+    let name = body_name(page, taken.body.last, run);
+    let is_to_leave = name.ends_with("lc") || name.ends_with("LC");
+    if taken.line == line && (is_to_leave || taken.body.began < taken.body.most) {
+        Some(taken)
+    } else {
+        None
+    }
+}
+
+/// Returns the same for the `popdestroy` that ended a cell's life.
+pub fn destroyed_after_callee(
+    page: &ScriptPage<'_>,
+    ended: Ended,
+    run: &WatchedRun<'_>,
+) -> Option<Taken> {
+    match ended.by {
+        By::PopDestroy => after_callee(page, ended.at.number(), run),
+        By::Line | By::Leave => None,
+    }
+}
+
+/// Tells which body was called before an item was taken off, and left no item.
+pub fn put_callee(
+    page: &mut ScriptPage<'_>,
+    taken: Option<Taken>,
+    run: &WatchedRun<'_>,
+) -> Written {
+    let Some(Taken { line, pushed, body }) = taken else {
+        return Ok(());
+    };
+    let name = body_name(page, body.last, run);
+    page.tell_unordered();
+    page.mark_new(
+        line,
+        0,
+        format_args!("this took off the item that line {pushed} had pushed"),
+    )?;
+    page.mark_new(
+        body.last,
+        0,
+        format_args!("`{name}`, called before that, ended after this line and left no item"),
+    )
+}
+
 /// Returns the item of a calling body with which `popdestroy` ended a cell's life; `None` if it took off no such item.
 pub fn taken_with(ended: Ended, run: &WatchedRun<'_>) -> Option<Taken> {
     let taken = run.history.items.of_caller?;

@@ -1,8 +1,9 @@
 //! What is told of the life of a cell: where it was made, put on the cleanup stack, and freed, deleted or moved, and by what.
 
 use crate::runs::item_gone::has_two_items;
+use crate::runs::pointers::owner_left;
 use crate::runs::script_page::{ScriptPage, Written};
-use crate::runs::taken::{put_of_caller, taken_with};
+use crate::runs::taken::{destroyed_after_callee, put_callee, put_of_caller, taken_with};
 use wb_history::{BodyKind, By, End, Ended, History, Life, WatchedRun};
 
 /// What is told of a line that moved a cell though the cell had room to grow at its place.
@@ -14,6 +15,7 @@ pub fn put_life(page: &mut ScriptPage<'_>, run: &WatchedRun<'_>, life: Life) -> 
     let history = &run.history;
     if let Some(ended) = life.ended {
         put_of_caller(page, taken_with(ended, run), run)?;
+        put_callee(page, destroyed_after_callee(page, ended, run), run)?;
         put_end(page, history, ended)?;
         if ended.by != By::Line || life.popped.is_none() {
             let said = if has_two_items(run, life.ended) {
@@ -24,12 +26,37 @@ pub fn put_life(page: &mut ScriptPage<'_>, run: &WatchedRun<'_>, life: Life) -> 
             page.mark_new(life.pushed.number(), 1, said)?;
         }
         put_other_holder(page, history, ended, life)?;
+        put_owner_left(page, run, ended, life)?;
     }
     page.mark_new(life.made.number(), 1, "it was made here")
 }
 
+/// If a destructor released a cell, and its object was destroyed for a leave, tells which line left.
+fn put_owner_left(
+    page: &mut ScriptPage<'_>,
+    run: &WatchedRun<'_>,
+    ended: Ended,
+    life: Life,
+) -> Written {
+    let body = run.history.bodies.body_of(ended.at.number());
+    match owner_left(run, life) {
+        Some(left) if ended.by == By::Line && body.kind == BodyKind::Destructor => {
+            let name = page.word(body.line, 1);
+            page.mark_new(
+                left.at.number(),
+                0,
+                format_args!(
+                    "the cleanup stack deleted the object of `{name}` for the leave of this line"
+                ),
+            )
+        }
+        _ => Ok(()),
+    }
+}
+
 /// If a cell moved, tells which pointer got the cell last, unless that was at the line that made the cell: the pointer still names the old
-/// place. If a destructor released the cell, or its item did, tells which field got it last.
+/// place. If a destructor released the cell, or its item did, tells which field got it last; if a line did by that pointer, that it was made
+/// to name the cell.
 fn put_other_holder(
     page: &mut ScriptPage<'_>,
     history: &History<'_>,
@@ -43,7 +70,8 @@ fn put_other_holder(
             if held.line != life.made
                 && (is_moved
                     || held.is_field()
-                        && (ended.by != By::Line || body.kind == BodyKind::Destructor)) => {
+                        && (ended.by != By::Line || body.kind == BodyKind::Destructor)
+                    || is_freed_by(page, history, held.line.number(), ended)) => {
             let line = held.line.number();
             let name = page.word(line, 1);
             page.mark_new(line, 1, format_args!("`{name}` got it last, here"))
@@ -84,4 +112,13 @@ fn put_end(page: &mut ScriptPage<'_>, history: &History<'_>, ended: Ended) -> Wr
         ),
         (By::Line, _) => page.mark_new(line, 0, format_args!("it was {deed} here")),
     }
+}
+
+/// Whether a line freed a cell by the pointer that `set` had made to name the cell at the line `held`, in the same body.
+fn is_freed_by(page: &ScriptPage<'_>, history: &History<'_>, held: u32, ended: Ended) -> bool {
+    let freed = ended.at.number();
+    ended.by == By::Line
+        && page.word(held, 0) == "set"
+        && page.word(held, 1) == page.word(freed, 1)
+        && history.bodies.body_of(held) == history.bodies.body_of(freed)
 }

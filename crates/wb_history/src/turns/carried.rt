@@ -5,9 +5,10 @@ use crate::calls::Stay;
 use crate::items::{ItemOnStack, Taken};
 use crate::lives::{By, End};
 use crate::moments::{Held, ShortLine};
-use crate::statements::{Ahead, NULL};
+use crate::statements::{Ahead, NULL, Variable};
 use crate::traps::OpenTrap;
 use crate::turns::{Deletion, History};
+use crate::writes::PointerWrite;
 use std::alloc::AllocError;
 use wb_heap_model::heap::{Attempt, Ptr};
 use wb_machine::Machine;
@@ -22,14 +23,8 @@ impl<'a> History<'a> {
         attempt: Option<Attempt>,
     ) -> Result<(), AllocError> {
         match ahead.statement {
-            Statement::Set(..) => {
-                self.see_written(machine, ahead, ahead.source);
-                Ok(())
-            }
-            Statement::SetNull(_) => {
-                self.see_written(machine, ahead, NULL);
-                Ok(())
-            }
+            Statement::Set(..) => self.see_written(machine, ahead, ahead.source),
+            Statement::SetNull(_) => self.see_written(machine, ahead, NULL),
             Statement::Free(_) => {
                 self.end_life(ahead.source, End::Freed, By::Line, self.last);
                 Ok(())
@@ -76,8 +71,7 @@ impl<'a> History<'a> {
         if attempt.is_none() && ahead.reallocates() {
             self.see_shortened(machine, names)?;
         }
-        self.see_written(machine, ahead, names);
-        Ok(())
+        self.see_written(machine, ahead, names)
     }
 
     /// Sees a statement that was to push an item.
@@ -135,8 +129,7 @@ impl<'a> History<'a> {
             }
             Statement::ReturnPointer(_) => {
                 self.blocks.end_body(machine.depth());
-                self.see_return(machine, ahead.source);
-                Ok(())
+                self.see_return(machine, ahead.source)
             }
             _ if ahead.leaves(None) => self.see_leave(machine, ahead),
             statement => self.views.see(machine, statement),
@@ -174,7 +167,8 @@ impl<'a> History<'a> {
         }
     }
 
-    /// Sees an item that a line took off while `depth` bodies ran: whether a calling body had pushed it, or one that had ended and left it.
+    /// Sees an item that a line took off while `depth` bodies ran: whether a calling body had pushed it, or one that had ended and left it, and
+    /// whether a body was called in between that left none.
     pub(crate) fn see_taken(&mut self, item: ItemOnStack, line: u32, depth: u32) {
         let pushed = item.pushed.line;
         if item.depth < depth
@@ -189,14 +183,40 @@ impl<'a> History<'a> {
         if let Some(body) = self.calls.left_by(item.depth, item.pushed.step) {
             self.items.of_callee = Some(Taken { line, pushed, body });
         }
+        let inside = depth.saturating_add(1);
+        if item.depth == depth
+            && let Some(body) = self.calls.left_none_at(inside, item.pushed.step)
+        {
+            self.items.after_callee = Some(Taken { line, pushed, body });
+        }
     }
 
     /// Sees that the pointer that a statement wrote now names `names`.
-    fn see_written(&mut self, machine: &Machine<'a>, ahead: &Ahead<'a>, names: Ptr) {
-        if let Some(variable) = ahead.written {
-            let held = self.hold_at(machine.depth(), variable.owner, variable.index);
-            self.hold(variable.names, names, held);
-        }
+    fn see_written(
+        &mut self,
+        machine: &Machine<'a>,
+        ahead: &Ahead<'a>,
+        names: Ptr,
+    ) -> Result<(), AllocError> {
+        let Some(variable) = ahead.written else {
+            return Ok(());
+        };
+        let depth = machine.depth();
+        let held = self.hold_at(depth, variable.owner, variable.index);
+        self.hold(variable.names, names, held);
+        self.note_write(depth, variable, names)
+    }
+
+    /// Notes that the line that was begun last at this depth gave a pointer the value `names`.
+    fn note_write(&mut self, depth: u32, variable: Variable, names: Ptr) -> Result<(), AllocError> {
+        self.writes.note(PointerWrite {
+            owner: variable.owner,
+            index: variable.index,
+            depth,
+            line: self.calls.line_at(depth),
+            step: self.steps,
+            names,
+        })
     }
 
     /// The local or field that gets a cell now, at the line that was begun last at this depth.
@@ -221,13 +241,19 @@ impl<'a> History<'a> {
     }
 
     /// Sees that the body that runs returns a pointer to its caller.
-    fn see_return(&mut self, machine: &Machine<'a>, pointer: Ptr) {
+    fn see_return(&mut self, machine: &Machine<'a>, pointer: Ptr) -> Result<(), AllocError> {
         let depth = machine.depth().saturating_sub(1);
         let Some(Statement::CallTo(index, ..)) = self.calls.statement_at(depth) else {
-            return;
+            return Ok(());
         };
         let held = self.hold_at(depth, NULL, *index);
         let before = self.calls.replaced_at(depth);
         self.hold(before, pointer, held);
+        let variable = Variable {
+            owner: NULL,
+            index: *index,
+            names: before,
+        };
+        self.note_write(depth, variable, pointer)
     }
 }
